@@ -1,0 +1,13 @@
+pub mod Distinct
+pub mod ZeroEnded
+pub mod Ranges
+pub mod Sections
+pub mod BitRuns
+pub mod TextRelocs
+pub mod Placing
+pub mod TextSymbols
+pub mod LinkSteps
+pub mod Writing
+pub mod Finishing
+pub mod Starting
+pub mod Promising

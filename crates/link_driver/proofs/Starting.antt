@@ -1,0 +1,129 @@
+-- The ends of a run before its inputs are linked.
+use Rattle.std.proofs.Common.{◌≡◌, ◌⊎◌, ℕ, ◌<◌, List, [], ◌∷◌, length, map, take, OnOk, OnErr, get_or, Bool, true, false, ◌&&◌, Option, Some, None, Result, Ok, Err, sym, ◌∙◌, ap, refl, arith, inl, inr, codes}
+use Rattle.std.specs.Prelude.{if◌then◌else◌}
+use Rattle.std.specs.Str.{bytes_eq}
+use Rattle.std.specs.Global.{Vec}
+use Rattle.lk_depot.specs.declared.stops.Failed.{Failed}
+use Rattle.lk_depot.specs.Faults.{HasCause}
+use Rattle.lk_depot.specs.Store.{Store}
+use Rattle.lk_depot.specs.Output.{Output, told_said}
+use Rattle.lk_depot.specs.Loading.{AreContents, AfterLoads, IsFirstLacking, name_at}
+use Rattle.lk_depot.specs.Loading as loads
+use Rattle.lk_base.specs.declared.defects.Defect.{Defect}
+use Rattle.lk_depot.specs.declared.stops.LoadAllStop.{LoadAllStop}
+use Rattle.lk_depot.specs.declared.stops.LoadAllStop.TheVariants as stop
+use Rattle.lk_base.specs.declared.defects.LinkStop.{LinkStop}
+use Rattle.lk_base.specs.declared.defects.LinkStop.TheVariants as link_stop
+use Rattle.link_driver.specs.Phases.{AfterLink}
+use Rattle.link_driver.specs.declared.driving.Ending.{Ending}
+use Rattle.link_driver.specs.declared.driving.Ending.TheVariants.{Done, Memory, Refused, Unreported, Told}
+use Rattle.link_driver.specs.Link.{Asked, Link, asked_of, is_input, defects_of, link, link_with, line_of_defect, cannot_read}
+use Rattle.link_driver.specs.Ends.{IsUntouched, Ends, finds_defect, cannot_read_input, lacks_memory, IsTold, told_whole, told_cut}
+use Rattle.link_driver.specs.Endings.{status_of, told_line, IsTelling, IsWithin, TellsStop, TellsLoadStop, AreLoaded}
+
+-- an accepted command has one input
+pub one_input : (words : List (List ℕ)) (asked : Asked) → asked_of words ≡ Some asked → length asked.inputs ≡ 1
+one_input [] asked is = cc
+one_input (program ∷ []) asked is = cc
+one_input (program ∷ option ∷ []) asked is = cc
+one_input (program ∷ option ∷ input ∷ next ∷ rest) asked is = cc
+one_input (program ∷ option ∷ input ∷ []) asked is = by (bytes_eq option (codes "-s") && is_input input) is
+  where
+    only : Asked
+    only = record { output = codes "a.out"; map = None; entry = codes "_start"; inputs = input ∷ [] }
+
+    by : (b : Bool) → (if b then Some only else None) ≡ Some asked → length asked.inputs ≡ 1
+    by true is = let same : only ≡ asked = cc in ap (λ (a : Asked). length a.inputs) (sym same)
+    by false is = cc
+
+-- memory was wanting before anything was begun
+pub lacking : (asked : Option Asked) (before after : Store) (say : Output) → IsUntouched before after → Ends asked before after say say 4 []
+lacking asked before after say untouched = lacks_memory (record { status_is = refl; untouched = untouched; quiet = refl; line_is = refl })
+
+-- an input could not be read
+pub unread_input : (asked : Asked) (before after : Store) (say : Output) (index : ℕ) (ending : Ending)
+    → loads.FailedAt before after asked.inputs index ⊎ (IsFirstLacking before.files asked.inputs index × (after.unread ≡ before.unread))
+    → IsUntouched before after → IsTelling 3 (cannot_read (name_at asked.inputs index)) ending
+    → Ends (Some asked) before after say say (status_of ending) (told_line ending)
+unread_input asked before after say index Memory cause untouched telling = lacking (Some asked) before after say untouched
+unread_input asked before after say index (Told status line) cause untouched telling =
+    cannot_read_input (record {
+      asked = asked;
+      index = index;
+      asks = refl;
+      cause = cause;
+      status_is = telling.0;
+      untouched = untouched;
+      quiet = refl;
+      line_is = telling.1;
+    })
+unread_input asked before after say index Done cause untouched telling = absurd telling
+unread_input asked before after say index Refused cause untouched telling = absurd telling
+unread_input asked before after say index Unreported cause untouched telling = absurd telling
+
+-- the inputs have a defect
+pub found_defect : (asked : Asked) (before now : Store) (say : Output) (inputs : List (List ℕ)) (defect : Defect) (later : List Defect) (ending : Ending)
+    → AreLoaded asked before now inputs → defects_of asked inputs ≡ defect ∷ later → IsTelling 1 (line_of_defect asked defect) ending
+    → Ends (Some asked) before now say say (status_of ending) (told_line ending)
+unfolding link
+found_defect asked before now say inputs defect later Memory loaded found telling = lacking (Some asked) before now say loaded.untouched
+found_defect asked before now say inputs defect later (Told status line) loaded found telling =
+    let gives : link (Some asked) inputs ≡ link_with asked inputs (defect ∷ later) = ap (link_with asked inputs) found in
+    finds_defect (record {
+      asked = asked;
+      inputs = inputs;
+      accepts = record { asks = refl; loaded = loaded.loaded; unread = loaded.unread };
+      defective = ap (λ (l : Link). l.status) gives;
+      status_is = telling.0;
+      untouched = loaded.untouched;
+      quiet = refl;
+      line_is = telling.1 ∙ sym (ap (λ (l : Link). l.err) gives);
+    })
+found_defect asked before now say inputs defect later Done loaded found telling = absurd telling
+found_defect asked before now say inputs defect later Refused loaded found telling = absurd telling
+found_defect asked before now say inputs defect later Unreported loaded found telling = absurd telling
+
+-- the contents of the only buffer
+pub only_buffer : (buffers : List (Vec ℕ)) (d : Vec ℕ) → length buffers ≡ 1 → map (λ (b : Vec ℕ). b.items) buffers ≡ (get_or buffers 0 d).items ∷ []
+only_buffer [] d one = absurd (omega arith)
+only_buffer (b ∷ []) d one = refl
+only_buffer (b ∷ next ∷ rest) d one = absurd (omega arith)
+
+-- a line was told, or some of its first bytes
+pub told_so : (r : Result (Unit {0}) Failed) (line : List ℕ) (err err' : Output)
+    → OnOk r (err'.written ≡ told_said line err.written)
+    → OnErr r ((n : ℕ) × (n < length line) × (err'.written ≡ told_said (take n line) err.written))
+    → HasCause err.faults err'.faults r → IsTold line err err'
+told_so (Ok _) line err err' whole cut cause = told_whole whole
+told_so (Err _) line err err' whole cut cause = told_cut cut.0 cut.1 cause.failed cut.2
+
+-- the inputs were not loaded
+pub not_loaded : (asked : Asked) (names : List (List ℕ)) (before after : Store) (say : Output) (stop : LoadAllStop) (ending : Ending)
+    → names ≡ asked.inputs → AfterLoads before after names (Err stop) → IsUntouched before after → TellsLoadStop asked stop ending
+    → Ends (Some asked) before after say say (status_of ending) (told_line ending)
+not_loaded asked names before after say (stop.Absent index) ending same cause untouched telling =
+    unread_input asked before after say index ending (inr (rw same at cause)) untouched telling
+not_loaded asked names before after say (stop.Failed index) ending same cause untouched telling =
+    unread_input asked before after say index ending (inl (rw same at cause)) untouched telling
+not_loaded asked names before after say stop.Memory ending same cause untouched telling =
+    rw telling (lacking (Some asked) before after say untouched)
+
+pub load_within : (names : List (List ℕ)) (before after : Store) (stop : LoadAllStop) → AfterLoads before after names (Err stop) → IsWithin names stop
+load_within names before after (stop.Absent index) cause = cause.0.within
+load_within names before after (stop.Failed index) cause = cause.within
+load_within names before after stop.Memory cause = tt
+
+-- the inputs were not linked
+pub not_linked : (asked : Asked) (before now : Store) (say : Output) (inputs : List (List ℕ)) (stop : LinkStop) (ending : Ending)
+    → AreLoaded asked before now inputs → AfterLink asked inputs (Err stop) → TellsStop asked stop ending
+    → Ends (Some asked) before now say say (status_of ending) (told_line ending)
+not_linked asked before now say inputs (link_stop.Defect defect) ending loaded found telling =
+    found_defect asked before now say inputs defect found.0 ending loaded found.1 telling
+not_linked asked before now say inputs link_stop.Memory ending loaded found telling =
+    rw telling (lacking (Some asked) before now say loaded.untouched)
+
+-- the same of a buffer that was read at 0
+pub the_buffer : (buffers : List (Vec ℕ)) (first : Vec ℕ) (bytes : List ℕ) → length buffers ≡ 1 → first ≡ get_or buffers 0 first → bytes ≡ first.items
+    → map (λ (b : Vec ℕ). b.items) buffers ≡ bytes ∷ []
+the_buffer buffers first bytes one at is =
+    only_buffer buffers first one ∙ ap (λ (b : Vec ℕ). b.items ∷ []) (sym at) ∙ ap (λ xs. xs ∷ []) (sym is)

@@ -1,0 +1,83 @@
+-- How an ending inside the program is told, and what the steps of a run hand on.
+use Rattle.std.specs.Prelude.{◌≡◌, ℕ, ◌<◌, ◌≤◌, List, [], length, take, Option, None, Some}
+use Rattle.lk_depot.specs.Faults.{Rose}
+use Rattle.lk_depot.specs.Store.{Store}
+use Rattle.lk_depot.specs.Output.{Output, told_said}
+use Rattle.lk_depot.specs.Loading.{AreContents, name_at}
+use Rattle.lk_depot.specs.declared.stops.LoadAllStop.{LoadAllStop}
+use Rattle.lk_depot.specs.declared.stops.LoadAllStop.TheVariants as loads
+use Rattle.lk_base.specs.declared.defects.LinkStop.{LinkStop}
+use Rattle.lk_base.specs.declared.defects.LinkStop.TheVariants as stops
+use Rattle.link_driver.specs.declared.driving.Ending.{Ending}
+use Rattle.link_driver.specs.declared.driving.Ending.TheVariants.{Done, Memory, Refused, Unreported, Told}
+use Rattle.link_driver.specs.declared.driving.Lines.{Lines}
+use Rattle.link_driver.specs.declared.linking.Linked.{Linked}
+use Rattle.link_driver.specs.Link.{Asked, bad_command, cannot_read, cannot_report, cannot_write, line_of_defect}
+use Rattle.link_driver.specs.Phases.{IsLinked}
+use Rattle.link_driver.specs.Ends.{IsUntouched}
+
+abbrev pub status_of : Ending → ℕ
+status_of Done = 0
+status_of Memory = 4
+status_of Refused = 2
+status_of Unreported = 3
+status_of (Told status line) = status
+
+abbrev pub told_line : Ending → List ℕ
+told_line Done = []
+told_line Memory = []
+told_line Refused = bad_command
+told_line Unreported = cannot_report
+told_line (Told status line) = line.items
+
+-- the ending tells this status with this line, or memory is wanting
+abbrev pub IsTelling : ℕ → List ℕ → Ending → Type 0
+IsTelling status line Memory = Unit {0}
+IsTelling status line (Told told words) = (told ≡ status) × (words.items ≡ line)
+IsTelling status line _ = ⊥
+
+-- why there is no link
+abbrev pub TellsStop : Asked → LinkStop → Ending → Type 0
+TellsStop asked (stops.Defect defect) ending = IsTelling 1 (line_of_defect asked defect) ending
+TellsStop asked stops.Memory ending = ending ≡ Memory
+
+-- why the inputs were not loaded
+abbrev pub TellsLoadStop : Asked → LoadAllStop → Ending → Type 0
+TellsLoadStop asked (loads.Absent index) ending = IsTelling 3 (cannot_read (name_at asked.inputs index)) ending
+TellsLoadStop asked (loads.Failed index) ending = IsTelling 3 (cannot_read (name_at asked.inputs index)) ending
+TellsLoadStop asked loads.Memory ending = ending ≡ Memory
+
+-- the input that was not loaded is one of these
+abbrev pub IsWithin : List (List ℕ) → LoadAllStop → Type 0
+IsWithin names (loads.Absent index) = index < length names
+IsWithin names (loads.Failed index) = index < length names
+IsWithin names loads.Memory = Unit {0}
+
+-- the report was said, or some of its first bytes
+abbrev pub AfterReport : List ℕ → Output → Output → Ending → Type 0
+AfterReport report before after Done = after.written ≡ told_said report before.written
+AfterReport report before after Unreported =
+    Rose before.faults after.faults × ((size : ℕ) × (size < length report) × (after.written ≡ told_said (take size report) before.written))
+AfterReport report before after _ = ⊥
+
+-- the line about the map, where one is asked
+abbrev pub map_line : Option (List ℕ) → List ℕ
+map_line None = []
+map_line (Some name) = cannot_write name
+
+-- the lines for files that may fail
+pub record AreLines (asked : Asked) (lines : Lines) : Type 0 where
+  pub output : lines.output.items ≡ cannot_write asked.output
+  pub map : lines.map.items ≡ map_line asked.map
+
+-- since the store `before`, the inputs were loaded, and nothing else was done
+pub record AreLoaded (asked : Asked) (before now : Store) (inputs : List (List ℕ)) : Type 0 where
+  pub loaded : AreContents before.files asked.inputs inputs
+  pub unread : now.unread ≡ before.unread
+  pub untouched : IsUntouched before now
+  pub faults : before.faults ≤ now.faults
+
+-- and they were linked
+pub record IsReady (asked : Asked) (before now : Store) (inputs : List (List ℕ)) (linked : Linked) : Type 0 where
+  pub inputs_are : AreLoaded asked before now inputs
+  pub is_link : IsLinked asked inputs linked

@@ -1,0 +1,39 @@
+-- What the table of ends says to a user, status by status.
+use Rattle.std.specs.Prelude.{◌≡◌, ℕ, ◌⊎◌, List, Some, None, IsSome}
+use Rattle.lk_depot.specs.Faults.{Rose}
+use Rattle.lk_depot.specs.Store.{Store}
+use Rattle.lk_depot.specs.Output.{Output}
+use Rattle.lk_depot.specs.Loading.{AreContents, IsFirstLacking}
+use Rattle.link_driver.specs.Link.{Asked, asked_of, link}
+
+-- an accepted command over a store that tells its files, with these contents as its inputs
+pub record IsGiven (words : List (List ℕ)) (before : Store) (asked : Asked) (inputs : List (List ℕ)) : Type 0 where
+  pub asks : asked_of words ≡ Some asked
+  pub told : IsSome before.files
+  pub inputs_are : AreContents before.files asked.inputs inputs
+
+-- no load, begin, append or put failed
+pub record IsFaultless (before after : Store) (say say' : Output) : Type 0 where
+  pub depot_kept : Rose before.faults after.faults → ⊥
+  pub say_kept : Rose say.faults say'.faults → ⊥
+
+module _ (words : List (List ℕ)) (before after : Store) (say say' : Output) (status : ℕ) where
+  pub record Promises : Type 0 where
+    -- 2 exactly where the command is refused, memory aside; then nothing was asked of the store
+    pub refused : asked_of words ≡ None → (status ≡ 2) ⊎ (status ≡ 4)
+    pub only_refused : status ≡ 2 → (asked_of words ≡ None) × (after ≡ before)
+    -- 1 exactly where the command is accepted, the loads were Ok and the inputs have a defect, memory aside
+    pub defective : (asked : Asked) (inputs : List (List ℕ)) → IsGiven words before asked inputs → after.unread ≡ before.unread
+        → (link (Some asked) inputs).status ≡ 1 → (status ≡ 1) ⊎ (status ≡ 4)
+    pub only_defective : status ≡ 1 → (asked : Asked) (inputs : List (List ℕ)) → IsGiven words before asked inputs
+        → ((link (Some asked) inputs).status ≡ 1) × (after.unread ≡ before.unread)
+    -- 0 where there is no defect and nothing failed, memory aside; and never where there is one
+    pub sound : (asked : Asked) (inputs : List (List ℕ)) → IsGiven words before asked inputs → IsFaultless before after say say'
+        → (link (Some asked) inputs).status ≡ 0 → (status ≡ 0) ⊎ (status ≡ 4)
+    pub only_sound : status ≡ 0 → (asked : Asked) (inputs : List (List ℕ)) → IsGiven words before asked inputs
+        → (link (Some asked) inputs).status ≡ 0
+    -- where an input is missing, 3 and 4 are the only ends
+    pub missing : (asked : Asked) (index : ℕ) → asked_of words ≡ Some asked → IsFirstLacking before.files asked.inputs index
+        → (status ≡ 3) ⊎ (status ≡ 4)
+    -- nothing is begun before the defects are known: at 1, 2 and 4 no file was
+    pub begun : (status ≡ 1) ⊎ ((status ≡ 2) ⊎ (status ≡ 4)) → after.begun ≡ before.begun

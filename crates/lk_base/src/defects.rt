@@ -1,0 +1,117 @@
+//! Defects, and why a reader or a link stops.
+
+ghost use Rattle.std.specs.Prelude.{◌≡◌};
+
+use crate::kinds::DefectKind;
+use crate::numbers::{FileNo, SymNo};
+use std::alloc::{AllocError, AllocFailed};
+
+/// A defect of a link, as its line tells it. What a kind does not name is 0, and a defect of no file has `NO_FILE`.
+#[derive(Clone, Copy, Debug, PartialEq, Eq)]
+pub struct Defect {
+    pub kind: DefectKind,
+    pub file: FileNo,
+    /// A section's index in its file.
+    pub section: u32,
+    /// An offset or a count, as the kind has it.
+    pub place: u64,
+    pub symbol: SymNo,
+    /// One more number, as the kind has it.
+    pub other: u64,
+}
+
+/// A defect as the reader of one file knows it: the file, and so the symbol's name, is the caller's to add.
+#[derive(Clone, Copy, Debug, PartialEq, Eq)]
+pub struct Flaw {
+    pub kind: DefectKind,
+    pub section: u32,
+    pub place: u64,
+    pub other: u64,
+}
+
+/// Why a reader gives nothing.
+#[derive(Clone, Copy, Debug, PartialEq, Eq)]
+pub enum ReadFault {
+    /// The bytes are not what they have to be.
+    Bad(Flaw),
+    /// Memory ran out.
+    Memory,
+}
+
+/// Why a link gives nothing.
+#[derive(Clone, Copy, Debug, PartialEq, Eq)]
+pub enum LinkStop {
+    /// The inputs have this defect.
+    Defect(Defect),
+    /// Memory ran out.
+    Memory,
+}
+
+/// Why a value does not go into a relocation's field.
+#[derive(Clone, Copy, Debug, PartialEq, Eq)]
+pub enum Misfit {
+    /// It is odd, and the field has no bit for that.
+    Odd,
+    /// It is out of the field's reach.
+    Range,
+}
+
+impl From<Flaw> for ReadFault {
+    ghost use Rattle.lk_base.specs.declared.defects.ReadFault.TheVariants.{Bad};
+
+    ghost from_gives = { λ flaw fault. fault ≡ Bad flaw };
+
+    fn from(flaw: Flaw) -> ReadFault {
+        ReadFault::Bad(flaw)
+    }
+}
+
+impl From<AllocError> for ReadFault {
+    ghost use Rattle.lk_base.specs.declared.defects.ReadFault.TheVariants.{Memory};
+
+    ghost from_gives = { λ _ fault. fault ≡ Memory };
+
+    fn from(_error: AllocError) -> ReadFault {
+        ReadFault::Memory
+    }
+}
+
+impl<T: Drop> From<AllocFailed<T>> for ReadFault {
+    ghost use Rattle.lk_base.specs.declared.defects.ReadFault.TheVariants.{Memory};
+
+    ghost from_gives = { λ _ fault. fault ≡ Memory };
+
+    fn from(_failed: AllocFailed<T>) -> ReadFault {
+        ReadFault::Memory
+    }
+}
+
+impl From<Defect> for LinkStop {
+    ghost use Rattle.lk_base.specs.declared.defects.LinkStop.TheVariants.{Defect as StopsAt};
+
+    ghost from_gives = { λ defect stop. stop ≡ StopsAt defect };
+
+    fn from(defect: Defect) -> LinkStop {
+        LinkStop::Defect(defect)
+    }
+}
+
+impl From<AllocError> for LinkStop {
+    ghost use Rattle.lk_base.specs.declared.defects.LinkStop.TheVariants.{Memory};
+
+    ghost from_gives = { λ _ stop. stop ≡ Memory };
+
+    fn from(_error: AllocError) -> LinkStop {
+        LinkStop::Memory
+    }
+}
+
+impl<T: Drop> From<AllocFailed<T>> for LinkStop {
+    ghost use Rattle.lk_base.specs.declared.defects.LinkStop.TheVariants.{Memory};
+
+    ghost from_gives = { λ _ stop. stop ≡ Memory };
+
+    fn from(_failed: AllocFailed<T>) -> LinkStop {
+        LinkStop::Memory
+    }
+}

@@ -1,0 +1,75 @@
+//! How much one link may read and make.
+
+ghost use Rattle.std.specs.Prelude.{◌≡◌, ◌<◌, ◌≤◌, MatchResult};
+ghost use Rattle.lk_base.specs.Limits.{oversize, standard};
+
+use crate::defects::Flaw;
+use crate::kinds::DefectKind;
+
+/// The greatest numbers that a link takes. A link of the command has the standard ones; smaller ones are for tests.
+#[derive(Clone, Copy, Debug, PartialEq, Eq)]
+pub struct Limits {
+    /// Bytes of an input file.
+    pub file: u64,
+    /// File numbers.
+    pub files: u64,
+    /// Symbol entries of all files.
+    pub symbols: u64,
+    /// Section headers and common symbols of the live files.
+    pub sections: u64,
+    /// Mergeable pieces of the live files.
+    pub pieces: u64,
+    /// Output sections.
+    pub outputs: u64,
+    /// Bytes of the memory image.
+    pub image: u64,
+}
+
+impl Limits {
+    pub fn standard() -> Limits
+        ensures { result ≡ standard }
+    {
+        Limits {
+            file: 0x7fff_ffff,
+            files: 0xff_ffff,
+            symbols: 0x7fff_ffff,
+            sections: 0x1000_0000,
+            pieces: 0x7fff_ffff,
+            outputs: 65_000,
+            image: 0x8000_0000 - 0x10_0000,
+        }
+    }
+}
+
+/// Refuses a file of more bytes than the limit. Takes no memory.
+pub fn check_file_size(len: u64, limits: &Limits) -> Result<(), Flaw>
+    ensures { MatchResult result (λ _. len ≤ limits.now.file) (λ flaw. (limits.now.file < len) × (flaw ≡ oversize len)) }
+{
+    if len > limits.file {
+        return Err(Flaw {
+            kind: DefectKind::F08,
+            section: 0,
+            place: len,
+            other: 0,
+        });
+    }
+    Ok(())
+}
+
+#[cfg(test)]
+mod tests {
+    use super::*;
+
+    #[test]
+    fn sizes_at_the_limit(rt: HostRuntime) {
+        let limits = Limits::standard();
+        assert_eq!(rt; check_file_size(2147483647, &limits), Ok(()));
+        let flaw = Flaw {
+            kind: DefectKind::F08,
+            section: 0,
+            place: 2147483648,
+            other: 0,
+        };
+        assert_eq!(rt; check_file_size(2147483648, &limits), Err(flaw));
+    }
+}

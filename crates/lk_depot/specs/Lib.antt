@@ -1,0 +1,10 @@
+pub mod Faults
+pub mod Files
+pub mod Held
+pub mod Loading
+pub mod Output
+pub mod Overlays
+pub mod Shelf
+pub mod ShelfCode
+pub mod Store
+pub mod Tape

@@ -1,0 +1,12 @@
+-- What a sink means.
+use Rattle.std.specs.Prelude.{ℕ, List, ◌++◌, Option}
+use Rattle.std.specs.Option.{option_map}
+
+-- `written` is `None` where the sink does not tell it. `faults` counts failed calls.
+pub record Output : Type 0 where
+  pub written : Option (List ℕ)
+  pub faults : ℕ
+
+-- What was written, once these bytes follow.
+abbrev pub told_said : List ℕ → Option (List ℕ) → Option (List ℕ)
+told_said bytes written = option_map (λ before. before ++ bytes) written

@@ -1,0 +1,27 @@
+// A stream that is written to: what a program may ask of a standard stream, and what each answer means.
+#![tactic(auto)]
+
+ghost use Rattle.std.specs.Prelude.{◌≡◌, ◌<◌, ◌≤◌, take, length, IfOk, MatchResult};
+ghost use Rattle.lk_depot.specs.Faults.{HasCause};
+ghost use Rattle.lk_depot.specs.Output.{Output, told_said};
+
+use crate::stops::Failed;
+
+/// A stream that takes bytes.
+///
+/// It means an `Output`: what was written to it, where it tells that, and the count of its faults since it was made.
+pub trait Sink {
+    ghost output: { Self → Output };
+
+    /// Writes the first bytes of `piece`, at least one of them, and says how many.
+    ///
+    /// Where it fails, nothing was written.
+    fn put(&mut self, piece: &[u8]) -> Result<usize, Failed>
+        requires { 0 < length piece.now }
+        ensures some { IfOk result (λ n. 0 < n) }
+        ensures most { IfOk result (λ n. n ≤ length piece.now) }
+        ensures written { MatchResult result
+            (λ n. (output self.new).written ≡ told_said (take n piece.now) (output self.old).written)
+            (λ _. (output self.new).written ≡ (output self.old).written) }
+        ensures cause { HasCause (output self.old).faults (output self.new).faults result };
+}

@@ -1,0 +1,2 @@
+pub mod RealFiles
+pub mod RealStream

@@ -1,0 +1,269 @@
+// The files of the system as a store of files.
+#![tactic(auto)]
+
+ghost use Rattle.std.specs.Prelude.{◌≡◌, ◌≢◌, ◌<◌, ◌≤◌, [], map, length, string_bytes, IfOk, Err};
+ghost use Rattle.lk_real.specs.RealFiles.{store_of, after_load, after_begin, after_append};
+
+use lk_depot::{Depot, Failed, FileKind, LoadStop};
+use std::alloc::Global;
+use std::fs::{File, Permissions};
+use std::io;
+use std::io::{ErrorKind, Read, Write};
+use std::marker::Model;
+use std::os::unix::fs::{OpenOptionsExt, PermissionsExt};
+
+/// How many bytes of a file a load takes at most: one more than an input may have, so that its length is refused.
+const MOST_READ: u64 = 1 << 31;
+
+/// The permissions of a file that may be run, less the umask.
+const EXECUTABLE_MODE: u32 = 0o755;
+
+/// The permissions of a file that is only read, less the umask.
+const PLAIN_MODE: u32 = 0o644;
+
+/// The file that was written to last, which stays open for the appends that follow.
+#[derive(Drop)]
+struct OpenOutput {
+    name: String,
+    file: File,
+}
+
+/// The files of the system, by path.
+///
+/// It means a `RealFiles`: how many calls failed, how many files were begun, and the names that could not be read. As a depot it
+/// tells neither files nor kinds, so a load answers `Failed` where there is no file, and never `Absent`. A file that was
+/// written to is closed once another is, or when the depot is dropped.
+#[derive(Drop)]
+pub struct RealDepot<'a> {
+    rt: &'a HostRuntime,
+    alloc: Global,
+    open: Option<OpenOutput>,
+    unread: Vec<String>,
+    faults: u64,
+    begun: u64,
+}
+
+impl<'a> Model for RealDepot<'a> {
+    ghost use Rattle.std.specs.Prelude.{map, string_bytes};
+    ghost use Rattle.lk_real.specs.RealFiles.{RealFiles};
+
+    ghost Value = { RealFiles };
+
+    ghost view = { λ d. record {
+      faults = d.faults;
+      begun = d.begun;
+      unread = map string_bytes d.unread.items;
+    } };
+}
+
+/// Up to `MOST_READ` bytes of a file, from its start.
+fn bytes_of(rt: &HostRuntime, alloc: Global, name: &str) -> io::Result<Vec<u8>> {
+    let file = File::open(rt, name)?;
+    let size = file.metadata()?.len().min(MOST_READ);
+    // With room for one byte more the last read, which finds the end, moves nothing.
+    let mut bytes = Vec::with_capacity(alloc, size as usize + 1)?;
+    file.take(MOST_READ).read_to_end(&mut bytes)?;
+    Ok(bytes)
+}
+
+/// The empty file of this name: a new one, or the one that is there, emptied.
+fn emptied(rt: &HostRuntime, name: &str, kind: FileKind) -> io::Result<File> {
+    let mode = match kind {
+        FileKind::Executable => EXECUTABLE_MODE,
+        FileKind::Plain => PLAIN_MODE,
+    };
+    match File::options()
+        .write(true)
+        .create_new(true)
+        .mode(mode)
+        .open(rt, name)
+    {
+        Ok(file) => return Ok(file),
+        Err(error) => {
+            if error.kind() != ErrorKind::AlreadyExists {
+                return Err(error);
+            }
+        }
+    }
+    let file = File::options()
+        .write(true)
+        .create(true)
+        .truncate(true)
+        .mode(mode)
+        .open(rt, name)?;
+    match kind {
+        FileKind::Executable => allow_running(&file),
+        FileKind::Plain => {}
+    }
+    Ok(file)
+}
+
+/// Lets those who may read a file that was there run it. Where that is refused the permissions stay.
+fn allow_running(file: &File) {
+    let Ok(metadata) = file.metadata() else {
+        return;
+    };
+    if metadata.is_file() {
+        let mode = metadata.permissions().mode() & 0o7777;
+        let _ = file.set_permissions(Permissions::from_mode(mode | (mode & 0o444) >> 2));
+    }
+}
+
+/// The file of this name, made where it is not there, to be written to at its end.
+fn at_end(rt: &HostRuntime, name: &str) -> io::Result<File> {
+    File::options()
+        .append(true)
+        .create(true)
+        .mode(PLAIN_MODE)
+        .open(rt, name)
+}
+
+/// One write, made again where a signal interrupts it.
+fn write_some(file: &mut File, piece: &[u8]) -> io::Result<usize>
+    ensures { IfOk result (λ n. n ≤ length piece.now) }
+{
+    for _ in 0..u64::MAX {
+        match file.write(piece) {
+            Ok(written) => return Ok(written),
+            Err(error) => {
+                if error.kind() != ErrorKind::Interrupted {
+                    return Err(error);
+                }
+            }
+        }
+    }
+    Err(io::Error::from(ErrorKind::Interrupted))
+}
+
+impl<'a> RealDepot<'a> {
+    /// The files of the system, with names as paths from the current folder. It keeps the reference, takes no memory, and
+    /// keeps the allocator for the names that it cannot read.
+    pub fn new(rt: &'a HostRuntime, alloc: Global) -> RealDepot<'a>
+        ensures { result ≡ record { faults = 0; begun = 0; unread = [] } }
+    {
+        RealDepot {
+            rt,
+            alloc,
+            open: None,
+            unread: Vec::new(alloc),
+            faults: 0,
+            begun: 0,
+        }
+    }
+
+    /// How many calls failed.
+    pub fn faults(&self) -> u64
+        ensures { result ≡ self.now.faults }
+    {
+        self.faults
+    }
+
+    /// How many calls of begin there were.
+    pub fn begun(&self) -> u64
+        ensures { result ≡ self.now.begun }
+    {
+        self.begun
+    }
+
+    /// The names whose load failed, in the order of the loads.
+    pub fn unread(&self) -> &[String]
+        ensures { map string_bytes result.now ≡ self.now.unread }
+    {
+        self.unread.as_slice()
+    }
+
+    /// Keeps a file open for the appends that follow, where there is memory for its name. Where there is none, the next
+    /// append opens it again.
+    fn keep_open(&mut self, name: &str, file: File)
+        ensures { self.new ≡ self.old }
+    {
+        self.open = match String::from_str(self.alloc, name) {
+            Ok(name) => Some(OpenOutput { name, file }),
+            Err(_) => None,
+        };
+    }
+
+    /// Writes some of a piece to the end of the file of this name.
+    fn write_to(&mut self, name: &str, piece: &[u8]) -> io::Result<usize>
+        ensures most { IfOk result (λ n. n ≤ length piece.now) }
+        ensures same { self.new ≡ self.old }
+    {
+        if let Some(open) = &mut self.open {
+            if open.name.as_str() == name {
+                return write_some(&mut open.file, piece);
+            }
+        }
+        let mut file = at_end(self.rt, name)?;
+        let written = write_some(&mut file, piece)?;
+        self.keep_open(name, file);
+        Ok(written)
+    }
+
+    /// Loads a file, and says what was counted.
+    fn load_counted(&mut self, alloc: Global, name: &str) -> Result<Vec<u8>, LoadStop>
+        ensures told { result ≢ Err LoadStop.Absent }
+        ensures after { self.new ≡ after_load self.old name.now result }
+    {
+        let error = match bytes_of(self.rt, alloc, name) {
+            Ok(bytes) => return Ok(bytes),
+            Err(error) => error,
+        };
+        if error.kind() == ErrorKind::OutOfMemory {
+            return Err(LoadStop::Memory);
+        }
+        let Ok(kept) = String::from_str(self.alloc, name) else {
+            return Err(LoadStop::Memory);
+        };
+        if self.unread.push(kept).is_err() {
+            return Err(LoadStop::Memory);
+        }
+        self.faults = self.faults.saturating_add(1);
+        Err(LoadStop::Failed)
+    }
+
+    /// Begins a file, and says what was counted.
+    fn begin_counted(&mut self, name: &str, kind: FileKind) -> Result<(), Failed>
+        ensures { self.new ≡ after_begin self.old result }
+    {
+        self.begun = self.begun.saturating_add(1);
+        let Ok(file) = emptied(self.rt, name, kind) else {
+            self.faults = self.faults.saturating_add(1);
+            return Err(Failed);
+        };
+        self.keep_open(name, file);
+        Ok(())
+    }
+
+    /// Appends to a file, and says what was counted.
+    fn append_counted(&mut self, name: &str, piece: &[u8]) -> Result<usize, Failed>
+        ensures some { IfOk result (λ n. 0 < n) }
+        ensures most { IfOk result (λ n. n ≤ length piece.now) }
+        ensures after { self.new ≡ after_append self.old result }
+    {
+        let written = self.write_to(name, piece).unwrap_or(0);
+        if written == 0 {
+            self.faults = self.faults.saturating_add(1);
+            return Err(Failed);
+        }
+        Ok(written)
+    }
+}
+
+impl Depot for RealDepot<'_> {
+    ghost store = { store_of };
+
+    /// The file's bytes to its end, or the first 2^31 of a longer one.
+    fn load(&mut self, alloc: Global, name: &str) -> Result<Vec<u8>, LoadStop> {
+        self.load_counted(alloc, name)
+    }
+
+    /// A new file gets the permissions 0755 or 0644, less the umask. One that is there is emptied in place, and an
+    /// executable may then be run by those who may read it.
+    fn begin(&mut self, name: &str, kind: FileKind) -> Result<(), Failed> {
+        self.begin_counted(name, kind)
+    }
+
+    fn append(&mut self, name: &str, piece: &[u8]) -> Result<usize, Failed> {
+        self.append_counted(name, piece)
+    }
+}

@@ -1,0 +1,42 @@
+//! `rvld -s a.o`: links one relocatable object for 64-bit RISC-V into the executable `a.out`.
+#![tactic(auto)]
+
+use link_driver::{OpenGate, run};
+use lk_real::{RealDepot, StdSink};
+use std::alloc::Global;
+use std::env;
+use std::io;
+use std::process::ExitCode;
+
+/// The words of the command, the program's name first, and none where one of them is not UTF-8, which is no command.
+fn words_of(rt: &HostRuntime, alloc: Global) -> io::Result<Vec<String>> {
+    match env::args(rt) {
+        Ok(words) => Ok(words.collect(alloc)?),
+        Err(error) => {
+            if error.kind() == io::ErrorKind::InvalidData {
+                return Ok(Vec::new(alloc));
+            }
+            Err(error)
+        }
+    }
+}
+
+fn main(rt: HostRuntime) -> ExitCode {
+    let alloc = rt.alloc();
+    let Ok(words) = words_of(&rt, alloc) else {
+        return ExitCode::from(4);
+    };
+    let mut depot = RealDepot::new(&rt, alloc);
+    let mut say = StdSink::out(&rt);
+    let mut err = StdSink::err(&rt);
+    let status = run(
+        &rt,
+        alloc,
+        words.as_slice(),
+        &mut depot,
+        &mut say,
+        &mut err,
+        &OpenGate,
+    );
+    ExitCode::from(status)
+}
