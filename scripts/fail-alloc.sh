@@ -25,4 +25,4 @@ for n in $(seq 1 "$count"); do
     fi
 done
 echo "$passed passed, $failed failed"
-[ $failed = 0 ]
+[ $failed = 0 ] && [ $passed -gt 0 ]

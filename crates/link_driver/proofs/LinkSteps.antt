@@ -39,7 +39,7 @@ begins asked bytes parts start found bound = ap (executable_of asked) found ∙ 
 -- and the executable begins at the entry
 pub linked_is : (asked : Asked) (bytes : List ℕ) (parts : Parts) (linked : Linked) (address : ℕ)
     → first_form bytes ≡ Some parts → AfterEntry parts asked.entry (Ok address)
-    → linked.executable.items ≡ executable parts address → linked.map.items ≡ [] → linked.report.items ≡ []
+    → linked.exe.items ≡ executable parts address → linked.map.items ≡ [] → linked.report.items ≡ []
     → IsLinked asked (bytes ∷ []) linked
 unfolding link
 linked_is asked bytes parts linked address found (start, bound, at) whole map_is report_is =

@@ -16,10 +16,10 @@ use Rattle.lk_base.specs.declared.defects.LinkStop.{LinkStop}
 use Rattle.lk_base.specs.declared.defects.LinkStop.TheVariants as link_stop
 use Rattle.link_driver.specs.Phases.{AfterLink}
 use Rattle.link_driver.specs.declared.driving.Ending.{Ending}
-use Rattle.link_driver.specs.declared.driving.Ending.TheVariants.{Done, Memory, Refused, Unreported, Told}
+use Rattle.link_driver.specs.declared.driving.Ending.TheVariants.{Done, Memory, Refused, Unreported, Defective, Unread, Unwritten}
 use Rattle.link_driver.specs.Link.{Asked, Link, asked_of, is_input, defects_of, link, link_with, line_of_defect, cannot_read}
 use Rattle.link_driver.specs.Ends.{IsUntouched, Ends, finds_defect, cannot_read_input, lacks_memory, IsTold, told_whole, told_cut}
-use Rattle.link_driver.specs.Endings.{status_of, told_line, IsTelling, IsWithin, TellsStop, TellsLoadStop, AreLoaded}
+use Rattle.link_driver.specs.Endings.{status_of, told_line, TellsDefect, TellsUnread, IsWithin, TellsStop, TellsLoadStop, AreLoaded}
 
 -- an accepted command has one input
 pub one_input : (words : List (List ℕ)) (asked : Asked) → asked_of words ≡ Some asked → length asked.inputs ≡ 1
@@ -43,43 +43,47 @@ lacking asked before after say untouched = lacks_memory (record { status_is = re
 -- an input could not be read
 pub unread_input : (asked : Asked) (before after : Store) (say : Output) (index : ℕ) (ending : Ending)
     → loads.FailedAt before after asked.inputs index ⊎ (IsFirstLacking before.files asked.inputs index × (after.unread ≡ before.unread))
-    → IsUntouched before after → IsTelling 3 (cannot_read (name_at asked.inputs index)) ending
+    → IsUntouched before after → TellsUnread (cannot_read (name_at asked.inputs index)) ending
     → Ends (Some asked) before after say say (status_of ending) (told_line ending)
 unread_input asked before after say index Memory cause untouched telling = lacking (Some asked) before after say untouched
-unread_input asked before after say index (Told status line) cause untouched telling =
+unread_input asked before after say index (Unread line) cause untouched telling =
     cannot_read_input (record {
       asked = asked;
       index = index;
       asks = refl;
       cause = cause;
-      status_is = telling.0;
+      status_is = refl;
       untouched = untouched;
       quiet = refl;
-      line_is = telling.1;
+      line_is = telling;
     })
 unread_input asked before after say index Done cause untouched telling = absurd telling
+unread_input asked before after say index (Defective line) cause untouched telling = absurd telling
+unread_input asked before after say index (Unwritten line) cause untouched telling = absurd telling
 unread_input asked before after say index Refused cause untouched telling = absurd telling
 unread_input asked before after say index Unreported cause untouched telling = absurd telling
 
 -- the inputs have a defect
 pub found_defect : (asked : Asked) (before now : Store) (say : Output) (inputs : List (List ℕ)) (defect : Defect) (later : List Defect) (ending : Ending)
-    → AreLoaded asked before now inputs → defects_of asked inputs ≡ defect ∷ later → IsTelling 1 (line_of_defect asked defect) ending
+    → AreLoaded asked before now inputs → defects_of asked inputs ≡ defect ∷ later → TellsDefect (line_of_defect asked defect) ending
     → Ends (Some asked) before now say say (status_of ending) (told_line ending)
 unfolding link
 found_defect asked before now say inputs defect later Memory loaded found telling = lacking (Some asked) before now say loaded.untouched
-found_defect asked before now say inputs defect later (Told status line) loaded found telling =
+found_defect asked before now say inputs defect later (Defective line) loaded found telling =
     let gives : link (Some asked) inputs ≡ link_with asked inputs (defect ∷ later) = ap (link_with asked inputs) found in
     finds_defect (record {
       asked = asked;
       inputs = inputs;
       accepts = record { asks = refl; loaded = loaded.loaded; unread = loaded.unread };
       defective = ap (λ (l : Link). l.status) gives;
-      status_is = telling.0;
+      status_is = refl;
       untouched = loaded.untouched;
       quiet = refl;
-      line_is = telling.1 ∙ sym (ap (λ (l : Link). l.err) gives);
+      line_is = telling ∙ sym (ap (λ (l : Link). l.err) gives);
     })
 found_defect asked before now say inputs defect later Done loaded found telling = absurd telling
+found_defect asked before now say inputs defect later (Unread line) loaded found telling = absurd telling
+found_defect asked before now say inputs defect later (Unwritten line) loaded found telling = absurd telling
 found_defect asked before now say inputs defect later Refused loaded found telling = absurd telling
 found_defect asked before now say inputs defect later Unreported loaded found telling = absurd telling
 

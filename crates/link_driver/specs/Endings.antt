@@ -9,7 +9,7 @@ use Rattle.lk_depot.specs.declared.stops.LoadAllStop.TheVariants as loads
 use Rattle.lk_base.specs.declared.defects.LinkStop.{LinkStop}
 use Rattle.lk_base.specs.declared.defects.LinkStop.TheVariants as stops
 use Rattle.link_driver.specs.declared.driving.Ending.{Ending}
-use Rattle.link_driver.specs.declared.driving.Ending.TheVariants.{Done, Memory, Refused, Unreported, Told}
+use Rattle.link_driver.specs.declared.driving.Ending.TheVariants.{Done, Memory, Refused, Unreported, Defective, Unread, Unwritten}
 use Rattle.link_driver.specs.declared.driving.Lines.{Lines}
 use Rattle.link_driver.specs.declared.linking.Linked.{Linked}
 use Rattle.link_driver.specs.Link.{Asked, bad_command, cannot_read, cannot_report, cannot_write, line_of_defect}
@@ -21,30 +21,40 @@ status_of Done = 0
 status_of Memory = 4
 status_of Refused = 2
 status_of Unreported = 3
-status_of (Told status line) = status
+status_of (Defective line) = 1
+status_of (Unread line) = 3
+status_of (Unwritten line) = 3
 
 abbrev pub told_line : Ending → List ℕ
 told_line Done = []
 told_line Memory = []
 told_line Refused = bad_command
 told_line Unreported = cannot_report
-told_line (Told status line) = line.items
+told_line (Defective line) = line.items
+told_line (Unread line) = line.items
+told_line (Unwritten line) = line.items
 
--- the ending tells this status with this line, or memory is wanting
-abbrev pub IsTelling : ℕ → List ℕ → Ending → Type 0
-IsTelling status line Memory = Unit {0}
-IsTelling status line (Told told words) = (told ≡ status) × (words.items ≡ line)
-IsTelling status line _ = ⊥
+-- a defect is told with this line, or memory is wanting
+abbrev pub TellsDefect : List ℕ → Ending → Type 0
+TellsDefect line Memory = Unit {0}
+TellsDefect line (Defective told) = told.items ≡ line
+TellsDefect line _ = ⊥
+
+-- an input that could not be read is told with this line, or memory is wanting
+abbrev pub TellsUnread : List ℕ → Ending → Type 0
+TellsUnread line Memory = Unit {0}
+TellsUnread line (Unread told) = told.items ≡ line
+TellsUnread line _ = ⊥
 
 -- why there is no link
 abbrev pub TellsStop : Asked → LinkStop → Ending → Type 0
-TellsStop asked (stops.Defect defect) ending = IsTelling 1 (line_of_defect asked defect) ending
+TellsStop asked (stops.Defect defect) ending = TellsDefect (line_of_defect asked defect) ending
 TellsStop asked stops.Memory ending = ending ≡ Memory
 
 -- why the inputs were not loaded
 abbrev pub TellsLoadStop : Asked → LoadAllStop → Ending → Type 0
-TellsLoadStop asked (loads.Absent index) ending = IsTelling 3 (cannot_read (name_at asked.inputs index)) ending
-TellsLoadStop asked (loads.Failed index) ending = IsTelling 3 (cannot_read (name_at asked.inputs index)) ending
+TellsLoadStop asked (loads.Absent index) ending = TellsUnread (cannot_read (name_at asked.inputs index)) ending
+TellsLoadStop asked (loads.Failed index) ending = TellsUnread (cannot_read (name_at asked.inputs index)) ending
 TellsLoadStop asked loads.Memory ending = ending ≡ Memory
 
 -- the input that was not loaded is one of these

@@ -26,7 +26,7 @@ AfterEntry parts entry (Err Memory) = Unit {0}
 -- what a link without a defect gives is what Link is
 pub record IsLinked (asked : Asked) (inputs : List (List ℕ)) (linked : Linked) : Type 0 where
   pub status : (link (Some asked) inputs).status ≡ 0
-  pub executable : linked.executable.items ≡ (link (Some asked) inputs).executable
+  pub executable : linked.exe.items ≡ (link (Some asked) inputs).executable
   pub map : linked.map.items ≡ (link (Some asked) inputs).map
   pub report : linked.report.items ≡ (link (Some asked) inputs).say
 

@@ -10,7 +10,7 @@ ghost use Rattle.link_driver.specs.Command.{texts_of, contents_of, asks};
 ghost use Rattle.link_driver.specs.Phases.{IsLinked};
 ghost use Rattle.link_driver.specs.Ends.{Accepts, IsCut, IsTold, Ends, EndsSo};
 ghost use Rattle.link_driver.specs.Promises.{Promises};
-ghost use Rattle.link_driver.specs.Endings.{status_of, told_line, IsTelling, TellsStop, TellsLoadStop, IsWithin, AfterReport, map_line, AreLines, AreLoaded, IsReady};
+ghost use Rattle.link_driver.specs.Endings.{status_of, told_line, TellsDefect, TellsUnread, TellsStop, TellsLoadStop, IsWithin, AfterReport, map_line, AreLines, AreLoaded, IsReady};
 
 use crate::command::{Command, command_of};
 use crate::linking::{Linked, link};
@@ -27,7 +27,12 @@ enum Ending {
     Memory,
     Refused,
     Unreported,
-    Told { status: u8, line: Vec<u8> },
+    /// The inputs have a defect.
+    Defective { line: Vec<u8> },
+    /// An input could not be read.
+    Unread { line: Vec<u8> },
+    /// A file could not be written.
+    Unwritten { line: Vec<u8> },
 }
 
 /// Begins a file and writes it.
@@ -100,13 +105,13 @@ fn report<S: Sink>(say: &mut S, text: &[u8]) -> Ending
 #[tactic(auto, unfolding(crate::specs::Link::cannot_read))]
 fn blame_input(alloc: Global, command: &Command, index: usize) -> Ending
     requires { index < length (asks command.now).inputs }
-    ensures { IsTelling 3 (cannot_read (name_at (asks command.now).inputs index)) result }
+    ensures { TellsUnread (cannot_read (name_at (asks command.now).inputs index)) result }
 {
     let name = command.inputs[index].as_str();
     let Ok(line) = line_about(alloc, b"rvld: cannot read ", name) else {
         return Ending::Memory;
     };
-    Ending::Told { status: 3, line }
+    Ending::Unread { line }
 }
 
 /// The name of the file of a defect, empty where it has none.
@@ -132,14 +137,14 @@ fn shown_name(command: &Command, kind: DefectKind) -> &[u8]
 /// The first defect.
 #[tactic(auto, unfolding(crate::specs::Link::line_of_defect))]
 fn tell_defect(alloc: Global, command: &Command, defect: &Defect) -> Ending
-    ensures { IsTelling 1 (line_of_defect (asks command.now) defect.now) result }
+    ensures { TellsDefect (line_of_defect (asks command.now) defect.now) result }
 {
     let file = file_name(command, defect.file);
     let name = shown_name(command, defect.kind);
     let Ok(line) = line_of(alloc, defect, file, name, &[]) else {
         return Ending::Memory;
     };
-    Ending::Told { status: 1, line }
+    Ending::Defective { line }
 }
 
 /// Why there is no link.
@@ -180,22 +185,16 @@ fn conclude<D: Depot, S: Sink>(
     ensures say_faults { (S.output say.old).faults ≤ (S.output say.new).faults }
 {
     let output = command.output.as_str();
-    match write_file(depot, output, FileKind::Executable, &linked.executable) {
+    match write_file(depot, output, FileKind::Executable, &linked.exe) {
         Ok(()) => {}
-        Err(_) => return Ending::Told {
-            status: 3,
-            line: lines.output,
-        },
+        Err(_) => return Ending::Unwritten { line: lines.output },
     }
     let Some(map) = &command.map else {
         return report(say, &linked.report);
     };
     match write_file(depot, map.as_str(), FileKind::Plain, &linked.map) {
         Ok(()) => {}
-        Err(_) => return Ending::Told {
-            status: 3,
-            line: lines.map,
-        },
+        Err(_) => return Ending::Unwritten { line: lines.map },
     }
     report(say, &linked.report)
 }
@@ -272,7 +271,9 @@ fn status(ending: &Ending) -> u8
         Ending::Memory => 4,
         Ending::Refused => 2,
         Ending::Unreported => 3,
-        Ending::Told { status, .. } => *status,
+        Ending::Defective { .. } => 1,
+        Ending::Unread { .. } => 3,
+        Ending::Unwritten { .. } => 3,
     }
 }
 
@@ -286,7 +287,9 @@ fn line(ending: &Ending) -> &[u8]
         Ending::Memory => &[],
         Ending::Refused => b"rvld: bad command\n",
         Ending::Unreported => b"rvld: cannot report\n",
-        Ending::Told { line, .. } => line.as_slice(),
+        Ending::Defective { line } => line.as_slice(),
+        Ending::Unread { line } => line.as_slice(),
+        Ending::Unwritten { line } => line.as_slice(),
     }
 }
 
@@ -306,8 +309,8 @@ fn tell<E: Sink>(err: &mut E, line: &[u8])
 ///
 /// `words` are the command's, the program's name first. Inputs are loaded from `depot` in the order of the command, before the
 /// executable, and the map where one is asked, are begun there; all of them are named as the command says. The report goes to
-/// `say`, the line of an end that is not 0 or 4 to `err`. All memory is taken from `alloc` and given back, all of it
-/// before a file is begun.
+/// `say`, the line of an end that is not 0 or 4 to `err`. All memory is taken from `alloc` before a
+/// file is begun, and given back at the end.
 ///
 /// The answer is the exit status: 0 linked; 1 the inputs have a defect, whose line is told; 2 the command is refused; 3 an input
 /// could not be read, or a file or the report could not be written; 4 memory was wanting. `rt` and `gate` are for passes that run

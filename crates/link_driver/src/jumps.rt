@@ -2,7 +2,7 @@
 
 ghost use Rattle.std.specs.Prelude.{◌≡◌, ℕ, ◌+◌, ◌-◌, ◌*◌, ◌^◌, ◌<◌, ◌≤◌, [], ◌∷◌, length, IfOk, IsTrue};
 ghost use Rattle.std.specs.Int.{bit_at};
-ghost use Rattle.lk_base.specs.Fields.{run, j_format, field_bit};
+ghost use Rattle.lk_base.specs.Fields.{run, j_format, field_bit, HoldsJump};
 ghost use Rattle.link_driver.specs.FormView.{view};
 ghost use Rattle.link_driver.specs.Entries.{are_relocs};
 ghost use Rattle.link_driver.specs.Jumps.{with_field, with_jump, linked_text};
@@ -30,7 +30,8 @@ fn put(word: u64, high: u32, low: u32, from: u32, value: u64) -> u64
 /// The instruction `word` with the displacement `value`.
 #[tactic(auto, unfolding(crate::specs::Jumps::with_field))]
 fn jump_word(word: u32, value: u64) -> u32
-    ensures { result ≡ with_field j_format word value }
+    ensures value { result ≡ with_field j_format word value }
+    ensures field { HoldsJump word value result }
 {
     let first = put(word as u64, 19, 12, 12, value);
     let second = put(first, 20, 20, 11, value);

@@ -17,7 +17,7 @@ use std::alloc::Global;
 #[derive(Drop)]
 pub struct Linked {
     /// The bytes of the executable.
-    pub executable: Vec<u8>,
+    pub exe: Vec<u8>,
     /// The bytes of the map, none where no map is asked.
     pub map: Vec<u8>,
     /// What is said of the link, nothing where no report is asked.
@@ -65,9 +65,9 @@ pub fn link(alloc: Global, command: &Command, input: &[u8]) -> Result<Linked, Li
 {
     let object = read_input(alloc, input)?;
     let entry = find_entry(&object, command.entry.as_str())?;
-    let executable = write_executable(alloc, &object, entry)?;
+    let exe = write_executable(alloc, &object, entry)?;
     Ok(Linked {
-        executable,
+        exe,
         map: Vec::new(alloc),
         report: Vec::new(alloc),
     })

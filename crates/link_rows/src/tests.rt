@@ -104,70 +104,117 @@ fn one_object_gives_one_executable(rt: HostRuntime) -> Result<(), Fail> {
     Ok(())
 }
 
+/// A command, what it meets, and what it has to leave.
+#[derive(Clone, Copy)]
+struct Row<'a> {
+    words: &'a [&'a str],
+    input: &'a [u8],
+    /// The numbers of the depot's calls that fail.
+    fails: &'a [u64],
+    status: u8,
+    line: &'a [u8],
+    /// How many bytes of `a.out` there are.
+    written: usize,
+    /// How many calls of the depot there were.
+    calls: u64,
+}
+
+fn check_row<R: Threads + Sync>(
+    rt: &R,
+    alloc: Global,
+    row: &Row,
+    whole: &[u8],
+) -> Result<bool, AllocError> {
+    let left = run_with(rt, alloc, row.words, row.input, row.fails, 1000)?;
+    let file = left.depot.bytes("a.out").unwrap_or(b"".as_slice());
+    Ok(
+        left.status == row.status
+            && left.err.written() == row.line
+            && left.say.calls() == 0
+            && left.depot.calls() == row.calls
+            && file.len() == row.written
+            && whole.starts_with(file),
+    )
+}
+
 #[test]
 fn each_end_has_its_line(rt: HostRuntime) -> Result<(), Fail> {
     let bytes = first_example(rt.alloc())?;
     let link: &[&str] = &["rvld", "-s", "a.o"];
-    let none: &[u64] = &[];
-    let rows: [(&[&str], &[u8], &[u64], usize, u8, &[u8], usize); 7] = [
-        (&["rvld"], &bytes, none, 9, 2, b"rvld: bad command\n", 0),
-        (
-            &["rvld", "-s", "-a.o"],
-            &bytes,
-            none,
-            9,
-            2,
-            b"rvld: bad command\n",
-            0,
-        ),
-        (
-            link,
-            b"",
-            none,
-            9,
-            1,
-            b"rvld: F01 NotObject file=a.o section=0 place=0 name= other=0\n",
-            0,
-        ),
-        (link, &bytes, &[0], 9, 3, b"rvld: cannot read a.o\n", 0),
-        (
-            &["rvld", "-s", "z.o"],
-            &bytes,
-            none,
-            9,
-            3,
-            b"rvld: cannot read z.o\n",
-            0,
-        ),
-        (
-            link,
-            &bytes,
-            &[4],
-            1000,
-            3,
-            b"rvld: cannot write a.out\n",
-            2000,
-        ),
-        (
-            link,
-            &bytes,
-            &[1],
-            1000,
-            3,
-            b"rvld: cannot write a.out\n",
-            0,
-        ),
+    let left = run_with(&rt, rt.alloc(), link, &bytes, &[], 1_000_000)?;
+    let whole = left.depot.bytes("a.out").expect(&rt, "it was written");
+    let refused = b"rvld: bad command\n".as_slice();
+    let defect = b"rvld: F01 NotObject file=a.o section=0 place=0 name= other=0\n".as_slice();
+    let unread = b"rvld: cannot read a.o\n".as_slice();
+    let missing = b"rvld: cannot read z.o\n".as_slice();
+    let unwritten = b"rvld: cannot write a.out\n".as_slice();
+    let rows = [
+        Row {
+            words: &["rvld"],
+            input: &bytes,
+            fails: &[],
+            status: 2,
+            line: refused,
+            written: 0,
+            calls: 0,
+        },
+        Row {
+            words: &["rvld", "-s", "-a.o"],
+            input: &bytes,
+            fails: &[],
+            status: 2,
+            line: refused,
+            written: 0,
+            calls: 0,
+        },
+        Row {
+            words: link,
+            input: b"",
+            fails: &[],
+            status: 1,
+            line: defect,
+            written: 0,
+            calls: 1,
+        },
+        Row {
+            words: link,
+            input: &bytes,
+            fails: &[0],
+            status: 3,
+            line: unread,
+            written: 0,
+            calls: 1,
+        },
+        Row {
+            words: &["rvld", "-s", "z.o"],
+            input: &bytes,
+            fails: &[],
+            status: 3,
+            line: missing,
+            written: 0,
+            calls: 1,
+        },
+        Row {
+            words: link,
+            input: &bytes,
+            fails: &[4],
+            status: 3,
+            line: unwritten,
+            written: 2000,
+            calls: 5,
+        },
+        Row {
+            words: link,
+            input: &bytes,
+            fails: &[1],
+            status: 3,
+            line: unwritten,
+            written: 0,
+            calls: 2,
+        },
     ];
-    for (words, input, fails, most, status, line, written) in rows {
-        let left = run_with(&rt, rt.alloc(), words, input, fails, most)?;
-        assert_eq!(rt; left.status, status);
-        assert_eq!(rt; left.err.written(), line);
-        assert_eq!(rt; left.say.written(), b"".as_slice());
-        let file = left.depot.bytes("a.out").unwrap_or(b"".as_slice());
-        assert_eq!(rt; file.len(), written);
-        let whole = run_with(&rt, rt.alloc(), link, &bytes, none, 1_000_000)?;
-        let executable = whole.depot.bytes("a.out").unwrap_or(b"".as_slice());
-        assert!(rt; executable.starts_with(file));
+    for row in &rows {
+        assert!(rt; check_row(&rt, rt.alloc(), row, whole)?);
     }
     Ok(())
 }

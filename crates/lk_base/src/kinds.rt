@@ -26,7 +26,8 @@ pub enum DefectKind {
     F09,
     /// BadName: a name that does not end inside its string table.
     F10,
-    /// BadReloc: a relocation that names no symbol, meets another's bytes or ends past its section.
+    /// BadReloc: a relocation that names no symbol, meets another's bytes, ends past its section or stands in one without
+    /// contents, or an addend that its kind does not take.
     F11,
     /// RelocKind: a relocation of a kind that is not linked.
     F12,

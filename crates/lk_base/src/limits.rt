@@ -6,7 +6,7 @@ ghost use Rattle.lk_base.specs.Limits.{oversize, standard};
 use crate::defects::Flaw;
 use crate::kinds::DefectKind;
 
-/// The greatest numbers that a link takes. A link of the command has the standard ones; smaller ones are for tests.
+/// The numbers up to which a link goes. A link of the command has the standard ones; smaller ones are for tests.
 #[derive(Clone, Copy, Debug, PartialEq, Eq)]
 pub struct Limits {
     /// Bytes of an input file.
@@ -21,11 +21,12 @@ pub struct Limits {
     pub pieces: u64,
     /// Output sections.
     pub outputs: u64,
-    /// Bytes of the memory image.
+    /// Bytes of the memory image, which has to have less; each other limit is the most that is allowed.
     pub image: u64,
 }
 
 impl Limits {
+    /// The limits of each link that the command runs.
     pub fn standard() -> Limits
         ensures { result ≡ standard }
     {

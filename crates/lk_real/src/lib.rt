@@ -1,5 +1,5 @@
-// The outside for real: the files of the system as a store, and the two standard streams to write to. They tell what
-// failed, and nothing of what a file holds or a stream was given: that is the system's.
+//! The outside for real: the files of the system as a store, and the two standard streams to write to. They tell what
+//! failed, and nothing of what a file holds or a stream was given: that is the system's.
 #![tactic(auto)]
 
 mod real_depot;

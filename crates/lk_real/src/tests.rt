@@ -29,13 +29,12 @@ fn files_are_made_written_and_read(rt: HostRuntime) -> Result<(), Fail> {
     );
     assert_eq!(rt; depot.begin(notes.as_str(), FileKind::Plain), Ok(()));
     assert_eq!(rt; put_all(&mut depot, notes.as_str(), b"note"), Ok(()));
+    // Whoever may read the plain file may read the program, and run it.
+    let plain = fs::metadata(&rt, notes.as_str())?.permissions().mode() & 0o777;
+    assert_eq!(rt; plain & 0o733, 0o600);
     assert_eq!(rt;
-        fs::metadata(&rt, program.as_str())?.permissions().mode() & 0o100,
-        0o100
-    );
-    assert_eq!(rt;
-        fs::metadata(&rt, notes.as_str())?.permissions().mode() & 0o111,
-        0
+        fs::metadata(&rt, program.as_str())?.permissions().mode() & 0o777,
+        plain | ((plain & 0o444) >> 2)
     );
 
     // An append goes on at the end, also after another file was written to.

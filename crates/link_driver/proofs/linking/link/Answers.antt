@@ -20,4 +20,4 @@ pub returns : goal.returns
 returns c =
     let entry = rw c.as_str.ensures.value at c.in_ok-entry.ensures in
     linked_is (asks c.args.command.now) c.args.input.now (view c.in_ok-object.object) _ c.in_ok-entry.entry
-    c.in_ok-object.ensures.0 entry c.in_ok-executable.ensures c.new.ensures.items c.new-2.ensures.items
+    c.in_ok-object.ensures.0 entry c.in_ok-exe.ensures c.new.ensures.items c.new-2.ensures.items
