@@ -18,7 +18,7 @@ use Rattle.link_driver.specs.Phases.{AfterLink}
 use Rattle.link_driver.specs.declared.driving.Ending.{Ending}
 use Rattle.link_driver.specs.declared.driving.Ending.TheVariants.{Done, Memory, Refused, Unreported, Defective, Unread, Unwritten}
 use Rattle.link_driver.specs.Link.{Asked, Link, asked_of, is_input, defects_of, link, link_with, line_of_defect, cannot_read}
-use Rattle.link_driver.specs.Ends.{IsUntouched, Ends, finds_defect, cannot_read_input, lacks_memory, IsTold, told_whole, told_cut}
+use Rattle.link_driver.specs.Ends.{IsUntouched, IsUnread, none_failed, one_failed, Ends, finds_defect, cannot_read_input, lacks_memory, IsTold, told_whole, told_cut}
 use Rattle.link_driver.specs.Endings.{status_of, told_line, TellsDefect, TellsUnread, IsWithin, TellsStop, TellsLoadStop, AreLoaded}
 
 -- an accepted command has one input
@@ -37,15 +37,24 @@ one_input (program ∷ option ∷ input ∷ []) asked is = by (bytes_eq option (
     by false is = cc
 
 -- memory was wanting before anything was begun
-pub lacking : (asked : Option Asked) (before after : Store) (say : Output) → IsUntouched before after → Ends asked before after say say 4 []
-lacking asked before after say untouched = lacks_memory (record { status_is = refl; untouched = untouched; quiet = refl; line_is = refl })
+pub lacking : (asked : Option Asked) (before after : Store) (say : Output) → IsUntouched before after → IsUnread asked before after → Ends asked before after say say 4 []
+lacking asked before after say untouched unread =
+    lacks_memory (record { status_is = refl; unread = unread; untouched = untouched; quiet = refl; line_is = refl })
+
+-- what an input that could not be read leaves of the list of such names
+left_unread : (asked : Asked) (before after : Store) (index : ℕ)
+    → loads.FailedAt before after asked.inputs index ⊎ (IsFirstLacking before.files asked.inputs index × (after.unread ≡ before.unread))
+    → IsUnread (Some asked) before after
+left_unread asked before after index (inl failed) = one_failed asked index refl failed
+left_unread asked before after index (inr lacking) = none_failed lacking.1
 
 -- an input could not be read
 pub unread_input : (asked : Asked) (before after : Store) (say : Output) (index : ℕ) (ending : Ending)
     → loads.FailedAt before after asked.inputs index ⊎ (IsFirstLacking before.files asked.inputs index × (after.unread ≡ before.unread))
     → IsUntouched before after → TellsUnread (cannot_read (name_at asked.inputs index)) ending
     → Ends (Some asked) before after say say (status_of ending) (told_line ending)
-unread_input asked before after say index Memory cause untouched telling = lacking (Some asked) before after say untouched
+unread_input asked before after say index Memory cause untouched telling =
+    lacking (Some asked) before after say untouched (left_unread asked before after index cause)
 unread_input asked before after say index (Unread line) cause untouched telling =
     cannot_read_input (record {
       asked = asked;
@@ -68,7 +77,8 @@ pub found_defect : (asked : Asked) (before now : Store) (say : Output) (inputs :
     → AreLoaded asked before now inputs → defects_of asked inputs ≡ defect ∷ later → TellsDefect (line_of_defect asked defect) ending
     → Ends (Some asked) before now say say (status_of ending) (told_line ending)
 unfolding link
-found_defect asked before now say inputs defect later Memory loaded found telling = lacking (Some asked) before now say loaded.untouched
+found_defect asked before now say inputs defect later Memory loaded found telling =
+    lacking (Some asked) before now say loaded.untouched (none_failed loaded.unread)
 found_defect asked before now say inputs defect later (Defective line) loaded found telling =
     let gives : link (Some asked) inputs ≡ link_with asked inputs (defect ∷ later) = ap (link_with asked inputs) found in
     finds_defect (record {
@@ -110,7 +120,7 @@ not_loaded asked names before after say (stop.Absent index) ending same cause un
 not_loaded asked names before after say (stop.Failed index) ending same cause untouched telling =
     unread_input asked before after say index ending (inl (rw same at cause)) untouched telling
 not_loaded asked names before after say stop.Memory ending same cause untouched telling =
-    rw telling (lacking (Some asked) before after say untouched)
+    rw telling (lacking (Some asked) before after say untouched (none_failed cause))
 
 pub load_within : (names : List (List ℕ)) (before after : Store) (stop : LoadAllStop) → AfterLoads before after names (Err stop) → IsWithin names stop
 load_within names before after (stop.Absent index) cause = cause.0.within
@@ -124,7 +134,7 @@ pub not_linked : (asked : Asked) (before now : Store) (say : Output) (inputs : L
 not_linked asked before now say inputs (link_stop.Defect defect) ending loaded found telling =
     found_defect asked before now say inputs defect found.0 ending loaded found.1 telling
 not_linked asked before now say inputs link_stop.Memory ending loaded found telling =
-    rw telling (lacking (Some asked) before now say loaded.untouched)
+    rw telling (lacking (Some asked) before now say loaded.untouched (none_failed loaded.unread))
 
 -- the same of a buffer that was read at 0
 pub the_buffer : (buffers : List (Vec ℕ)) (first : Vec ℕ) (bytes : List ℕ) → length buffers ≡ 1 → first ≡ get_or buffers 0 first → bytes ≡ first.items

@@ -21,6 +21,11 @@ pub record IsUntouched (before after : Store) : Type 0 where
   pub kinds : after.kinds ≡ before.kinds
   pub begun : after.begun ≡ before.begun
 
+-- no load failed, or one of an input did, as the first
+pub data IsUnread (wanted : Option Asked) (before after : Store) : Type 0 where
+  none_failed : after.unread ≡ before.unread → IsUnread wanted before after
+  one_failed : (asked : Asked) (index : ℕ) → wanted ≡ Some asked → FailedAt before after asked.inputs index → IsUnread wanted before after
+
 -- the names of a map once a file of this name was written, where one is asked
 abbrev pub with_map : {X : Type 0} → Option (List ℕ) → X → Option (Named X) → Option (Named X)
 with_map None value names = names
@@ -130,9 +135,10 @@ module _ (wanted : Option Asked) (before after : Store) (say say' : Output) (sta
     pub said : say'.written ≡ told_said (take size (link wanted inputs).say) say.written
     pub line_is : line ≡ cannot_report
 
-  -- 4: want of memory; nothing begun, nothing said, no line
+  -- 4: want of memory; nothing begun, nothing said, no line; an input may have been found unreadable before
   pub record LacksMemory : Type 0 where
     pub status_is : status ≡ 4
+    pub unread : IsUnread wanted before after
     pub untouched : IsUntouched before after
     pub quiet : say' ≡ say
     pub line_is : line ≡ []

@@ -104,7 +104,7 @@ fn allow_running(file: &File) {
         return;
     };
     if metadata.is_file() {
-        let mode = metadata.permissions().mode() & 0o7777;
+        let mode = metadata.permissions().mode() & 0o777;
         let _ = file.set_permissions(Permissions::from_mode(mode | (mode & 0o444) >> 2));
     }
 }
@@ -243,6 +243,8 @@ impl<'a> RealDepot<'a> {
         let written = self.write_to(name, piece).unwrap_or(0);
         if written == 0 {
             self.faults = self.faults.saturating_add(1);
+            // Nothing may go to the file from here on, whatever takes its number.
+            self.open = None;
             return Err(Failed);
         }
         Ok(written)

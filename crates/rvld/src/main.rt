@@ -4,9 +4,9 @@
 use link_driver::{OpenGate, run};
 use lk_real::{RealDepot, StdSink};
 use std::alloc::Global;
-use std::env;
-use std::io;
+use std::fs::File;
 use std::process::ExitCode;
+use std::{env, io};
 
 /// The words of the command, the program's name first, and none where one of them is not UTF-8, which is no command.
 fn words_of(rt: &HostRuntime, alloc: Global) -> io::Result<Vec<String>> {
@@ -21,8 +21,20 @@ fn words_of(rt: &HostRuntime, alloc: Global) -> io::Result<Vec<String>> {
     }
 }
 
+/// The null device in place of a standard stream that is closed, so that no file of the link takes the stream's number.
+fn null_device(rt: &HostRuntime) -> Option<File> {
+    File::options()
+        .read(true)
+        .write(true)
+        .open(rt, "/dev/null")
+        .ok()
+}
+
 fn main(rt: HostRuntime) -> ExitCode {
     let alloc = rt.alloc();
+    let _input = null_device(&rt);
+    let _output = null_device(&rt);
+    let _error = null_device(&rt);
     let Ok(words) = words_of(&rt, alloc) else {
         return ExitCode::from(4);
     };

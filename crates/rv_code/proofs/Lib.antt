@@ -1,0 +1,5 @@
+pub mod BitRuns
+pub mod WholePlaces
+pub mod ReadingBack
+pub mod Going
+pub mod JumpWords

@@ -1,0 +1,20 @@
+-- Whole instructions (unprivileged manual, "RV32/64G Instruction Set Listings" and "RVC Instruction Set Listings").
+use Rattle.std.specs.Prelude.{◌≡◌, ℕ, ◌+◌, ◌*◌, ◌%◌, ◌^◌, ◌==◌, ℤ, if◌then◌else◌, nat_le}
+use Rattle.lk_base.specs.Fields.{j_format, HoldsField}
+use Rattle.rv_code.specs.Formats.{cj_format}
+use Rattle.rv_code.specs.Places.{bits_of, held_in}
+use Rattle.rv_code.specs.Transfers.{signed}
+
+-- jal: opcode 0x6f, the register in bits 11 to 7, and a displacement, by which the processor goes
+pub record IsJal (rd : ℕ) (offset : ℤ) (word : ℕ) : Type 0 where
+  pub bits : HoldsField j_format 32 (0x6f + rd * 2 ^ 7) (bits_of offset) word
+  pub goes : signed 21 (held_in j_format word) ≡ offset
+
+-- c.j: 0xa001 with a displacement
+pub record IsShortJump (offset : ℤ) (word : ℕ) : Type 0 where
+  pub bits : HoldsField cj_format 16 0xa001 (bits_of offset) word
+  pub goes : signed 12 (held_in cj_format word) ≡ offset
+
+-- byte i of so many bytes of nops: nop, 0x00000013, while four bytes are left, then c.nop, 0x0001
+abbrev pub nop_byte : (len i : ℕ) → ℕ
+nop_byte len i = if i % 4 == 0 then (if nat_le (i + 4) len then 0x13 else 0x01) else 0

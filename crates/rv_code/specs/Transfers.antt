@@ -1,0 +1,21 @@
+-- Where a patched branch, jump or call goes: its place as the processor reads it (unprivileged manual, "Control
+-- Transfer Instructions", auipc in "Integer Register-Immediate Instructions", and "RVC Control Transfer
+-- Instructions").
+use Rattle.std.specs.Prelude.{◌≡◌, ℕ, ◌-◌, ◌^◌, ℤ, pos, ◌+ℤ◌, ◌-ℤ◌, ◌⊎◌, nat_lt, if◌then◌else◌, List}
+use Rattle.lk_base.specs.Fields.{j_format}
+use Rattle.rv_code.specs.Formats.{b_format, cb_format, cj_format, u_format, second_i_format}
+use Rattle.rv_code.specs.Places.{number_of, held_in}
+
+-- a number of n bits as two's complement
+abbrev pub signed : ℕ → ℕ → ℤ
+signed n x = if nat_lt x (2 ^ (n - 1)) then pos x else (pos x -ℤ pos (2 ^ n))
+
+-- What the processor adds to the address of the place. A call is two instructions: auipc adds its upper part, and
+-- jalr the signed part in the word behind it.
+pub record Goes (number : ℕ) (v : ℤ) (place : List ℕ) : Type 0 where
+  pub branch : number ≡ 16 → signed 13 (held_in b_format (number_of place)) ≡ v
+  pub jump : number ≡ 17 → signed 21 (held_in j_format (number_of place)) ≡ v
+  pub call : (number ≡ 18) ⊎ (number ≡ 19)
+      → signed 32 (held_in u_format (number_of place)) +ℤ signed 12 (held_in second_i_format (number_of place)) ≡ v
+  pub short_branch : number ≡ 44 → signed 9 (held_in cb_format (number_of place)) ≡ v
+  pub short_jump : number ≡ 45 → signed 12 (held_in cj_format (number_of place)) ≡ v

@@ -1,0 +1,53 @@
+//! Whole instructions: jumps and nops.
+
+ghost use Rattle.std.specs.Prelude.{◌≡◌, ◌<◌, ◌%◌, length, slice_index, EachIndex};
+ghost use Rattle.rv_code.specs.Instructions.{IsJal, IsShortJump, nop_byte};
+ghost use Rattle.rv_code.specs.Kinds.{kind_of};
+ghost use Rattle.rv_code.specs.Reaches.{Takes};
+
+use crate::kinds::{R_RISCV_JAL, R_RISCV_RVC_JUMP};
+use crate::places::patch;
+
+/// `jal`: a jump by an offset that leaves the address behind it in the register `rd`.
+#[tactic(auto, unfolding(crate::specs::Kinds::kind_of, crate::specs::Kinds::has_value))]
+pub fn jal(rd: u32, offset: i64) -> u32
+    requires register { rd < 32 }
+    requires fits { Takes (kind_of R_RISCV_JAL).reach offset }
+    ensures { IsJal rd offset result }
+{
+    let mut bytes = (0x6f + (rd << 7)).to_le_bytes();
+    patch(R_RISCV_JAL, &mut bytes, i128::from(offset));
+    u32::from_le_bytes(bytes)
+}
+
+/// `c.j`: a jump by an offset, in two bytes.
+#[tactic(auto, unfolding(crate::specs::Kinds::kind_of, crate::specs::Kinds::has_value))]
+pub fn cj(offset: i64) -> u16
+    requires { Takes (kind_of R_RISCV_RVC_JUMP).reach offset }
+    ensures { IsShortJump offset result }
+{
+    let mut bytes = 0xa001u16.to_le_bytes();
+    patch(R_RISCV_RVC_JUMP, &mut bytes, i128::from(offset));
+    u16::from_le_bytes(bytes)
+}
+
+fn nop_byte(len: usize, i: usize) -> u8
+    requires { i < len }
+    ensures { result ≡ nop_byte len i }
+{
+    if i % 4 != 0 {
+        return 0;
+    }
+    if len - i >= 4 { 0x13 } else { 0x01 }
+}
+
+/// Fills a stretch of code with nops: those of four bytes, and one of two where two bytes are left.
+pub fn nops(place: &mut [u8])
+    requires { length place.old % 2 ≡ 0 }
+    ensures { EachIndex place.new (λ i. slice_index place.new i ≡ nop_byte (length place.old) i) }
+{
+    let len = place.len();
+    for (i, byte) in place.iter_mut().enumerate() {
+        *byte = nop_byte(len, i);
+    }
+}
