@@ -1,5 +1,6 @@
 -- Steps that were claimed stay claimed when more are made or joined, and pieces that tile leave no offer out.
-use Rattle.std.proofs.Common.{◌≡◌, ℕ, ◌+◌, ◌<◌, ◌≤◌, Result, Ok, Err, List, [], ◌∷◌, ◌++◌, length, get_or, All, IfOk, sym, ap, ◌∙◌, subst, ⊎_elim, arith}
+use Rattle.std.proofs.Math.Seq.{get_or-append_right}
+use Rattle.std.proofs.Common.{◌≡◌, ℕ, ◌+◌, ◌<◌, ◌≤◌, Result, Ok, Err, List, [], ◌∷◌, ◌++◌, length, get_or, All, IfOk, sym, ap, ◌∙◌, subst, ⊎_elim, arith, length-append, ◌-◌}
 use Rattle.std.proofs.lemmas.List.{get_or_default, append-nil, append_assoc, nil_from_length}
 use Rattle.std.proofs.lemmas.List.Elements.{All-push, All-weaker, Contains-append_left, Contains-append_right, Contains-push, All-contains_itself}
 use Rattle.std.proofs.lemmas.Bool.{cases_lt}
@@ -93,3 +94,14 @@ finished t s row words offers count same closed has =
     let P : ℕ → List Event → Type 0 = λ n os. HasClaimedEach os s.steps → EachIsLeast os row × (row ≡ after (none_of n) os) in
     let itself = All-contains_itself t.offers in
     subst (λ (n : ℕ). P n offers) count (subst (P t.words) same (λ each. (closed.least each, closed.agrees each t.offers (itself, itself)))) has
+
+-- what holds of each element holds of one in the midst
+pub among : {X : Type 0} (P : X → Type 0) (done rest whole : List X) (x : X) → done ++ x ∷ rest ≡ whole → All P whole → P x
+among P done rest whole x e all =
+    let count = ap length (sym e) in
+    let lt : length done < length whole = omega (arith, count, length-append done (x ∷ rest)) in
+    let none : length done - length done ≡ 0 = omega arith in
+    let here : get_or whole (length done) x ≡ x =
+    ap (λ l. get_or l (length done) x) (sym e) ∙ get_or-append_right done (x ∷ rest) (length done) x (omega arith)
+    ∙ ap (λ k. get_or (x ∷ rest) k x) none in
+    subst P here (all (length done) x lt)

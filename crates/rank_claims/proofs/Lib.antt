@@ -1,3 +1,4 @@
 pub mod Rows
 pub mod Keeps
 pub mod Ends
+pub mod Sitting

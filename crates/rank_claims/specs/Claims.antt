@@ -19,9 +19,11 @@ pub record SeatView : Type 0 where
   pub known : List ℕ
   pub steps : List OwnStep
 
--- the seat is one of this table's
-abbrev pub SitsAt : TableView → SeatView → Type 0
-SitsAt t s = s.table ≡ t.table
+-- the seat is one of this table's: it has the table's offers, and knows of each of its words
+pub record SitsAt (t : TableView) (s : SeatView) : Type 0 where
+  pub table : s.table ≡ t.table
+  pub offers : s.offers ≡ t.offers
+  pub wide : length s.known ≡ t.words
 
 -- the offer at a place of a list
 abbrev pub offer_at : List Event → ℕ → Event

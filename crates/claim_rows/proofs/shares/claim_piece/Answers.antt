@@ -1,5 +1,6 @@
-use Rattle.std.proofs.Common.{ℕ, ap, sym, ◌+◌, ◌∙◌, subst}
+use Rattle.std.proofs.Common.{ℕ, sym, ◌+◌, subst}
 use Rattle.rank_claims.specs.Claims.{SeatView}
+use Rattle.rank_claims.proofs.Sitting.{sits_claimed}
 use Rattle.claim_rows.specs.Shares.{HasClaimedFrom}
 use Rattle.claim_rows.proofs.Sharing.{HasClaimedFrom-more}
 use Rattle.claim_rows.proofs.shares.claim_piece.Goals as goal
@@ -10,6 +11,6 @@ loop-i-preserved c =
     let start : ℕ = c.args.piece.start in
     let i : ℕ = c.loop-i.i in
     let P : SeatView → Type 0 = λ s. HasClaimedFrom offers start (i + 1) s.steps in record {
-      seated = ap (λ (s : SeatView). s.table) c.claim.ensures.step ∙ c.loop-i.invariant.seated;
+      seated = sits_claimed _ c.loop-i.seat _ _ c.claim.result c.loop-i.invariant.seated c.claim.ensures.step;
       claimed = subst P (sym c.claim.ensures.step) (HasClaimedFrom-more offers start i c.claim.result c.loop-i.seat.steps c.loop-i.invariant.claimed);
     }

@@ -1,8 +1,9 @@
 use Rattle.std.proofs.Common.{◌++◌, ◌∷◌, [], ap, sym, ◌∙◌, subst, All, arith, List}
 use Rattle.std.specs.Vec.Iter.{into_iter_items}
-use Rattle.rank_claims.specs.Claims.{SeatView}
+use Rattle.rank_claims.specs.Claims.{SeatView, SitsAt}
+use Rattle.rank_claims.proofs.Sitting.{sits_joined}
 use Rattle.claim_rows.specs.Shares.{KeepsClaims}
-use Rattle.claim_rows.proofs.Sharing.{kept-more, yielded-more, yielded-all}
+use Rattle.claim_rows.proofs.Sharing.{among, kept-more, yielded-more, yielded-all}
 use Rattle.claim_rows.proofs.shares.join_all.Goals as goal
 
 pub loop-other-preserved : goal.loop-other-preserved
@@ -10,11 +11,14 @@ loop-other-preserved c =
     let other : SeatView = c.in-Some.other in
     let before = c.loop-other.invariant in
     let joined = c.join.ensures in
+    let sits : SitsAt c.args.claims.now c.in-Some.other =
+    among (SitsAt c.args.claims.now) c.loop-other.yielded (into_iter_items c.next.new.self) c.args.others.items other
+    (ap (λ l. c.loop-other.yielded ++ l) (sym c.in-Some.ensures.steps.0) ∙ before.2) c.requires.others in
     let P : SeatView → Type 0 = λ s. All (λ o. KeepsClaims o.steps s.steps) (c.loop-other.yielded ++ other ∷ []) in (
       tt,
       tt,
       yielded-more c.loop-other.yielded _ _ c.args.others.items other before.2 c.in-Some.ensures.steps.0,
-      ap (λ (s : SeatView). s.table) joined ∙ before.3,
+      sits_joined _ c.loop-other.seat other _ before.3 sits joined,
       subst P (sym joined) (kept-more c.loop-other.seat.steps other c.loop-other.yielded before.4),
     )
 

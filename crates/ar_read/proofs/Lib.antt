@@ -1,0 +1,4 @@
+pub mod OneHeader
+pub mod Places
+pub mod Texts
+pub mod Walk

@@ -1,0 +1,11 @@
+use Rattle.std.proofs.Common.{rules}
+use Rattle.std.proofs.lemmas.List.Sorted.{IsNonDecreasingBy-from_sort_by_key, answers_always}
+use Rattle.lk_tables.specs.Relocations.{offset_of}
+use Rattle.lk_tables.proofs.StableOrder.{sorted_is}
+use Rattle.elf_read.proofs.relocations.sort_entries.Goals as goal
+
+pub returns : goal.returns
+returns c =
+    sorted_is offset_of c.sort_by_key.new.self.items c.args.entries.now.items
+    (IsNonDecreasingBy-from_sort_by_key offset_of _ c.in_ok-sort_by_key.ensures.sorted (λ a r q k. search rules))
+    (c.in_ok-sort_by_key.ensures.stable offset_of (answers_always _ _ _ (λ f a r q k. search rules)))

@@ -1,0 +1,63 @@
+//! The body of an object: what is read of a file that takes part in the link.
+
+ghost use Rattle.std.specs.Prelude.{◌≡◌, [], Ok, Err, IfOk, map, replicate};
+ghost use Rattle.lk_base.specs.declared.defects.Flaw.{Flaw as FlawOf};
+ghost use Rattle.lk_base.specs.declared.defects.ReadFault.TheVariants.{Bad};
+ghost use Rattle.lk_tables.specs.Checks.{Gives, IsFirstBroken};
+ghost use Rattle.lk_tables.specs.Heads.{HeadOf, head_view};
+ghost use Rattle.lk_tables.specs.Objects.{ObjectView, object_view, object_of, object_checks, BodyOf};
+
+use crate::known::reopen;
+use crate::targets::read_sections;
+use crate::uses::check_uses;
+use lk_base::ReadFault;
+use lk_tables::{Head, Object, Reloc};
+use std::alloc::{AllocError, Global};
+
+/// Empty lists.
+fn empty_lists(alloc: Global, count: usize) -> Result<Vec<Vec<Reloc>>, AllocError>
+    ensures { IfOk result (λ lists. map (λ list. list.items) lists.items ≡ replicate count []) }
+{
+    let mut lists = Vec::with_capacity(alloc, count)?;
+    for _ in 0..count {
+        lists.push(Vec::new(alloc))?;
+    }
+    Ok(lists)
+}
+
+/// The body of a file, or its first broken check.
+fn read(alloc: Global, bytes: &[u8], head: &Head) -> Result<Object, ReadFault>
+    requires { HeadOf bytes.now (head_view head.now) }
+    ensures { Gives object_view result (object_of bytes.now) }
+{
+    let known = reopen(bytes, head);
+    let count = known.sections.len();
+    let mut marks = vec![in alloc; false; count]?;
+    let mut lists = empty_lists(alloc, count)?;
+    read_sections(alloc, &known, marks.as_mut_slice(), lists.as_mut_slice())?;
+    check_uses(&known)?;
+    Ok(Object {
+        groups: Vec::new(alloc),
+        relocs: lists,
+    })
+}
+
+/// Reads the relocations of a relocatable object for 64-bit RISC-V whose head is read.
+///
+/// The answer is the body whose relocations are the numbers at their places, one list for each section in stable order
+/// of offset, where no check is broken; else the first broken check in the order of `object_checks`, with its place; or
+/// want of memory.
+pub fn read_body(alloc: Global, bytes: &[u8], head: &Head) -> Result<Object, ReadFault>
+    // The head is of these bytes.
+    requires { HeadOf bytes.now (head_view head.now) }
+    // What is read, and which flaw it is.
+    ensures exact { Gives object_view result (object_of bytes.now) }
+    // What is read is the body of these bytes.
+    ensures found { IfOk result (λ object. BodyOf bytes.now (object_view object)) }
+    // The body of these bytes is read, unless memory runs out.
+    ensures only { (object : ObjectView) → BodyOf bytes.now object → Gives object_view result (Ok object) }
+    // A flaw is that of the first broken check.
+    ensures refused { (flaw : FlawOf) → result ≡ Err (Bad flaw) → IsFirstBroken (object_checks bytes.now) flaw }
+{
+    read(alloc, bytes, head)
+}

@@ -1,0 +1,222 @@
+//! An object built by hand, and what one altered byte of it is answered by: the expected answers are worked out from
+//! the format.
+
+use crate::{read_body, read_head};
+use lk_base::DefectKind::{self, F01, F02, F03, F04, F05, F09, F10, F11, F12, F15, F17};
+use lk_base::{Flaw, NO_FILE, ReadFault};
+use lk_tables::{Place, Reloc, Span};
+use std::alloc::{AllocError, Global};
+use std::test::Fail;
+
+const PARTS: [&[u8]; 15] = [
+    // The file header: 64 bits, relocatable, RISC-V with compressed instructions, six section headers at 256.
+    b"\x7fELF\x02\x01\x01\0\0\0\0\0\0\0\0\0\x01\0\xf3\0\x01\0\0\0\0\0\0\0\0\0\0\0\0\0\0\0\0\0\0\0\0\x01\0\0\0\0\0\0\x01\0\0\0@\0\0\0\0\0@\0\x06\0\x05\0",
+    // .text, 16 bytes at 64.
+    b"\xef\0\0\0\xef\0\0\0g\x80\0\0g\x80\0\0",
+    // .rela.text at 80: JAL at 4 to symbol 2 with addend -4.
+    b"\x04\0\0\0\0\0\0\0\x11\0\0\0\x02\0\0\0\xfc\xff\xff\xff\xff\xff\xff\xff",
+    // And JAL at 0 to symbol 2.
+    b"\0\0\0\0\0\0\0\0\x11\0\0\0\x02\0\0\0\0\0\0\0\0\0\0\0",
+    // .symtab at 128: symbol 0.
+    b"\0\0\0\0\0\0\0\0\0\0\0\0\0\0\0\0\0\0\0\0\0\0\0\0",
+    // `_start`, a function of 8 bytes at 0 of section 1.
+    b"\x01\0\0\0\x12\0\x01\0\0\0\0\0\0\0\0\0\x08\0\0\0\0\0\0\0",
+    // `f`, a function of 8 bytes at 8 of it.
+    b"\x08\0\0\0\x12\0\x01\0\x08\0\0\0\0\0\0\0\x08\0\0\0\0\0\0\0",
+    // .strtab at 200.
+    b"\0_start\0f\0",
+    // .shstrtab at 210, and two bytes of padding.
+    b"\0.text\0.rela.text\0.symtab\0.strtab\0.shstrtab\0\0\0",
+    // The section table: section 0.
+    b"\0\0\0\0\0\0\0\0\0\0\0\0\0\0\0\0\0\0\0\0\0\0\0\0\0\0\0\0\0\0\0\0\0\0\0\0\0\0\0\0\0\0\0\0\0\0\0\0\0\0\0\0\0\0\0\0\0\0\0\0\0\0\0\0",
+    // 1: .text.
+    b"\x01\0\0\0\x01\0\0\0\x06\0\0\0\0\0\0\0\0\0\0\0\0\0\0\0@\0\0\0\0\0\0\0\x10\0\0\0\0\0\0\0\0\0\0\0\0\0\0\0\x04\0\0\0\0\0\0\0\0\0\0\0\0\0\0\0",
+    // 2: .rela.text.
+    b"\x07\0\0\0\x04\0\0\0@\0\0\0\0\0\0\0\0\0\0\0\0\0\0\0P\0\0\0\0\0\0\00\0\0\0\0\0\0\0\x03\0\0\0\x01\0\0\0\x08\0\0\0\0\0\0\0\x18\0\0\0\0\0\0\0",
+    // 3: .symtab.
+    b"\x12\0\0\0\x02\0\0\0\0\0\0\0\0\0\0\0\0\0\0\0\0\0\0\0\x80\0\0\0\0\0\0\0H\0\0\0\0\0\0\0\x04\0\0\0\x01\0\0\0\x08\0\0\0\0\0\0\0\x18\0\0\0\0\0\0\0",
+    // 4: .strtab.
+    b"\x1a\0\0\0\x03\0\0\0\0\0\0\0\0\0\0\0\0\0\0\0\0\0\0\0\xc8\0\0\0\0\0\0\0\x0a\0\0\0\0\0\0\0\0\0\0\0\0\0\0\0\x01\0\0\0\0\0\0\0\0\0\0\0\0\0\0\0",
+    // 5: .shstrtab.
+    b"\"\0\0\0\x03\0\0\0\0\0\0\0\0\0\0\0\0\0\0\0\0\0\0\0\xd2\0\0\0\0\0\0\0,\0\0\0\0\0\0\0\0\0\0\0\0\0\0\0\x01\0\0\0\0\0\0\0\0\0\0\0\0\0\0\0",
+];
+
+fn sound(alloc: Global) -> Result<Vec<u8>, AllocError> {
+    let mut bytes = Vec::new(alloc);
+    for part in PARTS {
+        bytes.extend_from_slice(part)?;
+    }
+    Ok(bytes)
+}
+
+/// The object with one byte changed.
+fn altered(alloc: Global, at: usize, byte: u8) -> Result<Vec<u8>, AllocError> {
+    let mut bytes = sound(alloc)?;
+    if let Some(place) = bytes.get_mut(at) {
+        *place = byte;
+    }
+    Ok(bytes)
+}
+
+/// The flaw of the bytes: the head's, else the body's.
+fn flaw_in(alloc: Global, bytes: &[u8]) -> Option<Flaw> {
+    match read_head(alloc, bytes) {
+        Ok(head) => match read_body(alloc, bytes, &head) {
+            Err(ReadFault::Bad(flaw)) => Some(flaw),
+            _ => None,
+        },
+        Err(ReadFault::Bad(flaw)) => Some(flaw),
+        Err(ReadFault::Memory) => None,
+    }
+}
+
+/// A byte, what it becomes, and the answer's kind, section, place and other number.
+type Row = (usize, u8, DefectKind, u32, u64, u64);
+
+const ROWS: [Row; 40] = [
+    // The file header.
+    (0, 0x7e, F01, 0, 0, 0),
+    (4, 1, F02, 0, 4, 0),
+    (5, 2, F02, 0, 5, 0),
+    (16, 2, F02, 0, 16, 0),
+    (18, 62, F02, 0, 18, 0),
+    (48, 9, F02, 0, 48, 0),
+    (58, 63, F02, 0, 58, 0),
+    (60, 0, F04, 0, 60, 0),
+    (60, 7, F03, 0, 40, 0),
+    (62, 1, F04, 0, 62, 0),
+    (62, 6, F04, 0, 62, 0),
+    // Section headers: .text at 320, .rela.text at 384, .symtab at 448.
+    (320, 44, F10, 1, 320, 0),
+    (353, 0x10, F03, 1, 320, 0),
+    (388, 18, F04, 2, 384, 0),
+    (504, 23, F04, 3, 448, 0),
+    (492, 4, F04, 3, 448, 0),
+    (488, 1, F04, 3, 448, 0),
+    // The symbol `_start` at 152.
+    (152, 10, F10, 3, 152, 0),
+    (152, 0, F09, 3, 152, 0),
+    (156, 0x32, F09, 3, 152, 0),
+    (156, 0x17, F09, 3, 152, 0),
+    (156, 0x02, F09, 3, 152, 0),
+    (158, 6, F09, 3, 152, 0),
+    (160, 17, F09, 3, 152, 0),
+    (156, 0x1a, F17, 3, 152, 0),
+    // The body's section headers.
+    (329, 8, F05, 1, 320, 0),
+    (388, 9, F04, 2, 384, 0),
+    (328, 7, F04, 1, 320, 0),
+    (328, 0x16, F04, 1, 320, 0),
+    (324, 7, F04, 1, 320, 0),
+    (368, 3, F15, 1, 320, 0),
+    (440, 25, F04, 2, 384, 0),
+    (424, 4, F04, 2, 384, 0),
+    (428, 0, F04, 2, 384, 0),
+    (428, 6, F04, 2, 384, 0),
+    // The relocations at 80 and 104.
+    (92, 3, F11, 2, 80, 0),
+    (88, 16, F12, 2, 80, 16),
+    (80, 13, F11, 2, 80, 0),
+    (88, 24, F11, 2, 80, 0),
+    // A call at 0 meets the jump at 4, which comes later and stands first.
+    (112, 18, F11, 2, 80, 0),
+];
+
+#[test]
+fn tells_the_first_broken_check(rt: HostRuntime) -> Result<(), Fail> {
+    for (at, byte, kind, section, place, other) in ROWS {
+        let bytes = altered(rt.alloc(), at, byte)?;
+        let wanted = Some(Flaw {
+            kind,
+            section,
+            place,
+            other,
+        });
+        assert_eq!(rt; flaw_in(rt.alloc(), bytes.as_slice()), wanted, "byte {at}");
+    }
+    Ok(())
+}
+
+#[test]
+fn passes_what_is_not_checked(rt: HostRuntime) -> Result<(), Fail> {
+    // A value at the section's end; visibility; a relocation section of one that is not written.
+    for (at, byte) in [(160, 16), (157, 2), (428, 3), (0x30, 5)] {
+        let bytes = altered(rt.alloc(), at, byte)?;
+        assert_eq!(rt; flaw_in(rt.alloc(), bytes.as_slice()), None, "byte {at}");
+    }
+    Ok(())
+}
+
+#[test]
+fn cut_files_have_no_head(rt: HostRuntime) -> Result<(), Fail> {
+    let bytes = sound(rt.alloc())?;
+    for (len, kind, place) in [(0, F01, 0), (3, F01, 0), (63, F02, 63), (639, F03, 40)] {
+        let wanted = Some(Flaw {
+            kind,
+            section: 0,
+            place,
+            other: 0,
+        });
+        assert_eq!(rt;
+            flaw_in(rt.alloc(), bytes.get(..len).unwrap_or(&[])),
+            wanted,
+            "{len} bytes"
+        );
+    }
+    Ok(())
+}
+
+#[test]
+fn reads_each_field(rt: HostRuntime) -> Result<(), Fail> {
+    let bytes = sound(rt.alloc())?;
+    let head = read_head(rt.alloc(), bytes.as_slice())?;
+    assert_eq!(rt; head.flags, 1);
+    assert_eq!(rt; head.symtab, 3);
+    assert_eq!(rt; head.sections.len(), 6);
+    assert_eq!(rt; head.symbols.len(), 3);
+    let text = head.sections[1];
+    assert_eq!(rt;
+        text.name,
+        Span {
+            file: NO_FILE,
+            from: 211,
+            len: 5
+        }
+    );
+    assert_eq!(rt; text.offset, 64);
+    assert_eq!(rt; text.size, 16);
+    assert_eq!(rt; text.align, 4);
+    let start = head.symbols[1];
+    assert_eq!(rt;
+        start.name,
+        Span {
+            file: NO_FILE,
+            from: 201,
+            len: 6
+        }
+    );
+    assert_eq!(rt; start.binding, 1);
+    assert_eq!(rt; start.sort, 2);
+    assert_eq!(rt; start.place, Place::Within(1));
+    assert_eq!(rt; start.size, 8);
+    let object = read_body(rt.alloc(), bytes.as_slice(), &head)?;
+    assert_eq!(rt; object.groups.len(), 0);
+    assert_eq!(rt; object.relocs.len(), 6);
+    // In order of offset, and not as they stand in the file.
+    let wanted = [
+        Reloc {
+            offset: 0,
+            kind: 17,
+            symbol: 2,
+            addend: 0,
+        },
+        Reloc {
+            offset: 4,
+            kind: 17,
+            symbol: 2,
+            addend: -4,
+        },
+    ];
+    assert_eq!(rt; object.relocs[1].as_slice(), wanted.as_slice());
+    Ok(())
+}

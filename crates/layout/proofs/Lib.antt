@@ -1,0 +1,4 @@
+mod Apart
+mod Cuts
+mod Known
+mod Rows

@@ -1,0 +1,7 @@
+use Rattle.std.proofs.Common.{◌≡◌, drop, bit_and, bit_or}
+use Rattle.std.specs.List.{fold}
+use Rattle.layout.specs.Walk.{flags_of}
+use Rattle.layout.proofs.walk.flags_of.Given as goal
+
+abbrev pub invariant-loop-row : goal.invariant-loop-row
+invariant-loop-row l = bit_and (fold (λ flags row. bit_or flags row.flags) l.flags (drop l.row-index l.rows)) 0x407 ≡ flags_of l.rows

@@ -1,0 +1,4 @@
+pub mod Names
+pub mod Order
+pub mod Walk
+pub mod Layout

@@ -1,0 +1,413 @@
+//! The layout of a link: the classes one after the other, and the limits.
+
+ghost use Rattle.std.specs.Prelude.{◌≡◌, ℕ, ◌+◌, ◌*◌, ◌<◌, ◌≤◌, ◌∷◌, [], ◌++◌, ◌^◌, All, length, IfOk, OnOk, IsTrue, MatchResult, IfErr, not, ◌&&◌, ◌⊎◌};
+ghost use Rattle.layout.specs.Order.{IsSized};
+ghost use Rattle.layout.specs.Walk.{is_empty, views};
+ghost use Rattle.layout.specs.Layout.{AreApart, AreBounds, AreFit, AreOrders, IsLayout, IsWhole, IsWithin, Stops, HasTooMany, IsTooBig, defect_of, count_of, image_end_of, orders_of, sections_of, starts_of};
+
+use crate::names::{Class, Member};
+use crate::order::{Row, find_order};
+use crate::walk::{Output, is_empty, up, walk_class};
+use lk_base::{Defect, DefectKind, Limits, LinkStop, NO_FILE};
+use std::alloc::{AllocError, Global};
+
+/// Where the segments begin and end (System V gABI, "Program Header").
+#[derive(Clone, Copy, Debug, PartialEq, Eq)]
+pub struct Bounds {
+    /// Whether a member that is executed has a byte, so that there is a segment for them.
+    pub has_rx: bool,
+    /// Whether a member that is written has a byte, so that there is a segment for them.
+    pub has_rw: bool,
+    /// How many program headers there are: that of the first segment, those of the two above, that of the stack.
+    pub headers: u64,
+    /// The address behind the file header and the program headers, which stand at 0x10000.
+    pub headers_end: u64,
+    /// The cursor behind the class R.
+    pub r_end: u64,
+    /// The cursor before RX, at a multiple of 4096.
+    pub rx_start: u64,
+    /// The cursor behind RX.
+    pub rx_end: u64,
+    /// The cursor before RW bits, at a multiple of 4096.
+    pub rw_start: u64,
+    /// The cursor behind RW bits, where RW nobits begins.
+    pub bits_end: u64,
+    /// The cursor behind RW nobits.
+    pub nobits_end: u64,
+    /// The greatest end of an output section that is not empty, or of the headers.
+    pub image_end: u64,
+}
+
+/// The members of each class in their order.
+#[derive(Drop)]
+struct Ordered {
+    r: Vec<Row>,
+    rx: Vec<Row>,
+    rw_bits: Vec<Row>,
+    rw_nobits: Vec<Row>,
+}
+
+/// Where everything stands.
+#[derive(Drop)]
+pub struct Layout<'a> {
+    /// The first address of each member, by its number, and behind them that of the linker's `.got`.
+    pub starts: Vec<u64>,
+    /// The output sections that are not empty, in order.
+    pub outputs: Vec<Output<'a>>,
+    /// The program headers and the segments.
+    pub bounds: Bounds,
+}
+
+// The members, and behind them the linker's own: an empty global offset table.
+fn with_got<'a>(alloc: Global, members: &[Member<'a>]) -> Result<Vec<Member<'a>>, AllocError>
+    ensures { IfOk result (λ all. IsWhole members.now all.items) }
+{
+    let mut all = Vec::new(alloc);
+    all.extend_from_slice(members)?;
+    all.push(Member {
+        name: b".got",
+        sh_type: 1,
+        flags: 3,
+        size: 0,
+        align: 8,
+    })?;
+    Ok(all)
+}
+
+fn count_of(test: bool) -> u64
+    ensures { result ≡ count_of test }
+{
+    if test {
+        return 1;
+    }
+    0
+}
+
+fn have_bytes(bits: &[Row], nobits: &[Row]) -> bool
+    ensures { result ≡ not (is_empty bits.now && is_empty nobits.now) }
+{
+    !is_empty(bits) || !is_empty(nobits)
+}
+
+fn image_end_of(o: &Ordered, r_end: u64, rx_end: u64, bits_end: u64, nobits_end: u64) -> u64
+    ensures { result ≡ image_end_of (orders_of o.now) r_end rx_end bits_end nobits_end }
+{
+    if !is_empty(&o.rw_nobits) {
+        return nobits_end;
+    }
+    if !is_empty(&o.rw_bits) {
+        return bits_end;
+    }
+    if !is_empty(&o.rx) {
+        return rx_end;
+    }
+    r_end
+}
+
+fn find_orders(alloc: Global, members: &[Member]) -> Result<Ordered, AllocError>
+    requires few { length members.now < 2 ^ 32 }
+    requires sized { All IsSized members.now }
+    ensures ordered { IfOk result (λ o. AreOrders members.now (orders_of o)) }
+    ensures fit { IfOk result (λ o. AreFit (length members.now) (orders_of o)) }
+{
+    Ok(Ordered {
+        r: find_order(alloc, members, Class::R)?,
+        rx: find_order(alloc, members, Class::Rx)?,
+        rw_bits: find_order(alloc, members, Class::RwBits)?,
+        rw_nobits: find_order(alloc, members, Class::RwNobits)?,
+    })
+}
+
+// The walk along all classes.
+#[tactic(auto, unfolding(crate::specs::Layout::sections_of, crate::specs::Layout::starts_of))]
+fn walk<'a>(alloc: Global, members: &[Member<'a>], o: &Ordered) -> Result<Layout<'a>, AllocError>
+    requires few { length members.now ≤ 2 ^ 28 + 1 }
+    requires fit { AreFit (length members.now) (orders_of o.now) }
+    ensures bounds { IfOk result (λ layout. AreBounds (orders_of o.now) layout.bounds) }
+    ensures outputs { IfOk result (λ layout. views layout.outputs.items ≡ sections_of members.now (orders_of o.now) layout.bounds) }
+    ensures starts { IfOk result (λ layout. layout.starts.items ≡ starts_of (length members.now) (orders_of o.now) layout.bounds) }
+    ensures counted { IfOk result (λ layout. length layout.starts.items ≡ length members.now) }
+{
+    let has_rx = !is_empty(&o.rx);
+    let has_rw = have_bytes(&o.rw_bits, &o.rw_nobits);
+    let headers = 2 + count_of(has_rx) + count_of(has_rw);
+    let headers_end = 0x10000 + (64 + 56 * headers);
+    let mut outputs = Vec::new(alloc);
+    let mut starts = vec![in alloc; 0u64; members.len()]?;
+    let r_end = walk_class(
+        headers_end,
+        members,
+        Class::R,
+        &o.r,
+        &mut outputs,
+        &mut starts,
+    )?;
+    let rx_start = up(r_end, 4096);
+    let rx_end = walk_class(
+        rx_start,
+        members,
+        Class::Rx,
+        &o.rx,
+        &mut outputs,
+        &mut starts,
+    )?;
+    let rw_start = up(rx_end, 4096);
+    let bits_end = walk_class(
+        rw_start,
+        members,
+        Class::RwBits,
+        &o.rw_bits,
+        &mut outputs,
+        &mut starts,
+    )?;
+    let nobits_end = walk_class(
+        bits_end,
+        members,
+        Class::RwNobits,
+        &o.rw_nobits,
+        &mut outputs,
+        &mut starts,
+    )?;
+    Ok(Layout {
+        starts,
+        outputs,
+        bounds: Bounds {
+            has_rx,
+            has_rw,
+            headers,
+            headers_end,
+            r_end,
+            rx_start,
+            rx_end,
+            rw_start,
+            bits_end,
+            nobits_end,
+            image_end: image_end_of(o, r_end, rx_end, bits_end, nobits_end),
+        },
+    })
+}
+
+fn defect_of(kind: DefectKind, place: u64) -> Defect
+    ensures { result ≡ defect_of kind place }
+{
+    Defect {
+        kind,
+        file: NO_FILE,
+        section: 0,
+        place,
+        symbol: 0,
+        other: 0,
+    }
+}
+
+// Refuses a layout that passes a limit.
+fn check_limits(layout: &Layout, limits: &Limits) -> Result<(), Defect>
+    ensures { MatchResult result (λ _. IsWithin limits.now layout.now) (λ defect. HasTooMany limits.now layout.now defect ⊎ IsTooBig limits.now layout.now defect) }
+{
+    let count = layout.outputs.len() as u64;
+    if limits.outputs < count {
+        return Err(defect_of(DefectKind::F08, count));
+    }
+    let size = layout.bounds.image_end.saturating_sub(0x10000);
+    if limits.image <= size {
+        return Err(defect_of(DefectKind::F23, size));
+    }
+    Ok(())
+}
+
+/// Lays out a link: the members, given in command order, and behind them the linker's own, an empty `.got`. Refuses
+/// a layout of more output sections than the limit, or else of an image that is not below its limit.
+pub fn place<'a>(
+    alloc: Global,
+    members: &[Member<'a>],
+    limits: &Limits,
+) -> Result<Layout<'a>, LinkStop>
+    requires few { length members.now ≤ 2 ^ 28 }
+    requires sized { All IsSized members.now }
+    ensures layout { IfOk result (λ layout. IsLayout members.now layout) }
+    ensures within { IfOk result (λ layout. IsWithin limits.now layout) }
+    ensures counted { IfOk result (λ layout. length layout.starts.items ≡ length members.now + 1) }
+    ensures apart { IfOk result (λ layout. AreApart layout.bounds.headers_end (views layout.outputs.items)) }
+    ensures stops { IfErr result (λ stop. Stops members.now limits.now stop) }
+{
+    let all = with_got(alloc, members)?;
+    let o = find_orders(alloc, &all)?;
+    let layout = walk(alloc, &all, &o)?;
+    match check_limits(&layout, limits) {
+        Ok(()) => Ok(layout),
+        Err(defect) => Err(LinkStop::Defect(defect)),
+    }
+}
+
+#[cfg(test)]
+mod tests {
+    use super::*;
+    use crate::names::output_name;
+    use std::test::Fail;
+
+    const NAMES: [(&[u8], &[u8]); 10] = [
+        (b".text.hot", b".text"),
+        (b".text.", b".text."),
+        (b".textual", b".textual"),
+        (b".data.rel.ro.local", b".data.rel.ro"),
+        (b".data.rel.ro", b".data.rel.ro"),
+        (b".data.rel", b".data"),
+        (b".rodata.str1.1", b".rodata"),
+        (b".init_array.5", b".init_array"),
+        (b"COMMON", b".bss"),
+        (b".comment", b".comment"),
+    ];
+
+    #[test]
+    fn names_of_output_sections(rt: HostRuntime) {
+        for (name, output) in NAMES.iter() {
+            assert_eq!(rt; output_name(*name), *output);
+        }
+    }
+
+    fn member(
+        name: &'static [u8],
+        sh_type: u32,
+        flags: u64,
+        size: u64,
+        align: u64,
+    ) -> Member<'static> {
+        Member {
+            name,
+            sh_type,
+            flags,
+            size,
+            align,
+        }
+    }
+
+    // Whether sizes and alignments are as `place` asks.
+    fn are_sized(members: &[Member]) -> bool
+        ensures { IsTrue result → All IsSized members.now }
+    {
+        for member in members {
+            if member.align < 1 || 0x10_0000 < member.align || 0x1_0000_0000 < member.size {
+                return false;
+            }
+        }
+        true
+    }
+
+    fn laid_out<'a>(alloc: Global, members: &[Member<'a>]) -> Result<Layout<'a>, LinkStop> {
+        if 1000 < members.len() || !are_sized(members) {
+            return Err(LinkStop::Memory);
+        }
+        place(alloc, members, &Limits::standard())
+    }
+
+    #[derive(Drop)]
+    struct Expected {
+        name: &'static [u8],
+        sh_type: u32,
+        flags: u64,
+        address: u64,
+        size: u64,
+        align: u64,
+    }
+
+    fn check(
+        rt: &impl std::process::Abort,
+        layout: &Layout,
+        starts: &[u64],
+        rows: &[Expected],
+        headers: u64,
+        image_end: u64,
+    ) {
+        assert_eq!(rt; layout.starts.as_slice(), starts);
+        assert_eq!(rt; layout.outputs.len(), rows.len());
+        for (output, row) in layout.outputs.iter().zip(rows.iter()) {
+            assert_eq!(rt; output.name, row.name);
+            assert_eq!(rt; output.sh_type, row.sh_type);
+            assert_eq!(rt; output.flags, row.flags);
+            assert_eq!(rt; output.address, row.address);
+            assert_eq!(rt; output.size, row.size);
+            assert_eq!(rt; output.align, row.align);
+        }
+        assert_eq!(rt; layout.bounds.headers, headers);
+        assert_eq!(rt; layout.bounds.image_end, image_end);
+    }
+
+    fn section(
+        name: &'static [u8],
+        sh_type: u32,
+        flags: u64,
+        address: u64,
+        size: u64,
+        align: u64,
+    ) -> Expected {
+        Expected {
+            name,
+            sh_type,
+            flags,
+            address,
+            size,
+            align,
+        }
+    }
+
+    #[test]
+    fn text_alone(rt: HostRuntime) -> Result<(), Fail> {
+        let layout = laid_out(rt.alloc(), &[member(b".text", 1, 6, 8, 4)])?;
+        let rows = [section(b".text", 1, 6, 0x11000, 8, 4)];
+        check(&rt, &layout, &[0x11000, 0x12000], &rows, 3, 0x11008);
+        Ok(())
+    }
+
+    #[test]
+    fn each_class(rt: HostRuntime) -> Result<(), Fail> {
+        let members = [
+            member(b".bss", 8, 3, 16, 16),
+            member(b".data", 1, 3, 8, 8),
+            member(b".text", 1, 6, 4, 4),
+            member(b".rodata", 1, 2, 5, 8),
+        ];
+        let layout = laid_out(rt.alloc(), &members)?;
+        let rows = [
+            section(b".rodata", 1, 2, 0x10120, 5, 8),
+            section(b".text", 1, 6, 0x11000, 4, 4),
+            section(b".data", 1, 3, 0x12000, 8, 8),
+            section(b".bss", 8, 3, 0x12010, 16, 16),
+        ];
+        let starts = [0x12010, 0x12000, 0x11000, 0x10120, 0x12000];
+        check(&rt, &layout, &starts, &rows, 4, 0x12020);
+        Ok(())
+    }
+
+    #[test]
+    fn priorities_and_the_linkers_table(rt: HostRuntime) -> Result<(), Fail> {
+        let members = [
+            member(b".got", 1, 3, 4, 4),
+            member(b".init_array", 1, 3, 8, 8),
+            member(b".init_array.00005", 1, 3, 8, 8),
+            member(b".init_array.3", 1, 3, 8, 8),
+        ];
+        let layout = laid_out(rt.alloc(), &members)?;
+        let rows = [
+            section(b".init_array", 1, 3, 0x11000, 24, 8),
+            section(b".got", 1, 3, 0x11018, 8, 8),
+        ];
+        let starts = [0x11018, 0x11010, 0x11008, 0x11000, 0x11020];
+        check(&rt, &layout, &starts, &rows, 3, 0x11020);
+        Ok(())
+    }
+
+    #[test]
+    fn too_big(rt: HostRuntime) {
+        let members = [
+            member(b".bss", 8, 3, 0x8000_0000, 8),
+            member(b".text", 1, 6, 4, 4),
+        ];
+        match laid_out(rt.alloc(), &members) {
+            Ok(_) => assert!(rt; false, "a layout past the limit"),
+            Err(stop) => {
+                let defect = defect_of(DefectKind::F23, 2147491840);
+                assert_eq!(rt; stop, LinkStop::Defect(defect));
+            }
+        }
+    }
+}

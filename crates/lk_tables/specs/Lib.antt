@@ -1,0 +1,12 @@
+pub mod Bodies
+pub mod Checks
+pub mod Entries
+pub mod FileHeader
+pub mod Heads
+pub mod Names
+pub mod Numbers
+pub mod Objects
+pub mod Order
+pub mod Relocations
+pub mod Sections
+pub mod Symbols

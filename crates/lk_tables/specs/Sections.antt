@@ -1,0 +1,93 @@
+-- The sections of an object and the checks of their headers (System V gABI, "Section Header Table", "Special Sections").
+use Rattle.std.specs.Prelude.{ℕ, ◌+◌, ◌/◌, ◌%◌, Bool, not, ◌&&◌, ◌||◌, ◌==◌, nat_lt, bit_and, Option, is_some, unwrap_or, if◌then◌else◌, List, [], ◌∷◌, length, find, codes}
+use Rattle.std.specs.List.{list_any, range_with_len}
+use Rattle.std.specs.Str.{bytes_eq}
+use Rattle.lk_base.specs.declared.kinds.DefectKind.TheVariants.{F03, F04, F10}
+use Rattle.lk_tables.specs.declared.entries.SectionHeader.{SectionHeader}
+use Rattle.lk_tables.specs.declared.heads.Section.{Section}
+use Rattle.lk_tables.specs.declared.spans.Span.{Span}
+use Rattle.lk_tables.specs.Checks.{Check, ◌says◌, flaw_at}
+use Rattle.lk_tables.specs.FileHeader.{header, place_of, e_shstrndx, ends_past, is_strtab}
+use Rattle.lk_tables.specs.Names.{name_len, span, no_name, text_of}
+
+-- the section name string table
+abbrev pub names_from : List ℕ → ℕ
+names_from b = (header b (e_shstrndx b)).offset
+
+abbrev pub names_size : List ℕ → ℕ
+names_size b = (header b (e_shstrndx b)).size
+
+-- how long the name is that begins at `at` of it
+abbrev pub section_name_len : List ℕ → ℕ → Option ℕ
+section_name_len b at = name_len b (names_from b) (names_size b) at
+
+abbrev pub with_name : SectionHeader → Span → Section
+with_name h name = record {
+  name = name;
+  sh_type = h.sh_type;
+  flags = h.flags;
+  offset = h.offset;
+  size = h.size;
+  link = h.link;
+  info = h.info;
+  align = h.align;
+  entsize = h.entsize;
+}
+
+-- section 0 (SHN_UNDEF) and the sections of type NULL have no name and no checks
+abbrev pub is_null : ℕ → ℕ → Bool
+is_null i sh_type = i == 0 || sh_type == 0
+
+-- section i
+unfoldable pub section_of : List ℕ → ℕ → Section
+section_of b i =
+    if is_null i (header b i).sh_type then with_name (header b i) no_name
+    else with_name (header b i) (span (names_from b + (header b i).name) (unwrap_or (section_name_len b (header b i).name) 0))
+
+-- the bytes of a section that has bytes in the file (not NOBITS) end past it
+unfoldable pub is_outside : List ℕ → SectionHeader → Bool
+is_outside b h = not (h.sh_type == 8) && ends_past (length b) h.offset h.size
+
+-- SYMTAB
+abbrev pub is_symtab : List ℕ → ℕ → Bool
+is_symtab b k = nat_lt 0 k && (header b k).sh_type == 2
+
+-- the first symbol table among the sections below i, or 0
+unfoldable pub symtab_before : List ℕ → ℕ → ℕ
+symtab_before b i = unwrap_or (find (is_symtab b) (range_with_len 0 i)) 0
+
+-- a second symbol table, or one with entries of another size or whose names are in no string table, or with more local
+-- symbols than entries
+unfoldable pub is_bad_symtab : List ℕ → (earlier : ℕ) → SectionHeader → Bool
+is_bad_symtab b earlier h =
+    h.sh_type == 2
+    && (not (earlier == 0)
+    || (not (h.entsize == 24)
+    || (not (h.size % 24 == 0)
+    || (not (is_strtab b h.link)
+    || nat_lt (h.size / 24) h.info))))
+
+-- the checks of section i; type 18 is SYMTAB_SHNDX
+unfoldable pub section_checks : List ℕ → ℕ → List Check
+section_checks b i = if is_null i (header b i).sh_type then [] else
+    (is_outside b (header b i) says flaw_at F03 i (place_of b i))
+    ∷ (not (is_some (section_name_len b (header b i).name)) says flaw_at F10 i (place_of b i))
+    ∷ (is_bad_symtab b (symtab_before b i) (header b i) says flaw_at F04 i (place_of b i))
+    ∷ ((header b i).sh_type == 18 says flaw_at F04 i (place_of b i))
+    ∷ []
+
+-- x is one of a few numbers
+abbrev pub is_among : List ℕ → ℕ → Bool
+is_among ys x = list_any (λ y. y == x) ys
+
+-- the types of sections that may be written: PROGBITS, NOTE, NOBITS, INIT_ARRAY, FINI_ARRAY, PREINIT_ARRAY
+abbrev pub loaded_types : List ℕ
+loaded_types = 1 ∷ 7 ∷ 8 ∷ 14 ∷ 15 ∷ 16 ∷ []
+
+-- ALLOC (2) without EXCLUDE (0x80000000)
+unfoldable pub is_loaded : Section → Bool
+is_loaded s = not (bit_and s.flags 2 == 0) && bit_and s.flags 0x80000000 == 0
+
+-- a section whose bytes go into the executable; `.eh_frame` is read past
+unfoldable pub is_written : List ℕ → Section → Bool
+is_written b s = is_loaded s && (is_among loaded_types s.sh_type && not (bytes_eq (text_of b s.name) (codes ".eh_frame")))
