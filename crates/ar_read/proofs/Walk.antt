@@ -4,11 +4,10 @@ use Rattle.std.specs.Prelude.{All, MatchOption, Result, Ok, Err, find, IfOk}
 use Rattle.std.specs.List.{range_with_len, filter_map, cons_option}
 use Rattle.std.specs.Option.{option_map, option_or}
 use Rattle.std.proofs.lemmas.List.Elements.{All-append, All-cons, All-nil, filter_map-append}
-use Rattle.std.proofs.lemmas.Bool.{cond-true}
 use Rattle.lk_base.specs.declared.defects.Flaw.{Flaw}
 use Rattle.lk_tables.specs.declared.spans.Span.{Span}
-use Rattle.lk_tables.specs.Checks.{Check, checked, passes, from_on, NoneBroken, IsFirstBroken}
-use Rattle.lk_tables.proofs.Passing.{step_passes, step_fails, all_pass, checked_failed, checked_passed, checked_value, ok_from_none, none_from_ok}
+use Rattle.lk_tables.specs.Checks.{checked, passes, from_on, NoneBroken, IsFirstBroken}
+use Rattle.lk_tables.proofs.Passing.{step_passes, step_fails, all_pass, checked_failed, checked_passed, checked_value, ok_from_none, none_from_ok, err_from_first}
 use Rattle.lk_tables.proofs.Ranges.{find_more, range_more}
 use Rattle.ar_read.specs.declared.archive.Member.{Member}
 use Rattle.ar_read.specs.declared.entries.Entry.{Entry}
@@ -103,16 +102,6 @@ walk_ends b at table list w over =
     let passed = all_pass (header_checks b) j (count b) (passes (from_on (header_checks b) 0 (count b))) high w.so_far in
     checked_passed (from_on (header_checks b) 0 (count b)) tt (members_of b (count b)) tt passed
     ∙ ap Ok (sym (w.members_are ∙ ap (members_of b) same))
-
--- a first broken check is the answer
-err_after : {A : Type 0} (before later : List Check) (first : Check) (v : A) → NoneBroken before → first.broken ≡ true → checked (before ++ (first ∷ later)) v ≡ Err first.flaw
-err_after [] later first v none is = cond-true first.broken (Err first.flaw) (checked later v) is
-err_after (c ∷ cs) later first v none is =
-    rw none.0 (err_after cs later first v none.1 is)
-
-pub err_from_first : {A : Type 0} (cs : List Check) (v : A) (flaw : Flaw) → IsFirstBroken cs flaw → checked cs v ≡ Err flaw
-err_from_first cs v flaw h =
-    ap (λ xs. checked xs v) h.parts ∙ err_after h.before h.later h.first v h.passed h.broken ∙ ap Err (sym h.flaw_is)
 
 pub archive_from : (b : List ℕ) (list : List Member) → list ≡ members_of b (count b) → NoneBroken (archive_checks b (count b)) → ArOf b list
 archive_from b list is sound = record { headers = count b; all = count_has b; sound = sound; members_are = is }

@@ -58,6 +58,8 @@ pub fn read_body(alloc: Global, bytes: &[u8], head: &Head) -> Result<Object, Rea
     ensures only { (object : ObjectView) → BodyOf bytes.now object → Gives object_view result (Ok object) }
     // A flaw is that of the first broken check.
     ensures refused { (flaw : FlawOf) → result ≡ Err (Bad flaw) → IsFirstBroken (object_checks bytes.now) flaw }
+    // The first broken check is told, unless memory runs out.
+    ensures broken { (flaw : FlawOf) → IsFirstBroken (object_checks bytes.now) flaw → Gives object_view result (Err flaw) }
 {
     read(alloc, bytes, head)
 }

@@ -44,6 +44,8 @@ pub fn read_head(alloc: Global, bytes: &[u8]) -> Result<Head, ReadFault>
     ensures only { (head : HeadView) → HeadOf bytes.now head → Gives head_view result (Ok head) }
     // A flaw is that of the first broken check.
     ensures refused { (flaw : FlawOf) → result ≡ Err (Bad flaw) → IsFirstBroken (head_checks bytes.now) flaw }
+    // The first broken check is told, unless memory runs out.
+    ensures broken { (flaw : FlawOf) → IsFirstBroken (head_checks bytes.now) flaw → Gives head_view result (Err flaw) }
 {
     read(alloc, bytes)
 }

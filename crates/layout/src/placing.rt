@@ -293,11 +293,19 @@ mod tests {
         true
     }
 
-    fn laid_out<'a>(alloc: Global, members: &[Member<'a>]) -> Result<Layout<'a>, LinkStop> {
+    fn laid_within<'a>(
+        alloc: Global,
+        members: &[Member<'a>],
+        limits: &Limits,
+    ) -> Result<Layout<'a>, LinkStop> {
         if 1000 < members.len() || !are_sized(members) {
             return Err(LinkStop::Memory);
         }
-        place(alloc, members, &Limits::standard())
+        place(alloc, members, limits)
+    }
+
+    fn laid_out<'a>(alloc: Global, members: &[Member<'a>]) -> Result<Layout<'a>, LinkStop> {
+        laid_within(alloc, members, &Limits::standard())
     }
 
     #[derive(Drop)]
@@ -409,5 +417,25 @@ mod tests {
                 assert_eq!(rt; stop, LinkStop::Defect(defect));
             }
         }
+    }
+
+    #[test]
+    fn too_many(rt: HostRuntime) -> Result<(), Fail> {
+        let members = [member(b".text", 1, 6, 4, 4), member(b".rodata", 1, 2, 5, 8)];
+        let mut limits = Limits::standard();
+        limits.outputs = 2;
+        let layout = laid_within(rt.alloc(), &members, &limits)?;
+        assert_eq!(rt; layout.outputs.len(), 2);
+        limits.outputs = 1;
+        // The count comes first, where the image is too large as well.
+        limits.image = 1;
+        match laid_within(rt.alloc(), &members, &limits) {
+            Ok(_) => assert!(rt; false, "a layout past the limit"),
+            Err(stop) => {
+                let defect = defect_of(DefectKind::F08, 2);
+                assert_eq!(rt; stop, LinkStop::Defect(defect));
+            }
+        }
+        Ok(())
     }
 }

@@ -5,6 +5,19 @@ ghost use Rattle.link_driver.specs.Headers.{half, word, long, identification, fi
 
 use std::alloc::AllocError;
 
+/// An executable file.
+const ET_EXEC: u16 = 2;
+/// RISC-V.
+const EM_RISCV: u16 = 243;
+/// The version of the format.
+const EV_CURRENT: u32 = 1;
+/// Bytes of the file header, at whose end the program headers begin.
+const EHDR_SIZE: u16 = 64;
+/// Bytes of one program header.
+const PHDR_SIZE: u16 = 56;
+/// Bytes of one section header.
+const SHDR_SIZE: u16 = 64;
+
 /// One program header (`Elf64_Phdr`); its physical address is the virtual one.
 #[derive(Clone, Copy)]
 pub struct ProgramHeader {
@@ -68,17 +81,19 @@ pub fn push_file_header(
     ensures { OnOk result (out.new.items ≡ out.old.items ++ file_header entry table flags) }
 {
     push_identification(out)?;
-    push_half(out, 2)?;
-    push_half(out, 243)?;
-    push_word(out, 1)?;
+    push_half(out, ET_EXEC)?;
+    push_half(out, EM_RISCV)?;
+    push_word(out, EV_CURRENT)?;
     push_long(out, entry)?;
-    push_long(out, 64)?;
+    push_long(out, EHDR_SIZE as u64)?;
     push_long(out, table)?;
     push_word(out, flags)?;
-    push_half(out, 64)?;
-    push_half(out, 56)?;
+    push_half(out, EHDR_SIZE)?;
+    push_half(out, PHDR_SIZE)?;
+    // Three program headers.
     push_half(out, 3)?;
-    push_half(out, 64)?;
+    push_half(out, SHDR_SIZE)?;
+    // Three section headers, of which the last has the names.
     push_half(out, 3)?;
     push_half(out, 2)?;
     Ok(())

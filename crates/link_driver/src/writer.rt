@@ -17,6 +17,33 @@ use crate::image::{Piece, fill_from};
 use crate::jumps::put_jumps;
 use std::alloc::{AllocError, Global};
 
+/// A segment that is loaded.
+const PT_LOAD: u32 = 1;
+/// The flags of the stack.
+const PT_GNU_STACK: u32 = 0x6474_e551;
+/// Executed.
+const PF_X: u32 = 1;
+/// Written.
+const PF_W: u32 = 2;
+/// Read.
+const PF_R: u32 = 4;
+/// A section whose bytes the program gives a meaning.
+const SHT_PROGBITS: u32 = 1;
+/// A string table.
+const SHT_STRTAB: u32 = 3;
+/// Has memory when the program runs.
+const SHF_ALLOC: u64 = 2;
+/// Holds instructions.
+const SHF_EXECINSTR: u64 = 4;
+/// Bytes of a page, to which segments are aligned.
+const PAGE: u64 = 4096;
+/// The names of the sections, each ended by a zero byte.
+const SECTION_NAMES: &[u8] = b"\0.text\0.shstrtab\0";
+/// The bytes of three section headers.
+const TABLE_SIZE: u64 = 192;
+/// The flags of the code that an executable keeps: RVC, the float ABI and TSO.
+const KEPT_FLAGS: u32 = 0x17;
+
 /// The address of the first byte of the file.
 const IMAGE_BASE: u64 = 0x10000;
 /// The bytes of the file header and of three program headers.
@@ -40,26 +67,26 @@ fn push_program_headers(out: &mut Vec<u8>, size: u64) -> Result<(), AllocError>
     ensures { OnOk result (out.new.items ≡ out.old.items ++ program_headers size) }
 {
     let headers = ProgramHeader {
-        kind: 1,
-        flags: 4,
+        kind: PT_LOAD,
+        flags: PF_R,
         offset: 0,
         address: IMAGE_BASE,
         file_size: HEADERS_SIZE,
         memory_size: HEADERS_SIZE,
-        align: 4096,
+        align: PAGE,
     };
     let text = ProgramHeader {
-        kind: 1,
-        flags: 5,
+        kind: PT_LOAD,
+        flags: PF_R + PF_X,
         offset: TEXT_OFFSET,
         address: TEXT_ADDRESS,
         file_size: size,
         memory_size: size,
-        align: 4096,
+        align: PAGE,
     };
     let stack = ProgramHeader {
-        kind: 0x6474_e551,
-        flags: 6,
+        kind: PT_GNU_STACK,
+        flags: PF_R + PF_W,
         offset: 0,
         address: 0,
         file_size: 0,
@@ -82,7 +109,7 @@ fn header_bytes(
 ) -> Result<Vec<u8>, AllocError>
     ensures { IfOk result (λ v. v.items ≡ file_header entry table flags ++ program_headers size) }
 {
-    let mut out = Vec::with_capacity(alloc, 232)?;
+    let mut out = Vec::with_capacity(alloc, HEADERS_SIZE as usize)?;
     push_file_header(&mut out, entry, table, flags)?;
     push_program_headers(&mut out, size)?;
     Ok(out)
@@ -104,8 +131,8 @@ fn section_bytes(alloc: Global, size: u64, offset: u64) -> Result<Vec<u8>, Alloc
     };
     let text = SectionHeader {
         name: 1,
-        sh_type: 1,
-        flags: 6,
+        sh_type: SHT_PROGBITS,
+        flags: SHF_ALLOC + SHF_EXECINSTR,
         address: TEXT_ADDRESS,
         offset: TEXT_OFFSET,
         size,
@@ -113,14 +140,14 @@ fn section_bytes(alloc: Global, size: u64, offset: u64) -> Result<Vec<u8>, Alloc
     };
     let names = SectionHeader {
         name: 7,
-        sh_type: 3,
+        sh_type: SHT_STRTAB,
         flags: 0,
         address: 0,
         offset,
         size: 17,
         align: 1,
     };
-    let mut out = Vec::with_capacity(alloc, 192)?;
+    let mut out = Vec::with_capacity(alloc, TABLE_SIZE as usize)?;
     push_section_header(&mut out, &null)?;
     push_section_header(&mut out, &text)?;
     push_section_header(&mut out, &names)?;
@@ -156,7 +183,7 @@ pub fn write_executable(alloc: Global, object: &Object, entry: u64) -> Result<Ve
     let size = object.text.len() as u64;
     let names = TEXT_OFFSET + size;
     let table = up_to_8(names + 17);
-    let headers = header_bytes(alloc, entry, table, object.flags & 0x17, size)?;
+    let headers = header_bytes(alloc, entry, table, object.flags & KEPT_FLAGS, size)?;
     let text = text_bytes(alloc, object)?;
     let sections = section_bytes(alloc, size, names)?;
     let pieces = [
@@ -170,12 +197,12 @@ pub fn write_executable(alloc: Global, object: &Object, entry: u64) -> Result<Ve
         },
         Piece {
             at: names,
-            bytes: b"\0.text\0.shstrtab\0",
+            bytes: SECTION_NAMES,
         },
         Piece {
             at: table,
             bytes: &sections,
         },
     ];
-    file_of(alloc, &pieces, (table + 192) as usize)
+    file_of(alloc, &pieces, (table + TABLE_SIZE) as usize)
 }

@@ -1,7 +1,7 @@
 -- Lists of checks: parts in a row, steps of a loop over numbers, and what an answer says of the checks.
 use Rattle.std.proofs.Common.{◌≡◌, ℕ, zero, suc, ◌+◌, ◌-◌, ◌<◌, ◌≤◌, Bool, true, false, cond, List, [], ◌∷◌, ◌++◌, map, refl, sym, ap, ◌∙◌, subst, arith, inl, inr}
 use Rattle.std.proofs.Math.Nat.{eq-or-lt_of_le}
-use Rattle.std.proofs.lemmas.Bool.{cond-false}
+use Rattle.std.proofs.lemmas.Bool.{cond-true, cond-false}
 use Rattle.std.specs.Prelude.{Result, Ok, Err, flat_map, IfOk}
 use Rattle.std.specs.List.{range_with_len}
 use Rattle.std.proofs.lemmas.List.FromFn.{map-range_with_len_more}
@@ -156,3 +156,13 @@ refused_from view cs fields (Ok x) f e is = cc
 refused_from view cs fields (Err Memory) f e is = cc
 refused_from view cs fields (Err (Bad g)) f e is =
     let same : checked cs fields ≡ Err f = cc in first_from_err cs fields f same
+
+-- a first broken check is the answer
+err_after : {A : Type 0} (before later : List Check) (first : Check) (v : A) → NoneBroken before → first.broken ≡ true → checked (before ++ (first ∷ later)) v ≡ Err first.flaw
+err_after [] later first v none is = cond-true first.broken (Err first.flaw) (checked later v) is
+err_after (c ∷ cs) later first v none is =
+    rw none.0 (err_after cs later first v none.1 is)
+
+pub err_from_first : {A : Type 0} (cs : List Check) (v : A) (flaw : Flaw) → IsFirstBroken cs flaw → checked cs v ≡ Err flaw
+err_from_first cs v flaw h =
+    ap (λ xs. checked xs v) h.parts ∙ err_after h.before h.later h.first v h.passed h.broken ∙ ap Err (sym h.flaw_is)
