@@ -1,28 +1,63 @@
 #!/usr/bin/env bash
-# Each allocation of a link made to fail in turn: each run has to end with 0 or 4, with nothing on either stream, and at 4 with
-# no file begun. Usage: scripts/fail-alloc.sh [RVLD]
+# Each allocation of a link made to fail in turn, until one is asked for that the link does not come to. Each run has to end
+# with 0 and the whole executable, or with 4 and no file, and with nothing on either stream. Linked are the sample a.o, and
+# the program of many files with one worker and with four.
+# Usage: scripts/fail-alloc.sh [RVLD]     RVLD: the program; else crates/rvld/out/rvld, built first if it is not there
+# shellcheck disable=SC1091,SC2154
 set -u
-top=$(cd "$(dirname "$0")/.." && pwd)
-rvld=$(realpath "${1:-$top/crates/rvld/out/rvld}")
-work=$(mktemp -d)
-trap 'rm -rf "$work"' EXIT
-cc -shared -fPIC -O1 -o "$work/fail.so" "$top/scripts/fail_alloc.c" -ldl || exit 1
-cp "$top/samples/first/a.o" "$work/"
-cd "$work" || exit 1
-COUNT_TO=$work/count LD_PRELOAD=$work/fail.so "$rvld" -s a.o || exit 1
-count=$(cat count)
-passed=0
-failed=0
-for n in $(seq 1 "$count"); do
-    rm -f a.out
-    told=$(FAIL_ALLOC=$n LD_PRELOAD=$work/fail.so "$rvld" -s a.o 2>&1)
-    status=$?
-    if [ -z "$told" ] && { [ $status = 4 ] && [ ! -e a.out ] || { [ $status = 0 ] && cmp -s a.out "$top/samples/first/a.out"; }; }; then
-        passed=$((passed + 1))
-    else
-        echo "fail-alloc: allocation $n: status $status, '$told'"
-        failed=$((failed + 1))
-    fi
+name=fail-alloc
+. "$(dirname "${BASH_SOURCE[0]}")/common.sh"
+begin "$@"
+there "all" cc timeout || { say "nothing was tested"; end; }
+cc -shared -fPIC -O1 -fno-builtin -Wall -o fail.so "$top/scripts/fail_alloc.c" -ldl ||
+    { say "fail_alloc.c is not compiled"; end; }
+
+# each_fails WHAT WHOLE WORD..: the runs of rvld -s -o failed.out WORD.., whose executable is the file WHOLE
+each_fails() {
+    local n=0 status count wanting=0 linked=0 right
+    while :; do
+        n=$((n + 1))
+        rm -f failed.out count
+        timeout 60 env FAIL_ALLOC=$n COUNT_TO=count LD_PRELOAD="$work/fail.so" "$rvld" -s -o failed.out "${@:3}" >told 2>&1
+        status=$?
+        count=$(cat count 2>/dev/null)
+        right=0
+        if [ ! -s told ] && [ -n "$count" ]; then
+            case $status in
+                0) cmp -s failed.out "$2" && right=1 ;;
+                4) [ ! -e failed.out ] && [ ! -L failed.out ] && [ "$count" -ge $n ] && right=1 ;;
+            esac
+        fi
+        if [ $right = 0 ]; then
+            say "$1: allocation $n of ${count:-an unknown number}: status $status, '$(head -c 200 told)'"
+            # a count that is not told says that the program was ended from outside; it can't be known where to stop
+            [ -n "$count" ] || return
+        fi
+        # the run in which nothing failed is the last
+        [ "$count" -ge $n ] || break
+        [ $right = 0 ] || pass
+        if [ $status = 4 ]; then wanting=$((wanting + 1)); else linked=$((linked + 1)); fi
+    done
+    [ $status = 0 ] || say "$1: status $status where no allocation failed"
+    [ $wanting -gt 0 ] || say "$1: no run was in want of memory"
+    echo "$name: $1: $wanting ended with 4, $linked linked"
+}
+
+cp "$top/samples/first/a.o" .
+each_fails a.o "$top/samples/first/a.out" a.o
+
+there "the program of many files" clang riscv64-linux-gnu-readelf qemu-riscv64 || end
+files=()
+for source in "$sources"/many/*.c; do
+    object=$(basename "${source%.c}").o
+    case $object in noted.o | again.o) continue ;; esac
+    compile "$object" "$source" || { say "$source is not compiled"; end; }
+    only_known "$object" || end
+    files+=("$object")
 done
-echo "$passed passed, $failed failed"
-[ $failed = 0 ] && [ $passed -gt 0 ]
+links many.out "${files[@]}" || end
+runs many.out 86 "$sources/many.said" || end
+for threads in 1 4; do
+    each_fails "many files, workers: $threads" many.out --threads "$threads" "${files[@]}"
+done
+end

@@ -1,10 +1,11 @@
 //! The body of an object: what is read of a file that takes part in the link.
 
-ghost use Rattle.std.specs.Prelude.{◌≡◌, [], Ok, Err, IfOk, map, replicate};
+ghost use Rattle.std.specs.Prelude.{◌≡◌, ◌≤◌, [], Ok, Err, IfOk, length, map, replicate};
 ghost use Rattle.lk_base.specs.declared.defects.Flaw.{Flaw as FlawOf};
 ghost use Rattle.lk_base.specs.declared.defects.ReadFault.TheVariants.{Bad};
 ghost use Rattle.lk_tables.specs.Checks.{Gives, IsFirstBroken};
 ghost use Rattle.lk_tables.specs.Heads.{HeadOf, head_view};
+ghost use Rattle.lk_tables.specs.Inside.{IsBodyInside};
 ghost use Rattle.lk_tables.specs.Objects.{ObjectView, object_view, object_of, object_checks, BodyOf};
 
 use crate::known::reopen;
@@ -60,6 +61,8 @@ pub fn read_body(alloc: Global, bytes: &[u8], head: &Head) -> Result<Object, Rea
     ensures refused { (flaw : FlawOf) → result ≡ Err (Bad flaw) → IsFirstBroken (object_checks bytes.now) flaw }
     // The first broken check is told, unless memory runs out.
     ensures broken { (flaw : FlawOf) → IsFirstBroken (object_checks bytes.now) flaw → Gives object_view result (Err flaw) }
+    // In a file of less than 2^31 bytes its relocations lie in their sections, and what is linked can be.
+    ensures inside { IfOk result (λ object. length bytes.now ≤ 2147483647 → IsBodyInside bytes.now (head_view head.now) (object_view object)) }
 {
     read(alloc, bytes, head)
 }

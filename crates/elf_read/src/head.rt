@@ -4,6 +4,7 @@ ghost use Rattle.std.specs.Prelude.{◌≡◌, Ok, Err, IfOk};
 ghost use Rattle.lk_base.specs.declared.defects.Flaw.{Flaw as FlawOf};
 ghost use Rattle.lk_tables.specs.Checks.{Gives, IsFirstBroken};
 ghost use Rattle.lk_tables.specs.Heads.{HeadView, head_view, head_of, head_checks, HeadOf};
+ghost use Rattle.lk_tables.specs.Inside.{IsHeadInside};
 ghost use Rattle.lk_base.specs.declared.defects.ReadFault.TheVariants.{Bad};
 
 use crate::header::open;
@@ -46,6 +47,8 @@ pub fn read_head(alloc: Global, bytes: &[u8]) -> Result<Head, ReadFault>
     ensures refused { (flaw : FlawOf) → result ≡ Err (Bad flaw) → IsFirstBroken (head_checks bytes.now) flaw }
     // The first broken check is told, unless memory runs out.
     ensures broken { (flaw : FlawOf) → IsFirstBroken (head_checks bytes.now) flaw → Gives head_view result (Err flaw) }
+    // Its names, contents, places and values lie where they must.
+    ensures inside { IfOk result (λ head. IsHeadInside bytes.now (head_view head)) }
 {
     read(alloc, bytes)
 }

@@ -121,12 +121,12 @@ fn is_bad_local(locals: u32, index: usize, len: usize, entry: &SymbolEntry) -> b
         || (entry.info / 16 != 0 && len == 0)
 }
 
-/// Whether a symbol is COMMON and of type TLS, or COMMON at all: none is linked yet.
+/// Whether a symbol is COMMON and of type TLS.
 #[tactic(auto, unfolding(lk_tables::specs::Symbols::is_bad_common))]
 fn is_bad_common(entry: &SymbolEntry) -> bool
     ensures { result ≡ read.is_bad_common entry.now }
 {
-    (entry.shndx == 0xfff2 && entry.info % 16 == 6) || entry.shndx == 0xfff2
+    entry.shndx == 0xfff2 && entry.info % 16 == 6
 }
 
 /// Whether a symbol cannot be; `len` is the length of its name.

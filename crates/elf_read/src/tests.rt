@@ -2,7 +2,7 @@
 //! the format.
 
 use crate::{read_body, read_head};
-use lk_base::DefectKind::{self, F01, F02, F03, F04, F05, F09, F10, F11, F12, F15, F17};
+use lk_base::DefectKind::{self, F01, F02, F03, F04, F05, F08, F09, F10, F11, F12, F15, F17};
 use lk_base::{Flaw, NO_FILE, ReadFault};
 use lk_tables::{Place, Reloc, Span};
 use std::alloc::{AllocError, Global};
@@ -49,11 +49,16 @@ fn sound(alloc: Global) -> Result<Vec<u8>, AllocError> {
     Ok(bytes)
 }
 
-/// The object with one byte changed.
-fn altered(alloc: Global, at: usize, byte: u8) -> Result<Vec<u8>, AllocError> {
+/// A byte, and what it becomes.
+type Change = (usize, u8);
+
+/// The object with some bytes changed.
+fn altered(alloc: Global, changes: &[Change]) -> Result<Vec<u8>, AllocError> {
     let mut bytes = sound(alloc)?;
-    if let Some(place) = bytes.get_mut(at) {
-        *place = byte;
+    for (at, byte) in changes {
+        if let Some(place) = bytes.get_mut(*at) {
+            *place = *byte;
+        }
     }
     Ok(bytes)
 }
@@ -73,19 +78,35 @@ fn flaw_in(alloc: Global, bytes: &[u8]) -> Option<Flaw> {
 /// A byte, what it becomes, and the answer's kind, section, place and other number.
 type Row = (usize, u8, DefectKind, u32, u64, u64);
 
-const ROWS: [Row; 40] = [
+const ROWS: [Row; 60] = [
     // The file header.
     (0, 0x7e, F01, 0, 0, 0),
     (4, 1, F02, 0, 4, 0),
     (5, 2, F02, 0, 5, 0),
+    (6, 2, F02, 0, 6, 0),
     (16, 2, F02, 0, 16, 0),
     (18, 62, F02, 0, 18, 0),
+    (20, 2, F02, 0, 20, 0),
+    (23, 1, F02, 0, 20, 0),
     (48, 9, F02, 0, 48, 0),
+    // The section table at 0, at 257 and far past the file.
+    (41, 0, F02, 0, 40, 0),
+    (40, 1, F03, 0, 40, 0),
+    (47, 0x80, F03, 0, 40, 0),
     (58, 63, F02, 0, 58, 0),
+    // How many sections: 0, 5, 7, 65,030 and 65,286.
     (60, 0, F04, 0, 60, 0),
+    (60, 5, F04, 0, 62, 0),
     (60, 7, F03, 0, 40, 0),
+    (61, 0xfe, F03, 0, 40, 0),
+    (61, 0xff, F08, 0, 60, 0),
+    // The section of their names: 0, 1, 6, 261, one whose table ends at 10, and one that ends past the file.
+    (62, 0, F04, 0, 62, 0),
     (62, 1, F04, 0, 62, 0),
     (62, 6, F04, 0, 62, 0),
+    (63, 1, F04, 0, 62, 0),
+    (62, 4, F10, 3, 448, 0),
+    (609, 2, F03, 0, 62, 0),
     // Section headers: .text at 320, .rela.text at 384, .symtab at 448.
     (320, 44, F10, 1, 320, 0),
     (353, 0x10, F03, 1, 320, 0),
@@ -107,7 +128,12 @@ const ROWS: [Row; 40] = [
     (388, 9, F04, 2, 384, 0),
     (328, 7, F04, 1, 320, 0),
     (328, 0x16, F04, 1, 320, 0),
+    (329, 4, F04, 1, 320, 0),
     (324, 7, F04, 1, 320, 0),
+    (324, 14, F04, 1, 320, 0),
+    (324, 15, F04, 1, 320, 0),
+    (324, 16, F04, 1, 320, 0),
+    (388, 17, F04, 2, 384, 0),
     (368, 3, F15, 1, 320, 0),
     (440, 25, F04, 2, 384, 0),
     (424, 4, F04, 2, 384, 0),
@@ -116,6 +142,9 @@ const ROWS: [Row; 40] = [
     // The relocations at 80 and 104.
     (92, 3, F11, 2, 80, 0),
     (88, 16, F12, 2, 80, 16),
+    (88, 51, F12, 2, 80, 51),
+    // .text has no bytes in the file.
+    (324, 8, F11, 2, 80, 0),
     (80, 13, F11, 2, 80, 0),
     (88, 24, F11, 2, 80, 0),
     // A call at 0 meets the jump at 4, which comes later and stands first.
@@ -125,7 +154,7 @@ const ROWS: [Row; 40] = [
 #[test]
 fn tells_the_first_broken_check(rt: HostRuntime) -> Result<(), Fail> {
     for (at, byte, kind, section, place, other) in ROWS {
-        let bytes = altered(rt.alloc(), at, byte)?;
+        let bytes = altered(rt.alloc(), &[(at, byte)])?;
         let wanted = Some(Flaw {
             kind,
             section,
@@ -139,11 +168,89 @@ fn tells_the_first_broken_check(rt: HostRuntime) -> Result<(), Fail> {
 
 #[test]
 fn passes_what_is_not_checked(rt: HostRuntime) -> Result<(), Fail> {
-    // A value at the section's end; visibility; a relocation section of one that is not written.
-    for (at, byte) in [(160, 16), (157, 2), (428, 3), (0x30, 5)] {
-        let bytes = altered(rt.alloc(), at, byte)?;
+    // A value at the section's end; visibility; a relocation section of one that is not written; .text is excluded, or
+    // ordered by section 0; fields of the file header that an object does not use.
+    for (at, byte) in [
+        (160, 16),
+        (157, 2),
+        (428, 3),
+        (331, 0x80),
+        (328, 0x86),
+        (7, 3),
+        (24, 1),
+        (32, 1),
+        (48, 5),
+        (52, 0),
+        (56, 1),
+    ] {
+        let bytes = altered(rt.alloc(), &[(at, byte)])?;
         assert_eq!(rt; flaw_in(rt.alloc(), bytes.as_slice()), None, "byte {at}");
     }
+    Ok(())
+}
+
+/// Changes of the symbol `_start`, which is COMMON, and what is told of it.
+const COMMONS: [(Change, Option<DefectKind>); 12] = [
+    // Type COMMON, TLS and GNU_IFUNC; LOCAL.
+    ((156, 0x15), None),
+    ((156, 0x16), Some(F09)),
+    ((156, 0x1a), Some(F17)),
+    ((156, 0x02), Some(F09)),
+    // Alignments of 0, 3, 16, 2^20, 2^21 and 2^32.
+    ((160, 0), None),
+    ((160, 3), Some(F15)),
+    ((160, 16), None),
+    ((162, 0x10), None),
+    ((162, 0x20), Some(F15)),
+    ((164, 1), Some(F15)),
+    // Sizes of 2^32 - 2^24 + 8 and of 2^32 + 8.
+    ((171, 0xff), None),
+    ((172, 1), Some(F08)),
+];
+
+#[test]
+fn reads_common_symbols(rt: HostRuntime) -> Result<(), Fail> {
+    for (change, kind) in COMMONS {
+        let bytes = altered(rt.alloc(), &[(158, 0xf2), (159, 0xff), change])?;
+        let flaw = flaw_in(rt.alloc(), bytes.as_slice());
+        let wanted = match kind {
+            None => None,
+            Some(kind) => Some(Flaw {
+                kind,
+                section: 3,
+                place: 152,
+                other: 0,
+            }),
+        };
+        assert_eq!(rt; flaw, wanted, "byte {}", change.0);
+    }
+    let bytes = altered(rt.alloc(), &[(158, 0xf2), (159, 0xff)])?;
+    let head = read_head(rt.alloc(), bytes.as_slice())?;
+    assert_eq!(rt; head.symbols.len(), 3);
+    assert_eq!(rt; head.symbols[1].place, Place::Common);
+    Ok(())
+}
+
+#[test]
+fn tells_what_two_bytes_break(rt: HostRuntime) -> Result<(), Fail> {
+    for (first, second, kind) in [
+        // .text has no bytes in the file and 2^32 + 16 in memory.
+        ((324, 8), (356, 1), F08),
+        // .text is ordered by section 6, which is not there.
+        ((328, 0x86), (360, 6), F04),
+    ] {
+        let bytes = altered(rt.alloc(), &[first, second])?;
+        let wanted = Some(Flaw {
+            kind,
+            section: 1,
+            place: 320,
+            other: 0,
+        });
+        assert_eq!(rt; flaw_in(rt.alloc(), bytes.as_slice()), wanted);
+    }
+    // GNU_IFUNC that another file defines.
+    let bytes = altered(rt.alloc(), &[(156, 0x1a), (158, 0)])?;
+    assert_eq!(rt; flaw_in(rt.alloc(), bytes.as_slice()), None);
     Ok(())
 }
 

@@ -1,7 +1,7 @@
 -- The runs of one group, one after the other.
 use Rattle.std.proofs.Common.{◌≡◌, ℕ, suc, ◌+◌, ◌<◌, List, [], ◌∷◌, ◌++◌, length, take, drop, Bool, true, false, ◌==◌, if◌then◌else◌, refl, ap, sym, ◌∙◌, append_assoc, arith}
 use Rattle.layout.specs.declared.names.Class.{Class}
-use Rattle.layout.specs.declared.names.Member.{Member}
+use Rattle.layout.specs.Parts.{Part}
 use Rattle.layout.specs.declared.order.Row.{Row}
 use Rattle.layout.specs.Walk.{Section, Stand, after, all_put, beside, cut, end_along, run_len, same_len, section_in, sections_along, stands_along, stands_in}
 use Rattle.std.proofs.lemmas.Bool.Decides.{nat_tests}
@@ -51,7 +51,7 @@ all_put-append (s ∷ ss) ts xs = all_put-append ss ts _
 pub next_end : (at end : ℕ) (rest front back : List Row) → cut rest ≡ front ∷ cut back → end ≡ after at front → end_along end (cut back) ≡ end_along at (cut rest)
 next_end at end rest front back e behind = rw (e, behind) refl
 
-pub next_sections : (members : List Member) (class : Class) (at end : ℕ) (rest front back : List Row) (xs ys : List Section) → cut rest ≡ front ∷ cut back
+pub next_sections : (members : List Part) (class : Class) (at end : ℕ) (rest front back : List Row) (xs ys : List Section) → cut rest ≡ front ∷ cut back
     → end ≡ after at front → ys ≡ xs ++ section_in members class at front
     → ys ++ sections_along members class end (cut back) ≡ xs ++ sections_along members class at (cut rest)
 next_sections members class at end rest front back xs ys e behind more =

@@ -1,4 +1,17 @@
-mod Apart
+pub mod Apart
+mod Chain
+pub mod Classes
+mod Cursors
 mod Cuts
+pub mod Disjoint
+pub mod Inside
 mod Known
+mod Numbered
+pub mod Passed
+pub mod Rising
 mod Rows
+mod Runs
+mod Seen
+pub mod Segments
+mod Stable
+mod Stands

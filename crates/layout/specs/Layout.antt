@@ -1,5 +1,6 @@
--- The layout of a link: the classes one after the other, each from the cursor behind the one before, and the limits.
-use Rattle.std.specs.Prelude.{◌≡◌, ℕ, ◌+◌, ◌-◌, ◌*◌, ◌%◌, ◌<◌, ◌≤◌, Bool, not, ◌&&◌, if◌then◌else◌, ◌⊎◌, List, [], ◌∷◌, ◌++◌, length, codes, All, replicate}
+-- The layout of a link, one function of its parts: the classes one after the other, each from the cursor behind the one
+-- before, and the limits.
+use Rattle.std.specs.Prelude.{◌≡◌, ℕ, ◌+◌, ◌-◌, ◌*◌, ◌%◌, ◌<◌, ◌≤◌, nat_lt, nat_le, Bool, not, ◌&&◌, if◌then◌else◌, List, [], ◌∷◌, ◌++◌, length, codes, All, replicate}
 use Rattle.lk_base.specs.declared.defects.Defect.{Defect}
 use Rattle.lk_base.specs.declared.defects.LinkStop.{LinkStop}
 use Rattle.lk_base.specs.declared.defects.LinkStop.TheVariants.{Defect as StopsAt, Memory}
@@ -8,39 +9,42 @@ use Rattle.lk_base.specs.declared.kinds.DefectKind.TheVariants.{F08, F23}
 use Rattle.lk_base.specs.declared.limits.Limits.{Limits}
 use Rattle.lk_base.specs.declared.numbers.TheConstants.{NO_FILE}
 use Rattle.layout.specs.declared.names.Class.TheVariants.{R, Rx, RwBits, RwNobits}
-use Rattle.layout.specs.declared.names.Member.{Member}
 use Rattle.layout.specs.declared.order.Row.{Row}
 use Rattle.layout.specs.declared.placing.Bounds.{Bounds}
 use Rattle.layout.specs.declared.placing.Layout.{Layout}
 use Rattle.layout.specs.declared.placing.Ordered.{Ordered}
-use Rattle.layout.specs.Order.{IsFit, IsOrder}
+use Rattle.layout.specs.Order.{IsFit, order_of}
+use Rattle.layout.specs.Parts.{Part}
 use Rattle.layout.specs.Walk.{Section, all_put, cut, end_along, is_empty, sections_along, stands_along, up, views}
 
--- the linker's own member: an empty global offset table, PROGBITS, WRITE and ALLOC, of alignment 8
-pub record IsGot (m : Member) : Type 0 where
-  pub named : m.name.now ≡ codes ".got"
-  pub typed : m.sh_type ≡ 1
-  pub flagged : m.flags ≡ 3
-  pub sized : m.size ≡ 0
-  pub aligned : m.align ≡ 8
+-- the linker's own part: an empty global offset table, PROGBITS, WRITE and ALLOC, of alignment 8
+abbrev pub got : Part
+got = record { name = codes ".got"; sh_type = 1; flags = 3; size = 0; align = 8 }
 
--- all members: those given, in command order, and behind them the linker's
-pub record IsWhole (members all : List Member) : Type 0 where
-  pub got : Member
-  pub is_got : IsGot got
-  pub all_is : all ≡ members ++ got ∷ []
+-- all parts: those given, in command order, and behind them the linker's
+unfoldable pub with_got : List Part → List Part
+with_got parts = parts ++ got ∷ []
 
--- the members of each class
+-- the parts of each class
 pub record Orders : Type 0 where
   pub r : List Row
   pub rx : List Row
   pub rw_bits : List Row
   pub rw_nobits : List Row
 
-abbrev pub orders_of : Ordered → Orders
-orders_of o = record { r = o.r.items; rx = o.rx.items; rw_bits = o.rw_bits.items; rw_nobits = o.rw_nobits.items }
+abbrev pub orders_in : Ordered → Orders
+orders_in o = record { r = o.r.items; rx = o.rx.items; rw_bits = o.rw_bits.items; rw_nobits = o.rw_nobits.items }
 
--- no class has more than all n members, and their sizes are as they can be
+-- each class's in its order
+unfoldable pub orders_of : List Part → Orders
+orders_of parts = record {
+  r = order_of R parts;
+  rx = order_of Rx parts;
+  rw_bits = order_of RwBits parts;
+  rw_nobits = order_of RwNobits parts;
+}
+
+-- no class has more than all n parts, and their sizes are as they can be
 pub record AreFit (n : ℕ) (o : Orders) : Type 0 where
   pub r : All (IsFit n) o.r
   pub rx : All (IsFit n) o.rx
@@ -51,53 +55,105 @@ pub record AreFit (n : ℕ) (o : Orders) : Type 0 where
   pub few_bits : length o.rw_bits ≤ n
   pub few_nobits : length o.rw_nobits ≤ n
 
--- each class's in its order
-pub record AreOrders (members : List Member) (o : Orders) : Type 0 where
-  pub r : IsOrder R members o.r
-  pub rx : IsOrder Rx members o.rx
-  pub rw_bits : IsOrder RwBits members o.rw_bits
-  pub rw_nobits : IsOrder RwNobits members o.rw_nobits
-
 abbrev pub count_of : Bool → ℕ
 count_of test = if test then 1 else 0
 
--- the greatest end of an output section that is not empty, or of the headers: ends grow along the walk, so it is the end
--- of the last class that is not empty
-abbrev pub image_end_of : Orders → (r_end rx_end bits_end nobits_end : ℕ) → ℕ
-image_end_of o r_end rx_end bits_end nobits_end =
-    if not (is_empty o.rw_nobits) then nobits_end
-    else if not (is_empty o.rw_bits) then bits_end
-    else if not (is_empty o.rx) then rx_end
-    else r_end
+-- a class that is executed, or written, has a segment where one of its parts has a byte
+unfoldable pub has_rx : Orders → Bool
+has_rx o = not (is_empty o.rx)
 
--- the chain of the classes. The image begins at 0x10000 with the file header, 64 bytes, and 56 for each program
--- header. The cursor is rounded before RX, and once more behind it (where the thread-local classes will stand).
-pub record AreBounds (o : Orders) (b : Bounds) : Type 0 where
-  pub has_rx : b.has_rx ≡ not (is_empty o.rx)
-  pub has_rw : b.has_rw ≡ not (is_empty o.rw_bits && is_empty o.rw_nobits)
-  pub headers : b.headers ≡ 2 + count_of b.has_rx + count_of b.has_rw
-  pub headers_end : b.headers_end ≡ 0x10000 + (64 + 56 * b.headers)
-  pub r_end : b.r_end ≡ end_along b.headers_end (cut o.r)
-  pub rx_start : b.rx_start ≡ up b.r_end 4096
-  pub rx_end : b.rx_end ≡ end_along b.rx_start (cut o.rx)
-  pub rw_start : b.rw_start ≡ up b.rx_end 4096
-  pub bits_end : b.bits_end ≡ end_along b.rw_start (cut o.rw_bits)
-  pub nobits_end : b.nobits_end ≡ end_along b.bits_end (cut o.rw_nobits)
-  pub image_end : b.image_end ≡ image_end_of o b.r_end b.rx_end b.bits_end b.nobits_end
+unfoldable pub has_rw : Orders → Bool
+has_rw o = not (is_empty o.rw_bits && is_empty o.rw_nobits)
+
+-- the program headers: that of the first segment, those of the two above, that of the stack
+unfoldable pub headers_of : Orders → ℕ
+headers_of o = 2 + count_of (has_rx o) + count_of (has_rw o)
+
+-- the image begins at 0x10000 with the file header, 64 bytes, and 56 for each program header
+unfoldable pub headers_end_of : Orders → ℕ
+headers_end_of o = 0x10000 + (64 + 56 * headers_of o)
+
+-- the chain of the classes: the cursor is rounded before RX, and once more behind it (where the thread-local classes
+-- will stand)
+unfoldable pub r_end_of : Orders → ℕ
+r_end_of o = end_along (headers_end_of o) (cut o.r)
+
+unfoldable pub rx_start_of : Orders → ℕ
+rx_start_of o = up (r_end_of o) 4096
+
+unfoldable pub rx_end_of : Orders → ℕ
+rx_end_of o = end_along (rx_start_of o) (cut o.rx)
+
+unfoldable pub rw_start_of : Orders → ℕ
+rw_start_of o = up (rx_end_of o) 4096
+
+unfoldable pub bits_end_of : Orders → ℕ
+bits_end_of o = end_along (rw_start_of o) (cut o.rw_bits)
+
+unfoldable pub nobits_end_of : Orders → ℕ
+nobits_end_of o = end_along (bits_end_of o) (cut o.rw_nobits)
+
+-- the greatest end of the headers or of an output section that is not empty: ends grow along the walk, so it is the end
+-- of the last class that is not empty; in the file, of the last with bits, and in the image, of the last of all
+abbrev pub last_end : Orders → (r_end rx_end bits_end : ℕ) → ℕ
+last_end o r_end rx_end bits_end = if not (is_empty o.rw_bits) then bits_end else if not (is_empty o.rx) then rx_end else r_end
+
+unfoldable pub file_end_of : Orders → ℕ
+file_end_of o = last_end o (r_end_of o) (rx_end_of o) (bits_end_of o)
+
+unfoldable pub image_end_of : Orders → ℕ
+image_end_of o = if not (is_empty o.rw_nobits) then nobits_end_of o else file_end_of o
+
+unfoldable pub bounds_of : Orders → Bounds
+bounds_of o = record {
+  has_rx = has_rx o;
+  has_rw = has_rw o;
+  headers = headers_of o;
+  headers_end = headers_end_of o;
+  r_end = r_end_of o;
+  rx_start = rx_start_of o;
+  rx_end = rx_end_of o;
+  rw_start = rw_start_of o;
+  bits_end = bits_end_of o;
+  nobits_end = nobits_end_of o;
+  file_end = file_end_of o;
+  image_end = image_end_of o;
+}
 
 -- the output sections that are not empty, in order
-unfoldable pub sections_of : List Member → Orders → Bounds → List Section
-sections_of members o b = sections_along members R b.headers_end (cut o.r)
-    ++ sections_along members Rx b.rx_start (cut o.rx)
-    ++ sections_along members RwBits b.rw_start (cut o.rw_bits)
-    ++ sections_along members RwNobits b.bits_end (cut o.rw_nobits)
+unfoldable pub sections_of : List Part → Orders → Bounds → List Section
+sections_of parts o b = sections_along parts R b.headers_end (cut o.r)
+    ++ sections_along parts Rx b.rx_start (cut o.rx)
+    ++ sections_along parts RwBits b.rw_start (cut o.rw_bits)
+    ++ sections_along parts RwNobits b.bits_end (cut o.rw_nobits)
 
--- the first address of each of n members
+-- the first address of each of n parts
 unfoldable pub starts_of : ℕ → Orders → Bounds → List ℕ
 starts_of n o b = all_put (stands_along b.bits_end (cut o.rw_nobits))
     (all_put (stands_along b.rw_start (cut o.rw_bits))
     (all_put (stands_along b.rx_start (cut o.rx))
     (all_put (stands_along b.headers_end (cut o.r)) (replicate n 0))))
+
+-- where everything stands
+pub record LaidOut : Type 0 where
+  pub starts : List ℕ
+  pub outputs : List Section
+  pub bounds : Bounds
+
+unfoldable pub view_of : Layout → LaidOut
+view_of layout = record { starts = layout.starts.items; outputs = views layout.outputs.items; bounds = layout.bounds }
+
+-- the layout of parts that stand in this order
+unfoldable pub laid_of : List Part → Orders → LaidOut
+laid_of parts o = record {
+  starts = starts_of (length parts) o (bounds_of o);
+  outputs = sections_of parts o (bounds_of o);
+  bounds = bounds_of o;
+}
+
+-- the layout of the parts of a link, given in command order
+unfoldable pub layout_of : List Part → LaidOut
+layout_of parts = laid_of (with_got parts) (orders_of (with_got parts))
 
 -- output sections one after the other from an address on: each begins at a multiple of its alignment, and not below the
 -- end of the one before
@@ -105,40 +161,24 @@ abbrev pub AreApart : ℕ → List Section → Type 0
 AreApart from [] = Unit {0}
 AreApart from (s ∷ ss) = (from ≤ s.address) × (s.address % s.align ≡ 0) × AreApart (s.address + s.size) ss
 
--- the layout of these members
-pub record IsLayout (members : List Member) (layout : Layout) : Type 0 where
-  pub all : List Member
-  pub orders : Orders
-  pub whole : IsWhole members all
-  pub ordered : AreOrders all orders
-  pub bounds : AreBounds orders layout.bounds
-  pub outputs : views layout.outputs.items ≡ sections_of all orders layout.bounds
-  pub starts : layout.starts.items ≡ starts_of (length all) orders layout.bounds
-
 -- the limits: on the count of the output sections, and on the image's size
-pub record IsWithin (limits : Limits) (layout : Layout) : Type 0 where
-  pub outputs : length layout.outputs.items ≤ limits.outputs
-  pub image : layout.bounds.image_end - 0x10000 < limits.image
+pub record IsWithin (limits : Limits) (laid : LaidOut) : Type 0 where
+  pub outputs : length laid.outputs ≤ limits.outputs
+  pub image : laid.bounds.image_end - 0x10000 < limits.image
 
 abbrev pub defect_of : DefectKind → ℕ → Defect
 defect_of kind place = record { kind = kind; file = NO_FILE; section = 0; place = place; symbol = 0; other = 0 }
 
--- the first limit that a layout passes: its output sections are too many, or their count is not and its image is too large
-pub record HasTooMany (limits : Limits) (layout : Layout) (defect : Defect) : Type 0 where
-  pub above : limits.outputs < length layout.outputs.items
-  pub told : defect ≡ defect_of F08 (length layout.outputs.items)
+-- the first limit that is passed, where one is: output sections above their limit, or an image not below its
+abbrev pub limit_passed : Limits → (outputs image : ℕ) → List Defect
+limit_passed limits outputs image = if nat_lt limits.outputs outputs then defect_of F08 outputs ∷ []
+    else if nat_le limits.image image then defect_of F23 image ∷ []
+    else []
 
-pub record IsTooBig (limits : Limits) (layout : Layout) (defect : Defect) : Type 0 where
-  pub few : length layout.outputs.items ≤ limits.outputs
-  pub above : limits.image ≤ layout.bounds.image_end - 0x10000
-  pub told : defect ≡ defect_of F23 (layout.bounds.image_end - 0x10000)
+unfoldable pub limit_defects : Limits → LaidOut → List Defect
+limit_defects limits laid = limit_passed limits (length laid.outputs) (laid.bounds.image_end - 0x10000)
 
--- why there is no layout: a limit that the layout of these members passes, or want of memory
-pub record Passes (members : List Member) (limits : Limits) (defect : Defect) : Type 0 where
-  pub layout : Layout
-  pub is_layout : IsLayout members layout
-  pub first : HasTooMany limits layout defect ⊎ IsTooBig limits layout defect
-
-abbrev pub Stops : List Member → Limits → LinkStop → Type 0
-Stops members limits Memory = Unit {0}
-Stops members limits (StopsAt defect) = Passes members limits defect
+-- why there is no layout: a limit that the layout of these parts passes, or want of memory
+abbrev pub Stops : Limits → LaidOut → LinkStop → Type 0
+Stops limits laid Memory = Unit {0}
+Stops limits laid (StopsAt defect) = limit_defects limits laid ≡ defect ∷ []

@@ -1,4 +1,6 @@
+pub mod Parts
 pub mod Names
 pub mod Order
 pub mod Walk
 pub mod Layout
+pub mod Spots

@@ -5,7 +5,7 @@ use Rattle.std.specs.List.{position_or_len, starts_with}
 use Rattle.std.specs.Str.{bytes_eq}
 use Rattle.layout.specs.declared.names.Class.{Class}
 use Rattle.layout.specs.declared.names.Class.TheVariants.{R, Rx, RwBits, RwNobits}
-use Rattle.layout.specs.declared.names.Member.{Member}
+use Rattle.layout.specs.Parts.{Part}
 
 -- names that are lent, as texts
 abbrev pub texts : List (Bor (List ℕ)) → List (List ℕ)
@@ -35,21 +35,21 @@ unfoldable pub output_name : List ℕ → List ℕ
 output_name name = if bytes_eq name (codes "COMMON") then codes ".bss" else gathered prefixes name
 
 -- SHF_WRITE, SHF_EXECINSTR and SHT_NOBITS
-abbrev pub writes : Member → Bool
-writes m = m.flags % 2 == 1
+abbrev pub writes : Part → Bool
+writes part = part.flags % 2 == 1
 
-abbrev pub executes : Member → Bool
-executes m = m.flags / 4 % 2 == 1
+abbrev pub executes : Part → Bool
+executes part = part.flags / 4 % 2 == 1
 
-abbrev pub is_nobits : Member → Bool
-is_nobits m = m.sh_type == 8
+abbrev pub is_nobits : Part → Bool
+is_nobits part = part.sh_type == 8
 
 -- the class of a section: WRITE decides first, then EXECINSTR; NOBITS makes a class of its own among the written
-unfoldable pub is_in : Class → Member → Bool
-is_in R m = not (writes m) && not (executes m)
-is_in Rx m = not (writes m) && executes m
-is_in RwBits m = writes m && not (is_nobits m)
-is_in RwNobits m = writes m && is_nobits m
+unfoldable pub is_in : Class → Part → Bool
+is_in R part = not (writes part) && not (executes part)
+is_in Rx part = not (writes part) && executes part
+is_in RwBits part = writes part && not (is_nobits part)
+is_in RwNobits part = writes part && is_nobits part
 
 -- the place of a name in a table, or the table's length
 abbrev pub place_of : List (List ℕ) → List ℕ → ℕ

@@ -3,10 +3,10 @@ use Rattle.std.specs.Prelude.{ℕ, ◌+◌, ◌-◌, ◌*◌, ◌/◌, Bool, ◌
 use Rattle.std.specs.List.{list_all, fold}
 use Rattle.layout.specs.declared.names.Class.{Class}
 use Rattle.layout.specs.declared.names.Class.TheVariants.{R, Rx, RwBits, RwNobits}
-use Rattle.layout.specs.declared.names.Member.{Member}
 use Rattle.layout.specs.declared.order.Row.{Row}
 use Rattle.layout.specs.declared.walk.Output.{Output}
 use Rattle.layout.specs.Names.{output_name}
+use Rattle.layout.specs.Parts.{Part}
 
 -- the output sections of a class, its members being in their order: each run of one group
 abbrev pub beside : Row → List (List Row) → List (List Row)
@@ -45,13 +45,13 @@ unfoldable pub flags_of : List Row → ℕ
 flags_of rows = bit_and (fold (λ flags row. bit_or flags row.flags) 0 rows) 0x407
 
 -- the name is that to which the first member's goes
-abbrev pub name_of_member : Option Member → List ℕ
-name_of_member None = []
-name_of_member (Some m) = output_name m.name.now
+abbrev pub name_of_part : Option Part → List ℕ
+name_of_part None = []
+name_of_part (Some part) = output_name part.name
 
-abbrev pub first_name : List Member → List Row → List ℕ
-first_name members [] = []
-first_name members (row ∷ rows) = name_of_member (slice_get members row.number)
+abbrev pub first_name : List Part → List Row → List ℕ
+first_name parts [] = []
+first_name parts (row ∷ rows) = name_of_part (slice_get parts row.number)
 
 -- NOBITS in a class without bits, else the first member's type, where NOBITS counts as PROGBITS
 abbrev pub bits_type : List Row → ℕ
@@ -89,9 +89,9 @@ abbrev pub views : List Output → List Section
 views outputs = map view outputs
 
 -- the output section of these members, from its start to its end
-unfoldable pub section_of : List Member → Class → List Row → (start end : ℕ) → Section
-section_of members class rows start end = record {
-  name = first_name members rows;
+unfoldable pub section_of : List Part → Class → List Row → (start end : ℕ) → Section
+section_of parts class rows start end = record {
+  name = first_name parts rows;
   class = class;
   sh_type = first_type class rows;
   flags = flags_of rows;
@@ -136,15 +136,15 @@ unfoldable pub stands_in : ℕ → List Row → List Stand
 stands_in cursor rows =
     if is_empty rows then stands_still (start_of cursor rows) rows else stands (start_of cursor rows) rows
 
-unfoldable pub section_in : List Member → Class → ℕ → List Row → List Section
-section_in members class cursor rows =
-    if is_empty rows then [] else section_of members class rows (start_of cursor rows) (after cursor rows) ∷ []
+unfoldable pub section_in : List Part → Class → ℕ → List Row → List Section
+section_in parts class cursor rows =
+    if is_empty rows then [] else section_of parts class rows (start_of cursor rows) (after cursor rows) ∷ []
 
 -- the output sections of a class one after the other: those that are not empty, all members, and the cursor behind
-abbrev pub sections_along : List Member → Class → ℕ → List (List Row) → List Section
-sections_along members class cursor [] = []
-sections_along members class cursor (o ∷ os) =
-    section_in members class cursor o ++ sections_along members class (after cursor o) os
+abbrev pub sections_along : List Part → Class → ℕ → List (List Row) → List Section
+sections_along parts class cursor [] = []
+sections_along parts class cursor (o ∷ os) =
+    section_in parts class cursor o ++ sections_along parts class (after cursor o) os
 
 abbrev pub stands_along : ℕ → List (List Row) → List Stand
 stands_along cursor [] = []

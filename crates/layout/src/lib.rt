@@ -9,6 +9,5 @@ mod placing;
 mod walk;
 
 pub use names::{Class, Member, is_in, output_name, priority_of, rank_of};
-pub use order::{Row, find_order};
 pub use placing::{Bounds, Layout, place};
-pub use walk::{Output, is_empty, up, walk_class};
+pub use walk::Output;

@@ -3,6 +3,7 @@
 ghost use Rattle.std.specs.Prelude.{◌≡◌, ℕ, ◌+◌, ◌*◌, ◌<◌, ◌≤◌, length, map};
 ghost use Rattle.std.specs.List.{position_or_len};
 ghost use Rattle.layout.specs.Names.{is_under, gathered, is_numbered, rank_of_bits, output_name, rank_of, is_in, priority_of, number_of, place_of, texts};
+ghost use Rattle.layout.specs.Parts.{part_of};
 
 /// A class of output sections, in the order in which the classes stand. (The classes of thread-local sections will
 /// stand between `Rx` and `RwBits`.)
@@ -93,7 +94,7 @@ pub fn output_name<'a>(name: &'a [u8]) -> &'a [u8]
 /// Whether a section belongs to a class.
 #[tactic(auto, unfolding(crate::specs::Names::is_in))]
 pub fn is_in(class: Class, member: &Member) -> bool
-    ensures { result ≡ is_in class member.now }
+    ensures { result ≡ is_in class (part_of member.now) }
 {
     let writes = member.flags % 2 == 1;
     let executes = member.flags / 4 % 2 == 1;

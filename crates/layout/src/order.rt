@@ -2,7 +2,9 @@
 
 ghost use Rattle.std.specs.Prelude.{◌≡◌, ℕ, ◌+◌, ◌<◌, ◌≤◌, ◌∷◌, [], ◌++◌, ◌^◌, All, length, IfOk, OnOk, replicate};
 ghost use Rattle.layout.specs.Names.{texts, output_name};
-ghost use Rattle.layout.specs.Order.{IsOrder, IsFit, IsSized, key_of, own_row, known_behind, rows_of, with_name, group_of};
+ghost use Rattle.layout.specs.Order.{IsFit, group_of, key_of, known_behind, order_of, own_row, rows_of, with_name};
+ghost use Rattle.layout.specs.Parts.{IsSized, part_of, parts_of};
+ghost use Rattle.lk_base.specs.Order.{stable_order};
 
 use crate::names::{Class, Member, is_in, output_name, priority_of, rank_of};
 use indexmap::IndexSet;
@@ -50,8 +52,8 @@ fn push_row<'a>(
     member: &Member<'a>,
 ) -> Result<(), AllocError>
     requires few { length known.old.keys ≤ number }
-    ensures rows { OnOk result (rows.new.items ≡ rows.old.items ++ own_row class (texts known.old.keys) number member.now) }
-    ensures names { OnOk result (texts known.new.keys ≡ known_behind class (texts known.old.keys) member.now) }
+    ensures rows { OnOk result (rows.new.items ≡ rows.old.items ++ own_row class (texts known.old.keys) number (part_of member.now)) }
+    ensures names { OnOk result (texts known.new.keys ≡ known_behind class (texts known.old.keys) (part_of member.now)) }
     ensures more { OnOk result (length known.new.keys ≤ length known.old.keys + 1) }
 {
     if !is_in(class, member) {
@@ -75,7 +77,7 @@ fn push_row<'a>(
 // The members of a class in command order.
 fn rows_in(alloc: Global, members: &[Member], class: Class) -> Result<Vec<Row>, AllocError>
     requires few { length members.now < 2 ^ 32 }
-    ensures { IfOk result (λ rows. rows.items ≡ rows_of class members.now) }
+    ensures { IfOk result (λ rows. rows.items ≡ rows_of class (parts_of members.now)) }
 {
     let mut rows = Vec::new(alloc);
     let mut known: IndexSet<&[u8]> = IndexSet::new(alloc);
@@ -85,23 +87,32 @@ fn rows_in(alloc: Global, members: &[Member], class: Class) -> Result<Vec<Row>, 
     Ok(rows)
 }
 
+// Rank, group and priority as one number.
 #[tactic(auto, unfolding(crate::specs::Order::key_of))]
 fn key_of(row: &Row) -> u128
     ensures { result ≡ key_of row.now }
 {
     let section = ((row.rank as u128) << 32) + row.group as u128;
-    (((section << 32) + row.priority as u128) << 32) + row.number as u128
+    (section << 32) + row.priority as u128
+}
+
+// Puts rows into their order; ties stay as they stand.
+fn sort_rows(rows: &mut Vec<Row>) -> Result<(), AllocError>
+    ensures { IfOk result (λ _. rows.new.items ≡ stable_order key_of rows.old.items) }
+{
+    rows.sort_by_key(|row| key_of(row))?;
+    Ok(())
 }
 
 /// The members of a class in their order.
 pub fn find_order(alloc: Global, members: &[Member], class: Class) -> Result<Vec<Row>, AllocError>
     requires few { length members.now < 2 ^ 32 }
-    requires sized { All IsSized members.now }
-    ensures order { IfOk result (λ rows. IsOrder class members.now rows.items) }
+    requires sized { All IsSized (parts_of members.now) }
+    ensures order { IfOk result (λ rows. rows.items ≡ order_of class (parts_of members.now)) }
     ensures fit { IfOk result (λ rows. All (IsFit (length members.now)) rows.items) }
     ensures few { IfOk result (λ rows. length rows.items ≤ length members.now) }
 {
     let mut rows = rows_in(alloc, members, class)?;
-    rows.sort_unstable_by_key(|row| key_of(row));
+    sort_rows(&mut rows)?;
     Ok(rows)
 }

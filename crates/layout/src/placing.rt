@@ -1,9 +1,10 @@
 //! The layout of a link: the classes one after the other, and the limits.
 
-ghost use Rattle.std.specs.Prelude.{◌≡◌, ℕ, ◌+◌, ◌*◌, ◌<◌, ◌≤◌, ◌∷◌, [], ◌++◌, ◌^◌, All, length, IfOk, OnOk, IsTrue, MatchResult, IfErr, not, ◌&&◌, ◌⊎◌};
-ghost use Rattle.layout.specs.Order.{IsSized};
+ghost use Rattle.std.specs.Prelude.{◌≡◌, ℕ, ◌+◌, ◌*◌, ◌<◌, ◌≤◌, ◌∷◌, [], ◌++◌, ◌^◌, All, length, IfOk, OnOk, IsTrue, MatchResult, IfErr, not, ◌&&◌, if◌then◌else◌};
+ghost use Rattle.layout.specs.Parts.{IsSized, parts_of};
 ghost use Rattle.layout.specs.Walk.{is_empty, views};
-ghost use Rattle.layout.specs.Layout.{AreApart, AreBounds, AreFit, AreOrders, IsLayout, IsWhole, IsWithin, Stops, HasTooMany, IsTooBig, defect_of, count_of, image_end_of, orders_of, sections_of, starts_of};
+ghost use Rattle.layout.specs.Spots.{AreDisjoint, AreRising, HaveSegments, HaveSpots, IsWithinClass};
+ghost use Rattle.layout.specs.Layout.{AreApart, AreFit, IsWithin, Stops, count_of, defect_of, laid_of, last_end, layout_of, limit_defects, limit_passed, orders_in, orders_of, view_of, with_got};
 
 use crate::names::{Class, Member};
 use crate::order::{Row, find_order};
@@ -34,6 +35,8 @@ pub struct Bounds {
     pub bits_end: u64,
     /// The cursor behind RW nobits.
     pub nobits_end: u64,
+    /// The greatest end of an output section that is not empty and has bytes in the file, or of the headers.
+    pub file_end: u64,
     /// The greatest end of an output section that is not empty, or of the headers.
     pub image_end: u64,
 }
@@ -60,7 +63,8 @@ pub struct Layout<'a> {
 
 // The members, and behind them the linker's own: an empty global offset table.
 fn with_got<'a>(alloc: Global, members: &[Member<'a>]) -> Result<Vec<Member<'a>>, AllocError>
-    ensures { IfOk result (λ all. IsWhole members.now all.items) }
+    ensures whole { IfOk result (λ all. parts_of all.items ≡ with_got (parts_of members.now)) }
+    ensures one_more { IfOk result (λ all. length all.items ≡ length members.now + 1) }
 {
     let mut all = Vec::new(alloc);
     all.extend_from_slice(members)?;
@@ -89,12 +93,10 @@ fn have_bytes(bits: &[Row], nobits: &[Row]) -> bool
     !is_empty(bits) || !is_empty(nobits)
 }
 
-fn image_end_of(o: &Ordered, r_end: u64, rx_end: u64, bits_end: u64, nobits_end: u64) -> u64
-    ensures { result ≡ image_end_of (orders_of o.now) r_end rx_end bits_end nobits_end }
+// The end of the last class with bits that is not empty.
+fn last_end(o: &Ordered, r_end: u64, rx_end: u64, bits_end: u64) -> u64
+    ensures { result ≡ last_end (orders_in o.now) r_end rx_end bits_end }
 {
-    if !is_empty(&o.rw_nobits) {
-        return nobits_end;
-    }
     if !is_empty(&o.rw_bits) {
         return bits_end;
     }
@@ -104,11 +106,21 @@ fn image_end_of(o: &Ordered, r_end: u64, rx_end: u64, bits_end: u64, nobits_end:
     r_end
 }
 
+fn image_end_of(o: &Ordered, file_end: u64, nobits_end: u64) -> u64
+    ensures { result ≡ (if not (is_empty o.now.rw_nobits.items) then nobits_end else file_end) }
+{
+    if !is_empty(&o.rw_nobits) {
+        return nobits_end;
+    }
+    file_end
+}
+
+#[tactic(auto, unfolding(crate::specs::Layout::orders_of))]
 fn find_orders(alloc: Global, members: &[Member]) -> Result<Ordered, AllocError>
     requires few { length members.now < 2 ^ 32 }
-    requires sized { All IsSized members.now }
-    ensures ordered { IfOk result (λ o. AreOrders members.now (orders_of o)) }
-    ensures fit { IfOk result (λ o. AreFit (length members.now) (orders_of o)) }
+    requires sized { All IsSized (parts_of members.now) }
+    ensures ordered { IfOk result (λ o. orders_in o ≡ orders_of (parts_of members.now)) }
+    ensures fit { IfOk result (λ o. AreFit (length members.now) (orders_in o)) }
 {
     Ok(Ordered {
         r: find_order(alloc, members, Class::R)?,
@@ -119,13 +131,10 @@ fn find_orders(alloc: Global, members: &[Member]) -> Result<Ordered, AllocError>
 }
 
 // The walk along all classes.
-#[tactic(auto, unfolding(crate::specs::Layout::sections_of, crate::specs::Layout::starts_of))]
 fn walk<'a>(alloc: Global, members: &[Member<'a>], o: &Ordered) -> Result<Layout<'a>, AllocError>
     requires few { length members.now ≤ 2 ^ 28 + 1 }
-    requires fit { AreFit (length members.now) (orders_of o.now) }
-    ensures bounds { IfOk result (λ layout. AreBounds (orders_of o.now) layout.bounds) }
-    ensures outputs { IfOk result (λ layout. views layout.outputs.items ≡ sections_of members.now (orders_of o.now) layout.bounds) }
-    ensures starts { IfOk result (λ layout. layout.starts.items ≡ starts_of (length members.now) (orders_of o.now) layout.bounds) }
+    requires fit { AreFit (length members.now) (orders_in o.now) }
+    ensures found { IfOk result (λ layout. view_of layout ≡ laid_of (parts_of members.now) (orders_in o.now)) }
     ensures counted { IfOk result (λ layout. length layout.starts.items ≡ length members.now) }
 {
     let has_rx = !is_empty(&o.rx);
@@ -168,6 +177,7 @@ fn walk<'a>(alloc: Global, members: &[Member<'a>], o: &Ordered) -> Result<Layout
         &mut outputs,
         &mut starts,
     )?;
+    let file_end = last_end(o, r_end, rx_end, bits_end);
     Ok(Layout {
         starts,
         outputs,
@@ -182,7 +192,8 @@ fn walk<'a>(alloc: Global, members: &[Member<'a>], o: &Ordered) -> Result<Layout
             rw_start,
             bits_end,
             nobits_end,
-            image_end: image_end_of(o, r_end, rx_end, bits_end, nobits_end),
+            file_end,
+            image_end: image_end_of(o, file_end, nobits_end),
         },
     })
 }
@@ -201,8 +212,9 @@ fn defect_of(kind: DefectKind, place: u64) -> Defect
 }
 
 // Refuses a layout that passes a limit.
+#[tactic(auto, unfolding(crate::specs::Layout::limit_defects, crate::specs::Layout::view_of))]
 fn check_limits(layout: &Layout, limits: &Limits) -> Result<(), Defect>
-    ensures { MatchResult result (λ _. IsWithin limits.now layout.now) (λ defect. HasTooMany limits.now layout.now defect ⊎ IsTooBig limits.now layout.now defect) }
+    ensures { MatchResult result (λ _. limit_defects limits.now (view_of layout.now) ≡ []) (λ defect. limit_defects limits.now (view_of layout.now) ≡ defect ∷ []) }
 {
     let count = layout.outputs.len() as u64;
     if limits.outputs < count {
@@ -215,6 +227,19 @@ fn check_limits(layout: &Layout, limits: &Limits) -> Result<(), Defect>
     Ok(())
 }
 
+// The layout of the members, given in command order, and of the linker's own behind them.
+#[tactic(auto, unfolding(crate::specs::Layout::layout_of))]
+fn lay_out<'a>(alloc: Global, members: &[Member<'a>]) -> Result<Layout<'a>, AllocError>
+    requires few { length members.now ≤ 2 ^ 28 }
+    requires sized { All IsSized (parts_of members.now) }
+    ensures found { IfOk result (λ layout. view_of layout ≡ layout_of (parts_of members.now)) }
+    ensures counted { IfOk result (λ layout. length layout.starts.items ≡ length members.now + 1) }
+{
+    let all = with_got(alloc, members)?;
+    let o = find_orders(alloc, &all)?;
+    walk(alloc, &all, &o)
+}
+
 /// Lays out a link: the members, given in command order, and behind them the linker's own, an empty `.got`. Refuses
 /// a layout of more output sections than the limit, or else of an image that is not below its limit.
 pub fn place<'a>(
@@ -223,16 +248,20 @@ pub fn place<'a>(
     limits: &Limits,
 ) -> Result<Layout<'a>, LinkStop>
     requires few { length members.now ≤ 2 ^ 28 }
-    requires sized { All IsSized members.now }
-    ensures layout { IfOk result (λ layout. IsLayout members.now layout) }
-    ensures within { IfOk result (λ layout. IsWithin limits.now layout) }
+    requires sized { All IsSized (parts_of members.now) }
+    ensures found { IfOk result (λ layout. view_of layout ≡ layout_of (parts_of members.now)) }
+    ensures passes { IfOk result (λ _. limit_defects limits.now (layout_of (parts_of members.now)) ≡ []) }
+    ensures within { IfOk result (λ _. IsWithin limits.now (layout_of (parts_of members.now))) }
     ensures counted { IfOk result (λ layout. length layout.starts.items ≡ length members.now + 1) }
     ensures apart { IfOk result (λ layout. AreApart layout.bounds.headers_end (views layout.outputs.items)) }
-    ensures stops { IfErr result (λ stop. Stops members.now limits.now stop) }
+    ensures rising { IfOk result (λ layout. AreRising layout.bounds) }
+    ensures segments { IfOk result (λ layout. HaveSegments layout.bounds) }
+    ensures spots { IfOk result (λ layout. HaveSpots (parts_of members.now) layout.starts.items layout.bounds) }
+    ensures disjoint { IfOk result (λ layout. AreDisjoint (parts_of members.now) layout.starts.items) }
+    ensures inside { IfOk result (λ layout. All (IsWithinClass layout.bounds) (views layout.outputs.items)) }
+    ensures stops { IfErr result (λ stop. Stops limits.now (layout_of (parts_of members.now)) stop) }
 {
-    let all = with_got(alloc, members)?;
-    let o = find_orders(alloc, &all)?;
-    let layout = walk(alloc, &all, &o)?;
+    let layout = lay_out(alloc, members)?;
     match check_limits(&layout, limits) {
         Ok(()) => Ok(layout),
         Err(defect) => Err(LinkStop::Defect(defect)),
@@ -283,7 +312,7 @@ mod tests {
 
     // Whether sizes and alignments are as `place` asks.
     fn are_sized(members: &[Member]) -> bool
-        ensures { IsTrue result → All IsSized members.now }
+        ensures { IsTrue result → All IsSized (parts_of members.now) }
     {
         for member in members {
             if member.align < 1 || 0x10_0000 < member.align || 0x1_0000_0000 < member.size {
@@ -383,6 +412,8 @@ mod tests {
         ];
         let starts = [0x12010, 0x12000, 0x11000, 0x10120, 0x12000];
         check(&rt, &layout, &starts, &rows, 4, 0x12020);
+        // Where the file ends, before the section with no bytes in it.
+        assert_eq!(rt; layout.bounds.file_end, 0x12008);
         Ok(())
     }
 

@@ -1,7 +1,8 @@
 //! The walk: where the output sections of a class and their members stand, from a cursor on.
 
-ghost use Rattle.std.specs.Prelude.{◌≡◌, ℕ, ◌+◌, ◌*◌, ◌<◌, ◌≤◌, ◌∷◌, [], ◌++◌, ◌^◌, All, length, IfOk, OnOk};
+ghost use Rattle.std.specs.Prelude.{◌≡◌, ℕ, ◌+◌, ◌*◌, ◌%◌, ◌<◌, ◌≤◌, ◌∷◌, [], ◌++◌, ◌^◌, All, length, IfOk, OnOk};
 ghost use Rattle.layout.specs.Order.{IsFit};
+ghost use Rattle.layout.specs.Parts.{parts_of};
 ghost use Rattle.layout.specs.Walk.{after, all_put, cut, end_along, first_name, first_type, flags_of, greatest, is_empty, past, same_len, run_len, section_in, section_of, sections_along, stands, stands_along, stands_in, stands_still, start_of, up, view, views};
 
 use crate::names::{Class, Member, output_name};
@@ -35,6 +36,7 @@ pub fn up(x: u64, align: u64) -> u64
     ensures value { result ≡ up x align }
     ensures least { x ≤ result }
     ensures bound { result < x + align }
+    ensures multiple { result % align ≡ 0 }
 {
     (x + (align - 1)) / align * align
 }
@@ -75,7 +77,7 @@ fn flags_of(rows: &[Row]) -> u64
 }
 
 fn first_name<'a>(members: &[Member<'a>], rows: &[Row]) -> &'a [u8]
-    ensures { result.now ≡ first_name members.now rows.now }
+    ensures { result.now ≡ first_name (parts_of members.now) rows.now }
 {
     let Some(row) = rows.first() else {
         return &[];
@@ -142,7 +144,7 @@ fn describe<'a>(
 ) -> Output<'a>
     requires aligned { All (λ row. row.align ≤ 2 ^ 20) rows.now }
     requires rising { start ≤ end }
-    ensures { view result ≡ section_of members.now class rows.now start end }
+    ensures { view result ≡ section_of (parts_of members.now) class rows.now start end }
 {
     Output {
         name: first_name(members, rows),
@@ -169,7 +171,7 @@ fn walk_section<'a>(
     requires fit { All (IsFit (length starts.old.items)) rows.now }
     requires room { cursor + length rows.now * 2 ^ 33 < 2 ^ 64 }
     ensures end { IfOk result (λ end. end ≡ after cursor rows.now) }
-    ensures outputs { OnOk result (views outputs.new.items ≡ views outputs.old.items ++ section_in members.now class cursor rows.now) }
+    ensures outputs { OnOk result (views outputs.new.items ≡ views outputs.old.items ++ section_in (parts_of members.now) class cursor rows.now) }
     ensures starts { OnOk result (starts.new.items ≡ all_put (stands_in cursor rows.now) starts.old.items) }
     ensures bound { IfOk result (λ end. end ≤ cursor + length rows.now * 2 ^ 33) }
     ensures len { OnOk result (length starts.new.items ≡ length starts.old.items) }
@@ -223,7 +225,7 @@ pub fn walk_class<'a>(
     requires fit { All (IsFit (length starts.old.items)) rows.now }
     requires room { cursor + length rows.now * 2 ^ 33 < 2 ^ 64 }
     ensures end { IfOk result (λ end. end ≡ end_along cursor (cut rows.now)) }
-    ensures outputs { OnOk result (views outputs.new.items ≡ views outputs.old.items ++ sections_along members.now class cursor (cut rows.now)) }
+    ensures outputs { OnOk result (views outputs.new.items ≡ views outputs.old.items ++ sections_along (parts_of members.now) class cursor (cut rows.now)) }
     ensures starts { OnOk result (starts.new.items ≡ all_put (stands_along cursor (cut rows.now)) starts.old.items) }
     ensures bound { IfOk result (λ end. end ≤ cursor + length rows.now * 2 ^ 33) }
     ensures len { OnOk result (length starts.new.items ≡ length starts.old.items) }

@@ -10,7 +10,8 @@ use Rattle.lk_depot.proofs.Counts.{later_then_rose}
 use Rattle.link_driver.specs.declared.driving.Ending.{Ending}
 use Rattle.link_driver.specs.declared.driving.Ending.TheVariants.{Done, Memory, Refused, Unreported, Defective, Unread, Unwritten}
 use Rattle.link_driver.specs.declared.linking.Linked.{Linked}
-use Rattle.link_driver.specs.Link.{Asked, link, cannot_write}
+use Rattle.link_command.specs.Command.{Asked}
+use Rattle.link_driver.specs.Link.{link, cannot_write}
 use Rattle.link_driver.specs.Ends.{Accepts, IsCut, never_begun, cut_short, with_map, with_file, Ends, links, cannot_write_output, cannot_write_map, cannot_say}
 use Rattle.link_driver.specs.Endings.{status_of, told_line, AfterReport, IsReady}
 

@@ -5,7 +5,8 @@ use Rattle.lk_depot.specs.Store.{Store}
 use Rattle.lk_depot.specs.Output.{Output}
 use Rattle.lk_depot.specs.Loading.{AreContents, IsFirstLacking, FailedAt, name_at}
 use Rattle.lk_depot.proofs.NameLists.{same_contents, not_lacking}
-use Rattle.link_driver.specs.Link.{Asked, asked_of, link}
+use Rattle.link_command.specs.Command.{Asked, asked_of}
+use Rattle.link_driver.specs.Link.{link}
 use Rattle.link_driver.specs.Ends.{Accepts, Ends, links, finds_defect, refuses, cannot_read_input, cannot_write_output, cannot_write_map, cannot_say, lacks_memory}
 use Rattle.link_driver.specs.Promises.{IsGiven, IsFaultless, Promises}
 

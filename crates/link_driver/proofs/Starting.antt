@@ -14,27 +14,17 @@ use Rattle.lk_depot.specs.declared.stops.LoadAllStop.{LoadAllStop}
 use Rattle.lk_depot.specs.declared.stops.LoadAllStop.TheVariants as stop
 use Rattle.lk_base.specs.declared.defects.LinkStop.{LinkStop}
 use Rattle.lk_base.specs.declared.defects.LinkStop.TheVariants as link_stop
-use Rattle.link_driver.specs.Phases.{AfterLink}
+use Rattle.lk_base.specs.Firsts.{StopsAt}
+use Rattle.lk_base.specs.Limits.{standard}
+use Rattle.link_driver.specs.Link.{link}
+use Rattle.link_driver.specs.Phases.{IsLinked, Links}
+use Rattle.link_driver.specs.declared.linking.Linked.{Linked}
 use Rattle.link_driver.specs.declared.driving.Ending.{Ending}
 use Rattle.link_driver.specs.declared.driving.Ending.TheVariants.{Done, Memory, Refused, Unreported, Defective, Unread, Unwritten}
-use Rattle.link_driver.specs.Link.{Asked, Link, asked_of, is_input, defects_of, link, link_with, line_of_defect, cannot_read}
+use Rattle.link_command.specs.Command.{Asked, asked_of}
+use Rattle.link_driver.specs.Link.{Link, defects_of, link, link_with, line_of_defect, cannot_read}
 use Rattle.link_driver.specs.Ends.{IsUntouched, IsUnread, none_failed, one_failed, Ends, finds_defect, cannot_read_input, lacks_memory, IsTold, told_whole, told_cut}
 use Rattle.link_driver.specs.Endings.{status_of, told_line, TellsDefect, TellsUnread, IsWithin, TellsStop, TellsLoadStop, AreLoaded}
-
--- an accepted command has one input
-pub one_input : (words : List (List ℕ)) (asked : Asked) → asked_of words ≡ Some asked → length asked.inputs ≡ 1
-one_input [] asked is = cc
-one_input (program ∷ []) asked is = cc
-one_input (program ∷ option ∷ []) asked is = cc
-one_input (program ∷ option ∷ input ∷ next ∷ rest) asked is = cc
-one_input (program ∷ option ∷ input ∷ []) asked is = by (bytes_eq option (codes "-s") && is_input input) is
-  where
-    only : Asked
-    only = record { output = codes "a.out"; map = None; entry = codes "_start"; inputs = input ∷ [] }
-
-    by : (b : Bool) → (if b then Some only else None) ≡ Some asked → length asked.inputs ≡ 1
-    by true is = let same : only ≡ asked = cc in ap (λ (a : Asked). length a.inputs) (sym same)
-    by false is = cc
 
 -- memory was wanting before anything was begun
 pub lacking : (asked : Option Asked) (before after : Store) (say : Output) → IsUntouched before after → IsUnread asked before after → Ends asked before after say say 4 []
@@ -74,7 +64,7 @@ unread_input asked before after say index Unreported cause untouched telling = a
 
 -- the inputs have a defect
 pub found_defect : (asked : Asked) (before now : Store) (say : Output) (inputs : List (List ℕ)) (defect : Defect) (later : List Defect) (ending : Ending)
-    → AreLoaded asked before now inputs → defects_of asked inputs ≡ defect ∷ later → TellsDefect (line_of_defect asked defect) ending
+    → AreLoaded asked before now inputs → defects_of standard asked.entry inputs ≡ defect ∷ later → TellsDefect (line_of_defect asked inputs defect) ending
     → Ends (Some asked) before now say say (status_of ending) (told_line ending)
 unfolding link
 found_defect asked before now say inputs defect later Memory loaded found telling =
@@ -96,12 +86,6 @@ found_defect asked before now say inputs defect later (Unread line) loaded found
 found_defect asked before now say inputs defect later (Unwritten line) loaded found telling = absurd telling
 found_defect asked before now say inputs defect later Refused loaded found telling = absurd telling
 found_defect asked before now say inputs defect later Unreported loaded found telling = absurd telling
-
--- the contents of the only buffer
-pub only_buffer : (buffers : List (Vec ℕ)) (d : Vec ℕ) → length buffers ≡ 1 → map (λ (b : Vec ℕ). b.items) buffers ≡ (get_or buffers 0 d).items ∷ []
-only_buffer [] d one = absurd (omega arith)
-only_buffer (b ∷ []) d one = refl
-only_buffer (b ∷ next ∷ rest) d one = absurd (omega arith)
 
 -- a line was told, or some of its first bytes
 pub told_so : (r : Result (Unit {0}) Failed) (line : List ℕ) (err err' : Output)
@@ -129,15 +113,21 @@ load_within names before after stop.Memory cause = tt
 
 -- the inputs were not linked
 pub not_linked : (asked : Asked) (before now : Store) (say : Output) (inputs : List (List ℕ)) (stop : LinkStop) (ending : Ending)
-    → AreLoaded asked before now inputs → AfterLink asked inputs (Err stop) → TellsStop asked stop ending
+    → AreLoaded asked before now inputs → StopsAt stop (defects_of standard asked.entry inputs) → TellsStop asked inputs stop ending
     → Ends (Some asked) before now say say (status_of ending) (told_line ending)
 not_linked asked before now say inputs (link_stop.Defect defect) ending loaded found telling =
     found_defect asked before now say inputs defect found.0 ending loaded found.1 telling
 not_linked asked before now say inputs link_stop.Memory ending loaded found telling =
     rw telling (lacking (Some asked) before now say loaded.untouched (none_failed loaded.unread))
 
--- the same of a buffer that was read at 0
-pub the_buffer : (buffers : List (Vec ℕ)) (first : Vec ℕ) (bytes : List ℕ) → length buffers ≡ 1 → first ≡ get_or buffers 0 first → bytes ≡ first.items
-    → map (λ (b : Vec ℕ). b.items) buffers ≡ bytes ∷ []
-the_buffer buffers first bytes one at is =
-    only_buffer buffers first one ∙ ap (λ (b : Vec ℕ). b.items ∷ []) (sym at) ∙ ap (λ xs. xs ∷ []) (sym is)
+-- what a link without a defect gives is what Link is
+pub is_linked : (asked : Asked) (inputs : List (List ℕ)) (linked : Linked) → Links standard asked.entry inputs linked → IsLinked asked inputs linked
+unfolding link
+is_linked asked inputs linked links =
+    let gives : link (Some asked) inputs ≡ link_with asked inputs [] = ap (link_with asked inputs) links.sound in
+    record {
+      status = ap (λ (l : Link). l.status) gives;
+      executable = links.gives.executable ∙ sym (ap (λ (l : Link). l.executable) gives);
+      map = links.gives.map ∙ sym (ap (λ (l : Link). l.map) gives);
+      report = links.gives.report ∙ sym (ap (λ (l : Link). l.say) gives);
+    }

@@ -12,7 +12,8 @@ use Rattle.link_driver.specs.declared.driving.Ending.{Ending}
 use Rattle.link_driver.specs.declared.driving.Ending.TheVariants.{Done, Memory, Refused, Unreported, Defective, Unread, Unwritten}
 use Rattle.link_driver.specs.declared.driving.Lines.{Lines}
 use Rattle.link_driver.specs.declared.linking.Linked.{Linked}
-use Rattle.link_driver.specs.Link.{Asked, bad_command, cannot_read, cannot_report, cannot_write, line_of_defect}
+use Rattle.link_command.specs.Command.{Asked}
+use Rattle.link_driver.specs.Link.{bad_command, cannot_read, cannot_report, cannot_write, line_of_defect}
 use Rattle.link_driver.specs.Phases.{IsLinked}
 use Rattle.link_driver.specs.Ends.{IsUntouched}
 
@@ -47,9 +48,9 @@ TellsUnread line (Unread told) = told.items ≡ line
 TellsUnread line _ = ⊥
 
 -- why there is no link
-abbrev pub TellsStop : Asked → LinkStop → Ending → Type 0
-TellsStop asked (stops.Defect defect) ending = TellsDefect (line_of_defect asked defect) ending
-TellsStop asked stops.Memory ending = ending ≡ Memory
+abbrev pub TellsStop : Asked → List (List ℕ) → LinkStop → Ending → Type 0
+TellsStop asked inputs (stops.Defect defect) ending = TellsDefect (line_of_defect asked inputs defect) ending
+TellsStop asked inputs stops.Memory ending = ending ≡ Memory
 
 -- why the inputs were not loaded
 abbrev pub TellsLoadStop : Asked → LoadAllStop → Ending → Type 0

@@ -7,7 +7,8 @@ use Rattle.lk_depot.specs.Files.{Named, told_put}
 use Rattle.lk_depot.specs.Store.{Store}
 use Rattle.lk_depot.specs.Output.{Output, told_said}
 use Rattle.lk_depot.specs.Loading.{AreContents, IsFirstLacking, FailedAt, name_at}
-use Rattle.link_driver.specs.Link.{Asked, asked_of, link, bad_command, cannot_read, cannot_write, cannot_report}
+use Rattle.link_command.specs.Command.{Asked, asked_of}
+use Rattle.link_driver.specs.Link.{link, bad_command, cannot_read, cannot_write, cannot_report}
 
 -- the command is accepted, and each of its inputs was loaded
 pub record Accepts (wanted : Option Asked) (before after : Store) (asked : Asked) (inputs : List (List ℕ)) : Type 0 where

@@ -1,85 +1,145 @@
 -- What a link is: the command, the defects, and the one-thread definition of all that a user gets.
-use Rattle.std.specs.Prelude.{ℕ, ◌+◌, Bool, false, not, ◌&&◌, ◌==◌, Option, Some, None, is_some, if◌then◌else◌, List, [], ◌∷◌, ◌++◌, slice_index_or, codes}
+use Rattle.std.specs.Prelude.{ℕ, ◌+◌, nat_lt, min, Bool, false, not, ◌&&◌, ◌==◌, Option, Some, None, Result, Ok, Err, if◌then◌else◌, List, [], ◌∷◌, ◌++◌, length, map, replicate, flat_map, slice_index_or, codes}
+use Rattle.std.specs.List.{range_with_len}
 use Rattle.std.specs.Str.{bytes_eq}
 use Rattle.lk_base.specs.declared.defects.Defect.{Defect}
+use Rattle.lk_base.specs.declared.defects.Flaw.{Flaw}
 use Rattle.lk_base.specs.declared.kinds.DefectKind.{DefectKind}
-use Rattle.lk_base.specs.declared.kinds.DefectKind.TheVariants.{F01, F21}
+use Rattle.lk_base.specs.declared.kinds.DefectKind.TheVariants.{F08, F20, F21, F22, F24, F25, F26}
+use Rattle.lk_base.specs.declared.limits.Limits.{Limits}
+use Rattle.lk_base.specs.declared.numbers.TheConstants.{NO_FILE}
+use Rattle.lk_base.specs.Limits.{oversize, standard}
 use Rattle.lk_base.specs.Lines.{defect_line, escaped}
-use Rattle.link_driver.specs.FirstForm.{Parts}
-use Rattle.link_driver.specs.Entries.{first_form, symbol, symbol_named}
-use Rattle.link_driver.specs.Layout.{text_address}
-use Rattle.link_driver.specs.Headers.{executable}
+use Rattle.layout.specs.Layout.{limit_defects}
+use Rattle.lk_tables.specs.declared.heads.Place.{Place}
+use Rattle.lk_tables.specs.declared.heads.Place.TheVariants.{Undef, Absolute, Common, Within}
+use Rattle.lk_tables.specs.Binding.{Bindings, bindings, flag_defects, duplicate_defects, entry_defects, first_phase}
+use Rattle.lk_tables.specs.Files.{File, no_object, object_file, symbol_at, section_at, symbol_name, is_section_symbol, section_total, symbol_total}
+use Rattle.lk_tables.specs.Heads.{HeadView, head_of}
+use Rattle.lk_tables.specs.Names.{text_of}
+use Rattle.lk_tables.specs.Objects.{object_of}
+use Rattle.elf_out.specs.Executable.{executable, laid_out, places}
+use Rattle.link_command.specs.Command.{Asked}
+use Rattle.reloc_apply.specs.Relocated.{relocation_defects}
+use Rattle.reloc_apply.specs.Undefined.{undefined_defects}
 
--- what a command asks for: the names of the executable and of the map, the entry symbol, and the inputs
-pub record Asked : Type 0 where
-  pub output : List ℕ
-  pub map : Option (List ℕ)
-  pub entry : List ℕ
-  pub inputs : List (List ℕ)
+-- input number f
+abbrev pub input_at : List (List ℕ) → ℕ → List ℕ
+input_at inputs f = slice_index_or inputs f []
 
--- a name that is not empty and does not begin with `-`
-abbrev pub is_input : List ℕ → Bool
-is_input [] = false
-is_input (first ∷ rest) = not (first == 0x2d)
+-- a flaw of a file as a defect of the link
+abbrev pub defect_in : ℕ → Flaw → Defect
+defect_in f flaw = record { kind = flaw.kind; file = f; section = flaw.section; place = flaw.place; symbol = 0; other = flaw.other }
 
--- the accepted commands: the program's name, `-s` and one input
-abbrev pub asked_of : List (List ℕ) → Option Asked
-asked_of (program ∷ option ∷ input ∷ []) =
-    if bytes_eq option (codes "-s") && is_input input
-    then Some (record { output = codes "a.out"; map = None; entry = codes "_start"; inputs = input ∷ [] })
-    else None
-asked_of _ = None
+abbrev pub flaws : {A : Type 0} → ℕ → Result A Flaw → List Defect
+flaws f (Ok value) = []
+flaws f (Err flaw) = defect_in f flaw ∷ []
 
--- file number `file` does not have the first form
-abbrev pub not_object : ℕ → Defect
-not_object file = record { kind = F01; file = file; section = 0; place = 0; symbol = 0; other = 0 }
+-- a count that is above its limit
+abbrev pub count_defects : (limit count : ℕ) → List Defect
+count_defects limit count = if nat_lt limit count
+    then record { kind = F08; file = NO_FILE; section = 0; place = count; symbol = 0; other = 0 } ∷ [] else []
 
--- the entry symbol is bound to nothing
-abbrev pub no_entry : Defect
-no_entry = record { kind = F21; file = 0xffffffff; section = 0; place = 0; symbol = 0; other = 0 }
+-- an input is too long, or its head has a flaw
+unfoldable pub head_defects : Limits → List ℕ → ℕ → List Defect
+head_defects limits b f = if nat_lt limits.file (length b) then defect_in f (oversize (length b)) ∷ [] else flaws f (head_of b)
 
--- phase 1: each file that does not have the first form, in the order of the files
-abbrev pub form_defects : ℕ → List (List ℕ) → List Defect
-form_defects file [] = []
-form_defects file (bytes ∷ rest) =
-    if is_some (first_form bytes) then form_defects (file + 1) rest else not_object file ∷ form_defects (file + 1) rest
+-- its body has one
+unfoldable pub body_defects : List ℕ → ℕ → List Defect
+body_defects b f = flaws f (object_of b)
 
--- the one input
-abbrev pub input_of : List (List ℕ) → List ℕ
-input_of inputs = slice_index_or inputs 0 []
+-- of input number f
+abbrev pub head_defects_at : Limits → List (List ℕ) → ℕ → List Defect
+head_defects_at limits inputs f = head_defects limits (input_at inputs f) f
 
--- phase 2: the object has no symbol of the entry's name
-abbrev pub entry_defects : Asked → Option Parts → List Defect
-entry_defects asked None = []
-entry_defects asked (Some parts) = if is_some (symbol_named parts asked.entry) then [] else no_entry ∷ []
+abbrev pub body_defects_at : List (List ℕ) → ℕ → List Defect
+body_defects_at inputs f = body_defects (input_at inputs f) f
+
+-- the files of a link
+abbrev pub files_of_inputs : List (List ℕ) → List File
+files_of_inputs inputs = map object_file inputs
+
+-- phase 1: each file whose number is within the limit, in order; then how many files there are, and how many symbols
+unfoldable pub reading_defects : Limits → List (List ℕ) → List Defect
+reading_defects limits inputs =
+    flat_map (head_defects_at limits inputs) (range_with_len 0 (min (length inputs) limits.files))
+    ++ (count_defects limits.files (length inputs) ++ count_defects limits.symbols (symbol_total (files_of_inputs inputs)))
+
+-- phase 2: the body of each file; then how many sections there are
+unfoldable pub opening_defects : Limits → List (List ℕ) → List Defect
+opening_defects limits inputs =
+    flat_map (body_defects_at inputs) (range_with_len 0 (length inputs))
+    ++ count_defects limits.sections (section_total (files_of_inputs inputs))
+
+-- no section is discarded yet
+unfoldable pub none_gone : List File → List Bool
+none_gone files = replicate (section_total files) false
+
+-- what the names of these files are bound to
+unfoldable pub bound_names : List File → (entry : List ℕ) → Bindings
+bound_names files entry = bindings files (none_gone files) entry
+
+-- the phases of a link, each with its defects in order: the files are read, their bodies are, float ABIs agree, no name is
+-- defined twice, the entry is defined, what is referred to is, the limits on the layout, and the values of relocations
+abbrev pub later_phases : Limits → List File → (entry : List ℕ) → List (List Defect)
+later_phases limits files entry =
+    flag_defects files
+    ∷ duplicate_defects files (none_gone files)
+    ∷ entry_defects files (none_gone files) entry
+    ∷ undefined_defects files (bound_names files entry)
+    ∷ limit_defects limits (laid_out files (bound_names files entry))
+    ∷ relocation_defects files (bound_names files entry) (places files (bound_names files entry))
+    ∷ []
 
 -- the defects are those of the first phase that has any
-abbrev pub first_phase : List (List Defect) → List Defect
-first_phase [] = []
-first_phase ([] ∷ phases) = first_phase phases
-first_phase ((defect ∷ defects) ∷ phases) = defect ∷ defects
+unfoldable pub defects_of : Limits → (entry : List ℕ) → List (List ℕ) → List Defect
+defects_of limits entry inputs =
+    first_phase (reading_defects limits inputs ∷ opening_defects limits inputs ∷ later_phases limits (files_of_inputs inputs) entry)
 
-unfoldable pub defects_of : Asked → List (List ℕ) → List Defect
-defects_of asked inputs =
-    first_phase (form_defects 0 inputs ∷ entry_defects asked (first_form (input_of inputs)) ∷ [])
+-- the executable of inputs that have no defect
+unfoldable pub executable_of : (entry : List ℕ) → List (List ℕ) → List ℕ
+executable_of entry inputs =
+    let files = files_of_inputs inputs in
+    let b = bound_names files entry in
+    executable files b (laid_out files b) (places files b)
 
--- the executable of an object begins at the symbol of the entry's name
-abbrev pub starting_at : Parts → Option ℕ → List ℕ
-starting_at parts None = []
-starting_at parts (Some start) = executable parts (text_address + (symbol parts start).value)
+-- the name of the section in which a symbol stands, empty where it stands in none
+abbrev pub section_name_by : File → Place → List ℕ
+section_name_by file (Within k) = text_of file.bytes (section_at file k).name
+section_name_by file Undef = []
+section_name_by file Absolute = []
+section_name_by file Common = []
 
-abbrev pub executable_of : Asked → Option Parts → List ℕ
-executable_of asked None = []
-executable_of asked (Some parts) = starting_at parts (symbol_named parts asked.entry)
+-- the name of symbol i as a line tells it: a SECTION symbol has that of its section
+unfoldable pub shown_symbol : File → ℕ → List ℕ
+shown_symbol file i = if is_section_symbol (symbol_at file i)
+    then section_name_by file (symbol_at file i).place else symbol_name file i
 
--- the line of a defect: its file's name, and the entry's name where the entry is what is missing
-abbrev pub defect_name : Asked → DefectKind → List ℕ
-defect_name asked F21 = asked.entry
-defect_name asked _ = []
+-- the name of symbol i of an input, as its head says it
+abbrev pub shown_by : List ℕ → ℕ → Result HeadView Flaw → List ℕ
+shown_by b i (Ok head) = shown_symbol (record { live = false; member = false; bytes = b; head = head; object = no_object }) i
+shown_by b i (Err flaw) = []
 
-unfoldable pub line_of_defect : Asked → Defect → List ℕ
-line_of_defect asked defect =
-    defect_line defect (slice_index_or asked.inputs defect.file []) (defect_name asked defect.kind) []
+unfoldable pub shown_in : List ℕ → ℕ → List ℕ
+shown_in b i = shown_by b i (head_of b)
+
+-- the name in the line of a defect: the entry where that is what is missing, the symbol of a defect that has one
+abbrev pub name_for : Asked → List (List ℕ) → Defect → DefectKind → List ℕ
+name_for asked inputs defect F20 = shown_in (input_at inputs defect.file) defect.symbol
+name_for asked inputs defect F21 = asked.entry
+name_for asked inputs defect F22 = shown_in (input_at inputs defect.file) defect.symbol
+name_for asked inputs defect F24 = shown_in (input_at inputs defect.file) defect.symbol
+name_for asked inputs defect F25 = shown_in (input_at inputs defect.file) defect.symbol
+name_for asked inputs defect F26 = shown_in (input_at inputs defect.file) defect.symbol
+name_for asked inputs defect _ = []
+
+abbrev pub defect_name : Asked → List (List ℕ) → Defect → List ℕ
+defect_name asked inputs defect = name_for asked inputs defect defect.kind
+
+-- the line of a defect: its file's name, the name that it speaks of, and for a name defined twice the other file's
+unfoldable pub line_of_defect : Asked → List (List ℕ) → Defect → List ℕ
+line_of_defect asked inputs defect = defect_line defect (slice_index_or asked.inputs defect.file [])
+    (defect_name asked inputs defect) (slice_index_or asked.inputs defect.other [])
 
 -- what a user gets: the status, the bytes of the executable and of the map, and what is said and told as an error
 pub record Link : Type 0 where
@@ -113,11 +173,11 @@ unfoldable pub cannot_report : List ℕ
 cannot_report = line (codes "rvld: cannot report")
 
 abbrev pub link_with : Asked → List (List ℕ) → List Defect → Link
-link_with asked inputs (defect ∷ defects) = told 1 (line_of_defect asked defect)
+link_with asked inputs (defect ∷ defects) = told 1 (line_of_defect asked inputs defect)
 link_with asked inputs [] =
-    record { status = 0; executable = executable_of asked (first_form (input_of inputs)); map = []; say = []; err = [] }
+    record { status = 0; executable = executable_of asked.entry inputs; map = []; say = []; err = [] }
 
 -- the definition of all that a command gives, where each input is there; no command is asked where it was refused
 unfoldable pub link : Option Asked → List (List ℕ) → Link
 link None inputs = told 2 bad_command
-link (Some asked) inputs = link_with asked inputs (defects_of asked inputs)
+link (Some asked) inputs = link_with asked inputs (defects_of standard asked.entry inputs)

@@ -4,7 +4,8 @@ use Rattle.lk_depot.specs.Faults.{Rose}
 use Rattle.lk_depot.specs.Store.{Store}
 use Rattle.lk_depot.specs.Output.{Output}
 use Rattle.lk_depot.specs.Loading.{AreContents, IsFirstLacking}
-use Rattle.link_driver.specs.Link.{Asked, asked_of, link}
+use Rattle.link_command.specs.Command.{Asked, asked_of}
+use Rattle.link_driver.specs.Link.{link}
 
 -- an accepted command over a store that tells its files, with these contents as its inputs
 pub record IsGiven (words : List (List ℕ)) (before : Store) (asked : Asked) (inputs : List (List ℕ)) : Type 0 where

@@ -5,16 +5,18 @@ ghost use Rattle.lk_depot.specs.Faults.{HasCause, Rises};
 ghost use Rattle.lk_depot.specs.Files.{told_put};
 ghost use Rattle.lk_depot.specs.Loading.{name_at};
 ghost use Rattle.lk_depot.specs.Store.{Store};
-ghost use Rattle.link_driver.specs.Link.{asked_of, about, link, cannot_write, cannot_read, defect_name, line_of_defect};
-ghost use Rattle.link_driver.specs.Command.{texts_of, contents_of, asks};
+ghost use Rattle.link_command.specs.Command.{asked_of, asks, texts_of};
+ghost use Rattle.link_driver.specs.Contents.{contents_of};
+ghost use Rattle.link_driver.specs.Link.{about, input_at, link, cannot_write, cannot_read, defect_name, line_of_defect, shown_in};
 ghost use Rattle.link_driver.specs.Phases.{IsLinked};
 ghost use Rattle.link_driver.specs.Ends.{Accepts, IsCut, IsTold, Ends, EndsSo};
 ghost use Rattle.link_driver.specs.Promises.{Promises};
 ghost use Rattle.link_driver.specs.Endings.{status_of, told_line, TellsDefect, TellsUnread, TellsStop, TellsLoadStop, IsWithin, AfterReport, map_line, AreLines, AreLoaded, IsReady};
 
-use crate::command::{Command, command_of};
 use crate::linking::{Linked, link};
-use lk_base::{Defect, DefectKind, FileNo, LinkStop, line_of, push_escaped};
+use crate::symbol_names::symbol_name;
+use link_command::{Command, command_of};
+use lk_base::{Defect, DefectKind, FileNo, Limits, LinkStop, line_of, push_escaped};
 use lk_depot::{Depot, Failed, FileKind, LoadAllStop, Sink, load_all, put_all, say_all};
 use std::alloc::{AllocError, Global};
 use std::thread::Threads;
@@ -114,8 +116,8 @@ fn blame_input(alloc: Global, command: &Command, index: usize) -> Ending
     Ending::Unread { line }
 }
 
-/// The name of the file of a defect, empty where it has none.
-fn file_name(command: &Command, file: FileNo) -> &[u8]
+/// The name of an input, empty where there is none of this number.
+fn file_name(command: &Command, file: u64) -> &[u8]
     ensures { result.now ≡ slice_index_or (asks command.now).inputs file [] }
 {
     let Some(name) = command.inputs.get(file as usize) else {
@@ -124,35 +126,69 @@ fn file_name(command: &Command, file: FileNo) -> &[u8]
     name.as_str().as_bytes()
 }
 
-/// The name that the line of a defect of this kind shows: the entry's, where the entry is what is missing.
-fn shown_name(command: &Command, kind: DefectKind) -> &[u8]
-    ensures { result.now ≡ defect_name (asks command.now) kind }
+/// The bytes of an input, none where there is none of this number.
+fn input_bytes(inputs: &[Vec<u8>], file: FileNo) -> &[u8]
+    ensures { result.now ≡ input_at (contents_of inputs.now) file }
 {
-    match kind {
-        DefectKind::F21 => command.entry.as_str().as_bytes(),
-        _ => &[],
+    let Some(bytes) = inputs.get(file as usize) else {
+        return &[];
+    };
+    bytes.as_slice()
+}
+
+/// The name of a defect's symbol.
+fn symbol_of<'a>(
+    alloc: Global,
+    inputs: &'a [Vec<u8>],
+    defect: &Defect,
+) -> Result<&'a [u8], AllocError>
+    ensures { IfOk result (λ name. name.now ≡ shown_in (input_at (contents_of inputs.now) defect.now.file) defect.now.symbol) }
+{
+    symbol_name(alloc, input_bytes(inputs, defect.file), defect.symbol)
+}
+
+/// The name that the line of a defect shows.
+fn name_for<'a>(
+    alloc: Global,
+    command: &'a Command,
+    inputs: &'a [Vec<u8>],
+    defect: &Defect,
+) -> Result<&'a [u8], AllocError>
+    ensures { IfOk result (λ name. name.now ≡ defect_name (asks command.now) (contents_of inputs.now) defect.now) }
+{
+    match defect.kind {
+        DefectKind::F20 => symbol_of(alloc, inputs, defect),
+        DefectKind::F21 => Ok(command.entry.as_str().as_bytes()),
+        DefectKind::F22 => symbol_of(alloc, inputs, defect),
+        DefectKind::F24 => symbol_of(alloc, inputs, defect),
+        DefectKind::F25 => symbol_of(alloc, inputs, defect),
+        DefectKind::F26 => symbol_of(alloc, inputs, defect),
+        _ => Ok(&[]),
     }
 }
 
 /// The first defect.
 #[tactic(auto, unfolding(crate::specs::Link::line_of_defect))]
-fn tell_defect(alloc: Global, command: &Command, defect: &Defect) -> Ending
-    ensures { TellsDefect (line_of_defect (asks command.now) defect.now) result }
+fn tell_defect(alloc: Global, command: &Command, inputs: &[Vec<u8>], defect: &Defect) -> Ending
+    ensures { TellsDefect (line_of_defect (asks command.now) (contents_of inputs.now) defect.now) result }
 {
-    let file = file_name(command, defect.file);
-    let name = shown_name(command, defect.kind);
-    let Ok(line) = line_of(alloc, defect, file, name, &[]) else {
+    let file = file_name(command, defect.file as u64);
+    let other = file_name(command, defect.other);
+    let Ok(name) = name_for(alloc, command, inputs, defect) else {
+        return Ending::Memory;
+    };
+    let Ok(line) = line_of(alloc, defect, file, name, other) else {
         return Ending::Memory;
     };
     Ending::Defective { line }
 }
 
 /// Why there is no link.
-fn tell_stop(alloc: Global, command: &Command, stop: &LinkStop) -> Ending
-    ensures { TellsStop (asks command.now) stop.now result }
+fn tell_stop(alloc: Global, command: &Command, inputs: &[Vec<u8>], stop: &LinkStop) -> Ending
+    ensures { TellsStop (asks command.now) (contents_of inputs.now) stop.now result }
 {
     match stop {
-        LinkStop::Defect(defect) => tell_defect(alloc, command, defect),
+        LinkStop::Defect(defect) => tell_defect(alloc, command, inputs, defect),
         LinkStop::Memory => Ending::Memory,
     }
 }
@@ -199,24 +235,28 @@ fn conclude<D: Depot, S: Sink>(
     report(say, &linked.report)
 }
 
-/// Links the one input of a command, which was loaded.
-fn link_inputs<D: Depot, S: Sink>(
+/// Links the inputs of a command, which were loaded.
+fn link_inputs<R: Threads + Sync, D: Depot, S: Sink, G: Gate>(
+    rt: &R,
     alloc: Global,
     command: &Command,
     inputs: &[Vec<u8>],
     depot: &mut D,
     say: &mut S,
+    gate: &G,
 ) -> Ending
-    requires { length inputs.now ≡ 1 }
+    requires some { 1 ≤ command.now.threads }
+    requires most { command.now.threads ≤ 64 }
     ensures ends { (before : Store) → AreLoaded (asks command.now) before (D.store depot.old) (contents_of inputs.now)
         → Ends (Some (asks command.now)) before (D.store depot.new) (S.output say.old) (S.output say.new) (status_of result) (told_line result) }
     ensures faults { (D.store depot.old).faults ≤ (D.store depot.new).faults }
     ensures begun { (D.store depot.old).begun ≤ (D.store depot.new).begun }
     ensures say_faults { (S.output say.old).faults ≤ (S.output say.new).faults }
 {
-    let linked = match link(alloc, command, &inputs[0]) {
+    let limits = Limits::standard();
+    let linked = match link(rt, alloc, command, inputs, &limits, gate) {
         Ok(linked) => linked,
-        Err(stop) => return tell_stop(alloc, command, &stop),
+        Err(stop) => return tell_stop(alloc, command, inputs, &stop),
     };
     let Ok(lines) = lines_for(alloc, command) else {
         return Ending::Memory;
@@ -224,14 +264,17 @@ fn link_inputs<D: Depot, S: Sink>(
     conclude(command, &linked, lines, depot, say)
 }
 
-/// Loads the input of an accepted command and links it.
-fn carry_out<D: Depot, S: Sink>(
+/// Loads the inputs of an accepted command and links them.
+fn carry_out<R: Threads + Sync, D: Depot, S: Sink, G: Gate>(
+    rt: &R,
     alloc: Global,
     command: &Command,
     depot: &mut D,
     say: &mut S,
+    gate: &G,
 ) -> Ending
-    requires { length (asks command.now).inputs ≡ 1 }
+    requires some { 1 ≤ command.now.threads }
+    requires most { command.now.threads ≤ 64 }
     ensures ends { Ends (Some (asks command.now)) (D.store depot.old) (D.store depot.new) (S.output say.old) (S.output say.new) (status_of result) (told_line result) }
     ensures faults { (D.store depot.old).faults ≤ (D.store depot.new).faults }
     ensures begun { (D.store depot.old).begun ≤ (D.store depot.new).begun }
@@ -241,11 +284,18 @@ fn carry_out<D: Depot, S: Sink>(
         Ok(inputs) => inputs,
         Err(stop) => return tell_load_stop(alloc, command, &stop),
     };
-    link_inputs(alloc, command, inputs.as_slice(), depot, say)
+    link_inputs(rt, alloc, command, inputs.as_slice(), depot, say, gate)
 }
 
 /// Reads the command and carries it out.
-fn conduct<D: Depot, S: Sink>(alloc: Global, words: &[String], depot: &mut D, say: &mut S) -> Ending
+fn conduct<R: Threads + Sync, D: Depot, S: Sink, G: Gate>(
+    rt: &R,
+    alloc: Global,
+    words: &[String],
+    depot: &mut D,
+    say: &mut S,
+    gate: &G,
+) -> Ending
     ensures ends { Ends (asked_of (texts_of words.now)) (D.store depot.old) (D.store depot.new) (S.output say.old) (S.output say.new) (status_of result) (told_line result) }
     ensures faults { (D.store depot.old).faults ≤ (D.store depot.new).faults }
     ensures begun { (D.store depot.old).begun ≤ (D.store depot.new).begun }
@@ -259,7 +309,7 @@ fn conduct<D: Depot, S: Sink>(alloc: Global, words: &[String], depot: &mut D, sa
         Some(command) => command,
         None => return Ending::Refused,
     };
-    carry_out(alloc, &command, depot, say)
+    carry_out(rt, alloc, &command, depot, say, gate)
 }
 
 /// The status of an ending.
@@ -313,22 +363,22 @@ fn tell<E: Sink>(err: &mut E, line: &[u8])
 /// file is begun, and given back at the end.
 ///
 /// The answer is the exit status: 0 linked; 1 the inputs have a defect, whose line is told; 2 the command is refused; 3 an input
-/// could not be read, or a file or the report could not be written; 4 memory was wanting. `rt` and `gate` are for passes that run
-/// workers: there is none yet.
+/// could not be read, or a file or the report could not be written; 4 memory was wanting. `rt` starts the workers, as many as the
+/// command asks for, and `gate` is called by each before and after its piece of work: no answer depends on either.
 pub fn run<R: Threads + Sync, D: Depot, S: Sink, E: Sink, G: Gate>(
-    _rt: &R,
+    rt: &R,
     alloc: Global,
     words: &[String],
     depot: &mut D,
     say: &mut S,
     err: &mut E,
-    _gate: &G,
+    gate: &G,
 ) -> u8
     ensures ends { EndsSo (texts_of words.now) (D.store depot.old) (D.store depot.new)
         (S.output say.old) (S.output say.new) (E.output err.old) (E.output err.new) result }
     ensures promises { Promises (texts_of words.now) (D.store depot.old) (D.store depot.new) (S.output say.old) (S.output say.new) result }
 {
-    let ending = conduct(alloc, words, depot, say);
+    let ending = conduct(rt, alloc, words, depot, say, gate);
     tell(err, line(&ending));
     status(&ending)
 }

@@ -1,26 +1,22 @@
-//! The link of one command: its words, the load of its input, the test of its form, the layout and the
-//! executable.
+//! The link of one command: its words, the load of its inputs, the phases of the link, and the executable.
 //!
-//! `run` is the top call. Its contract says that, whatever the words and the bytes of the input, the files, the
-//! line and the status are those of one definition, `link` in specs/Link.antt; any other end is want of memory, or
-//! follows a failed call of the store of files or of an output, and leaves no more than the first bytes of a file.
+//! `run` is the top call. Its contract says that, whatever the words, the bytes of the inputs, the number of workers and the
+//! order of their steps, the files, the line and the status are those of one definition, `link` in specs/Link.antt; any other
+//! end is want of memory, or follows a failed call of the store of files or of an output, and leaves no more than the first
+//! bytes of a file.
 //!
-//! The passes, in order: `command` reads the words, `driving` loads the input, `first_form` and `entries` test it
-//! and find its parts, `linking` runs the phases, `jumps` does the relocations, `headers`, `image` and `writer`
-//! make the executable, and `driving` writes it.
+//! `linking` runs the phases: `heads` and `bodies` read the inputs, names are bound, what goes into the executable is laid out
+//! and written. `driving` reads the command, loads, links and writes, and says how it ended.
 #![tactic(auto)]
 
-mod command;
+mod bodies;
 mod driving;
-mod entries;
-mod first_form;
-mod headers;
-mod image;
-mod jumps;
+mod heads;
 mod linking;
-mod numbers;
-mod object;
-mod writer;
+mod sections;
+mod symbol_names;
 
 pub use driving::run;
+pub use link_command::Command;
+pub use linking::{Linked, link};
 pub use work_split::{Gate, OpenGate};

@@ -1,17 +1,36 @@
 //! The link of one command, phase after phase.
 
-ghost use Rattle.std.specs.Prelude.{◌≡◌, ◌+◌, ◌<◌, ◌≤◌, length, map, IfSome, [], ◌∷◌};
-ghost use Rattle.link_driver.specs.FormView.{view};
-ghost use Rattle.link_driver.specs.Entries.{IsSound};
-ghost use Rattle.link_driver.specs.Phases.{AfterReading, AfterEntry, AfterLink};
-ghost use Rattle.link_driver.specs.Command.{asks};
+ghost use Rattle.std.specs.Prelude.{◌≡◌, ℕ, ◌+◌, ◌<◌, ◌≤◌, ◌^◌, ◌∷◌, [], All, false, length, map, replicate, IfOk};
+ghost use Rattle.elf_out.specs.Executable.{executable, laid_out, places};
+ghost use Rattle.layout.specs.Layout.{limit_defects};
+ghost use Rattle.link_command.specs.Command.{asks};
+ghost use Rattle.lk_base.specs.Firsts.{Goes};
+ghost use Rattle.lk_base.specs.Limits.{IsWithinStandard};
+ghost use Rattle.lk_tables.specs.Binding.{binding_defects, first_phase};
+ghost use Rattle.lk_tables.specs.BindingView.{binding_view};
+ghost use Rattle.lk_tables.specs.FileView.{file_view, files_of};
+ghost use Rattle.lk_tables.specs.Files.{section_total, symbol_total};
+ghost use Rattle.link_driver.specs.Contents.{contents_of};
+ghost use Rattle.link_driver.specs.Link.{bound_names, none_gone, opening_defects, reading_defects};
+ghost use Rattle.link_driver.specs.Phases.{AfterLink};
+ghost use Rattle.link_driver.specs.Tables.{AreRead, IsLaidOut};
+ghost use Rattle.layout.specs.Parts.{IsSized};
+ghost use Rattle.reloc_apply.specs.Parts.{parts};
+ghost use Rattle.reloc_apply.specs.Relocated.{relocation_defects};
 
-use crate::command::Command;
-use crate::entries::{find_symbol, read_object, symbol_of};
-use crate::first_form::Object;
-use crate::writer::{TEXT_ADDRESS, write_executable};
-use lk_base::{Defect, DefectKind, LinkStop, NO_FILE};
-use std::alloc::Global;
+use crate::bodies::open_all;
+use crate::heads::{check_count, read_heads};
+use crate::sections::count_sections;
+use elf_out::write_executable;
+use layout::{Layout, place};
+use link_command::Command;
+use lk_base::{Limits, LinkStop};
+use lk_tables::{Binding, Tables};
+use reloc_apply::{View, find_starts, members, undefined};
+use std::alloc::{AllocError, Global};
+use std::thread::Threads;
+use sym_resolve::bind;
+use work_split::Gate;
 
 /// What a link without a defect gives.
 #[derive(Drop)]
@@ -24,48 +43,152 @@ pub struct Linked {
     pub report: Vec<u8>,
 }
 
-/// Reads the input, which has to have the first form.
-fn read_input(alloc: Global, bytes: &[u8]) -> Result<Object<'_>, LinkStop>
-    ensures { AfterReading bytes.now result }
+/// Reads all inputs: their heads, and then their bodies.
+#[tactic(auto, unfolding(crate::specs::Link::opening_defects))]
+fn read_files<'a>(
+    alloc: Global,
+    limits: &Limits,
+    inputs: &'a [Vec<u8>],
+) -> Result<Tables<'a>, LinkStop>
+    requires { IsWithinStandard limits.now }
+    ensures goes { Goes result (first_phase (reading_defects limits.now (contents_of inputs.now) ∷ opening_defects limits.now (contents_of inputs.now) ∷ [])) }
+    ensures tables { IfOk result (λ tables. AreRead (contents_of inputs.now) (files_of tables)) }
 {
-    let Some(object) = read_object(alloc, bytes)? else {
-        return Err(LinkStop::Defect(Defect {
-            kind: DefectKind::F01,
-            file: 0,
-            section: 0,
-            place: 0,
-            symbol: 0,
-            other: 0,
-        }));
+    let mut files = match read_heads(alloc, limits, inputs) {
+        Ok(files) => files,
+        Err(stop) => return Err(stop),
     };
-    Ok(object)
+    if let Err(stop) = open_all(alloc, inputs, &mut files) {
+        return Err(stop);
+    }
+    if let Err(defect) = check_count(limits.sections, count_sections(files.as_slice())) {
+        return Err(LinkStop::Defect(defect));
+    }
+    Ok(Tables { files })
 }
 
-/// The address of the entry symbol, which has to be there.
-fn find_entry(object: &Object, entry: &str) -> Result<u64, LinkStop>
-    requires { IsSound (view object.now) }
-    ensures { AfterEntry (view object.now) entry.now result }
+/// No section is discarded yet.
+fn none_discarded(alloc: Global, count: usize) -> Result<Vec<bool>, AllocError>
+    ensures { IfOk result (λ list. list.items ≡ replicate count false) }
 {
-    let Some(start) = find_symbol(object, entry.as_bytes()) else {
-        return Err(LinkStop::Defect(Defect {
-            kind: DefectKind::F21,
-            file: NO_FILE,
-            section: 0,
-            place: 0,
-            symbol: 0,
-            other: 0,
-        }));
-    };
-    Ok(TEXT_ADDRESS + symbol_of(object, start).value)
+    vec![in alloc; false; count]
 }
 
-/// Links the input of a command.
-pub fn link(alloc: Global, command: &Command, input: &[u8]) -> Result<Linked, LinkStop>
-    ensures { AfterLink (asks command.now) (input.now ∷ []) result }
+/// Binds all names.
+#[tactic(auto, unfolding(crate::specs::Link::none_gone, crate::specs::Link::bound_names))]
+fn bind_names<R: Threads + Sync, G: Gate>(
+    rt: &R,
+    alloc: Global,
+    tables: &Tables,
+    entry: &str,
+    workers: u32,
+    gate: &G,
+) -> Result<Binding, LinkStop>
+    requires some { 1 ≤ workers }
+    requires most { workers ≤ 64 }
+    requires few { length (files_of tables.now) < 2 ^ 24 }
+    requires symbols { symbol_total (files_of tables.now) < 2 ^ 31 }
+    requires sections { section_total (files_of tables.now) ≤ 2 ^ 28 }
+    ensures goes { Goes result (binding_defects (files_of tables.now) (none_gone (files_of tables.now)) entry.now) }
+    ensures names { IfOk result (λ binding. binding_view binding ≡ bound_names (files_of tables.now) entry.now) }
 {
-    let object = read_input(alloc, input)?;
-    let entry = find_entry(&object, command.entry.as_str())?;
-    let exe = write_executable(alloc, &object, entry)?;
+    let count = count_sections(tables.files.as_slice()) as usize;
+    let discarded = none_discarded(alloc, count)?;
+    bind(
+        rt,
+        alloc,
+        tables,
+        discarded.as_slice(),
+        entry.as_bytes(),
+        workers,
+        gate,
+    )
+}
+
+/// Lays out what goes into the executable.
+#[tactic(auto, unfolding(elf_out::specs::Executable::laid_out))]
+fn lay_out<'a>(
+    alloc: Global,
+    limits: &Limits,
+    tables: &Tables<'a>,
+    binding: &Binding,
+) -> Result<Layout<'a>, LinkStop>
+    requires limits { IsWithinStandard limits.now }
+    requires few { length (parts (files_of tables.now) (binding_view binding.now).commons) ≤ 2 ^ 28 }
+    requires sized { All IsSized (parts (files_of tables.now) (binding_view binding.now).commons) }
+    ensures goes { Goes result (limit_defects limits.now (laid_out (files_of tables.now) (binding_view binding.now))) }
+    ensures laid { IfOk result (λ layout. IsLaidOut (files_of tables.now) (binding_view binding.now) layout) }
+{
+    let members = members(alloc, tables, binding)?;
+    match place(alloc, members.as_slice(), limits) {
+        Ok(layout) => Ok(layout),
+        Err(stop) => Err(stop),
+    }
+}
+
+/// The executable of a link whose sections stand where the layout has them.
+#[tactic(auto, unfolding(elf_out::specs::Executable::places))]
+fn write(
+    alloc: Global,
+    tables: &Tables,
+    binding: &Binding,
+    layout: &Layout,
+) -> Result<Vec<u8>, LinkStop>
+    requires files { length (files_of tables.now) < 2 ^ 24 }
+    requires few { length (parts (files_of tables.now) (binding_view binding.now).commons) ≤ 2 ^ 28 }
+    requires laid { IsLaidOut (files_of tables.now) (binding_view binding.now) layout.now }
+    ensures goes { Goes result (relocation_defects (files_of tables.now) (binding_view binding.now) (places (files_of tables.now) (binding_view binding.now))) }
+    ensures written { IfOk result (λ exe. exe.items ≡ executable (files_of tables.now) (binding_view binding.now) (laid_out (files_of tables.now) (binding_view binding.now)) (places (files_of tables.now) (binding_view binding.now))) }
+{
+    let starts = find_starts(alloc, tables, binding, layout.starts.as_slice())?;
+    let view = View {
+        tables,
+        binding,
+        starts: &starts,
+    };
+    match write_executable(alloc, &view, layout) {
+        Ok(exe) => Ok(exe),
+        Err(stop) => Err(stop),
+    }
+}
+
+/// Links the inputs of a command, whose contents are given in the order of the command.
+///
+/// The answer is what the link gives where the inputs have no defect; else the first defect of the first phase that has
+/// any, whatever the number of workers and the order of their steps; or want of memory. No limit is above the standard one.
+pub fn link<R: Threads + Sync, G: Gate>(
+    rt: &R,
+    alloc: Global,
+    command: &Command,
+    inputs: &[Vec<u8>],
+    limits: &Limits,
+    gate: &G,
+) -> Result<Linked, LinkStop>
+    requires limits { IsWithinStandard limits.now }
+    requires some { 1 ≤ command.now.threads }
+    requires most { command.now.threads ≤ 64 }
+    ensures { AfterLink limits.now (asks command.now).entry (contents_of inputs.now) result }
+{
+    let tables = match read_files(alloc, limits, inputs) {
+        Ok(tables) => tables,
+        Err(stop) => return Err(stop),
+    };
+    let entry = command.entry.as_str();
+    let binding = match bind_names(rt, alloc, &tables, entry, command.threads, gate) {
+        Ok(binding) => binding,
+        Err(stop) => return Err(stop),
+    };
+    if let Some(defect) = undefined(&tables, &binding) {
+        return Err(LinkStop::Defect(defect));
+    }
+    let layout = match lay_out(alloc, limits, &tables, &binding) {
+        Ok(layout) => layout,
+        Err(stop) => return Err(stop),
+    };
+    let exe = match write(alloc, &tables, &binding, &layout) {
+        Ok(exe) => exe,
+        Err(stop) => return Err(stop),
+    };
     Ok(Linked {
         exe,
         map: Vec::new(alloc),

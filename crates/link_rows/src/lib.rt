@@ -1,11 +1,14 @@
-//! Worked examples of whole links, over stores of files and streams in memory, and the definition of a link as a
-//! plain slow program to compare them with.
+//! Worked examples of whole links, over stores of files and streams in memory: the command and the objects of each, and the
+//! line or the executable that it has to leave, worked out by hand from the rules of a link.
+//!
+//! `object` builds the bytes of an object from its sections and symbols, and `image` those of an executable from its fields.
 #![tactic(auto)]
 
+mod image;
+mod numbers;
 mod object;
-mod plain;
 #[cfg(test)]
 mod tests;
 
-pub use object::{Jump, Label, object_of};
-pub use plain::{Plain, plain_link};
+pub use image::{Image, image_of};
+pub use object::{Object, Reloc, Section, Symbol, object_of};

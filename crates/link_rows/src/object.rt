@@ -1,180 +1,227 @@
-//! Objects of the first form, built for examples.
+//! Objects, built for examples.
 
+use crate::numbers::{pad, push_numbers};
 use std::alloc::{AllocError, Global};
 
-/// A global function symbol of the text.
+/// A relocation.
 #[derive(Clone, Copy)]
-pub struct Label<'a> {
-    pub name: &'a [u8],
-    /// Offset in the text, in bytes.
-    pub value: u64,
-}
-
-/// A JAL relocation of the text.
-#[derive(Clone, Copy)]
-pub struct Jump {
-    /// Offset in the text, in bytes.
+pub struct Reloc {
+    /// Offset in the section, in bytes.
     pub offset: u64,
-    /// The number of the symbol; the first label has number 1.
-    pub symbol: u32,
+    pub kind: u64,
+    /// The number of the symbol.
+    pub symbol: u64,
     pub addend: i64,
 }
 
-/// Adds little-endian numbers, each with its width in bytes.
-fn push_numbers(out: &mut Vec<u8>, numbers: &[(u64, usize)]) -> Result<(), AllocError> {
-    for (number, width) in numbers {
-        for byte in number.to_le_bytes().iter().take(*width) {
-            out.push(*byte)?;
+/// A section.
+#[derive(Clone, Copy)]
+pub struct Section<'a> {
+    pub name: &'a [u8],
+    pub sort: u64,
+    pub flags: u64,
+    pub align: u64,
+    /// The size of a section without bytes.
+    pub size: u64,
+    pub bytes: &'a [u8],
+    pub relocs: &'a [Reloc],
+}
+
+/// A symbol.
+#[derive(Clone, Copy)]
+pub struct Symbol<'a> {
+    pub name: &'a [u8],
+    pub binding: u64,
+    pub sort: u64,
+    pub section: u64,
+    pub value: u64,
+    pub size: u64,
+}
+
+/// An object: its sections and symbols from number 1 on, local symbols first.
+#[derive(Clone, Copy)]
+pub struct Object<'a> {
+    pub flags: u64,
+    pub sections: &'a [Section<'a>],
+    pub symbols: &'a [Symbol<'a>],
+}
+
+/// A section header being made: its name's place, type, flags, size, link, info, alignment and entry size.
+type Fields = [u64; 8];
+
+/// The part of an object behind its header, and the section headers.
+#[derive(Drop)]
+struct Parts {
+    body: Vec<u8>,
+    headers: Vec<u8>,
+    names: Vec<u8>,
+}
+
+/// Adds a section: its bytes at a multiple of 8, and its header.
+fn push_section(parts: &mut Parts, fields: Fields, bytes: &[u8]) -> Result<(), AllocError> {
+    let [name, sort, flags, size, link, info, align, entsize] = fields;
+    pad(&mut parts.body)?;
+    let offset = (parts.body.len() as u64).wrapping_add(64);
+    parts.body.extend_from_slice(bytes)?;
+    let numbers = [
+        (name, 4),
+        (sort, 4),
+        (flags, 8),
+        (0, 8),
+        (offset, 8),
+        (size, 8),
+        (link, 4),
+        (info, 4),
+        (align, 8),
+        (entsize, 8),
+    ];
+    push_numbers(&mut parts.headers, &numbers)
+}
+
+/// Adds the sections that an object names.
+fn push_named(parts: &mut Parts, sections: &[Section]) -> Result<(), AllocError> {
+    for section in sections {
+        let name = parts.names.len() as u64;
+        parts.names.extend_from_slice(section.name)?;
+        parts.names.push(0)?;
+        let size = section.size.max(section.bytes.len() as u64);
+        let fields = [
+            name,
+            section.sort,
+            section.flags,
+            size,
+            0,
+            0,
+            section.align,
+            0,
+        ];
+        push_section(parts, fields, section.bytes)?;
+    }
+    Ok(())
+}
+
+fn entries_of(alloc: Global, relocs: &[Reloc]) -> Result<Vec<u8>, AllocError> {
+    let mut out = Vec::new(alloc);
+    for reloc in relocs {
+        let numbers = [
+            (reloc.offset, 8),
+            (reloc.kind, 4),
+            (reloc.symbol, 4),
+            (reloc.addend.cast_unsigned(), 8),
+        ];
+        push_numbers(&mut out, &numbers)?;
+    }
+    Ok(out)
+}
+
+/// How many sections have relocations.
+fn count_relocated(sections: &[Section]) -> usize {
+    sections
+        .iter()
+        .filter(|section| !section.relocs.is_empty())
+        .count()
+}
+
+/// Adds a RELA section for each section that has relocations; the symbol table has number `symtab`.
+fn push_relocs(
+    alloc: Global,
+    parts: &mut Parts,
+    sections: &[Section],
+    symtab: u64,
+) -> Result<(), AllocError> {
+    for (index, section) in sections.iter().enumerate() {
+        if !section.relocs.is_empty() {
+            let entries = entries_of(alloc, section.relocs)?;
+            let target = (index as u64).wrapping_add(1);
+            let size = entries.len() as u64;
+            push_section(parts, [0, 4, 0x40, size, symtab, target, 8, 24], &entries)?;
         }
     }
     Ok(())
 }
 
-/// Fills up to a multiple of 8.
-fn pad(out: &mut Vec<u8>) -> Result<(), AllocError> {
-    for _ in 0..(8 - out.len() % 8) % 8 {
-        out.push(0)?;
-    }
-    Ok(())
-}
-
-/// The file header, where the section headers stand at `table`.
-fn push_file_header(out: &mut Vec<u8>, table: u64) -> Result<(), AllocError> {
-    out.extend_from_slice(b"\x7fELF\x02\x01\x01\0\0\0\0\0\0\0\0\0")?;
-    push_numbers(
-        out,
-        &[
-            (1, 2),
-            (243, 2),
-            (1, 4),
-            (0, 8),
-            (0, 8),
-            (table, 8),
-            (0, 4),
-            (64, 2),
-            (0, 2),
-            (0, 2),
-            (64, 2),
-            (6, 2),
-            (5, 2),
-        ],
-    )
-}
-
-fn symbols_of(alloc: Global, labels: &[Label]) -> Result<Vec<u8>, AllocError> {
+/// The symbol table's bytes; the names go to `texts`.
+fn table_of(alloc: Global, symbols: &[Symbol], texts: &mut Vec<u8>) -> Result<Vec<u8>, AllocError> {
     let mut out = vec![in alloc; 0u8; 24]?;
-    let mut name = 1u64;
-    for label in labels {
-        push_numbers(
-            &mut out,
-            &[
-                (name, 4),
-                (0x12, 1),
-                (0, 1),
-                (1, 2),
-                (label.value, 8),
-                (0, 8),
-            ],
-        )?;
-        name = name.wrapping_add(label.name.len() as u64).wrapping_add(1);
+    for symbol in symbols {
+        let numbers = [
+            (texts.len() as u64, 4),
+            (symbol.binding.wrapping_mul(16).wrapping_add(symbol.sort), 1),
+            (0, 1),
+            (symbol.section, 2),
+            (symbol.value, 8),
+            (symbol.size, 8),
+        ];
+        push_numbers(&mut out, &numbers)?;
+        texts.extend_from_slice(symbol.name)?;
+        texts.push(0)?;
     }
     Ok(out)
 }
 
-fn names_of(alloc: Global, labels: &[Label]) -> Result<Vec<u8>, AllocError> {
-    let mut out = vec![in alloc; 0u8; 1]?;
-    for label in labels {
-        out.extend_from_slice(label.name)?;
-        out.push(0)?;
-    }
-    Ok(out)
-}
-
-fn relocs_of(alloc: Global, jumps: &[Jump]) -> Result<Vec<u8>, AllocError> {
-    let mut out = Vec::new(alloc);
-    for jump in jumps {
-        let addend = jump.addend.cast_unsigned();
-        push_numbers(
-            &mut out,
-            &[
-                (jump.offset, 8),
-                (17, 4),
-                (u64::from(jump.symbol), 4),
-                (addend, 8),
-            ],
-        )?;
-    }
-    Ok(out)
-}
-
-/// What a section header says of a section beside its place: name, type, flags, link, info, alignment, entry size.
-const SECTIONS: [[u64; 7]; 5] = [
-    [1, 1, 6, 0, 0, 4, 0],
-    [7, 4, 0x40, 3, 1, 8, 24],
-    [18, 2, 0, 4, 1, 8, 24],
-    [26, 3, 0, 0, 0, 1, 0],
-    [34, 3, 0, 0, 0, 1, 0],
-];
-
-/// The section headers of these contents, which stand one after the other, each at a multiple of 8.
-fn push_section_headers(out: &mut Vec<u8>, contents: [&[u8]; 5]) -> Result<(), AllocError> {
-    push_numbers(out, &[(0, 8); 8])?;
-    let mut offset = 64u64;
-    for (section, bytes) in SECTIONS.iter().zip(contents.iter()) {
-        let [name, sh_type, flags, link, info, align, entsize] = *section;
-        let size = bytes.len() as u64;
-        push_numbers(
-            out,
-            &[
-                (name, 4),
-                (sh_type, 4),
-                (flags, 8),
-                (0, 8),
-                (offset, 8),
-                (size, 8),
-                (link, 4),
-                (info, 4),
-                (align, 8),
-                (entsize, 8),
-            ],
-        )?;
-        offset = offset.wrapping_add(size).wrapping_add(7) / 8 * 8;
-    }
-    Ok(())
-}
-
-/// The bytes behind the file header: the contents, each at a multiple of 8.
-fn body_of(alloc: Global, contents: [&[u8]; 5]) -> Result<Vec<u8>, AllocError> {
-    let mut body = Vec::new(alloc);
-    for bytes in contents.iter() {
-        body.extend_from_slice(*bytes)?;
-        pad(&mut body)?;
-    }
-    Ok(body)
-}
-
-/// An object whose text has these symbols and these jumps.
-pub fn object_of(
+/// Adds the symbol table, which has number `symtab`, and its names.
+fn push_symbols(
     alloc: Global,
-    text: &[u8],
-    labels: &[Label],
-    jumps: &[Jump],
-) -> Result<Vec<u8>, AllocError> {
-    let relocs = relocs_of(alloc, jumps)?;
-    let symbols = symbols_of(alloc, labels)?;
-    let names = names_of(alloc, labels)?;
-    let section_names = b"\0.text\0.rela.text\0.symtab\0.strtab\0.shstrtab\0";
-    let contents = [
-        text,
-        relocs.as_slice(),
-        symbols.as_slice(),
-        names.as_slice(),
-        section_names.as_slice(),
+    parts: &mut Parts,
+    symbols: &[Symbol],
+    symtab: u64,
+) -> Result<(), AllocError> {
+    let mut texts = vec![in alloc; 0u8; 1]?;
+    let table = table_of(alloc, symbols, &mut texts)?;
+    let locals = symbols.iter().filter(|symbol| symbol.binding == 0).count();
+    let first = (locals as u64).wrapping_add(1);
+    let link = symtab.wrapping_add(1);
+    let size = table.len() as u64;
+    push_section(parts, [0, 2, 0, size, link, first, 8, 24], &table)?;
+    push_section(parts, [0, 3, 0, texts.len() as u64, 0, 0, 1, 0], &texts)
+}
+
+/// Adds the section of the sections' names.
+fn push_names(alloc: Global, parts: &mut Parts) -> Result<(), AllocError> {
+    let names = Vec::from_slice(alloc, &parts.names)?;
+    push_section(parts, [0, 3, 0, names.len() as u64, 0, 0, 1, 0], &names)?;
+    pad(&mut parts.body)
+}
+
+/// An object's bytes: the file header, the contents of the sections, and the section headers.
+fn join(alloc: Global, flags: u64, parts: &Parts, last: u64) -> Result<Vec<u8>, AllocError> {
+    let mut out = Vec::from_slice(alloc, b"\x7fELF\x02\x01\x01\0\0\0\0\0\0\0\0\0")?;
+    let table = (parts.body.len() as u64).wrapping_add(64);
+    let numbers = [
+        (1, 2),
+        (243, 2),
+        (1, 4),
+        (0, 8),
+        (0, 8),
+        (table, 8),
+        (flags, 4),
+        (64, 2),
+        (0, 4),
+        (64, 2),
+        (last.wrapping_add(1), 2),
+        (last, 2),
     ];
-    let body = body_of(alloc, contents)?;
-    let mut out = Vec::new(alloc);
-    push_file_header(&mut out, (body.len() as u64).wrapping_add(64))?;
-    out.extend_from_slice(&body)?;
-    push_section_headers(&mut out, contents)?;
+    push_numbers(&mut out, &numbers)?;
+    out.extend_from_slice(&parts.body)?;
+    out.extend_from_slice(&parts.headers)?;
     Ok(out)
+}
+
+/// The bytes of an object. Behind its own sections stand one of relocations for each that has any, the symbol table, the
+/// symbols' names and the sections' names, all without a name.
+pub fn object_of(alloc: Global, object: &Object) -> Result<Vec<u8>, AllocError> {
+    let mut parts = Parts {
+        body: Vec::new(alloc),
+        headers: vec![in alloc; 0u8; 64]?,
+        names: vec![in alloc; 0u8; 1]?,
+    };
+    let own = object.sections.len() as u64;
+    let symtab = own
+        .wrapping_add(count_relocated(object.sections) as u64)
+        .wrapping_add(1);
+    push_named(&mut parts, object.sections)?;
+    push_relocs(alloc, &mut parts, object.sections, symtab)?;
+    push_symbols(alloc, &mut parts, object.symbols, symtab)?;
+    push_names(alloc, &mut parts)?;
+    join(alloc, object.flags, &parts, symtab.wrapping_add(2))
 }

@@ -1,10 +1,18 @@
-//! Worked examples over `run`, each with its words, its files, and what it has to leave.
+//! Worked examples over `run`, each with its words and what it has to leave. All the inputs are at hand in each.
 
-use crate::object::{Jump, Label, object_of};
-use crate::plain::plain_link;
-use link_driver::{OpenGate, run};
+mod images;
+mod objects;
+
+use crate::{Image, image_of, object_of};
+use images::{
+    COMMON_OF_8, COMMON_OF_16, FIRST, HALVES, THREE_FILES, TWO_FILES, WEAK_CALL, WIDE_COMMON,
+};
+use link_driver::{Gate, OpenGate, run};
 use lk_depot::{FileKind, MemDepot, MemSink};
+use objects::INPUTS;
 use std::alloc::{AllocError, Global};
+use std::hint;
+use std::sync::atomic::{AtomicBool, AtomicU64, Ordering};
 use std::test::Fail;
 use std::thread::Threads;
 
@@ -25,22 +33,39 @@ fn words_of(alloc: Global, words: &[&str]) -> Result<Vec<String>, AllocError> {
     Ok(all)
 }
 
-/// Runs a command where `a.o` has these bytes, the listed calls fail and an append takes at most `most` bytes.
-fn run_with<R: Threads + Sync>(
+fn files_of(alloc: Global) -> Result<Vec<(String, Vec<u8>)>, AllocError> {
+    let mut files = Vec::new(alloc);
+    for input in &INPUTS {
+        let mut bytes = object_of(alloc, &input.object)?;
+        bytes.truncate(input.most);
+        files.push((input.name.to_string(alloc)?, bytes))?;
+    }
+    Ok(files)
+}
+
+/// A depot with all inputs, whose calls of these numbers fail, and whose appends take at most 1,000 bytes.
+fn depot_of(alloc: Global, fails: &[u64]) -> Result<MemDepot, AllocError> {
+    let files = files_of(alloc)?;
+    let fails = Vec::from_slice(alloc, fails)?;
+    MemDepot::new(alloc, files, fails, 1000, 10_000)
+}
+
+fn sink_of(alloc: Global) -> Result<MemSink, AllocError> {
+    MemSink::new(alloc, Vec::new(alloc), 1000)
+}
+
+/// Runs a command.
+fn run_with<R: Threads + Sync, G: Gate>(
     rt: &R,
     alloc: Global,
     words: &[&str],
-    bytes: &[u8],
     fails: &[u64],
-    most: usize,
+    gate: &G,
 ) -> Result<Left, AllocError> {
-    let mut files = Vec::new(alloc);
-    files.push(("a.o".to_string(alloc)?, Vec::from_slice(alloc, bytes)?))?;
-    let fails = Vec::from_slice(alloc, fails)?;
-    let mut depot = MemDepot::new(alloc, files, fails, most.max(1), 100_000)?;
-    let mut say = MemSink::new(alloc, Vec::new(alloc), 1000)?;
-    let mut err = MemSink::new(alloc, Vec::new(alloc), 1000)?;
     let words = words_of(alloc, words)?;
+    let mut depot = depot_of(alloc, fails)?;
+    let mut say = sink_of(alloc)?;
+    let mut err = sink_of(alloc)?;
     let status = run(
         rt,
         alloc,
@@ -48,7 +73,7 @@ fn run_with<R: Threads + Sync>(
         &mut depot,
         &mut say,
         &mut err,
-        &OpenGate,
+        gate,
     );
     Ok(Left {
         status,
@@ -58,203 +83,364 @@ fn run_with<R: Threads + Sync>(
     })
 }
 
-/// The first example: a jump to the function behind it.
-fn first_example(alloc: Global) -> Result<Vec<u8>, AllocError> {
-    object_of(
-        alloc,
-        b"\xef\0\0\0\x67\x80\0\0",
-        &[
-            Label {
-                name: b"_start",
-                value: 0,
-            },
-            Label {
-                name: b"f",
-                value: 4,
-            },
-        ],
-        &[Jump {
-            offset: 0,
-            symbol: 2,
-            addend: 0,
-        }],
-    )
-}
-
-#[test]
-fn one_object_gives_one_executable(rt: HostRuntime) -> Result<(), Fail> {
-    let bytes = first_example(rt.alloc())?;
-    let left = run_with(
-        &rt,
-        rt.alloc(),
-        &["rvld", "-s", "a.o"],
-        &bytes,
-        &[],
-        1_000_000,
-    )?;
-    assert_eq!(rt; left.status, 0);
-    assert_eq!(rt; left.say.written(), b"".as_slice());
-    assert_eq!(rt; left.err.written(), b"".as_slice());
-    assert!(rt; left.depot.kind("a.out") == Some(FileKind::Executable));
-    let file = left.depot.bytes("a.out").expect(&rt, "it was written");
-    assert_eq!(rt; file.len(), 4320);
-    assert_eq!(rt; &file[24..32], b"\0\x10\x01\0\0\0\0\0".as_slice());
-    assert_eq!(rt; &file[56..58], b"\x03\0".as_slice());
-    assert_eq!(rt; &file[4096..4104], b"\xef\0\x40\0\x67\x80\0\0".as_slice());
-    Ok(())
-}
-
-/// A command, what it meets, and what it has to leave.
+/// A command that links: its words, the name of its output and the executable.
 #[derive(Clone, Copy)]
-struct Row<'a> {
+struct Link<'a> {
     words: &'a [&'a str],
-    input: &'a [u8],
-    /// The numbers of the depot's calls that fail.
-    fails: &'a [u64],
-    status: u8,
-    line: &'a [u8],
-    /// How many bytes of `a.out` there are.
-    written: usize,
-    /// How many calls of the depot there were.
-    calls: u64,
+    output: &'a str,
+    image: Image<'a>,
 }
 
-fn check_row<R: Threads + Sync>(
+const FIRST_LINK: Link = Link {
+    words: &["rvld", "-s", "a.o"],
+    output: "a.out",
+    image: FIRST,
+};
+
+const LINKS: [Link; 14] = [
+    FIRST_LINK,
+    Link {
+        words: &["rvld", "-s", "--threads", "1", "a.o"],
+        ..FIRST_LINK
+    },
+    Link {
+        words: &["rvld", "-s", "--threads", "2", "a.o"],
+        ..FIRST_LINK
+    },
+    Link {
+        words: &["rvld", "-s", "--threads", "64", "a.o"],
+        ..FIRST_LINK
+    },
+    Link {
+        words: &["rvld", "-s", "-o", "a.o", "a.o"],
+        output: "a.o",
+        ..FIRST_LINK
+    },
+    Link {
+        words: &["rvld", "a.o", "-e", "_start", "h.o", "-o", "x", "-s"],
+        output: "x",
+        image: TWO_FILES,
+    },
+    Link {
+        words: &["rvld", "-s", "a.o", "weak.o", "weak.o"],
+        image: THREE_FILES,
+        ..FIRST_LINK
+    },
+    Link {
+        words: &["rvld", "-s", "a.o", "c8.o", "weak.o"],
+        image: COMMON_OF_8,
+        ..FIRST_LINK
+    },
+    Link {
+        words: &["rvld", "-s", "a.o", "weak.o", "c8.o"],
+        image: COMMON_OF_8,
+        ..FIRST_LINK
+    },
+    Link {
+        words: &["rvld", "-s", "a.o", "c4.o", "c16.o"],
+        image: COMMON_OF_16,
+        ..FIRST_LINK
+    },
+    Link {
+        words: &["rvld", "-s", "a.o", "wide.o", "c16.o"],
+        image: WIDE_COMMON,
+        ..FIRST_LINK
+    },
+    Link {
+        words: &["rvld", "-s", "a.o", "c8.o", "q.o"],
+        image: TWO_FILES,
+        ..FIRST_LINK
+    },
+    Link {
+        words: &["rvld", "-s", "call.o"],
+        image: WEAK_CALL,
+        ..FIRST_LINK
+    },
+    Link {
+        words: &["rvld", "-s", "halves.o"],
+        image: HALVES,
+        ..FIRST_LINK
+    },
+];
+
+/// Whether a command leaves its executable, and says nothing.
+fn is_linked<R: Threads + Sync, G: Gate>(
     rt: &R,
     alloc: Global,
-    row: &Row,
-    whole: &[u8],
+    link: &Link,
+    gate: &G,
 ) -> Result<bool, AllocError> {
-    let left = run_with(rt, alloc, row.words, row.input, row.fails, 1000)?;
-    let file = left.depot.bytes("a.out").unwrap_or(b"".as_slice());
+    let left = run_with(rt, alloc, link.words, &[], gate)?;
+    let image = image_of(alloc, &link.image)?;
     Ok(
-        left.status == row.status
-            && left.err.written() == row.line
+        left.status == 0
             && left.say.calls() == 0
-            && left.depot.calls() == row.calls
-            && file.len() == row.written
-            && whole.starts_with(file),
+            && left.err.calls() == 0
+            && left.depot.kind(link.output) == Some(FileKind::Executable)
+            && left.depot.bytes(link.output) == Some(image.as_slice()),
     )
 }
 
 #[test]
-fn each_end_has_its_line(rt: HostRuntime) -> Result<(), Fail> {
-    let bytes = first_example(rt.alloc())?;
-    let link: &[&str] = &["rvld", "-s", "a.o"];
-    let left = run_with(&rt, rt.alloc(), link, &bytes, &[], 1_000_000)?;
-    let whole = left.depot.bytes("a.out").expect(&rt, "it was written");
-    let refused = b"rvld: bad command\n".as_slice();
-    let defect = b"rvld: F01 NotObject file=a.o section=0 place=0 name= other=0\n".as_slice();
-    let unread = b"rvld: cannot read a.o\n".as_slice();
-    let missing = b"rvld: cannot read z.o\n".as_slice();
-    let unwritten = b"rvld: cannot write a.out\n".as_slice();
-    let rows = [
-        Row {
-            words: &["rvld"],
-            input: &bytes,
-            fails: &[],
-            status: 2,
-            line: refused,
-            written: 0,
-            calls: 0,
-        },
-        Row {
-            words: &["rvld", "-s", "-a.o"],
-            input: &bytes,
-            fails: &[],
-            status: 2,
-            line: refused,
-            written: 0,
-            calls: 0,
-        },
-        Row {
-            words: link,
-            input: b"",
-            fails: &[],
-            status: 1,
-            line: defect,
-            written: 0,
-            calls: 1,
-        },
-        Row {
-            words: link,
-            input: &bytes,
-            fails: &[0],
-            status: 3,
-            line: unread,
-            written: 0,
-            calls: 1,
-        },
-        Row {
-            words: &["rvld", "-s", "z.o"],
-            input: &bytes,
-            fails: &[],
-            status: 3,
-            line: missing,
-            written: 0,
-            calls: 1,
-        },
-        Row {
-            words: link,
-            input: &bytes,
-            fails: &[4],
-            status: 3,
-            line: unwritten,
-            written: 2000,
-            calls: 5,
-        },
-        Row {
-            words: link,
-            input: &bytes,
-            fails: &[1],
-            status: 3,
-            line: unwritten,
-            written: 0,
-            calls: 2,
-        },
-    ];
-    for row in &rows {
-        assert!(rt; check_row(&rt, rt.alloc(), row, whole)?);
+fn each_link_leaves_its_executable(rt: HostRuntime) -> Result<(), Fail> {
+    for (index, link) in LINKS.iter().enumerate() {
+        assert!(rt;
+            is_linked(&rt, rt.alloc(), link, &OpenGate)?,
+            "example {index}"
+        );
     }
     Ok(())
 }
 
-/// Whether `run` and the plain program give the same for these bytes.
-fn is_as_plain<R: Threads + Sync>(rt: &R, alloc: Global, bytes: &[u8]) -> Result<bool, AllocError> {
-    let left = run_with(rt, alloc, &["rvld", "-s", "a.o"], bytes, &[], 1_000_000)?;
-    let plain = plain_link(alloc, bytes)?;
-    let file = left.depot.bytes("a.out").unwrap_or(b"".as_slice());
+/// A command that links nothing: its words, its status and its line, and how many loads there are.
+type Refusal<'a> = (&'a [&'a str], u8, &'a str, u64);
+
+const REFUSALS: [Refusal; 20] = [
+    (&[], 2, "rvld: bad command\n", 0),
+    (&["rvld"], 2, "rvld: bad command\n", 0),
+    (
+        &["rvld", "-s", "--threads", "65", "a.o"],
+        2,
+        "rvld: bad command\n",
+        0,
+    ),
+    (
+        &["rvld", "-s", "--icf", "some", "a.o"],
+        2,
+        "rvld: bad command\n",
+        0,
+    ),
+    (
+        &["rvld", "-s", "-o", "m", "--Map", "m", "a.o"],
+        2,
+        "rvld: bad command\n",
+        0,
+    ),
+    (
+        &["rvld", "-s", "a.o", "z.o"],
+        3,
+        "rvld: cannot read z.o\n",
+        2,
+    ),
+    (
+        &["rvld", "-s", "empty.o"],
+        1,
+        "rvld: F01 NotObject file=empty.o section=0 place=0 name= other=0\n",
+        1,
+    ),
+    (
+        &["rvld", "-s", "a.o", "cut.o"],
+        1,
+        "rvld: F02 BadHeader file=cut.o section=0 place=63 name= other=0\n",
+        2,
+    ),
+    (
+        &["rvld", "-s", "compressed.o"],
+        1,
+        "rvld: F05 Compressed file=compressed.o section=1 place=200 name= other=0\n",
+        1,
+    ),
+    (
+        &["rvld", "-s", "a.o", "double.o"],
+        1,
+        "rvld: F16 FlagsClash file=double.o section=0 place=4 name= other=0\n",
+        2,
+    ),
+    (
+        &["rvld", "-s", "double.o", "a.o"],
+        1,
+        "rvld: F16 FlagsClash file=a.o section=0 place=0 name= other=4\n",
+        2,
+    ),
+    (
+        &["rvld", "-s", "p.o", "q.o"],
+        1,
+        "rvld: F20 Duplicate file=p.o section=0 place=1 name=x other=q.o\n",
+        2,
+    ),
+    (
+        &["rvld", "-s", "a.o", "a.o"],
+        1,
+        "rvld: F20 Duplicate file=a.o section=0 place=1 name=_start other=a.o\n",
+        2,
+    ),
+    (
+        &["rvld", "-s", "-e", "g", "a.o"],
+        1,
+        "rvld: F21 NoEntry file=- section=0 place=0 name=g other=0\n",
+        1,
+    ),
+    (
+        &["rvld", "-s", "u.o"],
+        1,
+        "rvld: F22 Undefined file=u.o section=1 place=4 name=k other=0\n",
+        1,
+    ),
+    (
+        &["rvld", "-s", "big.o"],
+        1,
+        "rvld: F23 TooBig file=- section=0 place=2147491840 name= other=0\n",
+        1,
+    ),
+    (
+        &["rvld", "-s", "far.o"],
+        1,
+        "rvld: F24 Range file=far.o section=1 place=0 name=.text other=1048576\n",
+        1,
+    ),
+    (
+        &["rvld", "-s", "uneven.o"],
+        1,
+        "rvld: F25 Odd file=uneven.o section=1 place=0 name=_start other=3\n",
+        1,
+    ),
+    (
+        &["rvld", "-s", "alone.o"],
+        1,
+        "rvld: F26 NoPartner file=alone.o section=1 place=0 name=.L0 other=0\n",
+        1,
+    ),
+    (
+        &["rvld", "-s", "empty.o", "a.o", "cut.o"],
+        1,
+        "rvld: F01 NotObject file=empty.o section=0 place=0 name= other=0\n",
+        3,
+    ),
+];
+
+/// Whether a command leaves no file, its line and its status.
+fn is_refused<R: Threads + Sync>(
+    rt: &R,
+    alloc: Global,
+    refusal: &Refusal,
+) -> Result<bool, AllocError> {
+    let (words, status, line, loads) = *refusal;
+    let left = run_with(rt, alloc, words, &[], &OpenGate)?;
     Ok(
-        left.status == plain.status
-            && file == plain.executable.as_slice()
-            && left.err.written() == plain.line.as_slice(),
+        left.status == status
+            && left.say.calls() == 0
+            && left.err.written() == line.as_bytes()
+            && left.depot.calls() == loads
+            && left.depot.begun() == 0,
     )
 }
 
-/// Bytes of which one is altered.
-fn altered(alloc: Global, bytes: &[u8], place: usize, change: u8) -> Result<Vec<u8>, AllocError> {
-    let mut copy = Vec::from_slice(alloc, bytes)?;
-    if let Some(byte) = copy.as_mut_slice().get_mut(place) {
-        *byte ^= change;
+#[test]
+fn each_refusal_leaves_its_line(rt: HostRuntime) -> Result<(), Fail> {
+    for (index, refusal) in REFUSALS.iter().enumerate() {
+        assert!(rt; is_refused(&rt, rt.alloc(), refusal)?, "example {index}");
     }
-    Ok(copy)
+    Ok(())
+}
+
+/// A fault of the first link, whose calls of the depot are a load, a begin and five appends: the number of the call that
+/// fails, the line, how many calls there are, and how many bytes of the executable are written.
+type Fault<'a> = (u64, &'a str, u64, usize);
+
+const FAULTS: [Fault; 5] = [
+    (0, "rvld: cannot read a.o\n", 1, 0),
+    (1, "rvld: cannot write a.out\n", 2, 0),
+    (2, "rvld: cannot write a.out\n", 3, 0),
+    (4, "rvld: cannot write a.out\n", 5, 2000),
+    (6, "rvld: cannot write a.out\n", 7, 4000),
+];
+
+/// Whether the first link, with this call failing, leaves that much of the executable.
+fn is_cut<R: Threads + Sync>(rt: &R, alloc: Global, fault: &Fault) -> Result<bool, AllocError> {
+    let (call, line, calls, written) = *fault;
+    let left = run_with(rt, alloc, FIRST_LINK.words, &[call], &OpenGate)?;
+    let image = image_of(alloc, &FIRST)?;
+    let file = left.depot.bytes("a.out").unwrap_or(b"".as_slice());
+    Ok(
+        left.status == 3
+            && left.say.calls() == 0
+            && left.err.written() == line.as_bytes()
+            && left.depot.calls() == calls
+            && file.len() == written
+            && image.starts_with(file),
+    )
 }
 
 #[test]
-fn each_altered_byte_gives_what_the_plain_program_gives(rt: HostRuntime) -> Result<(), Fail> {
-    let bytes = first_example(rt.alloc())?;
-    for place in 0..bytes.len() {
-        assert!(rt;
-            is_as_plain(&rt, rt.alloc(), &bytes[..place])?,
-            "cut to {place}"
-        );
-        for change in [1u8, 4, 128, 255] {
-            let copy = altered(rt.alloc(), &bytes, place, change)?;
-            assert!(rt;
-                is_as_plain(&rt, rt.alloc(), &copy)?,
-                "{place} altered by {change}"
-            );
+fn each_fault_leaves_a_front_of_the_executable(rt: HostRuntime) -> Result<(), Fail> {
+    for fault in &FAULTS {
+        assert!(rt; is_cut(&rt, rt.alloc(), fault)?, "call {}", fault.0);
+    }
+    Ok(())
+}
+
+const TURNS: u32 = 10_000_000;
+
+/// Whether a count was seen to reach a number.
+fn is_reached_in_time(count: &AtomicU64, number: u64) -> bool {
+    for _ in 0..TURNS {
+        if count.load(Ordering::SeqCst) >= number {
+            return true;
         }
+        hint::spin_loop();
+    }
+    false
+}
+
+/// Holds one worker before each of its tasks until the other is past as many of its own.
+#[derive(Drop)]
+struct Holder {
+    held: u32,
+    /// The tasks before which the held worker stood.
+    met: AtomicU64,
+    /// The tasks that the other worker is past.
+    passed: AtomicU64,
+    late: AtomicBool,
+}
+
+fn count_up(count: &AtomicU64) -> u64 {
+    let next = count.load(Ordering::SeqCst).wrapping_add(1);
+    count.store(next, Ordering::SeqCst);
+    next
+}
+
+impl Gate for Holder {
+    fn at(&self, worker: u32, step: u32) {
+        if worker == self.held && step == 0 {
+            let number = count_up(&self.met);
+            if !is_reached_in_time(&self.passed, number) {
+                self.late.store(true, Ordering::SeqCst);
+            }
+        }
+        if worker != self.held && step == 1 {
+            let _ = count_up(&self.passed);
+        }
+    }
+}
+
+const SHARED: Link = Link {
+    words: &["rvld", "-s", "--threads", "2", "a.o", "h.o"],
+    image: TWO_FILES,
+    ..FIRST_LINK
+};
+
+/// Whether a link of two files is as ever where one of its two workers is held, and the other was in time.
+fn is_held<R: Threads + Sync>(rt: &R, alloc: Global, held: u32) -> Result<bool, AllocError> {
+    let gate = Holder {
+        held,
+        met: AtomicU64::new(0),
+        passed: AtomicU64::new(0),
+        late: AtomicBool::new(false),
+    };
+    let linked = is_linked(rt, alloc, &SHARED, &gate)?;
+    let met = gate.met.load(Ordering::SeqCst);
+    Ok(
+        linked
+            && met > 0
+            && met == gate.passed.load(Ordering::SeqCst)
+            && !gate.late.load(Ordering::SeqCst),
+    )
+}
+
+#[test]
+fn workers_in_either_order(rt: HostRuntime) -> Result<(), Fail> {
+    for held in 0..2 {
+        assert!(rt; is_held(&rt, rt.alloc(), held)?, "worker {held} is held");
     }
     Ok(())
 }

@@ -1,2 +1,4 @@
 pub mod EscapedNames
+pub mod Loops
 pub mod ShownBytes
+pub mod StableOrder

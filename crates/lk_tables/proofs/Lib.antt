@@ -4,4 +4,6 @@ pub mod HeadFacts
 pub mod Overlaps
 pub mod Passing
 pub mod Ranges
+pub mod SoundHead
+pub mod SoundBody
 pub mod StableOrder

@@ -1,8 +1,14 @@
+pub mod Binding
+pub mod BindingView
 pub mod Bodies
 pub mod Checks
 pub mod Entries
 pub mod FileHeader
+pub mod FileView
+pub mod Files
 pub mod Heads
+pub mod Indexed
+pub mod Inside
 pub mod Names
 pub mod Numbers
 pub mod Objects

@@ -108,9 +108,9 @@ is_bad_local locals i len e =
     || ((binding_of e == 0 && e.shndx == 0xfff2)
     || (not (binding_of e == 0) && len == 0))
 
--- a COMMON symbol of type TLS (6), and for now any: none is linked yet
+-- a COMMON symbol of type TLS (6)
 unfoldable pub is_bad_common : SymbolEntry → Bool
-is_bad_common e = (e.shndx == 0xfff2 && sort_of e == 6) || e.shndx == 0xfff2
+is_bad_common e = e.shndx == 0xfff2 && sort_of e == 6
 
 -- a symbol that cannot be
 unfoldable pub is_bad_symbol : List ℕ → (i len : ℕ) → SymbolEntry → Bool

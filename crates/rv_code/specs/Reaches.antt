@@ -1,5 +1,5 @@
 -- Which values a field takes.
-use Rattle.std.specs.Prelude.{◌≡◌, ℕ, ◌%◌, ℤ, ◌≤ℤ◌, ◌<ℤ◌, ◌⊎◌, unsigned_abs, pos, neg_ℤ}
+use Rattle.std.specs.Prelude.{◌≡◌, ℕ, ◌%◌, ◌==◌, ◌&&◌, not, Bool, true, false, if◌then◌else◌, int_lt, Option, Some, None, ℤ, ◌≤ℤ◌, ◌<ℤ◌, ◌⊎◌, unsigned_abs, pos, neg_ℤ}
 use Rattle.lk_base.specs.declared.defects.Misfit.{Misfit}
 use Rattle.lk_base.specs.declared.defects.Misfit.TheVariants.{Odd, Range}
 use Rattle.rv_code.specs.declared.reaches.Rule.{Rule}
@@ -40,6 +40,19 @@ Refuses (from_to low high) v Odd = ⊥
 Refuses (from_to low high) v Range = IsOutside low high v
 Refuses (even_from_to low high) v Odd = IsOdd v
 Refuses (even_from_to low high) v Range = IsEven v × IsOutside low high v
+
+-- the same as a function: why a value is not taken, where it is not
+abbrev pub is_within : (low high v : ℤ) → Bool
+is_within low high v = not (int_lt v low) && not (int_lt high v)
+
+abbrev pub range_of : Bool → Option Misfit
+range_of true = None
+range_of false = Some Range
+
+abbrev pub misfit_of : Reach → ℤ → Option Misfit
+misfit_of any v = None
+misfit_of (from_to low high) v = range_of (is_within low high v)
+misfit_of (even_from_to low high) v = if unsigned_abs v % 2 == 0 then range_of (is_within low high v) else Some Odd
 
 -- the reach of each of the code's rules
 abbrev pub reach_of : Rule → Reach

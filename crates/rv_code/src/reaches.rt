@@ -1,8 +1,8 @@
 //! Which values a field takes.
 
-ghost use Rattle.std.specs.Prelude.{◌≡◌, MatchResult};
+ghost use Rattle.std.specs.Prelude.{◌≡◌, MatchResult, None, Some};
 ghost use Rattle.rv_code.specs.Kinds.{HasValue, kind_of};
-ghost use Rattle.rv_code.specs.Reaches.{Refuses, Takes, reach_of};
+ghost use Rattle.rv_code.specs.Reaches.{Refuses, Takes, misfit_of, reach_of};
 
 use crate::table::line_of;
 use lk_base::Misfit;
@@ -19,7 +19,8 @@ pub enum Rule {
 }
 
 fn fits_rule(rule: Rule, v: i128) -> Result<(), Misfit>
-    ensures { MatchResult result (λ _. Takes (reach_of rule) v) (λ misfit. Refuses (reach_of rule) v misfit) }
+    ensures value { MatchResult result (λ _. Takes (reach_of rule) v) (λ misfit. Refuses (reach_of rule) v misfit) }
+    ensures exact { MatchResult result (λ _. misfit_of (reach_of rule) v ≡ None) (λ misfit. misfit_of (reach_of rule) v ≡ Some misfit) }
 {
     match rule {
         Rule::Any => Ok(()),
@@ -45,7 +46,8 @@ fn fits_rule(rule: Rule, v: i128) -> Result<(), Misfit>
 /// and `Range` where the value is out of its reach and not odd.
 pub fn fits(kind: u32, v: i128) -> Result<(), Misfit>
     requires { HasValue kind }
-    ensures { MatchResult result (λ _. Takes (kind_of kind).reach v) (λ misfit. Refuses (kind_of kind).reach v misfit) }
+    ensures value { MatchResult result (λ _. Takes (kind_of kind).reach v) (λ misfit. Refuses (kind_of kind).reach v misfit) }
+    ensures exact { MatchResult result (λ _. misfit_of (kind_of kind).reach v ≡ None) (λ misfit. misfit_of (kind_of kind).reach v ≡ Some misfit) }
 {
     fits_rule(line_of(kind).rule, v)
 }

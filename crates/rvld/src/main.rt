@@ -1,4 +1,7 @@
-//! `rvld -s a.o`: links one relocatable object for 64-bit RISC-V into the executable `a.out`.
+//! `rvld -s -o program start.o part.o`: links relocatable objects for 64-bit RISC-V into an executable.
+//!
+//! `run` of link_driver reads the command, links, and says how it ended; it is given the command's words and the real files
+//! and streams here, and its status is the program's. Where there is no memory for the words the status is 4.
 #![tactic(auto)]
 
 use link_driver::{OpenGate, run};

@@ -1,22 +1,17 @@
-use Rattle.std.proofs.Common.{rules, length, arith, []}
-use Rattle.std.proofs.lemmas.List.Sorted.{IsNonDecreasingBy-from_sort_by_key, All-permutation, length_permutation}
-use Rattle.layout.specs.Order.{IsFit, key_of}
-use Rattle.layout.proofs.Rows.{all_fit, few_rows}
+use Rattle.std.proofs.Common.{◌∙◌, ap, length, arith}
+use Rattle.lk_base.specs.Order.{stable_order}
+use Rattle.layout.specs.Order.{key_of}
+use Rattle.layout.proofs.Rows.{few_order, fit_order}
 use Rattle.layout.proofs.order.find_order.Goals as goal
 
 pub returns-clause-order : goal.returns-clause-order
-returns-clause-order c = record {
-  same = rw c.in_ok-rows.ensures at c.sort_unstable_by_key.ensures.permutation;
-  rising = IsNonDecreasingBy-from_sort_by_key key_of _ c.sort_unstable_by_key.ensures.sorted (λ a r q k. search rules);
-}
+returns-clause-order c = c.in_ok-sort_rows.ensures ∙ ap (stable_order key_of) c.in_ok-rows.ensures
 
 pub returns-clause-fit : goal.returns-clause-fit
 returns-clause-fit c =
-    All-permutation (IsFit (length c.args.members.now)) _ _ (rw c.in_ok-rows.ensures at c.sort_unstable_by_key.ensures.permutation)
-    (all_fit c.args.class [] (length c.args.members.now) 0 c.args.members.now (omega arith) c.requires.sized)
+    rw (c.in_ok-sort_rows.ensures, c.in_ok-rows.ensures)
+    (fit_order c.args.class (length c.args.members.now) c.args.members.now (omega arith) c.requires.sized)
 
 pub returns-clause-few : goal.returns-clause-few
 returns-clause-few c =
-    let same = length_permutation _ _ (rw c.in_ok-rows.ensures at c.sort_unstable_by_key.ensures.permutation) in
-    let few = few_rows c.args.class [] 0 c.args.members.now in
-    rw same few
+    rw (c.in_ok-sort_rows.ensures, c.in_ok-rows.ensures) (few_order c.args.class c.args.members.now)

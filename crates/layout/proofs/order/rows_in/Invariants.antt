@@ -2,13 +2,14 @@ use Rattle.std.proofs.Common.{◌≡◌, ◌≤◌, ◌++◌, drop, length, List
 use Rattle.layout.specs.Names.{texts}
 use Rattle.layout.specs.Order.{rows_from, rows_of}
 use Rattle.layout.specs.declared.names.Class.{Class}
+use Rattle.layout.specs.Parts.{parts_of}
 use Rattle.layout.specs.declared.names.Member.{Member}
 use Rattle.layout.specs.declared.order.Row.{Row}
 use Rattle.layout.proofs.order.rows_in.Given as goal
 
 pub record Gathered (class : Class) (known : List (List ℕ)) (count i : ℕ) (members : List Member) (rows : List Row) : Type 0 where
   pub few : count ≤ i
-  pub all : rows ++ rows_from class known i (drop i members) ≡ rows_of class members
+  pub all : rows ++ rows_from class known i (parts_of (drop i members)) ≡ rows_of class (parts_of members)
 
 abbrev pub invariant-loop-i : goal.invariant-loop-i
 invariant-loop-i l = Gathered l.class (texts l.known.keys) (length l.known.keys) l.i l.members l.rows.items

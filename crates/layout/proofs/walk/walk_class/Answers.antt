@@ -2,6 +2,7 @@ use Rattle.std.proofs.Common.{◌≡◌, ◌<◌, length, arith, ◌∙◌, sym,
 use Rattle.std.proofs.lemmas.Bool.Decides.{nat_tests}
 use Rattle.std.proofs.lemmas.List.Elements.{All-drop}
 use Rattle.layout.specs.Order.{IsFit}
+use Rattle.layout.specs.Parts.{parts_of}
 use Rattle.layout.specs.Walk.{views}
 use Rattle.layout.proofs.Cuts.{cut_is, next_end, next_sections, next_stands, nothing_left}
 use Rattle.layout.proofs.walk.walk_class.Goals as goal
@@ -16,7 +17,7 @@ loop-rest-preserved c =
       fit = rw (c.in_ok-at.ensures.len, c.split_at.ensures.back) (All-drop (IsFit (length c.loop-rest.starts.items)) c.run_len.result c.loop-rest.rest.now c.loop-rest.invariant.fit);
       bound = omega (arith, c.in_ok-at.ensures.bound);
       end = next_end c.loop-rest.at c.in_ok-at.at _ _ _ e c.in_ok-at.ensures.end ∙ c.loop-rest.invariant.end;
-      outputs = next_sections c.args.members.now c.args.class c.loop-rest.at c.in_ok-at.at _ _ _ _ _ e c.in_ok-at.ensures.end c.in_ok-at.ensures.outputs
+      outputs = next_sections (parts_of c.args.members.now) c.args.class c.loop-rest.at c.in_ok-at.at _ _ _ _ _ e c.in_ok-at.ensures.end c.in_ok-at.ensures.outputs
           ∙ c.loop-rest.invariant.outputs;
       all = next_stands c.loop-rest.at c.in_ok-at.at _ _ _ _ _ e c.in_ok-at.ensures.end c.in_ok-at.ensures.starts ∙ c.loop-rest.invariant.all;
     }

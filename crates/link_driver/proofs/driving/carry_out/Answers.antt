@@ -1,5 +1,5 @@
 use Rattle.std.proofs.Common.{ap}
-use Rattle.link_driver.specs.Command.{asks, texts_of}
+use Rattle.link_command.specs.Command.{asks, texts_of}
 use Rattle.link_driver.proofs.Starting.{not_loaded}
 use Rattle.link_driver.proofs.driving.carry_out.Goals as goal
 

@@ -1,7 +1,7 @@
 use Rattle.std.proofs.Common.{◌∙◌, ap, option_map, string_bytes}
 use Rattle.lk_depot.specs.Files.{told_put}
 use Rattle.lk_depot.specs.declared.kinds.FileKind.TheVariants.{Plain}
-use Rattle.link_driver.specs.Command.{asks}
+use Rattle.link_command.specs.Command.{asks}
 use Rattle.link_driver.specs.Endings.{map_line}
 use Rattle.link_driver.proofs.Finishing.{output_cut, reported, map_cut, without_map, with_that_map}
 use Rattle.link_driver.proofs.driving.conclude.Goals as goal

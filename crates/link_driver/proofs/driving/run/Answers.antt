@@ -1,4 +1,4 @@
-use Rattle.link_driver.specs.Command.{texts_of}
+use Rattle.link_command.specs.Command.{texts_of}
 use Rattle.link_driver.proofs.Promising.{promises_hold}
 use Rattle.link_driver.specs.Endings.{told_line}
 use Rattle.link_driver.proofs.driving.run.Goals as goal

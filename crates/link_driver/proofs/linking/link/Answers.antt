@@ -1,23 +1,82 @@
-use Rattle.std.proofs.lemmas.Result.{err_from_is_err_and}
-use Rattle.link_driver.specs.FormView.{view}
-use Rattle.link_driver.specs.Command.{asks}
-use Rattle.link_driver.proofs.LinkSteps.{unread, unbound, linked_is}
+use Rattle.std.proofs.Common.{◌≡◌, ◌∙◌, [], List, ap, sym, subst, ℕ}
+use Rattle.std.specs.Prelude.{string_bytes}
+use Rattle.lk_base.specs.Firsts.{StopsAt}
+use Rattle.lk_tables.specs.Binding.{binding_defects}
+use Rattle.lk_tables.specs.BindingView.{binding_view}
+use Rattle.lk_tables.specs.FileView.{files_of}
+use Rattle.link_driver.specs.Contents.{contents_of}
+use Rattle.link_driver.specs.Link.{bound_names, none_gone}
+use Rattle.link_driver.proofs.Chain.{at_reading, at_binding, at_undefined, at_layout, at_relocations, no_defects}
+use Rattle.link_driver.proofs.Handing.{few_parts_of, sized_parts_of, gives_executable}
 use Rattle.link_driver.proofs.linking.link.Goals as goal
 
-pub returns-in_err-object : goal.returns-in_err-object
-returns-in_err-object c =
-    let stop = err_from_is_err_and c.from_residual.result c.from_residual.ensures.1 in
-    rw (stop.1, stop.2) (unread (asks c.args.command.now) c.args.input.now c.in_err-object.field-0.0 c.in_err-object.ensures)
+pub returns-in-Err : goal.returns-in-Err
+returns-in-Err g c = at_reading c.args.limits.now (string_bytes c.args.command.now.entry) (contents_of c.args.inputs.now) c.in-Err.stop c.in-Err.ensures.goes
 
-pub returns-in_err-entry : goal.returns-in_err-entry
-returns-in_err-entry c =
-    let stop = err_from_is_err_and c.from_residual-in_err-entry.result c.from_residual-in_err-entry.ensures.1 in
-    rw (stop.1, stop.2)
-    (unbound (asks c.args.command.now) c.args.input.now c.as_str.result.now (view c.in_ok-object.object) c.in_err-entry.field-0.0
-    c.in_ok-object.ensures.0 c.as_str.ensures.value c.in_err-entry.ensures)
+pub returns-in-Err-bind_names : goal.returns-in-Err-bind_names
+returns-in-Err-bind_names g c =
+    let files = files_of c.in-Ok.tables in
+    let P : List ℕ → Type 0 = λ entry. StopsAt c.in-Err-bind_names.stop (binding_defects files (none_gone files) entry) in
+    at_binding c.args.limits.now (string_bytes c.args.command.now.entry) (contents_of c.args.inputs.now) c.in-Ok.ensures.goes
+    files c.in-Ok.ensures.tables.files_are c.in-Err-bind_names.stop
+    (subst P c.as_str-entry.ensures.value c.in-Err-bind_names.ensures.goes)
+
+pub returns-in-Some : goal.returns-in-Some
+returns-in-Some g c =
+    let files = files_of c.in-Ok.tables in
+    at_undefined c.args.limits.now (string_bytes c.args.command.now.entry) (contents_of c.args.inputs.now) c.in-Ok.ensures.goes
+    files c.in-Ok.ensures.tables.files_are
+    (ap (binding_defects files (none_gone files)) (sym c.as_str-entry.ensures.value) ∙ c.in-Ok-bind_names.ensures.goes)
+    (binding_view c.in-Ok-bind_names.binding) (c.in-Ok-bind_names.ensures.names ∙ ap (bound_names files) c.as_str-entry.ensures.value)
+    c.in-Some.defect c.in-Some.ensures
+
+pub lay_out-requires-clause-few : goal.lay_out-requires-clause-few
+lay_out-requires-clause-few g c =
+    few_parts_of c.as_str-entry.result.now (files_of c.in-Ok.tables) (binding_view c.in-Ok-bind_names.binding) c.in-Ok-bind_names.ensures.names
+    c.in-Ok.ensures.tables.sections
+
+pub lay_out-requires-clause-sized : goal.lay_out-requires-clause-sized
+lay_out-requires-clause-sized g c =
+    sized_parts_of c.as_str-entry.result.now (files_of c.in-Ok.tables) (binding_view c.in-Ok-bind_names.binding) c.in-Ok-bind_names.ensures.names
+    c.in-Ok.ensures.tables.sound
+
+pub returns-in-Err-lay_out : goal.returns-in-Err-lay_out
+returns-in-Err-lay_out g c =
+    let files = files_of c.in-Ok.tables in
+    at_layout c.args.limits.now (string_bytes c.args.command.now.entry) (contents_of c.args.inputs.now) c.in-Ok.ensures.goes
+    files c.in-Ok.ensures.tables.files_are
+    (ap (binding_defects files (none_gone files)) (sym c.as_str-entry.ensures.value) ∙ c.in-Ok-bind_names.ensures.goes)
+    (binding_view c.in-Ok-bind_names.binding) (c.in-Ok-bind_names.ensures.names ∙ ap (bound_names files) c.as_str-entry.ensures.value)
+    c.in_default.ensures c.in-Err-lay_out.stop c.in-Err-lay_out.ensures.goes
+
+pub write-requires-clause-few : goal.write-requires-clause-few
+write-requires-clause-few g c =
+    few_parts_of c.as_str-entry.result.now (files_of c.in-Ok.tables) (binding_view c.in-Ok-bind_names.binding) c.in-Ok-bind_names.ensures.names
+    c.in-Ok.ensures.tables.sections
+
+pub returns-in-Err-write : goal.returns-in-Err-write
+returns-in-Err-write g c =
+    let files = files_of c.in-Ok.tables in
+    at_relocations c.args.limits.now (string_bytes c.args.command.now.entry) (contents_of c.args.inputs.now) c.in-Ok.ensures.goes
+    files c.in-Ok.ensures.tables.files_are
+    (ap (binding_defects files (none_gone files)) (sym c.as_str-entry.ensures.value) ∙ c.in-Ok-bind_names.ensures.goes)
+    (binding_view c.in-Ok-bind_names.binding) (c.in-Ok-bind_names.ensures.names ∙ ap (bound_names files) c.as_str-entry.ensures.value)
+    c.in_default.ensures c.in-Ok-lay_out.ensures.goes c.in-Err-write.stop c.in-Err-write.ensures.goes
 
 pub returns : goal.returns
-returns c =
-    let entry = rw c.as_str.ensures.value at c.in_ok-entry.ensures in
-    linked_is (asks c.args.command.now) c.args.input.now (view c.in_ok-object.object) _ c.in_ok-entry.entry
-    c.in_ok-object.ensures.0 entry c.in_ok-exe.ensures c.new.ensures.items c.new-2.ensures.items
+returns g c =
+    let files = files_of c.in-Ok.tables in
+    let names = c.in-Ok-bind_names.ensures.names ∙ ap (bound_names files) c.as_str-entry.ensures.value in
+    record {
+      sound = no_defects c.args.limits.now (string_bytes c.args.command.now.entry) (contents_of c.args.inputs.now) c.in-Ok.ensures.goes
+          files c.in-Ok.ensures.tables.files_are
+          (ap (binding_defects files (none_gone files)) (sym c.as_str-entry.ensures.value) ∙ c.in-Ok-bind_names.ensures.goes)
+          (binding_view c.in-Ok-bind_names.binding) names
+          c.in_default.ensures c.in-Ok-lay_out.ensures.goes c.in-Ok-write.ensures.goes;
+      gives = record {
+        executable = gives_executable (string_bytes c.args.command.now.entry) (contents_of c.args.inputs.now) files (binding_view c.in-Ok-bind_names.binding) c.in-Ok-write.exe.items
+            c.in-Ok.ensures.tables.files_are names c.in-Ok-write.ensures.written;
+        map = c.new.ensures.items;
+        report = c.new-2.ensures.items;
+      };
+    }

@@ -1,0 +1,5 @@
+pub mod Appends
+pub mod FlagSteps
+pub mod Laying
+pub mod NameSteps
+pub mod SaneBounds

@@ -1,0 +1,143 @@
+//! What stands at the end of the file: the names of the sections, and the section headers.
+
+ghost use Rattle.std.specs.Prelude.{◌≡◌, ◌+◌, ◌^◌, ◌<◌, ◌++◌, length, IfOk, OnOk};
+ghost use Rattle.elf_out.specs.Headers as spec;
+ghost use Rattle.layout.specs.Walk.{view, views};
+
+use crate::headers::{SectionHeader, offset_of, push_section_header};
+use layout::Output;
+use std::alloc::{AllocError, Global};
+
+/// A string table.
+const SHT_STRTAB: u32 = 3;
+/// The name of the section that has the names.
+const OWN_NAME: &[u8] = b".shstrtab";
+/// The first section header tells of no section.
+const NULL_SECTION: SectionHeader = SectionHeader {
+    name: 0,
+    sh_type: 0,
+    flags: 0,
+    address: 0,
+    offset: 0,
+    size: 0,
+    align: 0,
+};
+
+/// Adds a name and a zero byte.
+fn push_name(out: &mut Vec<u8>, name: &[u8]) -> Result<(), AllocError>
+    ensures { OnOk result (out.new.items ≡ out.old.items ++ spec.zero_ended name.now) }
+{
+    out.extend_from_slice(name)?;
+    out.push(0)?;
+    Ok(())
+}
+
+/// Adds the names of output sections.
+#[tactic(auto, unfolding(layout::specs::Walk::view))]
+fn push_output_names(out: &mut Vec<u8>, outputs: &[Output]) -> Result<(), AllocError>
+    ensures { OnOk result (out.new.items ≡ out.old.items ++ spec.output_names (views outputs.now)) }
+{
+    for output in outputs {
+        push_name(out, output.name)?;
+    }
+    Ok(())
+}
+
+/// The names of the sections, each ended by a zero byte: that of no section, those of the output sections, and the last
+/// section's own.
+#[tactic(auto, unfolding(crate::specs::Headers::section_names, crate::specs::Headers::own_name))]
+pub fn name_bytes(alloc: Global, outputs: &[Output]) -> Result<Vec<u8>, AllocError>
+    ensures { IfOk result (λ v. v.items ≡ spec.section_names (views outputs.now)) }
+{
+    let mut out = Vec::new(alloc);
+    out.push(0)?;
+    push_output_names(&mut out, outputs)?;
+    push_name(&mut out, OWN_NAME)?;
+    Ok(out)
+}
+
+/// The header of an output section whose name begins at `name`.
+#[tactic(auto, unfolding(layout::specs::Walk::view))]
+fn output_section(name: u64, output: &Output) -> SectionHeader
+    ensures { result ≡ spec.output_section name (view output.now) }
+{
+    SectionHeader {
+        name: (name % 0x1_0000_0000) as u32,
+        sh_type: output.sh_type,
+        flags: output.flags,
+        address: output.address,
+        offset: offset_of(output.address),
+        size: output.size,
+        align: output.align,
+    }
+}
+
+/// The header of the section that has the names.
+fn names_section(name: u64, offset: u64, size: u64) -> SectionHeader
+    ensures { result ≡ spec.names_section name offset size }
+{
+    SectionHeader {
+        name: (name % 0x1_0000_0000) as u32,
+        sh_type: SHT_STRTAB,
+        flags: 0,
+        address: 0,
+        offset,
+        size,
+        align: 1,
+    }
+}
+
+/// Adds the headers of output sections, and tells where the name behind theirs begins.
+fn push_output_headers(out: &mut Vec<u8>, outputs: &[Output]) -> Result<u64, AllocError>
+    requires { length (spec.output_names (views outputs.now)) < 2 ^ 63 }
+    ensures written { OnOk result (out.new.items ≡ out.old.items ++ spec.output_headers 1 (views outputs.now)) }
+    ensures next { IfOk result (λ name. name ≡ 1 + length (spec.output_names (views outputs.now))) }
+{
+    let mut name: u64 = 1;
+    for output in outputs {
+        push_section_header(out, &output_section(name, output))?;
+        name += output.name.len() as u64 + 1;
+    }
+    Ok(name)
+}
+
+/// The section headers, where the names, of so many bytes, stand at a file offset.
+pub fn header_table(
+    alloc: Global,
+    outputs: &[Output],
+    offset: u64,
+    size: u64,
+) -> Result<Vec<u8>, AllocError>
+    requires names { size ≡ length (spec.section_names (views outputs.now)) }
+    requires room { size < 2 ^ 63 }
+    ensures { IfOk result (λ v. v.items ≡ spec.section_headers (views outputs.now) offset) }
+{
+    let mut out = Vec::new(alloc);
+    push_section_header(&mut out, &NULL_SECTION)?;
+    let name = push_output_headers(&mut out, outputs)?;
+    push_section_header(&mut out, &names_section(name, offset, size))?;
+    Ok(out)
+}
+
+#[cfg(test)]
+mod tests {
+    use super::*;
+    use layout::Class;
+    use std::test::Fail;
+
+    #[test]
+    fn names_are_ended_by_zeros(rt: HostRuntime) -> Result<(), Fail> {
+        let text = Output {
+            name: b".text",
+            class: Class::Rx,
+            sh_type: 1,
+            flags: 6,
+            address: 0x11000,
+            size: 8,
+            align: 4,
+        };
+        let names = name_bytes(rt.alloc(), &[text])?;
+        assert_eq!(rt; names.as_slice(), b"\0.text\0.shstrtab\0".as_slice());
+        Ok(())
+    }
+}

@@ -1,0 +1,5 @@
+-- Lemmas of the crate.
+mod Parsing
+mod Reading
+mod Entries
+mod Workers

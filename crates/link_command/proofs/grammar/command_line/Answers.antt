@@ -1,0 +1,15 @@
+-- Each option in turn.
+use Rattle.std.proofs.Common.{◌∙◌, ap₂}
+use Rattle.std.proofs.lemmas.Result.{IfOk-weaker}
+use Rattle.clap.specs.Words.{with_rule}
+use Rattle.link_command.specs.Grammar.{rvld_app}
+use Rattle.link_command.proofs.grammar.command_line.Goals as goal
+
+pub returns : goal.returns
+unfolding rvld_app
+returns c =
+    let one = c.in_ok-arg.ensures.shape c.output_option.ensures.local ∙ ap₂ with_rule c.new.ensures.app c.output_option.ensures.rule in
+    let two = c.in_ok-arg-2.ensures.shape c.entry_option.ensures.local ∙ ap₂ with_rule one c.entry_option.ensures.rule in
+    let three = c.in_ok-arg-3.ensures.shape c.threads_option.ensures.local ∙ ap₂ with_rule two c.threads_option.ensures.rule in
+    let four = c.in_ok-arg-4.ensures.shape c.strip_option.ensures.local ∙ ap₂ with_rule three c.strip_option.ensures.rule in
+    IfOk-weaker c.arg-5.result _ _ (λ m h. h.shape c.files_argument.ensures.local ∙ ap₂ with_rule four c.files_argument.ensures.rule) c.arg-5.ensures

@@ -1,0 +1,75 @@
+-- What a command asks for, as a function of its words.
+use Rattle.std.specs.Prelude.{◌==◌, ◌&&◌, ℕ, Bool, not, List, [], Option, Some, None, if◌then◌else◌, codes, length, map, option_and_then, option_map, string_bytes, String, unwrap_or}
+use Rattle.std.specs.Option.{option_map_or}
+use Rattle.std.specs.Global.{Global}
+use Rattle.std.specs.Str.{bytes_eq}
+use Rattle.std.specs.Str.Parse.{digits_value, without_leading_plus}
+use Rattle.clap.specs.Words.{Row, all_of, first_of, one_of}
+use Rattle.link_command.specs.declared.command.Command.{Command}
+use Rattle.link_command.specs.Grammar.{taken}
+
+-- what a command asks for: the names of the executable and of the map, the entry symbol, the number of
+-- workers, whether symbols are left out, and the inputs
+pub record Asked : Type 0 where
+  pub output : List ℕ
+  pub map : Option (List ℕ)
+  pub entry : List ℕ
+  pub threads : ℕ
+  pub strip : Bool
+  pub inputs : List (List ℕ)
+
+-- the bytes of each word
+abbrev pub texts_of : List (String Global) → List (List ℕ)
+texts_of words = map (λ word. string_bytes word) words
+
+abbrev pub asks : Command → Asked
+asks command = record {
+  output = string_bytes command.output;
+  map = option_map (λ name. string_bytes name) command.map;
+  entry = string_bytes command.entry;
+  threads = command.threads;
+  strip = command.strip;
+  inputs = texts_of command.inputs.items;
+}
+
+-- the text of an option
+abbrev pub text_of : List ℕ → List Row → List ℕ
+text_of id rows = unwrap_or (first_of id rows) []
+
+-- the number that `u32` reads from a text
+abbrev pub number_of : List ℕ → ℕ
+number_of text = digits_value 10 (without_leading_plus text)
+
+-- a flag is on where its text is `true`
+abbrev pub is_on : List ℕ → List Row → Bool
+is_on id rows = bytes_eq (text_of id rows) (codes "true")
+
+-- the number of workers
+abbrev pub workers_in : List Row → ℕ
+workers_in rows = option_map_or number_of (one_of (codes "threads") rows) 0
+
+-- the names of the inputs, in the order of the command
+abbrev pub inputs_in : List Row → List (List ℕ)
+inputs_in rows = unwrap_or (all_of (codes "files") rows) []
+
+-- what clap's rows for the words ask for
+abbrev pub read_from : List Row → Asked
+read_from rows = record {
+  output = text_of (codes "output") rows;
+  map = None;
+  entry = text_of (codes "entry") rows;
+  threads = workers_in rows;
+  strip = is_on (codes "strip-all") rows;
+  inputs = inputs_in rows;
+}
+
+-- there is an input and an entry, and symbols are left out: a link with a symbol table is not there yet
+abbrev pub is_linkable : Asked → Bool
+is_linkable asked = asked.strip && (not (length asked.entry == 0) && not (length asked.inputs == 0))
+
+abbrev pub tested : Asked → Option Asked
+tested asked = if is_linkable asked then Some asked else None
+
+-- the accepted commands: those that clap takes and that can be linked
+unfoldable pub asked_of : List (List ℕ) → Option Asked
+asked_of words = option_and_then (λ rows. tested (read_from rows)) (taken words)

@@ -1,0 +1,71 @@
+-- The command line of rvld, as a value of the kit's clap: its options, and the words that it takes.
+use Rattle.std.specs.Prelude.{◌≡◌, ℕ, List, [], ◌∷◌, Option, Some, None, codes, pos}
+use Rattle.clap.specs.Lexer.{usize_max}
+use Rattle.clap.specs.Words.{App, IsSignedIn, Kinds, Row, Rule, Text, fault_of, found_of, matches_of, new_app, new_rule, one_of, rows_of, with_rule, without_minus}
+use Rattle.clap.specs.declared.builder.ArgAction.TheVariants.{Set, SetTrue}
+use Rattle.clap.specs.declared.builder.value_parser.ValueParser.TheVariants.{Signed}
+use Rattle.clap.specs.declared.parser.ArgMatches.{ArgMatches}
+
+-- `-o`, `--output FILE`: the executable
+abbrev pub output_rule : Rule
+output_rule = record (new_rule (codes "output")) {
+  short = Some 111;
+  long = Some (codes "output");
+  action = Some Set;
+  defaults = codes "a.out" ∷ [];
+}
+
+-- `-e`, `--entry NAME`: the symbol at which the executable begins
+abbrev pub entry_rule : Rule
+entry_rule = record (new_rule (codes "entry")) {
+  short = Some 101;
+  long = Some (codes "entry");
+  action = Some Set;
+  defaults = codes "_start" ∷ [];
+}
+
+-- `--threads N`: the number of workers
+abbrev pub threads_rule : Rule
+threads_rule = record (new_rule (codes "threads")) {
+  long = Some (codes "threads");
+  parser = Some (Signed (pos 1) (pos 64));
+  action = Some Set;
+  defaults = codes "4" ∷ [];
+}
+
+-- `-s`, `--strip-all`: no symbol table
+abbrev pub strip_rule : Rule
+strip_rule = record (new_rule (codes "strip-all")) {
+  short = Some 115;
+  long = Some (codes "strip-all");
+  action = Some SetTrue;
+}
+
+-- `FILES..`: the inputs
+abbrev pub files_rule : Rule
+files_rule = record (new_rule (codes "files")) {
+  range = Some (record { start_inclusive = 1; end_inclusive = usize_max });
+}
+
+-- the command
+unfoldable pub rvld_app : App
+rvld_app = with_rule (with_rule (with_rule (with_rule (with_rule (new_app (codes "rvld"))
+    output_rule) entry_rule) threads_rule) strip_rule) files_rule
+
+-- the rows of a parse
+abbrev pub rows_in : ArgMatches → List Row
+rows_in matches = rows_of (found_of matches)
+
+-- rows are taken where there is no fault
+abbrev pub without_fault : List Row → Kinds → Option (List Row)
+without_fault rows [] = Some rows
+without_fault rows (kind ∷ kinds) = None
+
+-- the rows that clap gives for these words, where it finds no fault in them
+unfoldable pub taken : List Text → Option (List Row)
+taken words = without_fault (matches_of rvld_app words) (fault_of rvld_app words)
+
+-- the rows have a number of workers that lies in its range
+abbrev pub HasThreads : List Row → Type 0
+HasThreads rows = (text : List ℕ) × (one_of (codes "threads") rows ≡ Some (without_minus text))
+    × IsSignedIn (pos 1) (pos 64) text

@@ -1,0 +1,70 @@
+//! An accepted command.
+
+ghost use Rattle.std.specs.Prelude.{◌≡◌, ◌<◌, ◌≤◌, IfOk, IfSome, length, option_map};
+ghost use Rattle.link_command.specs.Command.{asked_of, asks, is_linkable, read_from, texts_of};
+ghost use Rattle.link_command.specs.Grammar.{HasThreads, rows_in};
+
+use crate::matching::matches_of;
+use crate::values::{inputs_of, owned_text, strip_of, threads_of};
+use clap::ArgMatches;
+use std::alloc::{AllocError, Global};
+
+/// An accepted command.
+#[derive(Drop)]
+pub struct Command {
+    /// The name of the executable.
+    pub output: String,
+    /// The name of the map file, where one is asked.
+    pub map: Option<String>,
+    /// The name of the symbol at which the executable begins.
+    pub entry: String,
+    /// The number of workers.
+    pub threads: u32,
+    /// Whether symbols are left out.
+    pub strip: bool,
+    /// The names of the inputs, in the order of the command.
+    pub inputs: Vec<String>,
+}
+
+/// What the matches of a command ask for.
+fn read_from(alloc: Global, matches: &ArgMatches) -> Result<Command, AllocError>
+    requires { HasThreads (rows_in matches.now) }
+    ensures asked { IfOk result (λ command. asks command ≡ read_from (rows_in matches.now)) }
+    ensures threads { IfOk result (λ command. (1 ≤ command.threads) × (command.threads ≤ 64)) }
+{
+    let output = owned_text(alloc, matches, "output")?;
+    let entry = owned_text(alloc, matches, "entry")?;
+    let inputs = inputs_of(alloc, matches)?;
+    Ok(Command {
+        output,
+        map: None,
+        entry,
+        threads: threads_of(matches),
+        strip: strip_of(matches),
+        inputs,
+    })
+}
+
+/// Whether there is an input and an entry, and symbols are left out.
+fn is_linkable(command: &Command) -> bool
+    ensures { result ≡ is_linkable (asks command.now) }
+{
+    command.strip && !command.entry.is_empty() && !command.inputs.is_empty()
+}
+
+/// The command of these words, the program's name first. `None` refuses them.
+#[tactic(auto, unfolding(crate::specs::Command::asked_of))]
+pub fn command_of(alloc: Global, words: &[String]) -> Result<Option<Command>, AllocError>
+    ensures exact { IfOk result (λ command. option_map asks command ≡ asked_of (texts_of words.now)) }
+    ensures threads { IfOk result (λ command. IfSome command (λ c. (1 ≤ c.threads) × (c.threads ≤ 64))) }
+    ensures inputs { IfOk result (λ command. IfSome command (λ c. 0 < length c.inputs.items)) }
+{
+    let Some(matches) = matches_of(alloc, words)? else {
+        return Ok(None);
+    };
+    let command = read_from(alloc, &matches)?;
+    if !is_linkable(&command) {
+        return Ok(None);
+    }
+    Ok(Some(command))
+}

@@ -1,0 +1,76 @@
+//! The options of the command, one function each, and the command that has them.
+
+ghost use Rattle.std.specs.Prelude.{◌≡◌, IfOk, false};
+ghost use Rattle.clap.specs.Words.{app_of, rule_of};
+ghost use Rattle.link_command.specs.Grammar.{entry_rule, files_rule, output_rule, rvld_app, strip_rule, threads_rule};
+
+use clap::{Arg, ArgAction};
+use std::alloc::{AllocError, Global};
+
+/// `-o`, `--output FILE`: the name of the executable.
+fn output_option<'a>(alloc: Global) -> Arg<'a>
+    ensures rule { rule_of result ≡ output_rule }
+    ensures local { result.global ≡ false }
+{
+    Arg::new(alloc, "output")
+        .short('o')
+        .long("output")
+        .action(ArgAction::Set)
+        .default_value("a.out")
+}
+
+/// `-e`, `--entry NAME`: the symbol at which the executable begins.
+fn entry_option<'a>(alloc: Global) -> Arg<'a>
+    ensures rule { rule_of result ≡ entry_rule }
+    ensures local { result.global ≡ false }
+{
+    Arg::new(alloc, "entry")
+        .short('e')
+        .long("entry")
+        .action(ArgAction::Set)
+        .default_value("_start")
+}
+
+/// `--threads N`: the number of workers.
+fn threads_option<'a>(alloc: Global) -> Arg<'a>
+    ensures rule { rule_of result ≡ threads_rule }
+    ensures local { result.global ≡ false }
+{
+    Arg::new(alloc, "threads")
+        .long("threads")
+        .value_parser(clap::value_parser!(u32).range(1..=64))
+        .action(ArgAction::Set)
+        .default_value("4")
+}
+
+/// `-s`, `--strip-all`: no symbol table.
+fn strip_option<'a>(alloc: Global) -> Arg<'a>
+    ensures rule { rule_of result ≡ strip_rule }
+    ensures local { result.global ≡ false }
+{
+    Arg::new(alloc, "strip-all")
+        .short('s')
+        .long("strip-all")
+        .action(ArgAction::SetTrue)
+}
+
+/// `FILES..`: the inputs, which may stand between options.
+fn files_argument<'a>(alloc: Global) -> Arg<'a>
+    ensures rule { rule_of result ≡ files_rule }
+    ensures local { result.global ≡ false }
+{
+    Arg::new(alloc, "files").num_args(1..)
+}
+
+/// The command line of rvld.
+#[tactic(auto, unfolding(crate::specs::Grammar::rvld_app))]
+pub(crate) fn command_line<'a>(alloc: Global) -> Result<clap::Command<'a>, AllocError>
+    ensures { IfOk result (λ command. app_of command ≡ rvld_app) }
+{
+    clap::Command::new(alloc, "rvld")
+        .arg(output_option(alloc))?
+        .arg(entry_option(alloc))?
+        .arg(threads_option(alloc))?
+        .arg(strip_option(alloc))?
+        .arg(files_argument(alloc))
+}

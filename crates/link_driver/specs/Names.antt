@@ -1,6 +1,0 @@
--- Names that are lent, as texts.
-use Rattle.std.specs.Prelude.{ℕ, List, map}
-use Rattle.std.specs.Borrow.{Bor}
-
-abbrev pub texts : List (Bor (List ℕ)) → List (List ℕ)
-texts keys = map (λ key. key.now) keys

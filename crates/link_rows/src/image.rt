@@ -1,0 +1,107 @@
+//! Executables, written out from their fields.
+
+use crate::numbers::push_numbers;
+use std::alloc::{AllocError, Global};
+
+/// The fields of an executable.
+#[derive(Clone, Copy)]
+pub struct Image<'a> {
+    /// The address at which it begins.
+    pub entry: u64,
+    /// The file's flags.
+    pub flags: u64,
+    /// The program headers: type, flags, offset, address, size in the file, size in memory and alignment.
+    pub segments: &'a [[u64; 7]],
+    /// What stands behind the program headers and before the section headers: zeros up to an offset, and bytes.
+    pub contents: &'a [(usize, &'a [u8])],
+    /// The offset of the section headers.
+    pub table: usize,
+    /// The section headers from number 1 on: the name's place, type, flags, address, offset, size and alignment. The last is
+    /// that of the names.
+    pub sections: &'a [[u64; 7]],
+}
+
+/// Adds zeros up to an offset.
+fn fill(out: &mut Vec<u8>, offset: usize) -> Result<(), AllocError> {
+    for _ in out.len()..offset {
+        out.push(0)?;
+    }
+    Ok(())
+}
+
+fn push_header(out: &mut Vec<u8>, image: &Image) -> Result<(), AllocError> {
+    out.extend_from_slice(b"\x7fELF\x02\x01\x01\0\0\0\0\0\0\0\0\0")?;
+    let last = image.sections.len() as u64;
+    let numbers = [
+        (2, 2),
+        (243, 2),
+        (1, 4),
+        (image.entry, 8),
+        (64, 8),
+        (image.table as u64, 8),
+        (image.flags, 4),
+        (64, 2),
+        (56, 2),
+        (image.segments.len() as u64, 2),
+        (64, 2),
+        (last.wrapping_add(1), 2),
+        (last, 2),
+    ];
+    push_numbers(out, &numbers)
+}
+
+fn push_segments(out: &mut Vec<u8>, segments: &[[u64; 7]]) -> Result<(), AllocError> {
+    for segment in segments {
+        let [sort, flags, offset, address, file, memory, align] = *segment;
+        let numbers = [
+            (sort, 4),
+            (flags, 4),
+            (offset, 8),
+            (address, 8),
+            (address, 8),
+            (file, 8),
+            (memory, 8),
+            (align, 8),
+        ];
+        push_numbers(out, &numbers)?;
+    }
+    Ok(())
+}
+
+fn push_contents(out: &mut Vec<u8>, contents: &[(usize, &[u8])]) -> Result<(), AllocError> {
+    for (offset, bytes) in contents {
+        fill(out, *offset)?;
+        out.extend_from_slice(*bytes)?;
+    }
+    Ok(())
+}
+
+fn push_sections(out: &mut Vec<u8>, sections: &[[u64; 7]]) -> Result<(), AllocError> {
+    for section in sections {
+        let [name, sort, flags, address, offset, size, align] = *section;
+        let numbers = [
+            (name, 4),
+            (sort, 4),
+            (flags, 8),
+            (address, 8),
+            (offset, 8),
+            (size, 8),
+            (0, 8),
+            (align, 8),
+            (0, 8),
+        ];
+        push_numbers(out, &numbers)?;
+    }
+    Ok(())
+}
+
+/// The bytes of an executable.
+pub fn image_of(alloc: Global, image: &Image) -> Result<Vec<u8>, AllocError> {
+    let mut out = Vec::new(alloc);
+    push_header(&mut out, image)?;
+    push_segments(&mut out, image.segments)?;
+    push_contents(&mut out, image.contents)?;
+    fill(&mut out, image.table.wrapping_add(64))?;
+    push_sections(&mut out, image.sections)?;
+    Ok(out)
+}

@@ -1,0 +1,94 @@
+-- The files of a link by number: the command's objects in the order of the command, each archive followed by its members.
+-- A place past the end of a table names something that takes no part in the link.
+use Rattle.std.specs.Prelude.{ℕ, ◌+◌, ◌≤◌, ◌&&◌, ◌==◌, nat_lt, pos, Bool, true, false, if◌then◌else◌, List, [], length, map, take, slice_index_or, sum, count_by}
+use Rattle.lk_tables.specs.declared.heads.Section.{Section}
+use Rattle.lk_tables.specs.declared.heads.Symbol.{Symbol}
+use Rattle.lk_tables.specs.declared.heads.Place.TheVariants.{Undef}
+use Rattle.lk_tables.specs.Bodies.{is_common}
+use Rattle.lk_tables.specs.declared.objects.Reloc.{Reloc}
+use Rattle.lk_tables.specs.Heads.{HeadView, fields_of}
+use Rattle.lk_tables.specs.Objects.{ObjectView, parts_of}
+use Rattle.lk_tables.specs.Names.{no_name, text_of}
+use Rattle.lk_tables.specs.Indexed.{IsIndexed}
+use Rattle.lk_tables.specs.Inside.{IsBodyInside}
+use Rattle.lk_tables.specs.Sections.{is_written}
+
+-- a file: whether it takes part in the link, whether it is of an archive, its bytes and what they say
+pub record File : Type 0 where
+  pub live : Bool
+  pub member : Bool
+  pub bytes : List ℕ
+  pub head : HeadView
+  pub object : ObjectView
+
+-- what stands past the end of a table: a section that is not written, a local symbol that is not defined, a file that
+-- takes no part
+abbrev pub no_section : Section
+no_section = record { name = no_name; sh_type = 0; flags = 0; offset = 0; size = 0; link = 0; info = 0; align = 0; entsize = 0 }
+
+abbrev pub no_symbol : Symbol
+no_symbol = record { name = no_name; binding = 0; sort = 0; place = Undef; value = 0; size = 0 }
+
+abbrev pub no_reloc : Reloc
+no_reloc = record { offset = 0; kind = 0; symbol = 0; addend = pos 0 }
+
+abbrev pub no_head : HeadView
+no_head = record { flags = 0; sections = []; symtab = 0; symbols = [] }
+
+abbrev pub no_object : ObjectView
+no_object = record { groups = []; relocs = [] }
+
+abbrev pub no_file : File
+no_file = record { live = false; member = false; bytes = []; head = no_head; object = no_object }
+
+-- an object that takes part, as its bytes say it
+abbrev pub object_file : List ℕ → File
+object_file b = record { live = true; member = false; bytes = b; head = fields_of b; object = parts_of b }
+
+-- by number: a file, its symbols, its sections and their relocations
+abbrev pub file_at : List File → ℕ → File
+file_at files f = slice_index_or files f no_file
+
+abbrev pub symbol_at : File → ℕ → Symbol
+symbol_at file i = slice_index_or file.head.symbols i no_symbol
+
+abbrev pub section_at : File → ℕ → Section
+section_at file k = slice_index_or file.head.sections k no_section
+
+abbrev pub relocs_at : File → ℕ → List Reloc
+relocs_at file k = slice_index_or file.object.relocs k []
+
+abbrev pub symbol_name : File → ℕ → List ℕ
+symbol_name file i = text_of file.bytes (symbol_at file i).name
+
+-- section k is written into the executable; section 0 is none
+abbrev pub writes : File → ℕ → Bool
+writes file k = nat_lt 0 k && is_written file.bytes (section_at file k)
+
+-- a SECTION symbol stands for its section: a LOCAL symbol of type SECTION (3)
+abbrev pub is_section_symbol : Symbol → Bool
+is_section_symbol s = s.binding == 0 && s.sort == 3
+
+-- how many of the first i symbols are COMMON
+abbrev pub commons_before : File → ℕ → ℕ
+commons_before file i = count_by (λ s. is_common s.place) (take i file.head.symbols)
+
+-- the sections of the live files have numbers in the order of the command: after a file's own, one for each of its COMMON
+-- symbols
+abbrev pub section_count : File → ℕ
+section_count file = if file.live then length file.head.sections + commons_before file (length file.head.symbols) else 0
+
+abbrev pub first_section : List File → ℕ → ℕ
+first_section files f = sum (map section_count (take f files))
+
+abbrev pub section_total : List File → ℕ
+section_total files = first_section files (length files)
+
+abbrev pub symbol_total : List File → ℕ
+symbol_total files = sum (map (λ file. length file.head.symbols) files)
+
+-- a live file whose checks have passed: each number in its tables lies where it must
+pub record IsSound (file : File) : Type 0 where
+  pub short : length file.bytes ≤ 2147483647
+  pub head : IsIndexed file.bytes file.head
+  pub body : IsBodyInside file.bytes file.head file.object

@@ -1,0 +1,117 @@
+-- What holds of a head and of a body in which no check is broken, as facts about their lists: each number, offset and
+-- size lies where it must (System V gABI, "Sections", "Symbol Table", "Relocation").
+use Rattle.std.specs.Prelude.{◌≡◌, ◌≢◌, ℕ, ◌+◌, ◌*◌, ◌^◌, pos, ◌<◌, ◌≤◌, true, is_some, unwrap_or, bit_and, List, [], length, slice_index_or}
+use Rattle.std.specs.List.{All}
+use Rattle.std.specs.List.Sorted.{IsNonDecreasingBy}
+use Rattle.lk_tables.specs.declared.heads.Place.{Place}
+use Rattle.lk_tables.specs.declared.heads.Place.TheVariants.{Undef, Absolute, Common, Within}
+use Rattle.lk_tables.specs.declared.heads.Section.{Section}
+use Rattle.lk_tables.specs.declared.heads.Symbol.{Symbol}
+use Rattle.lk_tables.specs.declared.objects.Reloc.{Reloc}
+use Rattle.lk_tables.specs.declared.spans.Span.{Span}
+use Rattle.std.specs.Int.{is_power_of_two}
+use Rattle.lk_tables.specs.FileHeader.{e_shnum}
+use Rattle.lk_tables.specs.Heads.{HeadView}
+use Rattle.lk_tables.specs.Names.{no_name}
+use Rattle.lk_tables.specs.Objects.{ObjectView}
+use Rattle.lk_tables.specs.Relocations.{width_of}
+use Rattle.lk_tables.specs.Sections.{is_among, is_written, loaded_types}
+use Rattle.lk_tables.specs.Symbols.{bindings}
+
+-- each element with its number
+abbrev pub AllNumbered : {X : Type 0} → (ℕ → X → Type 0) → List X → Type 0
+AllNumbered {X} P xs = (k : ℕ) (d : X) → k < length xs → P k (slice_index_or xs k d)
+
+-- of the sections that are written; section 0 never is
+abbrev pub AllWritten : List ℕ → (Section → Type 0) → List Section → Type 0
+AllWritten b P sections = AllNumbered (λ k s. 0 < k → is_written b s ≡ true → P s) sections
+
+-- the bytes of a name stand in the file
+abbrev pub IsNameWithin : (file : ℕ) → Span → Type 0
+IsNameWithin file name = name.from + name.len ≤ file
+
+-- a section that a symbol names is one of the table, and not section 0
+abbrev pub IsPlaceWithin : (count : ℕ) → Place → Type 0
+IsPlaceWithin count Undef = Unit {0}
+IsPlaceWithin count Absolute = Unit {0}
+IsPlaceWithin count Common = Unit {0}
+IsPlaceWithin count (Within k) = (0 < k) × (k < count)
+
+-- the value of a symbol in a written section is no greater than the section's size
+abbrev pub IsValueWithin : List ℕ → List Section → Symbol → Type 0
+IsValueWithin b sections s =
+    (k : ℕ) (d : Section) → s.place ≡ Within k → is_written b (slice_index_or sections k d) ≡ true → s.value ≤ (slice_index_or sections k d).size
+
+-- what stands at number 0 of a symbol table
+pub record IsNullSymbol (s : Symbol) : Type 0 where
+  pub name : s.name ≡ no_name
+  pub binding : s.binding ≡ 0
+  pub sort : s.sort ≡ 0
+  pub place : s.place ≡ Undef
+
+-- local symbols first: how many they are, symbol 0 among them
+pub record HasLocalsFirst (symbols : List Symbol) : Type 0 where
+  pub locals : ℕ
+  pub most : locals ≤ length symbols
+  pub below : AllNumbered (λ k s. k < locals → s.binding ≡ 0) symbols
+  pub above : AllNumbered (λ k s. locals ≤ k → s.binding ≢ 0) symbols
+
+-- a sound head
+pub record IsHeadInside (b : List ℕ) (head : HeadView) : Type 0 where
+  pub counted : length head.sections ≡ e_shnum b
+  pub some : 0 < length head.sections
+  pub few : length head.sections ≤ 65279
+  pub table : 64 * length head.sections ≤ length b
+  pub symtab : head.symtab < length head.sections
+  pub entries : 24 * length head.symbols ≤ length b
+  pub section_names : All (λ s. IsNameWithin (length b) s.name) head.sections
+  pub symbol_names : All (λ s. IsNameWithin (length b) s.name) head.symbols
+  pub contents : AllWritten b (λ s. s.sh_type ≢ 8 → s.offset + s.size ≤ length b) head.sections
+  pub places : All (λ s. IsPlaceWithin (length head.sections) s.place) head.symbols
+  pub values : All (IsValueWithin b head.sections) head.symbols
+  pub among : All (λ s. is_among bindings s.binding ≡ true) head.symbols
+  pub named : All (λ s. s.binding ≢ 0 → 0 < s.name.len) head.symbols
+  pub first : (d : Symbol) → 0 < length head.symbols → IsNullSymbol (slice_index_or head.symbols 0 d)
+  pub ordered : HasLocalsFirst head.symbols
+  pub commons : All (λ s. s.place ≡ Common → s.binding ≢ 0) head.symbols
+
+-- 0, which counts as 1, or a power of two up to 2^20
+pub record IsAlignment (align : ℕ) : Type 0 where
+  pub power : align ≢ 0 → is_power_of_two align ≡ true
+  pub most : align ≤ 2 ^ 20
+
+-- a written section of a sound body: 8 is NOBITS, 1 WRITE and 4 EXECINSTR, 0x80 LINK_ORDER
+pub record IsLinked (count : ℕ) (s : Section) : Type 0 where
+  pub kind : is_among loaded_types s.sh_type ≡ true
+  pub align : IsAlignment s.align
+  pub size : s.size ≤ 2 ^ 32
+  pub apart : bit_and s.flags 1 ≢ 0 → bit_and s.flags 4 ≡ 0
+  pub follows : bit_and s.flags 0x80 ≢ 0 → s.link < count
+
+-- a relocation of section s, which is written and has bytes in the file; 24 is PCREL_LO12_I
+pub record IsRelocWithin (b : List ℕ) (symbols : ℕ) (s : Section) (r : Reloc) : Type 0 where
+  pub written : is_written b s ≡ true
+  pub bits : s.sh_type ≢ 8
+  pub symbol : r.symbol < symbols
+  pub kind : is_some (width_of r.kind) ≡ true
+  pub fits : r.offset + unwrap_or (width_of r.kind) 0 ≤ s.size
+  pub addend : r.kind ≡ 24 → r.addend ≡ pos 0
+
+-- the relocations of each section by its number
+abbrev pub AreRelocsWithin : List ℕ → HeadView → List (List Reloc) → Type 0
+AreRelocsWithin b head relocs =
+    AllNumbered (λ k list. (d : Section) → All (IsRelocWithin b (length head.symbols) (slice_index_or head.sections k d)) list) relocs
+
+-- a COMMON symbol: its value is its alignment
+pub record IsCommonWithin (s : Symbol) : Type 0 where
+  pub align : IsAlignment s.value
+  pub size : s.size ≤ 2 ^ 32
+
+-- a sound body
+pub record IsBodyInside (b : List ℕ) (head : HeadView) (object : ObjectView) : Type 0 where
+  pub counted : length object.relocs ≡ length head.sections
+  pub linked : AllWritten b (IsLinked (length head.sections)) head.sections
+  pub first : (d : List Reloc) → slice_index_or object.relocs 0 d ≡ []
+  pub relocs : AreRelocsWithin b head object.relocs
+  pub ordered : All (IsNonDecreasingBy (λ r. r.offset)) object.relocs
+  pub commons : All (λ s. s.place ≡ Common → IsCommonWithin s) head.symbols

@@ -1,0 +1,9 @@
+pub mod Image
+pub mod PieceView
+pub mod Parts
+pub mod Places
+pub mod Values
+pub mod Relocated
+pub mod Undefined
+pub mod Views
+pub use Rattle.lk_base.specs.Firsts

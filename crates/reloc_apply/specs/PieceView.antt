@@ -1,0 +1,14 @@
+-- Pieces of a file as lists.
+use Rattle.std.specs.Prelude.{◌+◌, ◌<◌, ◌^◌, List, map, length}
+use Rattle.reloc_apply.specs.declared.image.Piece.{Piece as LentPiece}
+use Rattle.reloc_apply.specs.Image.{Piece}
+
+abbrev pub piece_of : LentPiece → Piece
+piece_of lent = record { at = lent.at; bytes = lent.bytes.now }
+
+abbrev pub pieces_of : List LentPiece → List Piece
+pieces_of lent = map piece_of lent
+
+-- it ends at an offset that 64 bits hold
+abbrev pub Ends : LentPiece → Type 0
+Ends lent = lent.at + length lent.bytes.now < 2 ^ 64

@@ -1,0 +1,40 @@
+//! A file from pieces that lie in it, written by blocks.
+
+ghost use Rattle.std.specs.Prelude.{◌≡◌, ℕ, ◌+◌, ◌^◌, ◌<◌, ◌≤◌, length, map, slice_index, All};
+ghost use Rattle.reloc_apply.specs.Image.{piece, over, image, IsWindow};
+ghost use Rattle.reloc_apply.specs.PieceView.{piece_of, pieces_of, Ends};
+
+/// Bytes that stand at a file offset.
+#[derive(Clone, Copy)]
+pub struct Piece<'a> {
+    /// File offset of the first byte.
+    pub at: u64,
+    pub bytes: &'a [u8],
+}
+
+/// Copies what a piece has in the block that begins at the file offset `from`.
+pub fn fill_piece(block: &mut [u8], from: u64, piece: &Piece)
+    requires block { from + length block.old < 2 ^ 64 }
+    requires piece { Ends piece.now }
+    ensures { (i : ℕ) → i < length block.old
+        → slice_index block.new i ≡ over (piece_of piece.now) (slice_index block.old i) (from + i) }
+{
+    let start = from.max(piece.at);
+    let end = (from + block.len() as u64).min(piece.at + piece.bytes.len() as u64);
+    if start < end {
+        let taken = &piece.bytes[(start - piece.at) as usize..(end - piece.at) as usize];
+        block[(start - from) as usize..(end - from) as usize].copy_from_slice(taken);
+    }
+}
+
+/// Fills a block with the bytes of the file from the file offset `from` on.
+pub fn fill_from(pieces: &[Piece], from: u64, block: &mut [u8])
+    requires block { from + length block.old < 2 ^ 64 }
+    requires pieces { All Ends pieces.now }
+    ensures { IsWindow (pieces_of pieces.now) from block.new }
+{
+    block.fill(0);
+    for piece in pieces {
+        fill_piece(block, from, piece);
+    }
+}

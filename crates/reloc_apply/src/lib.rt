@@ -1,0 +1,23 @@
+//! Relocations done: which sections go into the executable, the address of each symbol, the value of each relocation, and the
+//! bytes of a section with its relocations done (RISC-V ELF psABI, "Relocations").
+//!
+//! `parts` lists what goes into the layout, `starts` gives each section the address that the layout found, `unbound` finds
+//! what is referred to and bound to nothing, `values` reckons what a relocation puts into its place, `relocated` does so,
+//! and `image` is a file given by pieces.
+#![tactic(auto)]
+
+mod image;
+mod parts;
+mod relocated;
+mod starts;
+mod unbound;
+mod values;
+mod views;
+
+pub use image::{Piece, fill_piece};
+pub use parts::members;
+pub use relocated::apply;
+pub use starts::find_starts;
+pub use unbound::undefined;
+pub use values::entry_address;
+pub use views::{Starts, View};

@@ -1,0 +1,216 @@
+//! Sections with their relocations done.
+
+ghost use Rattle.std.specs.Prelude.{◌≡◌, ◌≢◌, ℕ, ◌+◌, ◌-◌, ◌<◌, ◌≤◌, ◌^◌, [], ◌∷◌, All, is_some, unwrap_or, length, slice_index, flat_map, Some, OnOk, true};
+ghost use Rattle.std.specs.List.{range_with_len};
+ghost use Rattle.lk_base.specs.Firsts.{Passes};
+ghost use Rattle.lk_tables.specs.Files.{file_at, relocs_at, section_at, writes};
+ghost use Rattle.lk_tables.specs.FileView.{file_view, files_of};
+ghost use Rattle.lk_tables.specs.Relocations.{width_of};
+ghost use Rattle.reloc_apply.specs.Image.{Shows};
+ghost use Rattle.reloc_apply.specs.Parts.{section_start};
+ghost use Rattle.reloc_apply.specs.Relocated as spec;
+ghost use Rattle.reloc_apply.specs.Values.{value_of};
+ghost use Rattle.reloc_apply.specs.Views.{files_in, names_in, starts_in};
+ghost use Rattle.rv_code.specs.Kinds.{HasValue, kind_of};
+ghost use Rattle.rv_code.specs.Reaches.{Takes};
+
+use crate::unbound::reloc_defect;
+use crate::values::{low_bits, section_start, value_of};
+use crate::views::View;
+use lk_base::{Defect, DefectKind, FileNo, Misfit};
+use lk_tables::{File, Reloc, Section};
+use rv_code::{fits, patch, width};
+
+/// A section without bytes in the file.
+const SHT_NOBITS: u32 = 8;
+
+/// The defect of a value that its field does not take.
+fn misfit_defect(file: FileNo, section: u32, reloc: &Reloc, v: i128, misfit: Misfit) -> Defect
+    ensures { spec.misfit_defects file section reloc.now v (Some misfit) ≡ result ∷ [] }
+{
+    let kind = match misfit {
+        Misfit::Odd => DefectKind::F25,
+        Misfit::Range => DefectKind::F24,
+    };
+    reloc_defect(kind, file, section, reloc, low_bits(v))
+}
+
+/// Puts a value into its place in the bytes of a section.
+fn put(bytes: &mut [u8], reloc: &Reloc, v: i128)
+    requires value { HasValue reloc.now.kind }
+    requires takes { Takes (kind_of reloc.now.kind).reach v }
+    requires fits { reloc.now.offset + (kind_of reloc.now.kind).width ≤ length bytes.old }
+    ensures { bytes.new ≡ spec.put reloc.now v bytes.old }
+{
+    let from = reloc.offset as usize;
+    let place = &mut bytes[from..from + width(reloc.kind)];
+    patch(reloc.kind, place, v);
+}
+
+/// Does one relocation of a section that stands at an address.
+#[tactic(auto, unfolding(crate::specs::Relocated::reloc_defects))]
+fn relocate_one(
+    bytes: &mut [u8],
+    view: &View,
+    file: FileNo,
+    section: u32,
+    start: u64,
+    reloc: &Reloc,
+) -> Result<(), Defect>
+    requires { spec.Lies (length bytes.old) reloc.now }
+    ensures goes { Passes result (spec.reloc_defects (files_in view.now) (names_in view.now) (starts_in view.now) file section start reloc.now) }
+    ensures bytes { OnOk result (bytes.new ≡ spec.put_value reloc.now (value_of (files_in view.now) (names_in view.now) (starts_in view.now) file section start reloc.now) bytes.old) }
+{
+    let Ok(value) = value_of(view, file, section, start, reloc) else {
+        return Err(reloc_defect(DefectKind::F26, file, section, reloc, 0));
+    };
+    let Some(v) = value else {
+        return Ok(());
+    };
+    if let Err(misfit) = fits(reloc.kind, v) {
+        return Err(misfit_defect(file, section, reloc, v, misfit));
+    }
+    put(bytes, reloc, v);
+    Ok(())
+}
+
+/// Does the relocations of a section that stands at an address.
+fn relocate(
+    bytes: &mut [u8],
+    view: &View,
+    file: FileNo,
+    section: u32,
+    start: u64,
+    relocs: &[Reloc],
+) -> Result<(), Defect>
+    requires { All (spec.Lies (length bytes.old)) relocs.now }
+    ensures goes { Passes result (flat_map (spec.reloc_defects (files_in view.now) (names_in view.now) (starts_in view.now) file section start) relocs.now) }
+    ensures bytes { OnOk result (bytes.new ≡ spec.all_put (files_in view.now) (names_in view.now) (starts_in view.now) file section start relocs.now bytes.old) }
+{
+    for reloc in relocs {
+        relocate_one(bytes, view, file, section, start, reloc)?;
+    }
+    Ok(())
+}
+
+/// A file of a link.
+fn file_in<'t, 'a>(view: &View<'t, 'a>, file: FileNo) -> &'t File<'a>
+    requires { file < length (files_in view.now) }
+    ensures { file_view result.now ≡ file_at (files_in view.now) file }
+{
+    &view.tables.files[file as usize]
+}
+
+/// The bytes of a written section in its file.
+fn contents<'a>(file: &File<'a>, index: usize) -> &'a [u8]
+    requires live { (file_view file.now).live ≡ true }
+    requires written { writes (file_view file.now) index ≡ true }
+    requires bits { (section_at (file_view file.now) index).sh_type ≢ 8 }
+    ensures value { result.now ≡ spec.contents (file_view file.now) (section_at (file_view file.now) index) }
+    ensures size { length result.now ≡ (section_at (file_view file.now) index).size }
+{
+    let section = file.section(index);
+    let from = section.offset as usize;
+    &file.bytes[from..from + section.size as usize]
+}
+
+/// The relocations of a section of a live file, which lie in it.
+fn relocs_in<'t>(file: &'t File, index: usize) -> &'t [Reloc]
+    requires { (file_view file.now).live ≡ true }
+    ensures value { result.now ≡ relocs_at (file_view file.now) index }
+    ensures lies { All (spec.Lies (section_at (file_view file.now) index).size) result.now }
+{
+    file.relocs(index)
+}
+
+/// Writes a section that stands at an address and has bytes in the file into the executable, with its relocations done.
+fn write_bits(
+    out: &mut [u8],
+    view: &View,
+    file: FileNo,
+    section: u32,
+    start: u64,
+) -> Result<(), Defect>
+    requires file { file < length (files_in view.now) }
+    requires placed { spec.IsPlaced (file_at (files_in view.now) file) section start (length out.old) }
+    requires bits { (section_at (file_at (files_in view.now) file) section).sh_type ≢ 8 }
+    ensures goes { Passes result (flat_map (spec.reloc_defects (files_in view.now) (names_in view.now) (starts_in view.now) file section start) (relocs_at (file_at (files_in view.now) file) section)) }
+    ensures bytes { OnOk result (Shows out.old out.new (spec.bits_piece (files_in view.now) (names_in view.now) (starts_in view.now) file section start ∷ [])) }
+{
+    let entry = file_in(view, file);
+    let bytes = contents(entry, section as usize);
+    let relocs = relocs_in(entry, section as usize);
+    if bytes.len() == 0 {
+        return relocate(&mut [], view, file, section, start, relocs);
+    }
+    let at = (start - 0x10000) as usize;
+    let block = &mut out[at..at + bytes.len()];
+    block.copy_from_slice(bytes);
+    relocate(block, view, file, section, start, relocs)
+}
+
+/// Writes a section, where it has an address and bytes in the file.
+#[tactic(auto, unfolding(crate::specs::Relocated::section_defects, crate::specs::Relocated::section_pieces))]
+fn write_section(out: &mut [u8], view: &View, file: FileNo, section: u32) -> Result<(), Defect>
+    requires file { file < length (files_in view.now) }
+    requires room { spec.HaveRoom (files_in view.now) (starts_in view.now) (length out.old) }
+    ensures goes { Passes result (spec.section_defects (files_in view.now) (names_in view.now) (starts_in view.now) file section) }
+    ensures bytes { OnOk result (Shows out.old out.new (spec.section_pieces (files_in view.now) (names_in view.now) (starts_in view.now) file section)) }
+{
+    let Some(start) = section_start(view.starts, file, section) else {
+        return Ok(());
+    };
+    let header = file_in(view, file).section(section as usize);
+    if header.sh_type == SHT_NOBITS {
+        return Ok(());
+    }
+    write_bits(out, view, file, section, start)
+}
+
+/// Writes so many sections of a file.
+fn write_sections(out: &mut [u8], view: &View, file: FileNo, sections: u32) -> Result<(), Defect>
+    requires file { file < length (files_in view.now) }
+    requires room { spec.HaveRoom (files_in view.now) (starts_in view.now) (length out.old) }
+    ensures goes { Passes result (flat_map (spec.section_defects (files_in view.now) (names_in view.now) (starts_in view.now) file) (range_with_len 0 sections)) }
+    ensures bytes { OnOk result (Shows out.old out.new (flat_map (spec.section_pieces (files_in view.now) (names_in view.now) (starts_in view.now) file) (range_with_len 0 sections))) }
+{
+    for section in 0..sections {
+        if let Err(defect) = write_section(out, view, file, section) {
+            return Err(defect);
+        }
+    }
+    Ok(())
+}
+
+/// Writes the sections of a file, where it takes part in the link.
+#[tactic(auto, unfolding(crate::specs::Relocated::defects_in, crate::specs::Relocated::pieces_in))]
+fn write_file(out: &mut [u8], view: &View, file: FileNo) -> Result<(), Defect>
+    requires file { file < length (files_in view.now) }
+    requires room { spec.HaveRoom (files_in view.now) (starts_in view.now) (length out.old) }
+    ensures goes { Passes result (spec.defects_in (files_in view.now) (names_in view.now) (starts_in view.now) file) }
+    ensures bytes { OnOk result (Shows out.old out.new (spec.pieces_in (files_in view.now) (names_in view.now) (starts_in view.now) file)) }
+{
+    let entry = file_in(view, file);
+    if !entry.is_live() {
+        return Ok(());
+    }
+    write_sections(out, view, file, entry.head.sections.len() as u32)
+}
+
+/// Writes all sections into the executable, each at its address less 0x10000 and with its relocations done, in order of
+/// file and section. The first defect of a relocation in this order ends it. Takes no memory.
+#[tactic(auto, unfolding(crate::specs::Relocated::relocation_defects, crate::specs::Relocated::relocated_pieces))]
+pub fn apply(out: &mut [u8], view: &View) -> Result<(), Defect>
+    requires files { length (files_in view.now) < 2 ^ 32 }
+    requires room { spec.HaveRoom (files_in view.now) (starts_in view.now) (length out.old) }
+    ensures goes { Passes result (spec.relocation_defects (files_in view.now) (names_in view.now) (starts_in view.now)) }
+    ensures bytes { OnOk result (Shows out.old out.new (spec.relocated_pieces (files_in view.now) (names_in view.now) (starts_in view.now))) }
+{
+    let files = view.tables.files.len() as u32;
+    for file in 0..files {
+        if let Err(defect) = write_file(out, view, file) {
+            return Err(defect);
+        }
+    }
+    Ok(())
+}

@@ -1,0 +1,68 @@
+-- The float ABIs of the files from one on, with the first that was met.
+use Rattle.std.proofs.Common.{◌≡◌, ◌≢◌, ℕ, suc, ◌+◌, ◌-◌, ◌<◌, ◌≤◌, true, false, Option, Some, None, List, [], ◌∷◌, ◌++◌, length, refl, sym, ap, ◌∙◌, arith, bit_and}
+use Rattle.std.specs.Prelude.{flat_map}
+use Rattle.std.specs.List.{range_with_len}
+use Rattle.std.proofs.lemmas.Bool.{eq-eqb, ne_eqb, cond-true, cond-false}
+use Rattle.lk_base.specs.declared.defects.Defect.{Defect}
+use Rattle.lk_tables.specs.Files.{File, file_at}
+use Rattle.lk_tables.specs.Binding.{FloatAbi, float_abi_at, clash_of, clashes_with_first, flag_defects}
+use Rattle.sym_resolve.specs.Stops.{IsFirst, clash_defect}
+
+-- the clashes with the first, if there is one yet
+abbrev pub clashes_behind : Option ℕ → List FloatAbi → List Defect
+clashes_behind None abis = clashes_with_first abis
+clashes_behind (Some first) abis = flat_map (clash_of first) abis
+
+abbrev pub abis_from : List File → ℕ → List FloatAbi
+abis_from files f = flat_map (float_abi_at files) (range_with_len f (length files - f))
+
+abbrev abi_of : ℕ → ℕ → FloatAbi
+abi_of file abi = record { file = file; abi = abi }
+
+pub abis_all : (files : List File) → clashes_behind None (abis_from files 0) ≡ flag_defects files
+unfolding flag_defects
+abis_all files = let e : length files - 0 ≡ length files = omega arith in ap (λ n. clashes_with_first (flat_map (float_abi_at files) (range_with_len 0 n))) e
+
+abis_next : (files : List File) (f : ℕ) → f < length files → abis_from files f ≡ float_abi_at files f ++ abis_from files (f + 1)
+abis_next files f lt = let e : length files - f ≡ suc (length files - (f + 1)) = omega arith in ap (λ n. flat_map (float_abi_at files) (range_with_len f n)) e
+
+abis_skip : (files : List File) (f : ℕ) → f < length files → (file_at files f).live ≡ false → abis_from files f ≡ abis_from files (f + 1)
+unfolding float_abi_at
+abis_skip files f lt dead = abis_next files f lt ∙ ap (λ xs. xs ++ abis_from files (f + 1)) (cond-false (file_at files f).live (abi_of f (bit_and (file_at files f).head.flags 6) ∷ []) [] dead)
+
+abis_own : (files : List File) (f own : ℕ) → f < length files → (file_at files f).live ≡ true → own ≡ bit_and (file_at files f).head.flags 6 → abis_from files f ≡ abi_of f own ∷ abis_from files (f + 1)
+unfolding float_abi_at
+abis_own files f own lt live is =
+    abis_next files f lt
+    ∙ ap (λ xs. xs ++ abis_from files (f + 1)) (cond-true (file_at files f).live (abi_of f (bit_and (file_at files f).head.flags 6) ∷ []) [] live)
+    ∙ ap (λ abi. abi_of f abi ∷ abis_from files (f + 1)) (sym is)
+
+pub dead_next : (files : List File) (first : Option ℕ) (f : ℕ) (all : List Defect) → f < length files → (file_at files f).live ≡ false → clashes_behind first (abis_from files f) ≡ all → clashes_behind first (abis_from files (f + 1)) ≡ all
+dead_next files first f all lt dead before = ap (clashes_behind first) (sym (abis_skip files f lt dead)) ∙ before
+
+pub first_next : (files : List File) (f own : ℕ) (all : List Defect) → f < length files → (file_at files f).live ≡ true → own ≡ bit_and (file_at files f).head.flags 6 → clashes_behind None (abis_from files f) ≡ all → clashes_behind (Some own) (abis_from files (f + 1)) ≡ all
+first_next files f own all lt live is before = ap (clashes_behind None) (sym (abis_own files f own lt live is)) ∙ before
+
+clash_at : (abi f own : ℕ) (rest : List FloatAbi) → flat_map (clash_of abi) (abi_of f own ∷ rest) ≡ clash_of abi (abi_of f own) ++ flat_map (clash_of abi) rest
+clash_at abi f own rest = refl
+
+pub same_next : (files : List File) (f own abi : ℕ) (all : List Defect) → f < length files → (file_at files f).live ≡ true → own ≡ bit_and (file_at files f).head.flags 6 → own ≡ abi → clashes_behind (Some abi) (abis_from files f) ≡ all → clashes_behind (Some abi) (abis_from files (f + 1)) ≡ all
+same_next files f own abi all lt live is same before =
+    sym (ap (clashes_behind (Some abi)) (abis_own files f own lt live is)
+    ∙ ap (λ ds. ds ++ flat_map (clash_of abi) (abis_from files (f + 1))) (cond-true _ [] (clash_defect f own abi ∷ []) (eq-eqb own abi same))) ∙ before
+
+pub clash_first : (files : List File) (f own abi : ℕ) (all : List Defect) → f < length files → (file_at files f).live ≡ true → own ≡ bit_and (file_at files f).head.flags 6 → own ≢ abi → clashes_behind (Some abi) (abis_from files f) ≡ all → IsFirst all (clash_defect f own abi)
+clash_first files f own abi all lt live is other before = (
+  flat_map (clash_of abi) (abis_from files (f + 1)),
+  sym before ∙ ap (clashes_behind (Some abi)) (abis_own files f own lt live is)
+      ∙ ap (λ ds. ds ++ flat_map (clash_of abi) (abis_from files (f + 1))) (cond-false _ [] (clash_defect f own abi ∷ []) (ne_eqb own abi other)),
+)
+
+none_behind : (first : Option ℕ) → clashes_behind first [] ≡ []
+none_behind None = refl
+none_behind (Some abi) = refl
+
+pub no_clashes : (files : List File) (first : Option ℕ) (f : ℕ) (all : List Defect) → length files ≤ f → clashes_behind first (abis_from files f) ≡ all → all ≡ []
+no_clashes files first f all le before =
+    let e : length files - f ≡ 0 = omega arith in
+    sym before ∙ ap (λ n. clashes_behind first (flat_map (float_abi_at files) (range_with_len f n))) e ∙ none_behind first

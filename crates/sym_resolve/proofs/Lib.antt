@@ -1,0 +1,11 @@
+pub mod Walks
+pub mod Counting
+pub mod Sorting
+pub mod Starts
+pub mod FloatAbis
+pub mod Naming
+pub mod Claiming
+pub mod Least
+pub mod Meaning
+pub mod Clashes
+pub mod Ends

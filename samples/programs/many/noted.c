@@ -1,0 +1,5 @@
+#include "many.h"
+
+void note(const char *text) {
+    put_text(text);
+}

@@ -1,0 +1,304 @@
+#!/usr/bin/env python3
+"""Links altered copies of a real object, and of an archive of real objects, with rvld; and links that are made by chance.
+
+Usage: scripts/altered.py [RVLD] [--count 10000] [--mode objects|archive|links|all] [--seed 1] [--only K] [--keep DIR] [--workers 3] [--loose]
+
+Copy K is made from the seed and K alone: one byte changed, the end cut off, an entry of the section table doubled, or a field of a
+section, a symbol or a relocation set to a hard value; for an archive a byte or a cut, most often near the headers. Link K of the mode
+`links` has a few files, one to sixty-four workers, and sometimes another entry (scripts/chance_links.py). Each run must end
+by itself within the limit of time, with status 0 (no line, an executable), 1 (the line of a defect, no executable) or 3. Its status,
+line and bytes are compared with those of scripts/plain_link.py, which has the same rules in another form; --loose leaves that out.
+--only K makes and links one copy, and leaves it in DIR.
+RVLD is crates/rvld/out/rvld where it is not named.
+"""
+import argparse
+import collections
+import os
+import random
+import re
+import shutil
+import struct
+import subprocess
+import sys
+import tempfile
+
+here = os.path.dirname(os.path.abspath(__file__))
+sys.path.insert(0, here)
+import plain_link
+from chance_links import chance_link
+from elf_objects import archive, defined
+
+KINDS = ('NotObject BadHeader Outside BadSection Compressed BadArchive Thin Limit BadSymbol BadName BadReloc RelocKind BadGroup BadUleb '
+         'BadAlignment FlagsClash Ifunc BsdName BadFrame Duplicate NoEntry Undefined TooBig Range Odd NoPartner NopsShort').split()
+SHOWN = r'(?:[!-$&-~]|%[0-9A-F]{2})'
+DEFECT = re.compile(r'rvld: F(\d\d) (\w+) file=(%s+) section=\d+ place=\d+ name=%s* other=%s*\n' % (SHOWN, SHOWN, SHOWN))
+NO_FILE = re.compile(r'rvld: cannot (?:read|write) %s+\n' % SHOWN)
+COMPILE = ('clang --target=riscv64-unknown-elf -march=rv64gc -mabi=lp64d -mno-relax -mcmodel=medany -O1 -ffreestanding -fno-builtin '
+           '-nostdlib -fno-pic -fno-jump-tables -fno-asynchronous-unwind-tables -fcommon -c -o').split()
+
+
+def compiled(folder, source):
+    out = os.path.join(folder, os.path.basename(source)[:-2] + '.o')
+    subprocess.run(COMPILE + [out, source], check=True)
+    with open(out, 'rb') as file:
+        return file.read()
+
+
+def hard(chance, size):
+    """A number that checks are most likely to be wrong about."""
+    return chance.choice([0, 1, 2, 3, 4, 7, 8, 16, 24, 63, 64, size - 1, size, size + 1, 0xfff1, 0xfff2, 0xffff, 2 ** 20, 2 ** 20 + 1,
+                          2 ** 31 - 1, 2 ** 31, 2 ** 32 - 1, 2 ** 32, 2 ** 63 - 1, 2 ** 63, 2 ** 64 - 8, 2 ** 64 - 1,
+                          chance.randrange(size + 1), chance.getrandbits(64)])
+
+
+def put(contents, at, width, number):
+    contents[at:at + width] = (number & (1 << 8 * width) - 1).to_bytes(width, 'little')
+
+
+SECTION_FIELDS = [(0, 4), (4, 4), (8, 8), (16, 8), (24, 8), (32, 8), (40, 4), (44, 4), (48, 8), (56, 8)]
+SYMBOL_FIELDS = [(0, 4), (4, 1), (5, 1), (6, 2), (8, 8), (16, 8)]
+RELOCATION_FIELDS = [(0, 8), (8, 4), (12, 4), (16, 8)]
+HEADER_FIELDS = [(16, 2), (18, 2), (20, 4), (24, 8), (32, 8), (40, 8), (48, 4), (52, 2), (54, 2), (56, 2), (58, 2), (60, 2), (62, 2)]
+
+
+def altered_object(original, chance):
+    contents = bytearray(original)
+    table, = struct.unpack_from('<Q', contents, 40)
+    count, = struct.unpack_from('<H', contents, 60)
+    rows = [struct.unpack_from('<IIQQQQIIQQ', contents, table + 64 * i) for i in range(count)]
+
+    def field(at, fields):
+        offset, width = chance.choice(fields)
+        put(contents, at + offset, width, hard(chance, len(contents)))
+
+    way = chance.randrange(10)
+    if way == 0:
+        at = chance.randrange(len(contents))
+        contents[at] ^= 1 << chance.randrange(8)
+    elif way == 1:
+        contents[chance.randrange(len(contents))] = chance.choice([0, 1, 0x7f, 0x80, 0xff, chance.randrange(256)])
+    elif way == 2:
+        del contents[chance.randrange(len(contents)):]
+    elif way == 3:
+        to, of = (table + 64 * chance.randrange(count) for _ in range(2))
+        contents[to:to + 64] = contents[of:of + 64]
+    elif way in (4, 5):
+        field(table + 64 * chance.randrange(count), SECTION_FIELDS)
+    elif way == 6:
+        field(0, HEADER_FIELDS)
+    elif way in (7, 8):
+        row = next(row for row in rows if row[1] == 2)
+        field(row[4] + 24 * chance.randrange(row[5] // 24), SYMBOL_FIELDS)
+    else:
+        row = chance.choice([row for row in rows if row[1] == 4])
+        field(row[4] + 24 * chance.randrange(row[5] // 24), RELOCATION_FIELDS)
+    return bytes(contents)
+
+
+def altered_archive(original, places, chance):
+    contents = bytearray(original)
+    way = chance.randrange(5)
+    if way == 0:
+        del contents[chance.randrange(len(contents)):]
+    elif way == 1:
+        contents[chance.randrange(len(contents))] = chance.randrange(256)
+    elif way == 2:                              # within a member's header
+        contents[min(chance.choice(places) + chance.randrange(60), len(contents) - 1)] = chance.choice(b' /0129#`\n\0\xff')
+    elif way == 3:                              # a member's size, one more or less, or far off
+        at = chance.choice(places)
+        size = int(contents[at + 48:at + 58])
+        size = max(0, chance.choice([size - 1, size + 1, size + 60, size // 2, size * 10, 0, 9999999999]))
+        contents[at + 48:at + 58] = b'%-10d' % size
+    else:                                       # near a member's beginning, where its own header stands
+        at = chance.choice(places) + 60 + chance.randrange(64)
+        contents[min(at, len(contents) - 1)] = chance.choice([0, 1, 0xff, chance.randrange(256)])
+    return bytes(contents)
+
+
+def member_places(contents):
+    places = []
+    at = 8
+    while at + 60 <= len(contents):
+        places.append(at)
+        size = int(contents[at + 48:at + 58])
+        at += 60 + size + size % 2
+    return places
+
+
+def judged(status, line, out):
+    """Why a run's end is wrong, or None; and a word for the count."""
+    made = os.path.exists(out)
+    if status is None:
+        return 'it did not end in time', 'late'
+    if status < 0:
+        return 'a signal ended it: %d' % -status, 'signal'
+    if status == 0:
+        if line:
+            return 'status 0 with a line', '0'
+        if not made:
+            return 'status 0 without an executable', '0'
+        with open(out, 'rb') as file:
+            return (None if file.read(4) == b'\x7fELF' else 'the executable is none'), 'linked'
+    if status == 1:
+        match = DEFECT.fullmatch(line)
+        if not match:
+            return 'status 1 with a line that is none of a defect', '1'
+        if not 1 <= int(match[1]) <= len(KINDS) or KINDS[int(match[1]) - 1] != match[2]:
+            return 'a number and a name that are not of one kind', '1'
+        return ('a defect, and an executable' if made else None), 'F%s %s' % (match[1], match[2])
+    if status == 3:
+        return (None if NO_FILE.fullmatch(line) else 'status 3 with another line'), 'status 3'
+    return 'status %d' % status, 'status %d' % status
+
+
+class Maker:
+    """Makes copy K of a mode, and the words that link it."""
+
+    def __init__(self, seed, folder, modes):
+        sources = os.path.join(here, '../samples/programs')
+        self.seed = seed
+        self.originals = []                     # what is linked as it is, first of all
+        if not set(modes) & {'objects', 'archive'}:
+            return
+        self.object = compiled(folder, os.path.join(sources, 'squares.c'))
+        names = ['base', 'cursor', 'expression', 'factor', 'leave', 'memory', 'note', 'orders', 'output', 'shared', 'slots', 'term']   # start.o is apart
+        members = [(name + '.o', compiled(folder, os.path.join(sources, 'many', name + '.c'))) for name in names]
+        members[3] = ('a_name_of_more_than_15.o', members[3][1])
+        members[7] = ('another_name_of_more_than_15.o', members[7][1])
+        self.start = compiled(folder, os.path.join(sources, 'many/start.c'))
+        self.archive = archive(members, [(name, k) for k, (_, contents) in enumerate(members) for name in defined(contents)])
+        self.places = member_places(self.archive)
+        self.originals = [([], [('x.o', self.object)]), ([], [('x.a', self.archive), ('start.o', self.start)])]
+
+    def copy(self, mode, k):
+        """The options and the inputs (name, bytes) of run K."""
+        chance = random.Random('%d %s %d' % (self.seed, mode, k))
+        if mode == 'objects':
+            return [], [('x.o', altered_object(self.object, chance))]
+        if mode == 'archive':
+            return [], [('x.a', altered_archive(self.archive, self.places, chance)), ('start.o', self.start)]
+        return chance_link(chance)
+
+
+def link(rvld, words, inputs, folder, limit):
+    """The status (None where the limit of time was passed) and the line of one run in this folder."""
+    for name, contents in inputs:
+        with open(os.path.join(folder, name), 'wb') as file:
+            file.write(contents)
+    out = os.path.join(folder, 'out')
+    if os.path.exists(out):
+        os.remove(out)
+    try:
+        run = subprocess.run([rvld, '-s', '-o', 'out'] + words + [name for name, _ in inputs], cwd=folder, stdin=subprocess.DEVNULL,
+                             stdout=subprocess.DEVNULL, stderr=subprocess.PIPE, timeout=limit)
+    except subprocess.TimeoutExpired:
+        return None, ''
+    return run.returncode, run.stderr.decode('latin-1')
+
+
+def compared(words, inputs, status, line, out):
+    """Why the end is not that of the plain rules, or None."""
+    start = words[words.index('-e') + 1] if '-e' in words else '_start'
+    expected, found = plain_link.link([(name.encode(), contents) for name, contents in inputs], start.encode())
+    if status != expected:
+        return 'status %s, and not %s %s' % (status, expected, found if expected else '')
+    if status == 1:
+        return None if line == found + '\n' else 'not the line %r' % found
+    with open(out, 'rb') as file:
+        return None if file.read() == found else 'another executable'
+
+
+def worker(number, words, rvld, modes, maker, folder, report):
+    """Every copy K that falls to this worker; its counts and complaints go to the file `report`."""
+    os.makedirs(folder, exist_ok=True)
+    counts = collections.Counter()
+    wrong = []
+    for mode in modes:
+        for k in range(number, words.count, words.workers):
+            options, inputs = maker.copy(mode, k)
+            out = os.path.join(folder, 'out')
+            status, line = link(rvld, options, inputs, folder, words.limit)
+            why, word = judged(status, line, out)
+            if not why and not words.loose:
+                why = compared(options, inputs, status, line, out)
+            counts[mode, word] += 1
+            if why:
+                wrong.append('%s %d: %s: %r' % (mode, k, why, line[:200]))
+    with open(report, 'w') as file:
+        file.write(repr((dict(counts), wrong)))
+
+
+def main():
+    reader = argparse.ArgumentParser(usage=__doc__)
+    reader.add_argument('rvld', nargs='?', default=os.path.join(here, '../crates/rvld/out/rvld'))
+    reader.add_argument('--count', type=int, default=10000)
+    reader.add_argument('--mode', choices=['objects', 'archive', 'links', 'all'], default='all')
+    reader.add_argument('--seed', type=int, default=1)
+    reader.add_argument('--workers', type=int, default=3)
+    reader.add_argument('--limit', type=float, default=20, help='seconds for one run')
+    reader.add_argument('--loose', action='store_true')
+    reader.add_argument('--only', type=int)
+    reader.add_argument('--keep')
+    words = reader.parse_args()
+    if not os.access(words.rvld, os.X_OK):
+        sys.exit('altered: no program at ' + words.rvld)
+    rvld = os.path.abspath(words.rvld)
+    modes = ['objects', 'archive', 'links'] if words.mode == 'all' else [words.mode]
+    if not shutil.which('clang'):
+        print('altered: skipped the altered copies of real files (clang is not there)')
+        modes = [mode for mode in modes if mode == 'links']
+    work = tempfile.mkdtemp()
+    try:
+        maker = Maker(words.seed, work, modes)
+        failed = passed = 0
+        if words.only is not None:
+            for mode in modes:
+                folder = os.path.join(words.keep or '.', mode)
+                os.makedirs(folder, exist_ok=True)
+                options, inputs = maker.copy(mode, words.only)
+                status, line = link(rvld, options, inputs, folder, words.limit)
+                print('%s %d: rvld -s -o out %s' % (mode, words.only, ' '.join(options + [name for name, _ in inputs])))
+                print('status %s, %s' % (status, line.strip() or 'no line'))
+                print('by the plain rules: %s' % (compared(options, inputs, status, line, os.path.join(folder, 'out')) or 'the same'))
+            return 0
+        for options, inputs in maker.originals:
+            status, line = link(rvld, options, inputs, work, words.limit)
+            if status == 0:
+                passed += 1
+            else:
+                failed += 1
+                print('altered: the original %s: status %s, %r' % (inputs[0][0], status, line))
+        children = []
+        for number in range(words.workers):
+            child = os.fork()
+            if child == 0:
+                code = 1
+                try:
+                    worker(number, words, rvld, modes, maker, os.path.join(work, str(number)), os.path.join(work, 'report-%d' % number))
+                    code = 0
+                finally:
+                    os._exit(code)
+            children.append(child)
+        counts = collections.Counter()
+        for number, child in enumerate(children):
+            if os.waitstatus_to_exitcode(os.waitpid(child, 0)[1]) != 0:
+                failed += 1
+                print('altered: worker %d failed' % number)
+                continue
+            with open(os.path.join(work, 'report-%d' % number)) as file:
+                own, wrong = eval(file.read())
+            counts.update(own)
+            for complaint in wrong[:20]:
+                print('altered: ' + complaint)
+            failed += len(wrong)
+            passed += sum(own.values()) - len(wrong)
+        for mode in modes:
+            print('%s: %s' % (mode, ', '.join('%s %d' % (word, n) for (of, word), n in sorted(counts.items()) if of == mode)))
+        print('%d passed, %d failed' % (passed, failed))
+        return 1 if failed else 0
+    finally:
+        shutil.rmtree(work)
+
+
+if __name__ == '__main__':
+    sys.exit(main())

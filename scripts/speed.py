@@ -1,0 +1,298 @@
+#!/usr/bin/env python3
+"""Times rvld beside ld.lld, mold and GNU ld, each where it is there, on objects and archives made for it.
+
+Usage: scripts/speed.py MODE [RVLD] [--runs 5] [--peers lld,mold,ld] [--threads 1,2,4] [--keep DIR]
+
+  objects    1000, 4000 and 16000 small objects that call each other in a binary tree
+  symbols    one object of 100,000 symbols and 300,000 relocations, and one of twice as many
+  sections   one object of 30,000 sections, and one of 60,000
+  archive    an archive of 10,000 members of which a chain of 5,000 is live, and one of twice as many
+  all        all of these
+  --small    a hundredth of each size, to try the script
+
+The linkers take turns, run by run. A row has the median time, the fastest, the greatest memory of a run, and the time for each
+megabyte of input; then its ratio to rvld with as many workers, and how both grew from the size before.
+RVLD is crates/rvld/out/rvld where it is not named; `none` leaves it out.
+"""
+import argparse
+import hashlib
+import multiprocessing
+import os
+import resource
+import shutil
+import statistics
+import subprocess
+import sys
+import tempfile
+import threading
+import time
+
+sys.path.insert(0, os.path.dirname(os.path.abspath(__file__)))
+from elf_objects import (ALLOC, CALL, EXECINSTR, FUNC, GLOBAL, INFO_LINK, LOCAL, NOTYPE, PROGBITS, R_64, R_CALL_PLT, RELA, RETURN,
+                         SECTION, STRTAB, SYMTAB, UNDEF, WRITE, Texts, archive, entry, relocatable, simple, symbol)
+
+
+def tree_object(k, count):
+    """Object k of a tree: f calls its own g and the f of two children."""
+    children = [child for child in (2 * k + 1, 2 * k + 2) if child < count]
+    text = CALL * (1 + len(children)) + RETURN
+    own = (['_start'] if k == 0 else []) + ['f%d' % k]
+    names = Texts()
+    symbols = [bytes(24), symbol(0, LOCAL, SECTION, 5)]
+    for name in own:
+        symbols.append(symbol(names.add(name), GLOBAL, FUNC, 1, 0, len(text)))
+    at_g = len(symbols)
+    symbols.append(symbol(names.add('g%d' % k), GLOBAL, FUNC, 3, 0, 8))
+    symbols.append(symbol(names.add('d%d' % k), GLOBAL, FUNC, 4, 0, 4))
+    callees = [at_g]
+    for child in children:
+        callees.append(len(symbols))
+        symbols.append(symbol(names.add('f%d' % child), GLOBAL, NOTYPE, UNDEF))
+    calls = b''.join(entry(8 * i, callee, R_CALL_PLT) for i, callee in enumerate(callees))
+    return relocatable([
+        ('.text.f', PROGBITS, ALLOC | EXECINSTR, text, 0, 0, 4, 0),
+        ('.rela.text.f', RELA, INFO_LINK, calls, 8, 1, 8, 24),
+        ('.text.g', PROGBITS, ALLOC | EXECINSTR, (0x513 + (k % 7 << 20)).to_bytes(4, 'little') + RETURN, 0, 0, 4, 0),
+        ('.text.d', PROGBITS, ALLOC | EXECINSTR, RETURN, 0, 0, 4, 0),
+        ('.rodata.str1.1', PROGBITS, ALLOC, b's%d\0' % (k % 11), 0, 0, 1, 0),
+        ('.data', PROGBITS, ALLOC | WRITE, bytes(8), 0, 0, 8, 0),
+        ('.rela.data', RELA, INFO_LINK, entry(0, 1, R_64), 8, 6, 8, 24),
+        ('.symtab', SYMTAB, 0, b''.join(symbols), 9, 2, 8, 24),
+        ('.strtab', STRTAB, 0, names.bytes(), 0, 0, 1, 0)])
+
+
+def wide_object(count):
+    """One object: `count` functions in one section, one and a half times as many calls and as many words that hold addresses."""
+    names = Texts()
+    symbols = [bytes(24), symbol(names.add('_start'), GLOBAL, FUNC, 1, 0, 8)]
+    calls = count + count // 2
+    for k in range(count):
+        symbols.append(symbol(names.add('name_%d' % k), GLOBAL, FUNC, 1, 8 * k, 8))
+    call_rows = b''.join(entry(8 * i, 2 + i * 7919 % count, R_CALL_PLT) for i in range(calls))
+    word_rows = b''.join(entry(8 * i, 2 + i * 104729 % count, R_64, i % 64) for i in range(calls))
+    return relocatable([
+        ('.text', PROGBITS, ALLOC | EXECINSTR, CALL * calls + RETURN, 0, 0, 4, 0),
+        ('.rela.text', RELA, INFO_LINK, call_rows, 5, 1, 8, 24),
+        ('.data', PROGBITS, ALLOC | WRITE, bytes(8 * calls), 0, 0, 8, 0),
+        ('.rela.data', RELA, INFO_LINK, word_rows, 5, 3, 8, 24),
+        ('.symtab', SYMTAB, 0, b''.join(symbols), 6, 1, 8, 24),
+        ('.strtab', STRTAB, 0, names.bytes(), 0, 0, 1, 0)])
+
+
+def many_sections(count):
+    """One object of `count` sections in all: each function has a section and a section of relocations, and calls another."""
+    functions = (count - 4) // 2
+    names = Texts()
+    symbols = [bytes(24), symbol(names.add('_start'), GLOBAL, FUNC, 1, 0, 12)]
+    rows = []
+    at_symtab = 2 * functions + 1
+    for k in range(functions):
+        name = '.text.function_%d' % k
+        rows.append((name, PROGBITS, ALLOC | EXECINSTR, CALL + RETURN, 0, 0, 4, 0))
+        rows.append(('.rela' + name, RELA, INFO_LINK, entry(0, 2 + k * 7919 % functions, R_CALL_PLT), at_symtab, 2 * k + 1, 8, 24))
+        symbols.append(symbol(names.add('function_%d' % k), GLOBAL, FUNC, 2 * k + 1, 0, 12))
+    rows.append(('.symtab', SYMTAB, 0, b''.join(symbols), at_symtab + 1, 1, 8, 24))
+    rows.append(('.strtab', STRTAB, 0, names.bytes(), 0, 0, 1, 0))
+    return relocatable(rows)
+
+
+def chain_archive(count):
+    """An archive of `count` members. Every other one is in a chain: it calls the next of the chain."""
+    half = count // 2
+    members = []
+    index = []
+    for k in range(half):
+        members.append(('chain_%d.o' % k, simple(['c%d' % k], ['c%d' % (k + 1)] if k + 1 < half else [])))
+        index.append(('c%d' % k, len(members) - 1))
+        members.append(('member_with_a_long_name_%d.o' % k, simple(['d%d' % k], ['c0'])))
+        index.append(('d%d' % k, len(members) - 1))
+    return archive(members, index)
+
+
+def write(path, contents):
+    with open(path, 'wb') as file:
+        file.write(contents)
+    return path
+
+
+def tree(folder, count):
+    """The tree's objects, in a folder for each count, since an object's callees depend on it."""
+    place = os.path.join(folder, 'tree-%d' % count)
+    os.makedirs(place, exist_ok=True)
+    return [write(os.path.join(place, 'gen%d.o' % k), tree_object(k, count)) for k in range(count)]
+
+
+def wide(folder, count):
+    return [write(os.path.join(folder, 'wide-%d.o' % count), wide_object(count))]
+
+
+def sections(folder, count):
+    return [write(os.path.join(folder, 'sections-%d.o' % count), many_sections(count))]
+
+
+def chain(folder, count):
+    root = write(os.path.join(folder, 'root.o'), simple([], ['c0'], entry_point=True))
+    return [root, write(os.path.join(folder, 'lib-%d.a' % count), chain_archive(count))]
+
+
+# mode: the maker of its files, what it counts, the sizes
+MODES = {
+    'objects': (tree, 'objects', (1000, 4000, 16000)),
+    'symbols': (wide, 'symbols', (100000, 200000)),
+    'sections': (sections, 'sections', (30000, 60000)),
+    'archive': (chain, 'members', (10000, 20000)),
+}
+
+
+def commands(rvld, peers, threads):
+    """(linker, workers, words before the files): all link statically, without relaxing, and strip."""
+    rows = []
+    for n in threads:
+        if rvld:
+            rows.append(('rvld', n, [rvld, '-s', '--threads', str(n)]))
+        if 'lld' in peers and shutil.which('ld.lld'):
+            rows.append(('lld', n, ['ld.lld', '-static', '-s', '--no-relax', '--threads=%d' % n]))
+        if 'mold' in peers and shutil.which('mold'):
+            rows.append(('mold', n, ['mold', '-m', 'elf64lriscv', '-static', '-s', '--no-relax', '--no-fork', '--thread-count', str(n)]))
+    if 'ld' in peers and shutil.which('riscv64-linux-gnu-ld'):
+        rows.append(('ld', 1, ['riscv64-linux-gnu-ld', '-static', '-s', '--no-relax']))
+    return rows
+
+
+def greatest_memory(pid):
+    """What the system has noted of a process so far, in MB: 0 where it is gone."""
+    try:
+        with open('/proc/%d/status' % pid) as status:
+            for row in status:
+                if row.startswith('VmHWM'):
+                    return int(row.split()[1]) / 1024
+    except OSError:
+        pass
+    return 0
+
+
+def run(words, limit):
+    """Seconds, greatest memory in MB, status and line of one run; the status is None where the time was over."""
+    begun = time.perf_counter()
+    child = subprocess.Popen(words, stdout=subprocess.DEVNULL, stderr=subprocess.PIPE)
+    seen = [0]
+    over = threading.Event()
+
+    def watch():
+        while not over.wait(0.005):
+            seen[0] = max(seen[0], greatest_memory(child.pid))
+            if time.perf_counter() - begun > limit:
+                child.kill()
+                return
+
+    watcher = threading.Thread(target=watch)
+    watcher.start()
+    line = child.stderr.read()
+    _, status, usage = os.wait4(child.pid, 0)
+    seconds = time.perf_counter() - begun
+    over.set()
+    watcher.join()
+    child.stderr.close()
+    child.returncode = os.waitstatus_to_exitcode(status)
+    # a child's peak counts from this process's own, so what was seen while it ran stands for the small ones
+    own = resource.getrusage(resource.RUSAGE_SELF).ru_maxrss
+    peak = usage.ru_maxrss / 1024 if usage.ru_maxrss > own else seen[0]
+    return seconds, peak, None if seconds > limit else child.returncode, line
+
+
+def made_apart(make, *words):
+    """What `make` gives, worked out by a process of its own, so that this one stays small: it only gives names of files."""
+    receiver, sender = multiprocessing.Pipe(False)
+    maker = multiprocessing.get_context('fork').Process(target=lambda: sender.send(make(*words)))
+    maker.start()
+    given = receiver.recv()
+    maker.join()
+    return given
+
+
+def measure(what, files, rows, runs, limit, out):
+    """{(linker, workers): (median, fastest, memory)} for the linkers that linked these files."""
+    megabytes = sum(os.path.getsize(file) for file in files) / 1e6
+    times = {}
+    memory = {}
+    gone = set()
+    made = {}                                   # the digest of rvld's executable for each number of workers
+    for turn in range(runs + 1):                # the first turn only warms the files
+        for linker, workers, words in rows:
+            key = (linker, workers)
+            if key in gone:
+                continue
+            if os.path.exists(out):
+                os.remove(out)
+            seconds, peak, status, line = run(words + ['-o', out] + files, limit)
+            if status != 0 or not os.path.exists(out):
+                print('%s: %s with %d workers: status %s %s' % (what, linker, workers, status, line[:200].decode(errors='replace')))
+                gone.add(key)
+                continue
+            if linker == 'rvld' and not turn:
+                with open(out, 'rb') as file:
+                    made[workers] = hashlib.sha256(file.read()).digest()
+                if made[workers] != next(iter(made.values())):
+                    print('%s: rvld with %d workers makes other bytes' % (what, workers))
+                    gone.add(key)
+            if turn:
+                times.setdefault(key, []).append(seconds)
+            memory[key] = max(peak, memory.get(key, 0))
+    return {key: (statistics.median(list_), min(list_), memory[key]) for key, list_ in times.items() if key not in gone}, megabytes, gone
+
+
+def main():
+    reader = argparse.ArgumentParser(usage=__doc__)
+    reader.add_argument('mode', choices=list(MODES) + ['all'])
+    reader.add_argument('rvld', nargs='?')
+    reader.add_argument('--runs', type=int, default=5)
+    reader.add_argument('--peers', default='lld,mold,ld')
+    reader.add_argument('--threads', default='1,2,4')
+    reader.add_argument('--limit', type=float, default=120, help='seconds after which a run is ended')
+    reader.add_argument('--keep', help='a folder for the files, which then stay')
+    reader.add_argument('--small', action='store_true')
+    words = reader.parse_args()
+    rvld = words.rvld or os.path.join(os.path.dirname(os.path.abspath(__file__)), '../crates/rvld/out/rvld')
+    if rvld == 'none':
+        rvld = None
+    elif not os.access(rvld, os.X_OK):
+        sys.exit('speed: no program at ' + rvld)
+    else:
+        rvld = os.path.abspath(rvld)
+    rows = commands(rvld, words.peers.split(','), [int(n) for n in words.threads.split(',')])
+    for peer, program in (('lld', 'ld.lld'), ('mold', 'mold'), ('ld', 'riscv64-linux-gnu-ld')):
+        if peer in words.peers.split(',') and not shutil.which(program):
+            print('speed: skipped %s (%s is not there)' % (peer, program))
+    folder = words.keep or tempfile.mkdtemp()
+    os.makedirs(folder, exist_ok=True)
+    passed = failed = 0
+    try:
+        for mode in MODES if words.mode == 'all' else [words.mode]:
+            make, counted, sizes = MODES[mode]
+            before = {}
+            print('%-16s %-5s %7s %9s %9s %8s %8s %8s %7s' %
+                  (mode, 'by', 'workers', 'median ms', 'least ms', 'MB', 'ms / MB', 'to rvld', 'growth'))
+            for size in sizes:
+                size //= 100 if words.small else 1
+                what = '%d %s' % (size, counted)
+                files = made_apart(make, folder, size)
+                found, megabytes, gone = measure(what, files, rows, words.runs, words.limit, os.path.join(folder, 'out'))
+                passed += len(found)
+                failed += len(gone)
+                for (linker, workers), (median, least, peak) in found.items():
+                    own = found.get(('rvld', workers))
+                    print('%-16s %-5s %7d %9.1f %9.1f %8.1f %8.2f %8s %7s' %
+                          (what, linker, workers, median * 1e3, least * 1e3, peak, median * 1e3 / megabytes,
+                           '%.2f' % (median / own[0]) if own else '-',
+                           '%.2f' % (median / before[linker, workers]) if (linker, workers) in before else '-'), flush=True)
+                before = {key: median for key, (median, _, _) in found.items()}
+                print('%-16s input of %.1f MB in %d files' % ('', megabytes, len(files)))
+    finally:
+        if not words.keep:
+            shutil.rmtree(folder)
+    print('%d passed, %d failed' % (passed, failed))
+    sys.exit(1 if failed else 0)
+
+
+if __name__ == '__main__':
+    main()
