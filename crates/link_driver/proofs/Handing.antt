@@ -1,5 +1,5 @@
 -- What the steps of a link hand on, together.
-use Rattle.std.proofs.Common.{◌≡◌, ℕ, ◌≤◌, ◌^◌, List, [], length, ap, sym, ◌∙◌, subst, arith}
+use Rattle.std.proofs.Common.{◌≡◌, ℕ, ◌≤◌, ◌^◌, List, length, ap, sym, ◌∙◌, subst, arith}
 use Rattle.std.specs.List.{All}
 use Rattle.elf_out.specs.Executable.{executable, laid_out, places}
 use Rattle.layout.specs.Parts.{IsSized}
@@ -7,7 +7,8 @@ use Rattle.lk_tables.specs.Binding.{Bindings}
 use Rattle.lk_tables.specs.Files.{File, section_total}
 use Rattle.reloc_apply.specs.Parts.{parts}
 use Rattle.reloc_apply.proofs.Sized.{AllSound, are_sized, few_parts}
-use Rattle.link_driver.specs.Link.{bound_names, executable_of, files_of_inputs, none_gone}
+use Rattle.link_driver.specs.Link.{bound_names, executable_in, none_gone}
+use Rattle.link_driver.specs.Sources.{Source, files_in}
 
 pub few_parts_of : (entry : List ℕ) (files : List File) (b : Bindings) → b ≡ bound_names files entry → section_total files ≤ 2 ^ 28 →
     length (parts files b.commons) ≤ 2 ^ 28
@@ -23,11 +24,11 @@ sized_parts_of entry files b names sound =
     let P : Bindings → Type 0 = λ n. All IsSized (parts files n.commons) in
     subst P (sym names) (are_sized files (none_gone files) entry sound)
 
--- the executable of these inputs
-pub gives_executable : (entry : List ℕ) (inputs : List (List ℕ)) (files : List File) (b : Bindings) (exe : List ℕ) →
-    files ≡ files_of_inputs inputs → b ≡ bound_names files entry → exe ≡ executable files b (laid_out files b) (places files b) →
-    exe ≡ executable_of entry inputs
-unfolding executable_of
-gives_executable entry inputs files b exe are names is =
+-- the executable of these files
+pub gives_executable : (entry : List ℕ) (ss : List Source) (files : List File) (b : Bindings) (exe : List ℕ) →
+    files ≡ files_in ss → b ≡ bound_names files entry → exe ≡ executable files b (laid_out files b) (places files b) →
+    exe ≡ executable_in entry ss
+unfolding executable_in
+gives_executable entry ss files b exe are names is =
     is ∙ ap (λ n. executable files n (laid_out files n) (places files n)) names
     ∙ ap (λ fs. executable fs (bound_names fs entry) (laid_out fs (bound_names fs entry)) (places fs (bound_names fs entry))) are

@@ -1,7 +1,6 @@
 -- Each index in the tables of a sound head lies where it must.
-use Rattle.std.proofs.Common.{◌≡◌, ℕ, ◌<◌, List, length, get_or, subst}
+use Rattle.std.proofs.Common.{ℕ, List, length, subst}
 use Rattle.lk_tables.specs.declared.heads.Place.{Place}
-use Rattle.lk_tables.specs.declared.heads.Place.TheVariants.{Within}
 use Rattle.lk_tables.specs.Files.{no_symbol}
 use Rattle.lk_tables.specs.Heads.{HeadView, HeadOf}
 use Rattle.lk_tables.specs.Indexed.{IsIndexed}

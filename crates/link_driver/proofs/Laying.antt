@@ -1,6 +1,6 @@
 -- The layout of a link, and the addresses of its sections.
-use Rattle.std.proofs.Common.{◌≡◌, ℕ, ◌-◌, ◌≤◌, List, arith, ap, sym, refl, ◌∙◌, subst}
-use Rattle.elf_out.specs.Executable.{laid_out, places}
+use Rattle.std.proofs.Common.{◌≡◌, ◌-◌, List, arith, ap, sym, refl, ◌∙◌, subst}
+use Rattle.elf_out.specs.Executable.{places}
 use Rattle.layout.specs.declared.placing.Layout.{Layout}
 use Rattle.layout.specs.Layout.{IsWithin, LaidOut, view_of}
 use Rattle.lk_base.specs.declared.limits.Limits.{Limits}

@@ -1,13 +1,19 @@
 -- Files whose bodies are read one after the other.
-use Rattle.std.proofs.Common.{◌≡◌, ℕ, zero, suc, ◌+◌, ◌-◌, ◌<◌, ◌≤◌, List, [], ◌∷◌, ◌++◌, length, map, take, drop, get_or, refl, sym, ap, ◌∙◌, arith}
-use Rattle.std.specs.Prelude.{slice_set}
+use Rattle.std.proofs.Common.{◌≡◌, ℕ, zero, suc, ◌+◌, ◌-◌, ◌<◌, ◌≤◌, List, [], ◌∷◌, ◌++◌, length, map, take, drop, get_or, refl, sym, ap, ◌∙◌, arith, append_assoc}
+use Rattle.std.specs.Prelude.{slice_set, flat_map}
+use Rattle.std.proofs.Math.Seq.{drop-cons}
 use Rattle.std.specs.List.{range_with_len}
-use Rattle.std.proofs.lemmas.List.{length-map, get_or-map, map-set, length-append, append-nil, drop_all, take_all}
+use Rattle.std.proofs.lemmas.List.{length-map, get_or-map, map-set, length-append, length-drop, length-take, append-nil, drop_all, take_all}
 use Rattle.std.proofs.lemmas.List.FromFn.{length-map-range_with_len}
 use Rattle.lk_base.proofs.Loops.{map_step, range_at}
 use Rattle.lk_tables.specs.declared.files.File.{File as LentFile}
+use Rattle.lk_tables.specs.declared.spans.Span.{Span}
 use Rattle.lk_tables.specs.Files.{File}
+use Rattle.lk_tables.specs.Names.{text_of}
 use Rattle.lk_tables.specs.FileView.{file_view}
+use Rattle.link_driver.specs.Contents.{source_view, sources_of}
+use Rattle.link_driver.specs.Sources.{no_source, source_at}
+use Rattle.link_driver.specs.declared.sources.Source.{Source as LentSource}
 
 at_mid : {X : Type 0} (a b : List X) (y d : X) (f : ℕ) → length a ≡ f → get_or (a ++ y ∷ b) f d ≡ y
 at_mid [] b y d zero e = refl
@@ -54,3 +60,21 @@ pub written_back : (old new : List LentFile) (len : ℕ) → len ≡ length old 
     take len (new ++ drop (length new) old) ≡ new
 written_back old new len all same =
     rw (drop_all (length new) old (omega arith), append-nil) (take_all len new (omega arith))
+
+-- a lent file by number
+pub source_is : (list : List LentSource) (f : ℕ) (d : LentSource) → f < length list → source_view (get_or list f d) ≡ source_at (sources_of list) f
+source_is list f d lt = sym (get_or-map source_view list f d no_source lt)
+
+-- what each item of a list adds to another list
+pub collect_at : {X Y : Type 0} (f : X → List Y) (xs : List X) (i : ℕ) (d : X) (old new whole : List Y) → i < length xs →
+    old ++ flat_map f (drop i xs) ≡ whole → new ≡ old ++ f (get_or xs i d) → new ++ flat_map f (drop (suc i) xs) ≡ whole
+collect_at f xs i d old new whole lt held is =
+    ap (λ l. l ++ flat_map f (drop (suc i) xs)) is
+    ∙ append_assoc old (f (get_or xs i d)) (flat_map f (drop (suc i) xs))
+    ∙ ap (λ l. old ++ flat_map f l) (sym (drop-cons xs i d lt)) ∙ held
+
+-- no text is longer than what it is cut from
+pub text_short : (b text : List ℕ) (span : Span) → text ≡ text_of b span → length b ≤ 2147483647 → length text ≤ 2147483647
+unfolding text_of
+text_short b text span is short =
+    omega (arith, ap (length {A = ℕ}) is, length-take span.len (drop span.from b), length-drop span.from b)

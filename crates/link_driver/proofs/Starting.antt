@@ -1,8 +1,5 @@
 -- The ends of a run before its inputs are linked.
-use Rattle.std.proofs.Common.{◌≡◌, ◌⊎◌, ℕ, ◌<◌, List, [], ◌∷◌, length, map, take, OnOk, OnErr, get_or, Bool, true, false, ◌&&◌, Option, Some, None, Result, Ok, Err, sym, ◌∙◌, ap, refl, arith, inl, inr, codes}
-use Rattle.std.specs.Prelude.{if◌then◌else◌}
-use Rattle.std.specs.Str.{bytes_eq}
-use Rattle.std.specs.Global.{Vec}
+use Rattle.std.proofs.Common.{◌≡◌, ◌⊎◌, ℕ, ◌<◌, List, [], ◌∷◌, length, take, OnOk, OnErr, Option, Some, Result, Ok, Err, sym, ◌∙◌, ap, refl, inl, inr}
 use Rattle.lk_depot.specs.declared.stops.Failed.{Failed}
 use Rattle.lk_depot.specs.Faults.{HasCause}
 use Rattle.lk_depot.specs.Store.{Store}
@@ -18,10 +15,11 @@ use Rattle.lk_base.specs.Firsts.{StopsAt}
 use Rattle.lk_base.specs.Limits.{standard}
 use Rattle.link_driver.specs.Link.{link}
 use Rattle.link_driver.specs.Phases.{IsLinked, Links}
+use Rattle.link_driver.specs.Sources.{sources}
 use Rattle.link_driver.specs.declared.linking.Linked.{Linked}
 use Rattle.link_driver.specs.declared.driving.Ending.{Ending}
 use Rattle.link_driver.specs.declared.driving.Ending.TheVariants.{Done, Memory, Refused, Unreported, Defective, Unread, Unwritten}
-use Rattle.link_command.specs.Command.{Asked, asked_of}
+use Rattle.link_command.specs.Command.{Asked}
 use Rattle.link_driver.specs.Link.{Link, defects_of, link, link_with, line_of_defect, cannot_read}
 use Rattle.link_driver.specs.Ends.{IsUntouched, IsUnread, none_failed, one_failed, Ends, finds_defect, cannot_read_input, lacks_memory, IsTold, told_whole, told_cut}
 use Rattle.link_driver.specs.Endings.{status_of, told_line, TellsDefect, TellsUnread, IsWithin, TellsStop, TellsLoadStop, AreLoaded}
@@ -121,7 +119,7 @@ not_linked asked before now say inputs link_stop.Memory ending loaded found tell
     rw telling (lacking (Some asked) before now say loaded.untouched (none_failed loaded.unread))
 
 -- what a link without a defect gives is what Link is
-pub is_linked : (asked : Asked) (inputs : List (List ℕ)) (linked : Linked) → Links standard asked.entry inputs linked → IsLinked asked inputs linked
+pub is_linked : (asked : Asked) (inputs : List (List ℕ)) (linked : Linked) → Links standard asked.entry (sources standard inputs) linked → IsLinked asked inputs linked
 unfolding link
 is_linked asked inputs linked links =
     let gives : link (Some asked) inputs ≡ link_with asked inputs [] = ap (link_with asked inputs) links.sound in

@@ -1,20 +1,21 @@
 -- Sums over the files of a link.
-use Rattle.std.proofs.Common.{◌≡◌, ℕ, ◌+◌, ◌<◌, ◌≤◌, arith, take, get_or, List, [], ◌∷◌, ◌++◌, length, map, sum, refl, sym, ap, ◌∙◌}
+use Rattle.std.proofs.Common.{◌≡◌, Bool, true, false, ℕ, ◌+◌, ◌<◌, ◌≤◌, arith, take, get_or, List, [], ◌∷◌, ◌++◌, length, map, flat_map, sum, refl, sym, ap, ◌∙◌}
+use Rattle.std.specs.Prelude.{if◌then◌else◌}
 use Rattle.std.specs.List.{range_with_len}
 use Rattle.std.proofs.lemmas.Bool.Decides.{nat_tests}
 use Rattle.std.proofs.lemmas.List.{length-map, get_or-map, take_more}
-use Rattle.std.proofs.lemmas.List.FromFn.{fill_by_all}
+use Rattle.std.proofs.lemmas.List.FromFn.{length-map-range_with_len}
 use Rattle.lk_base.specs.declared.defects.Defect.{Defect}
 use Rattle.lk_base.specs.Firsts.{BeginsWith}
-use Rattle.link_driver.specs.Link.{count_defects, files_of_inputs}
-use Rattle.link_driver.specs.Phases.{headed, opened}
+use Rattle.file_live.specs.Live.{live_of}
+use Rattle.link_driver.specs.Link.{body_defects_at, count_defects}
+use Rattle.link_driver.specs.Sources.{Source, files_in, has_body, head_in, headed, heads_in, live_in, opened, opened_files, with_body}
 use Rattle.std.proofs.lemmas.List.{map-append}
 use Rattle.std.proofs.lemmas.List.Sums.{sum_by_push}
 use Rattle.lk_base.proofs.Loops.{map_step}
 use Rattle.lk_tables.specs.declared.files.File.{File as LentFile}
-use Rattle.lk_tables.specs.Files.{File, object_file, first_section, section_count, symbol_total}
+use Rattle.lk_tables.specs.Files.{File, no_object, first_section, section_count, symbol_total}
 use Rattle.lk_tables.specs.FileView.{file_view}
-use Rattle.lk_tables.specs.Heads.{fields_of}
 
 pub symbols_push : (files : List File) (file : File) → symbol_total (files ++ file ∷ []) ≡ symbol_total files + length file.head.symbols
 symbols_push files file =
@@ -27,26 +28,57 @@ symbols_step f i =
     ∙ symbols_push (map f (range_with_len 0 i)) (f i)
 
 -- one more file of which the head was read
-pub headed_push : (old : List LentFile) (file : LentFile) (new : List LentFile) (b : List ℕ) → new ≡ old ++ file ∷ [] →
-    (file_view file).bytes ≡ b → (file_view file).head ≡ fields_of b → map file_view new ≡ map file_view old ++ record (file_view file) { bytes = b; head = fields_of b } ∷ []
-headed_push old file new b is bytes head =
+pub headed_push : (old : List LentFile) (file : LentFile) (new : List LentFile) (s : Source) → new ≡ old ++ file ∷ [] →
+    (file_view file).live ≡ false → (file_view file).member ≡ s.member → (file_view file).bytes ≡ s.bytes → (file_view file).head ≡ head_in s →
+    (file_view file).object ≡ no_object →
+    map file_view new ≡ map file_view old ++ record { live = false; member = s.member; bytes = s.bytes; head = head_in s; object = no_object } ∷ []
+headed_push old file new s is live member bytes head object =
     ap (map file_view) is ∙ map-append file_view old (file ∷ [])
-    ∙ ap (λ bs. map file_view old ++ record (file_view file) { bytes = bs } ∷ []) bytes
-    ∙ ap (λ h. map file_view old ++ record (file_view file) { bytes = b; head = h } ∷ []) head
+    ∙ ap (λ x. map file_view old ++ record (file_view file) { live = x } ∷ []) live
+    ∙ ap (λ x. map file_view old ++ record (file_view file) { live = false; member = x } ∷ []) member
+    ∙ ap (λ x. map file_view old ++ record (file_view file) { live = false; member = s.member; bytes = x } ∷ []) bytes
+    ∙ ap (λ x. map file_view old ++ record (file_view file) { live = false; member = s.member; bytes = s.bytes; head = x } ∷ []) head
+    ∙ ap (λ x. map file_view old ++ record { live = false; member = s.member; bytes = s.bytes; head = head_in s; object = x } ∷ []) object
 
--- the files of inputs, by number
-pub by_number : (inputs : List (List ℕ)) → files_of_inputs inputs ≡ map (opened inputs) (range_with_len 0 (length inputs))
-by_number inputs =
-    fill_by_all (opened inputs) (map object_file inputs) (length inputs) (object_file []) (length-map inputs object_file)
-    (λ k lt. get_or-map object_file inputs k [] (object_file []) lt)
+-- a file has as many symbols whether it takes part or not
+one_len : (ss : List Source) (f : ℕ) (t : Bool) → length (headed ss f).head.symbols ≡ length (if t then with_body (headed ss f) else headed ss f).head.symbols
+one_len ss f true = refl
+one_len ss f false = refl
 
-lens : (inputs : List (List ℕ)) (ns : List ℕ) →
-    map (λ (f : File). length f.head.symbols) (map (headed inputs) ns) ≡ map (λ (f : File). length f.head.symbols) (map (opened inputs) ns)
-lens inputs [] = refl
-lens inputs (n ∷ ns) = ap (λ l. length (opened inputs n).head.symbols ∷ l) (lens inputs ns)
+lens : (ss : List Source) (live : List Bool) (ns : List ℕ) →
+    map (λ (f : File). length f.head.symbols) (map (headed ss) ns) ≡ map (λ (f : File). length f.head.symbols) (map (opened ss live) ns)
+lens ss live [] = refl
+lens ss live (n ∷ ns) = ap (λ l. l ∷ map (λ (f : File). length f.head.symbols) (map (headed ss) ns)) (one_len ss n (has_body ss live n))
+    ∙ ap (λ l. length (opened ss live n).head.symbols ∷ l) (lens ss live ns)
 
-pub same_symbols : (inputs : List (List ℕ)) → symbol_total (map (headed inputs) (range_with_len 0 (length inputs))) ≡ symbol_total (files_of_inputs inputs)
-same_symbols inputs = ap sum (lens inputs (range_with_len 0 (length inputs))) ∙ ap symbol_total (sym (by_number inputs))
+pub same_symbols : (ss : List Source) (live : List Bool) → symbol_total (heads_in ss) ≡ symbol_total (opened_files ss live)
+unfolding heads_in opened_files
+same_symbols ss live = ap sum (lens ss live (range_with_len 0 (length ss)))
+
+-- how many files there are
+pub how_many : (ss : List Source) (live : List Bool) → length (opened_files ss live) ≡ length ss
+unfolding opened_files
+how_many ss live = length-map-range_with_len (opened ss live) 0 (length ss)
+
+pub how_many_heads : (ss : List Source) → length (heads_in ss) ≡ length ss
+unfolding heads_in
+how_many_heads ss = length-map-range_with_len (headed ss) 0 (length ss)
+
+-- which files take part, as the code found them
+pub live_same : (ss : List Source) (files : List File) → files ≡ heads_in ss → live_of files ≡ live_in ss
+unfolding live_in
+live_same ss files are = ap live_of are
+
+pub are_files : (ss : List Source) (live : List Bool) (m : ℕ) (files : List File) → files ≡ map (opened ss live) (range_with_len 0 m) →
+    m ≡ length ss → live ≡ live_in ss → files ≡ files_in ss
+unfolding opened_files
+are_files ss live m files are all same =
+    are ∙ ap (λ k. map (opened ss live) (range_with_len 0 k)) all ∙ ap (λ l. map (opened ss l) (range_with_len 0 (length ss))) same
+
+pub are_bodies : (ss : List Source) (live : List Bool) (m : ℕ) → m ≡ length ss → live ≡ live_in ss →
+    flat_map (body_defects_at ss live) (range_with_len 0 m) ≡ flat_map (body_defects_at ss (live_in ss)) (range_with_len 0 (length ss))
+are_bodies ss live m all same =
+    ap (λ k. flat_map (body_defects_at ss live) (range_with_len 0 k)) all ∙ ap (λ l. flat_map (body_defects_at ss l) (range_with_len 0 (length ss))) same
 
 -- a count within its limit
 pub within_limit : (limit count : ℕ) → count_defects limit count ≡ [] → count ≤ limit

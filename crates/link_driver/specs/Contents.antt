@@ -1,7 +1,15 @@
--- The inputs as lists.
+-- The inputs, and the files of a link, as lists.
 use Rattle.std.specs.Prelude.{ℕ, List, map}
 use Rattle.std.specs.Global.{Vec}
+use Rattle.link_driver.specs.declared.sources.Source.{Source as LentSource}
+use Rattle.link_driver.specs.Sources.{Source}
 
 -- the bytes of each buffer
 abbrev pub contents_of : List (Vec ℕ) → List (List ℕ)
 contents_of buffers = map (λ buffer. buffer.items) buffers
+
+abbrev pub source_view : LentSource → Source
+source_view s = record { input = s.input; label = s.label; member = s.member; archive = s.archive; bytes = s.bytes.now; flaw = s.flaw }
+
+abbrev pub sources_of : List LentSource → List Source
+sources_of list = map source_view list

@@ -4,6 +4,7 @@ pub mod Endings
 pub mod Link
 pub mod Phases
 pub mod Promises
+pub mod Sources
 pub mod Stops
 pub mod Tables
 pub use Rattle.link_command.specs.Command

@@ -1,31 +1,27 @@
 -- What a link is: the command, the defects, and the one-thread definition of all that a user gets.
-use Rattle.std.specs.Prelude.{ℕ, ◌+◌, nat_lt, min, Bool, false, not, ◌&&◌, ◌==◌, Option, Some, None, Result, Ok, Err, if◌then◌else◌, List, [], ◌∷◌, ◌++◌, length, map, replicate, flat_map, slice_index_or, codes}
+use Rattle.std.specs.Prelude.{ℕ, nat_lt, min, Bool, false, Option, Some, None, Result, Ok, Err, if◌then◌else◌, List, [], ◌∷◌, ◌++◌, length, replicate, flat_map, codes}
 use Rattle.std.specs.List.{range_with_len}
-use Rattle.std.specs.Str.{bytes_eq}
 use Rattle.lk_base.specs.declared.defects.Defect.{Defect}
 use Rattle.lk_base.specs.declared.defects.Flaw.{Flaw}
 use Rattle.lk_base.specs.declared.kinds.DefectKind.{DefectKind}
 use Rattle.lk_base.specs.declared.kinds.DefectKind.TheVariants.{F08, F20, F21, F22, F24, F25, F26}
 use Rattle.lk_base.specs.declared.limits.Limits.{Limits}
 use Rattle.lk_base.specs.declared.numbers.TheConstants.{NO_FILE}
-use Rattle.lk_base.specs.Limits.{oversize, standard}
+use Rattle.lk_base.specs.Limits.{standard}
 use Rattle.lk_base.specs.Lines.{defect_line, escaped}
 use Rattle.layout.specs.Layout.{limit_defects}
 use Rattle.lk_tables.specs.declared.heads.Place.{Place}
 use Rattle.lk_tables.specs.declared.heads.Place.TheVariants.{Undef, Absolute, Common, Within}
 use Rattle.lk_tables.specs.Binding.{Bindings, bindings, flag_defects, duplicate_defects, entry_defects, first_phase}
-use Rattle.lk_tables.specs.Files.{File, no_object, object_file, symbol_at, section_at, symbol_name, is_section_symbol, section_total, symbol_total}
+use Rattle.lk_tables.specs.Files.{File, no_object, symbol_at, section_at, symbol_name, is_section_symbol, section_total, symbol_total}
 use Rattle.lk_tables.specs.Heads.{HeadView, head_of}
 use Rattle.lk_tables.specs.Names.{text_of}
 use Rattle.lk_tables.specs.Objects.{object_of}
 use Rattle.elf_out.specs.Executable.{executable, laid_out, places}
 use Rattle.link_command.specs.Command.{Asked}
+use Rattle.link_driver.specs.Sources.{Source, files_in, has_body, heads_in, live_in, shown_file, source_at, sources}
 use Rattle.reloc_apply.specs.Relocated.{relocation_defects}
 use Rattle.reloc_apply.specs.Undefined.{undefined_defects}
-
--- input number f
-abbrev pub input_at : List (List ℕ) → ℕ → List ℕ
-input_at inputs f = slice_index_or inputs f []
 
 -- a flaw of a file as a defect of the link
 abbrev pub defect_in : ℕ → Flaw → Defect
@@ -40,36 +36,36 @@ abbrev pub count_defects : (limit count : ℕ) → List Defect
 count_defects limit count = if nat_lt limit count
     then record { kind = F08; file = NO_FILE; section = 0; place = count; symbol = 0; other = 0 } ∷ [] else []
 
--- an input is too long, or its head has a flaw
-unfoldable pub head_defects : Limits → List ℕ → ℕ → List Defect
-head_defects limits b f = if nat_lt limits.file (length b) then defect_in f (oversize (length b)) ∷ [] else flaws f (head_of b)
+-- what was wrong before its head was looked at, or its head has a flaw; an archive by itself has no head
+abbrev pub flawed : Source → ℕ → Option Flaw → List Defect
+flawed s f (Some flaw) = defect_in f flaw ∷ []
+flawed s f None = if s.archive then [] else flaws f (head_of s.bytes)
+
+unfoldable pub head_defects : Source → ℕ → List Defect
+head_defects s f = flawed s f s.flaw
 
 -- its body has one
 unfoldable pub body_defects : List ℕ → ℕ → List Defect
 body_defects b f = flaws f (object_of b)
 
--- of input number f
-abbrev pub head_defects_at : Limits → List (List ℕ) → ℕ → List Defect
-head_defects_at limits inputs f = head_defects limits (input_at inputs f) f
+-- of file number f
+abbrev pub head_defects_at : List Source → ℕ → List Defect
+head_defects_at ss f = head_defects (source_at ss f) f
 
-abbrev pub body_defects_at : List (List ℕ) → ℕ → List Defect
-body_defects_at inputs f = body_defects (input_at inputs f) f
-
--- the files of a link
-abbrev pub files_of_inputs : List (List ℕ) → List File
-files_of_inputs inputs = map object_file inputs
+abbrev pub body_defects_at : List Source → List Bool → ℕ → List Defect
+body_defects_at ss live f = if has_body ss live f then body_defects (source_at ss f).bytes f else []
 
 -- phase 1: each file whose number is within the limit, in order; then how many files there are, and how many symbols
-unfoldable pub reading_defects : Limits → List (List ℕ) → List Defect
-reading_defects limits inputs =
-    flat_map (head_defects_at limits inputs) (range_with_len 0 (min (length inputs) limits.files))
-    ++ (count_defects limits.files (length inputs) ++ count_defects limits.symbols (symbol_total (files_of_inputs inputs)))
+unfoldable pub reading_defects : Limits → List Source → List Defect
+reading_defects limits ss =
+    flat_map (head_defects_at ss) (range_with_len 0 (min (length ss) limits.files))
+    ++ (count_defects limits.files (length ss) ++ count_defects limits.symbols (symbol_total (heads_in ss)))
 
--- phase 2: the body of each file; then how many sections there are
-unfoldable pub opening_defects : Limits → List (List ℕ) → List Defect
-opening_defects limits inputs =
-    flat_map (body_defects_at inputs) (range_with_len 0 (length inputs))
-    ++ count_defects limits.sections (section_total (files_of_inputs inputs))
+-- phase 2: the body of each file that takes part; then how many sections there are
+unfoldable pub opening_defects : Limits → List Source → List Defect
+opening_defects limits ss =
+    flat_map (body_defects_at ss (live_in ss)) (range_with_len 0 (length ss))
+    ++ count_defects limits.sections (section_total (files_in ss))
 
 -- no section is discarded yet
 unfoldable pub none_gone : List File → List Bool
@@ -92,16 +88,22 @@ later_phases limits files entry =
     ∷ []
 
 -- the defects are those of the first phase that has any
-unfoldable pub defects_of : Limits → (entry : List ℕ) → List (List ℕ) → List Defect
-defects_of limits entry inputs =
-    first_phase (reading_defects limits inputs ∷ opening_defects limits inputs ∷ later_phases limits (files_of_inputs inputs) entry)
+unfoldable pub defects_in : Limits → (entry : List ℕ) → List Source → List Defect
+defects_in limits entry ss =
+    first_phase (reading_defects limits ss ∷ opening_defects limits ss ∷ later_phases limits (files_in ss) entry)
 
--- the executable of inputs that have no defect
-unfoldable pub executable_of : (entry : List ℕ) → List (List ℕ) → List ℕ
-executable_of entry inputs =
-    let files = files_of_inputs inputs in
+abbrev pub defects_of : Limits → (entry : List ℕ) → List (List ℕ) → List Defect
+defects_of limits entry inputs = defects_in limits entry (sources limits inputs)
+
+-- the executable of files that have no defect
+unfoldable pub executable_in : (entry : List ℕ) → List Source → List ℕ
+executable_in entry ss =
+    let files = files_in ss in
     let b = bound_names files entry in
     executable files b (laid_out files b) (places files b)
+
+abbrev pub executable_of : Limits → (entry : List ℕ) → List (List ℕ) → List ℕ
+executable_of limits entry inputs = executable_in entry (sources limits inputs)
 
 -- the name of the section in which a symbol stands, empty where it stands in none
 abbrev pub section_name_by : File → Place → List ℕ
@@ -124,22 +126,25 @@ unfoldable pub shown_in : List ℕ → ℕ → List ℕ
 shown_in b i = shown_by b i (head_of b)
 
 -- the name in the line of a defect: the entry where that is what is missing, the symbol of a defect that has one
-abbrev pub name_for : Asked → List (List ℕ) → Defect → DefectKind → List ℕ
-name_for asked inputs defect F20 = shown_in (input_at inputs defect.file) defect.symbol
-name_for asked inputs defect F21 = asked.entry
-name_for asked inputs defect F22 = shown_in (input_at inputs defect.file) defect.symbol
-name_for asked inputs defect F24 = shown_in (input_at inputs defect.file) defect.symbol
-name_for asked inputs defect F25 = shown_in (input_at inputs defect.file) defect.symbol
-name_for asked inputs defect F26 = shown_in (input_at inputs defect.file) defect.symbol
-name_for asked inputs defect _ = []
+abbrev pub name_for : Asked → List Source → Defect → DefectKind → List ℕ
+name_for asked ss defect F20 = shown_in (source_at ss defect.file).bytes defect.symbol
+name_for asked ss defect F21 = asked.entry
+name_for asked ss defect F22 = shown_in (source_at ss defect.file).bytes defect.symbol
+name_for asked ss defect F24 = shown_in (source_at ss defect.file).bytes defect.symbol
+name_for asked ss defect F25 = shown_in (source_at ss defect.file).bytes defect.symbol
+name_for asked ss defect F26 = shown_in (source_at ss defect.file).bytes defect.symbol
+name_for asked ss defect _ = []
 
-abbrev pub defect_name : Asked → List (List ℕ) → Defect → List ℕ
-defect_name asked inputs defect = name_for asked inputs defect defect.kind
+abbrev pub defect_name : Asked → List Source → Defect → List ℕ
+defect_name asked ss defect = name_for asked ss defect defect.kind
 
 -- the line of a defect: its file's name, the name that it speaks of, and for a name defined twice the other file's
+abbrev pub line_in : Asked → List (List ℕ) → List Source → Defect → List ℕ
+line_in asked inputs ss defect = defect_line defect (shown_file asked.inputs inputs ss defect.file)
+    (defect_name asked ss defect) (shown_file asked.inputs inputs ss defect.other)
+
 unfoldable pub line_of_defect : Asked → List (List ℕ) → Defect → List ℕ
-line_of_defect asked inputs defect = defect_line defect (slice_index_or asked.inputs defect.file [])
-    (defect_name asked inputs defect) (slice_index_or asked.inputs defect.other [])
+line_of_defect asked inputs defect = line_in asked inputs (sources standard inputs) defect
 
 -- what a user gets: the status, the bytes of the executable and of the map, and what is said and told as an error
 pub record Link : Type 0 where
@@ -175,7 +180,7 @@ cannot_report = line (codes "rvld: cannot report")
 abbrev pub link_with : Asked → List (List ℕ) → List Defect → Link
 link_with asked inputs (defect ∷ defects) = told 1 (line_of_defect asked inputs defect)
 link_with asked inputs [] =
-    record { status = 0; executable = executable_of asked.entry inputs; map = []; say = []; err = [] }
+    record { status = 0; executable = executable_of standard asked.entry inputs; map = []; say = []; err = [] }
 
 -- the definition of all that a command gives, where each input is there; no command is asked where it was refused
 unfoldable pub link : Option Asked → List (List ℕ) → Link

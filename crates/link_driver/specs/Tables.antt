@@ -7,12 +7,18 @@ use Rattle.layout.specs.Layout.{IsWithin, view_of}
 use Rattle.layout.specs.Spots.{AreRising, HaveSegments, HaveSpots}
 use Rattle.lk_base.specs.Limits.{standard}
 use Rattle.lk_tables.specs.Binding.{Bindings}
+use Rattle.lk_tables.specs.Heads.{HeadOf, fields_of}
 use Rattle.reloc_apply.specs.Parts.{parts}
-use Rattle.link_driver.specs.Link.{files_of_inputs}
+use Rattle.link_driver.specs.Sources.{Source, files_in}
 
--- the files of these inputs, all sound, within the limits
-pub record AreRead (inputs : List (List ℕ)) (files : List File) : Type 0 where
-  pub files_are : files ≡ files_of_inputs inputs
+-- a file whose head has no defect, and which is not too long
+pub record IsHeaded (b : List ℕ) : Type 0 where
+  pub head : HeadOf b (fields_of b)
+  pub short : length b ≤ 2147483647
+
+-- the files of a link, all sound, within the limits
+pub record AreRead (ss : List Source) (files : List File) : Type 0 where
+  pub files_are : files ≡ files_in ss
   pub sound : (f : ℕ) → (file_at files f).live ≡ true → IsSound (file_at files f)
   pub few : length files < 2 ^ 24
   pub symbols : symbol_total files < 2 ^ 31

@@ -1,17 +1,19 @@
 //! The second phase of a link: the body of each file that takes part is read.
 
-ghost use Rattle.std.specs.Prelude.{◌≡◌, ℕ, ◌+◌, ◌<◌, ◌≤◌, ◌^◌, length, map, flat_map, IfOk, OnOk, [], true};
+ghost use Rattle.std.specs.Prelude.{◌≡◌, if◌then◌else◌, ℕ, ◌+◌, ◌<◌, ◌≤◌, ◌^◌, length, map, flat_map, IfOk, OnOk, [], true, false};
 ghost use Rattle.std.specs.List.{range_with_len};
 ghost use Rattle.lk_base.specs.Firsts.{Goes};
 ghost use Rattle.lk_tables.specs.FileView.{file_view};
-ghost use Rattle.lk_tables.specs.Heads.{HeadOf, fields_of, head_view};
+ghost use Rattle.lk_tables.specs.Heads.{HeadOf, head_view};
 ghost use Rattle.lk_tables.specs.Inside.{IsBodyInside};
 ghost use Rattle.lk_tables.specs.Objects.{object_view, parts_of};
-ghost use Rattle.link_driver.specs.Contents.{contents_of};
-ghost use Rattle.link_driver.specs.Link.{body_defects, body_defects_at, input_at};
-ghost use Rattle.link_driver.specs.Phases.{headed, opened, headed_file};
+ghost use Rattle.link_driver.specs.Contents.{sources_of};
+ghost use Rattle.link_driver.specs.Link.{body_defects, body_defects_at};
+ghost use Rattle.link_driver.specs.Sources.{has_body, headed, opened, source_at, with_body};
+ghost use Rattle.link_driver.specs.Tables.{IsHeaded};
 
 use crate::heads::stop_for;
+use crate::sources::Source;
 use elf_read::read_body;
 use lk_base::{FileNo, LinkStop};
 use lk_tables::{File, Object};
@@ -37,7 +39,7 @@ fn open_one(alloc: Global, file: &mut File, number: FileNo) -> Result<(), LinkSt
     requires head { HeadOf file.old.bytes.now (head_view file.old.head) }
     requires short { length file.old.bytes.now ≤ 2147483647 }
     ensures goes { Goes result (body_defects file.old.bytes.now number) }
-    ensures file { OnOk result (file_view file.new ≡ record { live = true; member = file.old.member; bytes = file.old.bytes.now; head = head_view file.old.head; object = parts_of file.old.bytes.now }) }
+    ensures file { OnOk result (file_view file.new ≡ with_body (file_view file.old)) }
 {
     let object = match read_one(alloc, file, number) {
         Ok(object) => object,
@@ -47,32 +49,66 @@ fn open_one(alloc: Global, file: &mut File, number: FileNo) -> Result<(), LinkSt
     Ok(())
 }
 
-/// Reads the body of each file whose head is read, in order.
-fn open_each(alloc: Global, inputs: &[Vec<u8>], files: &mut [File]) -> Result<(), LinkStop>
-    requires files { map file_view files.old ≡ map (headed (contents_of inputs.now)) (range_with_len 0 (length inputs.now)) }
-    requires heads { (f : ℕ) → f < length inputs.now → HeadOf (input_at (contents_of inputs.now) f) (fields_of (input_at (contents_of inputs.now) f)) }
-    requires short { (f : ℕ) → f < length inputs.now → length (input_at (contents_of inputs.now) f) ≤ 2147483647 }
-    requires few { length inputs.now < 2 ^ 24 }
-    ensures goes { Goes result (flat_map (body_defects_at (contents_of inputs.now)) (range_with_len 0 (length inputs.now))) }
-    ensures files { OnOk result (map file_view files.new ≡ map (opened (contents_of inputs.now)) (range_with_len 0 (length inputs.now))) }
+/// Reads the body of a file where it is wanted.
+fn open_wanted(alloc: Global, file: &mut File, number: FileNo, wanted: bool) -> Result<(), LinkStop>
+    requires head { wanted ≡ true → HeadOf file.old.bytes.now (head_view file.old.head) }
+    requires short { wanted ≡ true → length file.old.bytes.now ≤ 2147483647 }
+    ensures goes { Goes result (if wanted then body_defects file.old.bytes.now number else []) }
+    ensures file { OnOk result (file_view file.new ≡ (if wanted then with_body (file_view file.old) else file_view file.old)) }
 {
-    let count = inputs.len() as u32;
+    if !wanted {
+        return Ok(());
+    }
+    open_one(alloc, file, number)
+}
+
+/// Whether the body of a file is read.
+fn has_body(sources: &[Source], live: &[bool], at: usize) -> bool
+    requires within { at < length sources.now }
+    requires live { length live.now ≡ length sources.now }
+    ensures { result ≡ has_body (sources_of sources.now) live.now at }
+{
+    live[at] && !sources[at].archive
+}
+
+/// Reads the body of each file that takes part, in order.
+fn open_each(
+    alloc: Global,
+    sources: &[Source],
+    live: &[bool],
+    files: &mut [File],
+) -> Result<(), LinkStop>
+    requires files { map file_view files.old ≡ map (headed (sources_of sources.now)) (range_with_len 0 (length sources.now)) }
+    requires live { length live.now ≡ length sources.now }
+    requires heads { (f : ℕ) → f < length sources.now → (source_at (sources_of sources.now) f).archive ≡ false → IsHeaded (source_at (sources_of sources.now) f).bytes }
+    requires few { length sources.now < 2 ^ 24 }
+    ensures goes { Goes result (flat_map (body_defects_at (sources_of sources.now) live.now) (range_with_len 0 (length sources.now))) }
+    ensures files { OnOk result (map file_view files.new ≡ map (opened (sources_of sources.now) live.now) (range_with_len 0 (length sources.now))) }
+{
+    let count = sources.len() as u32;
     for file in 0..count {
-        if let Err(stop) = open_one(alloc, &mut files[file as usize], file) {
+        let at = file as usize;
+        let wanted = has_body(sources, live, at);
+        if let Err(stop) = open_wanted(alloc, &mut files[at], file, wanted) {
             return Err(stop);
         }
     }
     Ok(())
 }
 
-/// Reads the body of each file whose head is read, in order: from then on all of them take part in the link.
-pub fn open_all(alloc: Global, inputs: &[Vec<u8>], files: &mut Vec<File>) -> Result<(), LinkStop>
-    requires files { map file_view files.old.items ≡ map (headed (contents_of inputs.now)) (range_with_len 0 (length inputs.now)) }
-    requires heads { (f : ℕ) → f < length inputs.now → HeadOf (input_at (contents_of inputs.now) f) (fields_of (input_at (contents_of inputs.now) f)) }
-    requires short { (f : ℕ) → f < length inputs.now → length (input_at (contents_of inputs.now) f) ≤ 2147483647 }
-    requires few { length inputs.now < 2 ^ 24 }
-    ensures goes { Goes result (flat_map (body_defects_at (contents_of inputs.now)) (range_with_len 0 (length inputs.now))) }
-    ensures files { OnOk result (map file_view files.new.items ≡ map (opened (contents_of inputs.now)) (range_with_len 0 (length inputs.now))) }
+/// Reads the body of each file that takes part, in order.
+pub fn open_live(
+    alloc: Global,
+    sources: &[Source],
+    live: &[bool],
+    files: &mut Vec<File>,
+) -> Result<(), LinkStop>
+    requires files { map file_view files.old.items ≡ map (headed (sources_of sources.now)) (range_with_len 0 (length sources.now)) }
+    requires live { length live.now ≡ length sources.now }
+    requires heads { (f : ℕ) → f < length sources.now → (source_at (sources_of sources.now) f).archive ≡ false → IsHeaded (source_at (sources_of sources.now) f).bytes }
+    requires few { length sources.now < 2 ^ 24 }
+    ensures goes { Goes result (flat_map (body_defects_at (sources_of sources.now) live.now) (range_with_len 0 (length sources.now))) }
+    ensures files { OnOk result (map file_view files.new.items ≡ map (opened (sources_of sources.now) live.now) (range_with_len 0 (length sources.now))) }
 {
-    open_each(alloc, inputs, files.as_mut_slice())
+    open_each(alloc, sources, live, files.as_mut_slice())
 }

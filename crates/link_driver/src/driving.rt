@@ -6,18 +6,22 @@ ghost use Rattle.lk_depot.specs.Files.{told_put};
 ghost use Rattle.lk_depot.specs.Loading.{name_at};
 ghost use Rattle.lk_depot.specs.Store.{Store};
 ghost use Rattle.link_command.specs.Command.{asked_of, asks, texts_of};
-ghost use Rattle.link_driver.specs.Contents.{contents_of};
-ghost use Rattle.link_driver.specs.Link.{about, input_at, link, cannot_write, cannot_read, defect_name, line_of_defect, shown_in};
+ghost use Rattle.link_driver.specs.Contents.{contents_of, source_view, sources_of};
+ghost use Rattle.link_driver.specs.Link.{about, link, cannot_write, cannot_read, defect_name, line_in, line_of_defect, shown_in};
+ghost use Rattle.link_driver.specs.Sources.{input_at, shown_file, shown_source, source_at};
 ghost use Rattle.link_driver.specs.Phases.{IsLinked};
 ghost use Rattle.link_driver.specs.Ends.{Accepts, IsCut, IsTold, Ends, EndsSo};
 ghost use Rattle.link_driver.specs.Promises.{Promises};
 ghost use Rattle.link_driver.specs.Endings.{status_of, told_line, TellsDefect, TellsUnread, TellsStop, TellsLoadStop, IsWithin, AfterReport, map_line, AreLines, AreLoaded, IsReady};
 
+use crate::finding::find_sources;
 use crate::linking::{Linked, link};
+use crate::sources::Source;
 use crate::symbol_names::symbol_name;
 use link_command::{Command, command_of};
 use lk_base::{Defect, DefectKind, FileNo, Limits, LinkStop, line_of, push_escaped};
 use lk_depot::{Depot, Failed, FileKind, LoadAllStop, Sink, load_all, put_all, say_all};
+use lk_tables::text_of;
 use std::alloc::{AllocError, Global};
 use std::thread::Threads;
 use work_split::Gate;
@@ -127,57 +131,116 @@ fn file_name(command: &Command, file: u64) -> &[u8]
 }
 
 /// The bytes of an input, none where there is none of this number.
-fn input_bytes(inputs: &[Vec<u8>], file: FileNo) -> &[u8]
-    ensures { result.now ≡ input_at (contents_of inputs.now) file }
+fn input_bytes(inputs: &[Vec<u8>], input: usize) -> &[u8]
+    ensures { result.now ≡ input_at (contents_of inputs.now) input }
 {
-    let Some(bytes) = inputs.get(file as usize) else {
+    let Some(bytes) = inputs.get(input) else {
         return &[];
     };
     bytes.as_slice()
 }
 
+/// The name of a file as lines show it.
+#[tactic(auto, unfolding(crate::specs::Sources::shown_source))]
+fn shown_source(
+    alloc: Global,
+    command: &Command,
+    inputs: &[Vec<u8>],
+    source: &Source,
+) -> Result<Vec<u8>, AllocError>
+    ensures { IfOk result (λ name. name.items ≡ shown_source (asks command.now).inputs (contents_of inputs.now) (source_view source.now)) }
+{
+    let mut name = Vec::from_slice(alloc, file_name(command, source.input as u64))?;
+    if let Some(label) = &source.label {
+        name.push(b'(')?;
+        name.extend_from_slice(text_of(input_bytes(inputs, source.input), label))?;
+        name.push(b')')?;
+    }
+    Ok(name)
+}
+
+/// The name of a file by its number, none where there is no such file.
+fn shown_file(
+    alloc: Global,
+    command: &Command,
+    inputs: &[Vec<u8>],
+    sources: &[Source],
+    file: u64,
+) -> Result<Vec<u8>, AllocError>
+    ensures { IfOk result (λ name. name.items ≡ shown_file (asks command.now).inputs (contents_of inputs.now) (sources_of sources.now) file) }
+{
+    let Some(source) = sources.get(file as usize) else {
+        return Ok(Vec::new(alloc));
+    };
+    shown_source(alloc, command, inputs, source)
+}
+
+/// The bytes of a file, none where there is none of this number.
+fn file_bytes<'a>(sources: &[Source<'a>], file: FileNo) -> &'a [u8]
+    ensures { result.now ≡ (source_at (sources_of sources.now) file).bytes }
+{
+    let Some(source) = sources.get(file as usize) else {
+        return &[];
+    };
+    source.bytes
+}
+
 /// The name of a defect's symbol.
 fn symbol_of<'a>(
     alloc: Global,
-    inputs: &'a [Vec<u8>],
+    sources: &[Source<'a>],
     defect: &Defect,
 ) -> Result<&'a [u8], AllocError>
-    ensures { IfOk result (λ name. name.now ≡ shown_in (input_at (contents_of inputs.now) defect.now.file) defect.now.symbol) }
+    ensures { IfOk result (λ name. name.now ≡ shown_in (source_at (sources_of sources.now) defect.now.file).bytes defect.now.symbol) }
 {
-    symbol_name(alloc, input_bytes(inputs, defect.file), defect.symbol)
+    symbol_name(alloc, file_bytes(sources, defect.file), defect.symbol)
 }
 
 /// The name that the line of a defect shows.
 fn name_for<'a>(
     alloc: Global,
     command: &'a Command,
-    inputs: &'a [Vec<u8>],
+    sources: &[Source<'a>],
     defect: &Defect,
 ) -> Result<&'a [u8], AllocError>
-    ensures { IfOk result (λ name. name.now ≡ defect_name (asks command.now) (contents_of inputs.now) defect.now) }
+    ensures { IfOk result (λ name. name.now ≡ defect_name (asks command.now) (sources_of sources.now) defect.now) }
 {
     match defect.kind {
-        DefectKind::F20 => symbol_of(alloc, inputs, defect),
+        DefectKind::F20 => symbol_of(alloc, sources, defect),
         DefectKind::F21 => Ok(command.entry.as_str().as_bytes()),
-        DefectKind::F22 => symbol_of(alloc, inputs, defect),
-        DefectKind::F24 => symbol_of(alloc, inputs, defect),
-        DefectKind::F25 => symbol_of(alloc, inputs, defect),
-        DefectKind::F26 => symbol_of(alloc, inputs, defect),
+        DefectKind::F22 => symbol_of(alloc, sources, defect),
+        DefectKind::F24 => symbol_of(alloc, sources, defect),
+        DefectKind::F25 => symbol_of(alloc, sources, defect),
+        DefectKind::F26 => symbol_of(alloc, sources, defect),
         _ => Ok(&[]),
     }
 }
 
-/// The first defect.
+/// The line of a defect.
+fn line_for(
+    alloc: Global,
+    command: &Command,
+    inputs: &[Vec<u8>],
+    sources: &[Source],
+    defect: &Defect,
+) -> Result<Vec<u8>, AllocError>
+    ensures { IfOk result (λ line. line.items ≡ line_in (asks command.now) (contents_of inputs.now) (sources_of sources.now) defect.now) }
+{
+    let file = shown_file(alloc, command, inputs, sources, defect.file as u64)?;
+    let other = shown_file(alloc, command, inputs, sources, defect.other)?;
+    let name = name_for(alloc, command, sources, defect)?;
+    line_of(alloc, defect, file.as_slice(), name, other.as_slice())
+}
+
+/// The first defect. Its file has the number that it has among the files of the link, which are found once more for it.
 #[tactic(auto, unfolding(crate::specs::Link::line_of_defect))]
 fn tell_defect(alloc: Global, command: &Command, inputs: &[Vec<u8>], defect: &Defect) -> Ending
     ensures { TellsDefect (line_of_defect (asks command.now) (contents_of inputs.now) defect.now) result }
 {
-    let file = file_name(command, defect.file as u64);
-    let other = file_name(command, defect.other);
-    let Ok(name) = name_for(alloc, command, inputs, defect) else {
+    let Ok(sources) = find_sources(alloc, &Limits::standard(), inputs) else {
         return Ending::Memory;
     };
-    let Ok(line) = line_of(alloc, defect, file, name, other) else {
+    let Ok(line) = line_for(alloc, command, inputs, sources.as_slice(), defect) else {
         return Ending::Memory;
     };
     Ending::Defective { line }

@@ -10,18 +10,23 @@ ghost use Rattle.lk_tables.specs.Binding.{binding_defects, first_phase};
 ghost use Rattle.lk_tables.specs.BindingView.{binding_view};
 ghost use Rattle.lk_tables.specs.FileView.{file_view, files_of};
 ghost use Rattle.lk_tables.specs.Files.{section_total, symbol_total};
-ghost use Rattle.link_driver.specs.Contents.{contents_of};
+ghost use Rattle.file_live.specs.Live.{live_of};
+ghost use Rattle.link_driver.specs.Contents.{contents_of, sources_of};
 ghost use Rattle.link_driver.specs.Link.{bound_names, none_gone, opening_defects, reading_defects};
 ghost use Rattle.link_driver.specs.Phases.{AfterLink};
+ghost use Rattle.link_driver.specs.Sources.{live_in, sources};
 ghost use Rattle.link_driver.specs.Tables.{AreRead, IsLaidOut};
 ghost use Rattle.layout.specs.Parts.{IsSized};
 ghost use Rattle.reloc_apply.specs.Parts.{parts};
 ghost use Rattle.reloc_apply.specs.Relocated.{relocation_defects};
 
-use crate::bodies::open_all;
+use crate::bodies::open_live;
+use crate::finding::find_sources;
 use crate::heads::{check_count, read_heads};
 use crate::sections::count_sections;
+use crate::sources::Source;
 use elf_out::write_executable;
+use file_live::live;
 use layout::{Layout, place};
 use link_command::Command;
 use lk_base::{Limits, LinkStop};
@@ -43,28 +48,59 @@ pub struct Linked {
     pub report: Vec<u8>,
 }
 
-/// Reads all inputs: their heads, and then their bodies.
+/// Which files take part in the link.
+#[tactic(auto, unfolding(crate::specs::Sources::live_in))]
+fn find_live<R: Threads + Sync, G: Gate>(
+    rt: &R,
+    alloc: Global,
+    tables: &Tables,
+    workers: u32,
+    gate: &G,
+) -> Result<Vec<bool>, LinkStop>
+    requires some { 1 ≤ workers }
+    requires most { workers ≤ 64 }
+    requires few { length (files_of tables.now) < 2 ^ 24 }
+    requires symbols { symbol_total (files_of tables.now) < 2 ^ 31 }
+    ensures goes { Goes result [] }
+    ensures live { IfOk result (λ list. list.items ≡ live_of (files_of tables.now)) }
+    ensures wide { IfOk result (λ list. length list.items ≡ length (files_of tables.now)) }
+{
+    let list = live(rt, alloc, tables, workers, gate)?;
+    Ok(list)
+}
+
+/// Reads all files: their heads, and then the bodies of those that take part.
 #[tactic(auto, unfolding(crate::specs::Link::opening_defects))]
-fn read_files<'a>(
+fn read_files<'a, R: Threads + Sync, G: Gate>(
+    rt: &R,
     alloc: Global,
     limits: &Limits,
-    inputs: &'a [Vec<u8>],
+    sources: &[Source<'a>],
+    workers: u32,
+    gate: &G,
 ) -> Result<Tables<'a>, LinkStop>
-    requires { IsWithinStandard limits.now }
-    ensures goes { Goes result (first_phase (reading_defects limits.now (contents_of inputs.now) ∷ opening_defects limits.now (contents_of inputs.now) ∷ [])) }
-    ensures tables { IfOk result (λ tables. AreRead (contents_of inputs.now) (files_of tables)) }
+    requires limits { IsWithinStandard limits.now }
+    requires some { 1 ≤ workers }
+    requires most { workers ≤ 64 }
+    ensures goes { Goes result (first_phase (reading_defects limits.now (sources_of sources.now) ∷ opening_defects limits.now (sources_of sources.now) ∷ [])) }
+    ensures tables { IfOk result (λ tables. AreRead (sources_of sources.now) (files_of tables)) }
 {
-    let mut files = match read_heads(alloc, limits, inputs) {
+    let files = match read_heads(alloc, limits, sources) {
         Ok(files) => files,
         Err(stop) => return Err(stop),
     };
-    if let Err(stop) = open_all(alloc, inputs, &mut files) {
+    let mut tables = Tables { files };
+    let live = match find_live(rt, alloc, &tables, workers, gate) {
+        Ok(live) => live,
+        Err(stop) => return Err(stop),
+    };
+    if let Err(stop) = open_live(alloc, sources, live.as_slice(), &mut tables.files) {
         return Err(stop);
     }
-    if let Err(defect) = check_count(limits.sections, count_sections(files.as_slice())) {
+    if let Err(defect) = check_count(limits.sections, count_sections(tables.files.as_slice())) {
         return Err(LinkStop::Defect(defect));
     }
-    Ok(Tables { files })
+    Ok(tables)
 }
 
 /// No section is discarded yet.
@@ -152,24 +188,21 @@ fn write(
     }
 }
 
-/// Links the inputs of a command, whose contents are given in the order of the command.
-///
-/// The answer is what the link gives where the inputs have no defect; else the first defect of the first phase that has
-/// any, whatever the number of workers and the order of their steps; or want of memory. No limit is above the standard one.
-pub fn link<R: Threads + Sync, G: Gate>(
+/// Links the files of a command.
+fn link_sources<R: Threads + Sync, G: Gate>(
     rt: &R,
     alloc: Global,
     command: &Command,
-    inputs: &[Vec<u8>],
+    sources: &[Source],
     limits: &Limits,
     gate: &G,
 ) -> Result<Linked, LinkStop>
     requires limits { IsWithinStandard limits.now }
     requires some { 1 ≤ command.now.threads }
     requires most { command.now.threads ≤ 64 }
-    ensures { AfterLink limits.now (asks command.now).entry (contents_of inputs.now) result }
+    ensures { AfterLink limits.now (asks command.now).entry (sources_of sources.now) result }
 {
-    let tables = match read_files(alloc, limits, inputs) {
+    let tables = match read_files(rt, alloc, limits, sources, command.threads, gate) {
         Ok(tables) => tables,
         Err(stop) => return Err(stop),
     };
@@ -194,4 +227,25 @@ pub fn link<R: Threads + Sync, G: Gate>(
         map: Vec::new(alloc),
         report: Vec::new(alloc),
     })
+}
+
+/// Links the inputs of a command, whose contents are given in the order of the command.
+///
+/// The answer is what the link gives where the inputs have no defect; else the first defect of the first phase that has
+/// any, whatever the number of workers and the order of their steps; or want of memory. No limit is above the standard one.
+pub fn link<R: Threads + Sync, G: Gate>(
+    rt: &R,
+    alloc: Global,
+    command: &Command,
+    inputs: &[Vec<u8>],
+    limits: &Limits,
+    gate: &G,
+) -> Result<Linked, LinkStop>
+    requires limits { IsWithinStandard limits.now }
+    requires some { 1 ≤ command.now.threads }
+    requires most { command.now.threads ≤ 64 }
+    ensures { AfterLink limits.now (asks command.now).entry (sources limits.now (contents_of inputs.now)) result }
+{
+    let sources = find_sources(alloc, limits, inputs)?;
+    link_sources(rt, alloc, command, sources.as_slice(), limits, gate)
 }

@@ -1,12 +1,15 @@
 //! Worked examples over `run`, each with its words and what it has to leave. All the inputs are at hand in each.
 
+mod archives;
 mod images;
+mod libraries;
 mod objects;
 
-use crate::{Image, image_of, object_of};
+use crate::{Image, archive_of, image_of, object_of};
 use images::{
     COMMON_OF_8, COMMON_OF_16, FIRST, HALVES, THREE_FILES, TWO_FILES, WEAK_CALL, WIDE_COMMON,
 };
+use libraries::Library;
 use link_driver::{Gate, OpenGate, run};
 use lk_depot::{FileKind, MemDepot, MemSink};
 use objects::INPUTS;
@@ -33,20 +36,34 @@ fn words_of(alloc: Global, words: &[&str]) -> Result<Vec<String>, AllocError> {
     Ok(all)
 }
 
-fn files_of(alloc: Global) -> Result<Vec<(String, Vec<u8>)>, AllocError> {
+/// All inputs that are objects, and these archives.
+fn files_of(alloc: Global, libraries: &[Library]) -> Result<Vec<(String, Vec<u8>)>, AllocError> {
     let mut files = Vec::new(alloc);
     for input in &INPUTS {
         let mut bytes = object_of(alloc, &input.object)?;
         bytes.truncate(input.most);
         files.push((input.name.to_string(alloc)?, bytes))?;
     }
+    for library in libraries {
+        let mut bytes = archive_of(alloc, &library.archive)?;
+        bytes.extend_from_slice(library.tail)?;
+        files.push((library.name.to_string(alloc)?, bytes))?;
+    }
     Ok(files)
 }
 
-/// A depot with all inputs, whose calls of these numbers fail, and whose appends take at most 1,000 bytes.
-fn depot_of(alloc: Global, fails: &[u64]) -> Result<MemDepot, AllocError> {
-    let files = files_of(alloc)?;
-    let fails = Vec::from_slice(alloc, fails)?;
+/// A call of the program: its words, the archives that are at hand, and the numbers of the depot's calls that fail.
+#[derive(Clone, Copy)]
+struct Call<'a> {
+    words: &'a [&'a str],
+    libraries: &'a [Library<'a>],
+    fails: &'a [u64],
+}
+
+/// A depot whose appends take at most 1,000 bytes.
+fn depot_of(alloc: Global, call: &Call) -> Result<MemDepot, AllocError> {
+    let files = files_of(alloc, call.libraries)?;
+    let fails = Vec::from_slice(alloc, call.fails)?;
     MemDepot::new(alloc, files, fails, 1000, 10_000)
 }
 
@@ -58,12 +75,11 @@ fn sink_of(alloc: Global) -> Result<MemSink, AllocError> {
 fn run_with<R: Threads + Sync, G: Gate>(
     rt: &R,
     alloc: Global,
-    words: &[&str],
-    fails: &[u64],
+    call: &Call,
     gate: &G,
 ) -> Result<Left, AllocError> {
-    let words = words_of(alloc, words)?;
-    let mut depot = depot_of(alloc, fails)?;
+    let words = words_of(alloc, call.words)?;
+    let mut depot = depot_of(alloc, call)?;
     let mut say = sink_of(alloc)?;
     let mut err = sink_of(alloc)?;
     let status = run(
@@ -83,16 +99,18 @@ fn run_with<R: Threads + Sync, G: Gate>(
     })
 }
 
-/// A command that links: its words, the name of its output and the executable.
+/// A command that links: its words, its archives, the name of its output and the executable.
 #[derive(Clone, Copy)]
 struct Link<'a> {
     words: &'a [&'a str],
+    libraries: &'a [Library<'a>],
     output: &'a str,
     image: Image<'a>,
 }
 
 const FIRST_LINK: Link = Link {
     words: &["rvld", "-s", "a.o"],
+    libraries: &[],
     output: "a.out",
     image: FIRST,
 };
@@ -120,6 +138,7 @@ const LINKS: [Link; 14] = [
         words: &["rvld", "a.o", "-e", "_start", "h.o", "-o", "x", "-s"],
         output: "x",
         image: TWO_FILES,
+        ..FIRST_LINK
     },
     Link {
         words: &["rvld", "-s", "a.o", "weak.o", "weak.o"],
@@ -170,7 +189,12 @@ fn is_linked<R: Threads + Sync, G: Gate>(
     link: &Link,
     gate: &G,
 ) -> Result<bool, AllocError> {
-    let left = run_with(rt, alloc, link.words, &[], gate)?;
+    let call = Call {
+        words: link.words,
+        libraries: link.libraries,
+        fails: &[],
+    };
+    let left = run_with(rt, alloc, &call, gate)?;
     let image = image_of(alloc, &link.image)?;
     Ok(
         left.status == 0
@@ -192,120 +216,212 @@ fn each_link_leaves_its_executable(rt: HostRuntime) -> Result<(), Fail> {
     Ok(())
 }
 
-/// A command that links nothing: its words, its status and its line, and how many loads there are.
-type Refusal<'a> = (&'a [&'a str], u8, &'a str, u64);
+#[test]
+fn archives_are_read_in_each_form(rt: HostRuntime) -> Result<(), Fail> {
+    for (index, link) in archives::READ.iter().enumerate() {
+        assert!(rt;
+            is_linked(&rt, rt.alloc(), link, &OpenGate)?,
+            "example {index}"
+        );
+    }
+    Ok(())
+}
+
+#[test]
+fn members_that_nothing_pulls_add_nothing(rt: HostRuntime) -> Result<(), Fail> {
+    for (index, link) in archives::IDLE.iter().enumerate() {
+        assert!(rt;
+            is_linked(&rt, rt.alloc(), link, &OpenGate)?,
+            "example {index}"
+        );
+    }
+    Ok(())
+}
+
+#[test]
+fn the_first_offer_is_taken(rt: HostRuntime) -> Result<(), Fail> {
+    for (index, link) in archives::CHOSEN.iter().enumerate() {
+        assert!(rt;
+            is_linked(&rt, rt.alloc(), link, &OpenGate)?,
+            "example {index}"
+        );
+    }
+    Ok(())
+}
+
+#[test]
+fn archives_link_with_any_number_of_workers(rt: HostRuntime) -> Result<(), Fail> {
+    for (index, link) in archives::WORKERS.iter().enumerate() {
+        assert!(rt;
+            is_linked(&rt, rt.alloc(), link, &OpenGate)?,
+            "example {index}"
+        );
+    }
+    Ok(())
+}
+
+#[test]
+fn members_pull_members(rt: HostRuntime) -> Result<(), Fail> {
+    for (index, link) in archives::CHAINS.iter().enumerate() {
+        assert!(rt;
+            is_linked(&rt, rt.alloc(), link, &OpenGate)?,
+            "example {index}"
+        );
+    }
+    Ok(())
+}
+
+/// A command that links nothing: its words, its archives, its status and its line, and how many loads there are.
+#[derive(Clone, Copy)]
+struct Refusal<'a> {
+    words: &'a [&'a str],
+    libraries: &'a [Library<'a>],
+    status: u8,
+    line: &'a str,
+    loads: u64,
+}
 
 const REFUSALS: [Refusal; 20] = [
-    (&[], 2, "rvld: bad command\n", 0),
-    (&["rvld"], 2, "rvld: bad command\n", 0),
-    (
-        &["rvld", "-s", "--threads", "65", "a.o"],
-        2,
-        "rvld: bad command\n",
-        0,
-    ),
-    (
-        &["rvld", "-s", "--icf", "some", "a.o"],
-        2,
-        "rvld: bad command\n",
-        0,
-    ),
-    (
-        &["rvld", "-s", "-o", "m", "--Map", "m", "a.o"],
-        2,
-        "rvld: bad command\n",
-        0,
-    ),
-    (
-        &["rvld", "-s", "a.o", "z.o"],
-        3,
-        "rvld: cannot read z.o\n",
-        2,
-    ),
-    (
-        &["rvld", "-s", "empty.o"],
-        1,
-        "rvld: F01 NotObject file=empty.o section=0 place=0 name= other=0\n",
-        1,
-    ),
-    (
-        &["rvld", "-s", "a.o", "cut.o"],
-        1,
-        "rvld: F02 BadHeader file=cut.o section=0 place=63 name= other=0\n",
-        2,
-    ),
-    (
-        &["rvld", "-s", "compressed.o"],
-        1,
-        "rvld: F05 Compressed file=compressed.o section=1 place=200 name= other=0\n",
-        1,
-    ),
-    (
-        &["rvld", "-s", "a.o", "double.o"],
-        1,
-        "rvld: F16 FlagsClash file=double.o section=0 place=4 name= other=0\n",
-        2,
-    ),
-    (
-        &["rvld", "-s", "double.o", "a.o"],
-        1,
-        "rvld: F16 FlagsClash file=a.o section=0 place=0 name= other=4\n",
-        2,
-    ),
-    (
-        &["rvld", "-s", "p.o", "q.o"],
-        1,
-        "rvld: F20 Duplicate file=p.o section=0 place=1 name=x other=q.o\n",
-        2,
-    ),
-    (
-        &["rvld", "-s", "a.o", "a.o"],
-        1,
-        "rvld: F20 Duplicate file=a.o section=0 place=1 name=_start other=a.o\n",
-        2,
-    ),
-    (
-        &["rvld", "-s", "-e", "g", "a.o"],
-        1,
-        "rvld: F21 NoEntry file=- section=0 place=0 name=g other=0\n",
-        1,
-    ),
-    (
-        &["rvld", "-s", "u.o"],
-        1,
-        "rvld: F22 Undefined file=u.o section=1 place=4 name=k other=0\n",
-        1,
-    ),
-    (
-        &["rvld", "-s", "big.o"],
-        1,
-        "rvld: F23 TooBig file=- section=0 place=2147491840 name= other=0\n",
-        1,
-    ),
-    (
-        &["rvld", "-s", "far.o"],
-        1,
-        "rvld: F24 Range file=far.o section=1 place=0 name=.text other=1048576\n",
-        1,
-    ),
-    (
-        &["rvld", "-s", "uneven.o"],
-        1,
-        "rvld: F25 Odd file=uneven.o section=1 place=0 name=_start other=3\n",
-        1,
-    ),
-    (
-        &["rvld", "-s", "alone.o"],
-        1,
-        "rvld: F26 NoPartner file=alone.o section=1 place=0 name=.L0 other=0\n",
-        1,
-    ),
-    (
-        &["rvld", "-s", "empty.o", "a.o", "cut.o"],
-        1,
-        "rvld: F01 NotObject file=empty.o section=0 place=0 name= other=0\n",
-        3,
-    ),
+    Refusal {
+        words: &[],
+        libraries: &[],
+        status: 2,
+        line: "rvld: bad command\n",
+        loads: 0,
+    },
+    Refusal {
+        words: &["rvld"],
+        libraries: &[],
+        status: 2,
+        line: "rvld: bad command\n",
+        loads: 0,
+    },
+    Refusal {
+        words: &["rvld", "-s", "--threads", "65", "a.o"],
+        libraries: &[],
+        status: 2,
+        line: "rvld: bad command\n",
+        loads: 0,
+    },
+    Refusal {
+        words: &["rvld", "-s", "--icf", "some", "a.o"],
+        libraries: &[],
+        status: 2,
+        line: "rvld: bad command\n",
+        loads: 0,
+    },
+    Refusal {
+        words: &["rvld", "-s", "-o", "m", "--Map", "m", "a.o"],
+        libraries: &[],
+        status: 2,
+        line: "rvld: bad command\n",
+        loads: 0,
+    },
+    Refusal {
+        words: &["rvld", "-s", "a.o", "z.o"],
+        libraries: &[],
+        status: 3,
+        line: "rvld: cannot read z.o\n",
+        loads: 2,
+    },
+    Refusal {
+        words: &["rvld", "-s", "empty.o"],
+        libraries: &[],
+        status: 1,
+        line: "rvld: F01 NotObject file=empty.o section=0 place=0 name= other=0\n",
+        loads: 1,
+    },
+    Refusal {
+        words: &["rvld", "-s", "a.o", "cut.o"],
+        libraries: &[],
+        status: 1,
+        line: "rvld: F02 BadHeader file=cut.o section=0 place=63 name= other=0\n",
+        loads: 2,
+    },
+    Refusal {
+        words: &["rvld", "-s", "compressed.o"],
+        libraries: &[],
+        status: 1,
+        line: "rvld: F05 Compressed file=compressed.o section=1 place=200 name= other=0\n",
+        loads: 1,
+    },
+    Refusal {
+        words: &["rvld", "-s", "a.o", "double.o"],
+        libraries: &[],
+        status: 1,
+        line: "rvld: F16 FlagsClash file=double.o section=0 place=4 name= other=0\n",
+        loads: 2,
+    },
+    Refusal {
+        words: &["rvld", "-s", "double.o", "a.o"],
+        libraries: &[],
+        status: 1,
+        line: "rvld: F16 FlagsClash file=a.o section=0 place=0 name= other=4\n",
+        loads: 2,
+    },
+    Refusal {
+        words: &["rvld", "-s", "p.o", "q.o"],
+        libraries: &[],
+        status: 1,
+        line: "rvld: F20 Duplicate file=p.o section=0 place=1 name=x other=q.o\n",
+        loads: 2,
+    },
+    Refusal {
+        words: &["rvld", "-s", "a.o", "a.o"],
+        libraries: &[],
+        status: 1,
+        line: "rvld: F20 Duplicate file=a.o section=0 place=1 name=_start other=a.o\n",
+        loads: 2,
+    },
+    Refusal {
+        words: &["rvld", "-s", "-e", "g", "a.o"],
+        libraries: &[],
+        status: 1,
+        line: "rvld: F21 NoEntry file=- section=0 place=0 name=g other=0\n",
+        loads: 1,
+    },
+    Refusal {
+        words: &["rvld", "-s", "u.o"],
+        libraries: &[],
+        status: 1,
+        line: "rvld: F22 Undefined file=u.o section=1 place=4 name=k other=0\n",
+        loads: 1,
+    },
+    Refusal {
+        words: &["rvld", "-s", "big.o"],
+        libraries: &[],
+        status: 1,
+        line: "rvld: F23 TooBig file=- section=0 place=2147491840 name= other=0\n",
+        loads: 1,
+    },
+    Refusal {
+        words: &["rvld", "-s", "far.o"],
+        libraries: &[],
+        status: 1,
+        line: "rvld: F24 Range file=far.o section=1 place=0 name=.text other=1048576\n",
+        loads: 1,
+    },
+    Refusal {
+        words: &["rvld", "-s", "uneven.o"],
+        libraries: &[],
+        status: 1,
+        line: "rvld: F25 Odd file=uneven.o section=1 place=0 name=_start other=3\n",
+        loads: 1,
+    },
+    Refusal {
+        words: &["rvld", "-s", "alone.o"],
+        libraries: &[],
+        status: 1,
+        line: "rvld: F26 NoPartner file=alone.o section=1 place=0 name=.L0 other=0\n",
+        loads: 1,
+    },
+    Refusal {
+        words: &["rvld", "-s", "empty.o", "a.o", "cut.o"],
+        libraries: &[],
+        status: 1,
+        line: "rvld: F01 NotObject file=empty.o section=0 place=0 name= other=0\n",
+        loads: 3,
+    },
 ];
 
 /// Whether a command leaves no file, its line and its status.
@@ -314,13 +430,17 @@ fn is_refused<R: Threads + Sync>(
     alloc: Global,
     refusal: &Refusal,
 ) -> Result<bool, AllocError> {
-    let (words, status, line, loads) = *refusal;
-    let left = run_with(rt, alloc, words, &[], &OpenGate)?;
+    let call = Call {
+        words: refusal.words,
+        libraries: refusal.libraries,
+        fails: &[],
+    };
+    let left = run_with(rt, alloc, &call, &OpenGate)?;
     Ok(
-        left.status == status
+        left.status == refusal.status
             && left.say.calls() == 0
-            && left.err.written() == line.as_bytes()
-            && left.depot.calls() == loads
+            && left.err.written() == refusal.line.as_bytes()
+            && left.depot.calls() == refusal.loads
             && left.depot.begun() == 0,
     )
 }
@@ -328,6 +448,22 @@ fn is_refused<R: Threads + Sync>(
 #[test]
 fn each_refusal_leaves_its_line(rt: HostRuntime) -> Result<(), Fail> {
     for (index, refusal) in REFUSALS.iter().enumerate() {
+        assert!(rt; is_refused(&rt, rt.alloc(), refusal)?, "example {index}");
+    }
+    Ok(())
+}
+
+#[test]
+fn each_wrong_member_leaves_its_line(rt: HostRuntime) -> Result<(), Fail> {
+    for (index, refusal) in archives::WRONG_MEMBERS.iter().enumerate() {
+        assert!(rt; is_refused(&rt, rt.alloc(), refusal)?, "example {index}");
+    }
+    Ok(())
+}
+
+#[test]
+fn each_wrong_archive_leaves_its_line(rt: HostRuntime) -> Result<(), Fail> {
+    for (index, refusal) in archives::WRONG_ARCHIVES.iter().enumerate() {
         assert!(rt; is_refused(&rt, rt.alloc(), refusal)?, "example {index}");
     }
     Ok(())
@@ -347,8 +483,14 @@ const FAULTS: [Fault; 5] = [
 
 /// Whether the first link, with this call failing, leaves that much of the executable.
 fn is_cut<R: Threads + Sync>(rt: &R, alloc: Global, fault: &Fault) -> Result<bool, AllocError> {
-    let (call, line, calls, written) = *fault;
-    let left = run_with(rt, alloc, FIRST_LINK.words, &[call], &OpenGate)?;
+    let (number, line, calls, written) = *fault;
+    let fails = [number];
+    let call = Call {
+        words: FIRST_LINK.words,
+        libraries: &[],
+        fails: &fails,
+    };
+    let left = run_with(rt, alloc, &call, &OpenGate)?;
     let image = image_of(alloc, &FIRST)?;
     let file = left.depot.bytes("a.out").unwrap_or(b"".as_slice());
     Ok(

@@ -1,7 +1,9 @@
 pub mod Numbers
 pub mod Placing
+pub mod Positions
 pub mod Rooms
 pub mod SectionLies
 pub mod Showing
 pub mod Sized
+pub mod Uppers
 pub mod Widths

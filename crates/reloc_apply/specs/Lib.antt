@@ -1,4 +1,6 @@
 pub mod Image
+pub mod KnownViews
+pub mod Orders
 pub mod PieceView
 pub mod Parts
 pub mod Places

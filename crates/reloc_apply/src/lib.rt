@@ -6,6 +6,7 @@
 //! and `image` is a file given by pieces.
 #![tactic(auto)]
 
+mod commons;
 mod image;
 mod parts;
 mod relocated;

@@ -10,10 +10,12 @@ ghost use Rattle.reloc_apply.specs.Image.{Shows};
 ghost use Rattle.reloc_apply.specs.Parts.{section_start};
 ghost use Rattle.reloc_apply.specs.Relocated as spec;
 ghost use Rattle.reloc_apply.specs.Values.{value_of};
-ghost use Rattle.reloc_apply.specs.Views.{files_in, names_in, starts_in};
+ghost use Rattle.reloc_apply.specs.KnownViews.{files_in, names_in, starts_in};
+ghost use Rattle.reloc_apply.specs.Views as views;
 ghost use Rattle.rv_code.specs.Kinds.{HasValue, kind_of};
 ghost use Rattle.rv_code.specs.Reaches.{Takes};
 
+use crate::commons::{KnownView, are_in_order};
 use crate::unbound::reloc_defect;
 use crate::values::{low_bits, section_start, value_of};
 use crate::views::View;
@@ -51,7 +53,7 @@ fn put(bytes: &mut [u8], reloc: &Reloc, v: i128)
 #[tactic(auto, unfolding(crate::specs::Relocated::reloc_defects))]
 fn relocate_one(
     bytes: &mut [u8],
-    view: &View,
+    view: &KnownView,
     file: FileNo,
     section: u32,
     start: u64,
@@ -77,7 +79,7 @@ fn relocate_one(
 /// Does the relocations of a section that stands at an address.
 fn relocate(
     bytes: &mut [u8],
-    view: &View,
+    view: &KnownView,
     file: FileNo,
     section: u32,
     start: u64,
@@ -94,7 +96,7 @@ fn relocate(
 }
 
 /// A file of a link.
-fn file_in<'t, 'a>(view: &View<'t, 'a>, file: FileNo) -> &'t File<'a>
+fn file_in<'t, 'a>(view: &KnownView<'t, 'a>, file: FileNo) -> &'t File<'a>
     requires { file < length (files_in view.now) }
     ensures { file_view result.now ≡ file_at (files_in view.now) file }
 {
@@ -126,7 +128,7 @@ fn relocs_in<'t>(file: &'t File, index: usize) -> &'t [Reloc]
 /// Writes a section that stands at an address and has bytes in the file into the executable, with its relocations done.
 fn write_bits(
     out: &mut [u8],
-    view: &View,
+    view: &KnownView,
     file: FileNo,
     section: u32,
     start: u64,
@@ -151,7 +153,7 @@ fn write_bits(
 
 /// Writes a section, where it has an address and bytes in the file.
 #[tactic(auto, unfolding(crate::specs::Relocated::section_defects, crate::specs::Relocated::section_pieces))]
-fn write_section(out: &mut [u8], view: &View, file: FileNo, section: u32) -> Result<(), Defect>
+fn write_section(out: &mut [u8], view: &KnownView, file: FileNo, section: u32) -> Result<(), Defect>
     requires file { file < length (files_in view.now) }
     requires room { spec.HaveRoom (files_in view.now) (starts_in view.now) (length out.old) }
     ensures goes { Passes result (spec.section_defects (files_in view.now) (names_in view.now) (starts_in view.now) file section) }
@@ -168,7 +170,12 @@ fn write_section(out: &mut [u8], view: &View, file: FileNo, section: u32) -> Res
 }
 
 /// Writes so many sections of a file.
-fn write_sections(out: &mut [u8], view: &View, file: FileNo, sections: u32) -> Result<(), Defect>
+fn write_sections(
+    out: &mut [u8],
+    view: &KnownView,
+    file: FileNo,
+    sections: u32,
+) -> Result<(), Defect>
     requires file { file < length (files_in view.now) }
     requires room { spec.HaveRoom (files_in view.now) (starts_in view.now) (length out.old) }
     ensures goes { Passes result (flat_map (spec.section_defects (files_in view.now) (names_in view.now) (starts_in view.now) file) (range_with_len 0 sections)) }
@@ -184,7 +191,7 @@ fn write_sections(out: &mut [u8], view: &View, file: FileNo, sections: u32) -> R
 
 /// Writes the sections of a file, where it takes part in the link.
 #[tactic(auto, unfolding(crate::specs::Relocated::defects_in, crate::specs::Relocated::pieces_in))]
-fn write_file(out: &mut [u8], view: &View, file: FileNo) -> Result<(), Defect>
+fn write_file(out: &mut [u8], view: &KnownView, file: FileNo) -> Result<(), Defect>
     requires file { file < length (files_in view.now) }
     requires room { spec.HaveRoom (files_in view.now) (starts_in view.now) (length out.old) }
     ensures goes { Passes result (spec.defects_in (files_in view.now) (names_in view.now) (starts_in view.now) file) }
@@ -201,14 +208,20 @@ fn write_file(out: &mut [u8], view: &View, file: FileNo) -> Result<(), Defect>
 /// file and section. The first defect of a relocation in this order ends it. Takes no memory.
 #[tactic(auto, unfolding(crate::specs::Relocated::relocation_defects, crate::specs::Relocated::relocated_pieces))]
 pub fn apply(out: &mut [u8], view: &View) -> Result<(), Defect>
-    requires files { length (files_in view.now) < 2 ^ 32 }
-    requires room { spec.HaveRoom (files_in view.now) (starts_in view.now) (length out.old) }
-    ensures goes { Passes result (spec.relocation_defects (files_in view.now) (names_in view.now) (starts_in view.now)) }
-    ensures bytes { OnOk result (Shows out.old out.new (spec.relocated_pieces (files_in view.now) (names_in view.now) (starts_in view.now))) }
+    requires files { length (views.files_in view.now) < 2 ^ 32 }
+    requires room { spec.HaveRoom (views.files_in view.now) (views.starts_in view.now) (length out.old) }
+    ensures goes { Passes result (spec.relocation_defects (views.files_in view.now) (views.names_in view.now) (views.starts_in view.now)) }
+    ensures bytes { OnOk result (Shows out.old out.new (spec.relocated_pieces (views.files_in view.now) (views.names_in view.now) (views.starts_in view.now))) }
 {
+    let known = KnownView {
+        tables: view.tables,
+        binding: view.binding,
+        starts: view.starts,
+        in_order: are_in_order(view.binding),
+    };
     let files = view.tables.files.len() as u32;
     for file in 0..files {
-        if let Err(defect) = write_file(out, view, file) {
+        if let Err(defect) = write_file(out, &known, file) {
             return Err(defect);
         }
     }

@@ -1,18 +1,23 @@
 //! What a relocation puts into its place (RISC-V ELF psABI, "Relocations").
 
-ghost use Rattle.std.specs.Prelude.{◌≡◌, ◌+◌, ◌^◌, ◌<◌, ◌==◌, ◌||◌, ◌&&◌, not, true, false, ◌≤ℤ◌, ◌+ℤ◌, pos, negsuc, [], IfOk, IfSome, MatchResult, is_some, option_map, find, position, slice_index_or};
+ghost use Rattle.std.specs.Prelude.{◌≡◌, ℕ, ◌+◌, ◌^◌, ◌<◌, ◌≤◌, length, ◌==◌, ◌||◌, ◌&&◌, not, true, false, ◌≤ℤ◌, ◌+ℤ◌, pos, negsuc, [], IfOk, IfSome, MatchResult, is_some, option_map, find, position, slice_index_or};
+ghost use Rattle.std.specs.List.Sorted.{IsNonDecreasingBy};
 ghost use Rattle.lk_tables.specs.Binding.{no_rank};
 ghost use Rattle.lk_tables.specs.Files as files;
 ghost use Rattle.reloc_apply.specs.Parts as parts;
 ghost use Rattle.reloc_apply.specs.Places.{site_view};
 ghost use Rattle.reloc_apply.specs.Values as spec;
-ghost use Rattle.reloc_apply.specs.Views.{files_in, names_in, starts_in, starts_view};
+ghost use Rattle.reloc_apply.specs.KnownViews.{files_in, names_in, starts_in};
+ghost use Rattle.reloc_apply.specs.Views as views;
+ghost use Rattle.reloc_apply.specs.Views.{starts_view};
 ghost use Rattle.rv_code.specs.Kinds.{HasValue};
 ghost use Rattle.rv_code.specs.Places.{bits_of};
 
+use crate::commons::{KnownView, number_of};
+use crate::parts::commons_at;
 use crate::views::{Starts, View};
 use lk_base::{FileNo, SymNo};
-use lk_tables::{BoundCommon, NO_RANK, NO_SYMBOL, Place, Reloc, Symbol, is_section_symbol};
+use lk_tables::{NO_RANK, NO_SYMBOL, Place, Reloc, Symbol, is_section_symbol};
 use rv_code::kinds::{
     R_RISCV_64, R_RISCV_CALL, R_RISCV_CALL_PLT, R_RISCV_GOT_HI20, R_RISCV_JAL, R_RISCV_PCREL_HI20,
     R_RISCV_PCREL_LO12_I,
@@ -26,7 +31,7 @@ pub struct Site {
 }
 
 /// A symbol of a file.
-fn symbol_at(view: &View, file: FileNo, index: SymNo) -> Symbol
+fn symbol_at(view: &KnownView, file: FileNo, index: SymNo) -> Symbol
     ensures { result ≡ files.symbol_at (files.file_at (files_in view.now) file) index }
 {
     let Some(file) = view.tables.files.get(file as usize) else {
@@ -61,25 +66,16 @@ fn numbered_start(starts: &Starts, file: FileNo, n: usize) -> u64
     *start
 }
 
-/// The place of a symbol in a list.
-fn number_of(commons: &[BoundCommon], index: SymNo) -> Option<usize>
-    ensures { result ≡ position (λ c. c.symbol == index) commons.now }
-{
-    commons.iter().position(|common| common.symbol == index)
-}
-
 /// The place of a COMMON symbol among those of its file that get room.
-fn common_number(view: &View, file: FileNo, index: SymNo) -> Option<usize>
+fn common_number(view: &KnownView, file: FileNo, index: SymNo) -> Option<usize>
     ensures { result ≡ position (λ c. c.symbol == index) (parts.commons_at (names_in view.now).commons file) }
 {
-    let Some(list) = view.binding.commons.get(file as usize) else {
-        return None;
-    };
-    number_of(list.as_slice(), index)
+    let commons = commons_at(view.binding, file as usize);
+    number_of(commons, view.in_order, index)
 }
 
 /// The address of a COMMON symbol that gets room, else 0.
-fn common_address(view: &View, file: FileNo, index: SymNo) -> u64
+fn common_address(view: &KnownView, file: FileNo, index: SymNo) -> u64
     ensures { pos result ≡ spec.or_zero (parts.common_start (names_in view.now).commons (starts_in view.now) file index) }
 {
     let Some(n) = common_number(view, file, index) else {
@@ -112,7 +108,7 @@ fn address_in(start: Option<u64>, symbol: &Symbol) -> i128
 
 /// The address of the symbol that is defined at a site, 0 for none.
 #[tactic(auto, unfolding(crate::specs::Values::address_at))]
-fn address_at(view: &View, site: Option<Site>) -> i128
+fn address_at(view: &KnownView, site: Option<Site>) -> i128
     ensures value { result ≡ spec.address_at (files_in view.now) (names_in view.now) (starts_in view.now) (option_map site_view site) }
     ensures low { pos 0 ≤ℤ result }
     ensures high { result ≤ℤ pos (2 ^ 65) }
@@ -145,7 +141,7 @@ fn site_of(rank: u64) -> Option<Site>
 }
 
 /// The rank to which the name of a symbol is bound.
-pub fn rank_at(view: &View, file: FileNo, index: SymNo) -> u64
+pub fn rank_at(view: &KnownView, file: FileNo, index: SymNo) -> u64
     ensures { result ≡ slice_index_or (slice_index_or (names_in view.now).ranks file []) index no_rank }
 {
     let Some(list) = view.binding.ranks.get(file as usize) else {
@@ -159,7 +155,7 @@ pub fn rank_at(view: &View, file: FileNo, index: SymNo) -> u64
 
 /// What a symbol stands for: a local one for itself, another for what its name is bound to.
 #[tactic(auto, unfolding(crate::specs::Values::site_for))]
-fn site_for(view: &View, file: FileNo, index: SymNo) -> Option<Site>
+fn site_for(view: &KnownView, file: FileNo, index: SymNo) -> Option<Site>
     ensures { option_map site_view result ≡ spec.site_for (files_in view.now) (names_in view.now) (starts_in view.now) file index }
 {
     if symbol_at(view, file, index).binding == 0 {
@@ -169,7 +165,7 @@ fn site_for(view: &View, file: FileNo, index: SymNo) -> Option<Site>
 }
 
 /// The address of what a symbol stands for.
-fn address_of(view: &View, file: FileNo, index: SymNo) -> i128
+fn address_of(view: &KnownView, file: FileNo, index: SymNo) -> i128
     ensures value { result ≡ spec.address_at (files_in view.now) (names_in view.now) (starts_in view.now) (spec.site_for (files_in view.now) (names_in view.now) (starts_in view.now) file index) }
     ensures low { pos 0 ≤ℤ result }
     ensures high { result ≤ℤ pos (2 ^ 65) }
@@ -179,8 +175,14 @@ fn address_of(view: &View, file: FileNo, index: SymNo) -> i128
 
 /// The address at which the executable begins: that of the symbol to which the entry's name is bound.
 pub fn entry_address(view: &View) -> u64
-    ensures { result ≡ bits_of (spec.address_at (files_in view.now) (names_in view.now) (starts_in view.now) (spec.site_of (names_in view.now).entry)) }
+    ensures { result ≡ bits_of (spec.address_at (views.files_in view.now) (views.names_in view.now) (views.starts_in view.now) (spec.site_of (views.names_in view.now).entry)) }
 {
+    let view = &KnownView {
+        tables: view.tables,
+        binding: view.binding,
+        starts: view.starts,
+        in_order: false,
+    };
     low_bits(address_at(view, site_of(view.binding.entry)))
 }
 
@@ -203,7 +205,7 @@ fn is_distance(kind: u32) -> bool
 }
 
 /// The address of a relocation's symbol, and its addend.
-fn sum_of(view: &View, file: FileNo, reloc: &Reloc) -> i128
+fn sum_of(view: &KnownView, file: FileNo, reloc: &Reloc) -> i128
     ensures value { result ≡ (spec.address_at (files_in view.now) (names_in view.now) (starts_in view.now) (spec.site_for (files_in view.now) (names_in view.now) (starts_in view.now) file reloc.now.symbol) +ℤ reloc.now.addend) }
     ensures low { negsuc (2 ^ 63) ≤ℤ result }
     ensures high { result ≤ℤ pos (2 ^ 66) }
@@ -213,7 +215,7 @@ fn sum_of(view: &View, file: FileNo, reloc: &Reloc) -> i128
 
 /// The value of a relocation that takes it from its own symbol, at the address of its place.
 #[tactic(auto, unfolding(crate::specs::Values::direct_value, rv_code::specs::Kinds::has_value))]
-fn direct_value(view: &View, file: FileNo, place: i128, reloc: &Reloc) -> Option<i128>
+fn direct_value(view: &KnownView, file: FileNo, place: i128, reloc: &Reloc) -> Option<i128>
     requires low { pos 0 ≤ℤ place }
     requires high { place ≤ℤ pos (2 ^ 65) }
     ensures value { result ≡ spec.direct_value (files_in view.now) (names_in view.now) (starts_in view.now) file place reloc.now }
@@ -247,7 +249,7 @@ fn label_in(place: Place, section: u32, symbol: &Symbol) -> Option<u64>
 
 /// The offset of the label of a lower part, where it stands in the same section.
 #[tactic(auto, unfolding(crate::specs::Values::label_at))]
-fn label_at(view: &View, site: Option<Site>, file: FileNo, section: u32) -> Option<u64>
+fn label_at(view: &KnownView, site: Option<Site>, file: FileNo, section: u32) -> Option<u64>
     ensures { result ≡ spec.label_at (files_in view.now) (names_in view.now) (starts_in view.now) (option_map site_view site) file section }
 {
     let Some(site) = site else {
@@ -267,11 +269,24 @@ fn is_upper_at(offset: u64, reloc: &Reloc) -> bool
     reloc.offset == offset && R_RISCV_GOT_HI20 <= reloc.kind && reloc.kind <= R_RISCV_PCREL_HI20
 }
 
-/// The first upper part at an offset.
-fn find_upper(relocs: &[Reloc], offset: u64) -> Option<Reloc>
+/// How many relocations come before an offset, of relocations in order of offset.
+fn count_before(relocs: &[Reloc], offset: u64) -> usize
+    requires { IsNonDecreasingBy (λ (r : Reloc). r.offset) relocs.now }
+    ensures bound { result ≤ length relocs.now }
+    ensures before { (k : ℕ) (d : Reloc) → k < result → (slice_index_or relocs.now k d).offset < offset }
+{
+    relocs.partition_point(|reloc| reloc.offset < offset)
+}
+
+/// The first upper part at an offset, found by looking on from the first relocation.
+fn look_on(relocs: &[Reloc], offset: u64) -> Option<Reloc>
+    requires { IsNonDecreasingBy (λ (r : Reloc). r.offset) relocs.now }
     ensures { result ≡ find (spec.is_upper_at offset) relocs.now }
 {
     for reloc in relocs {
+        if offset < reloc.offset {
+            return None;
+        }
         if is_upper_at(offset, reloc) {
             return Some(*reloc);
         }
@@ -279,9 +294,18 @@ fn find_upper(relocs: &[Reloc], offset: u64) -> Option<Reloc>
     None
 }
 
-/// The relocations of a section.
-fn relocs_at<'t>(view: &View<'t, '_>, file: FileNo, section: u32) -> &'t [Reloc]
-    ensures { result.now ≡ files.relocs_at (files.file_at (files_in view.now) file) section }
+/// The first upper part at an offset, of relocations in order of offset.
+fn find_upper(relocs: &[Reloc], offset: u64) -> Option<Reloc>
+    requires { IsNonDecreasingBy (λ (r : Reloc). r.offset) relocs.now }
+    ensures { result ≡ find (spec.is_upper_at offset) relocs.now }
+{
+    look_on(&relocs[count_before(relocs, offset)..], offset)
+}
+
+/// The relocations of a section, which stand in order of offset.
+fn relocs_at<'t>(view: &KnownView<'t, '_>, file: FileNo, section: u32) -> &'t [Reloc]
+    ensures value { result.now ≡ files.relocs_at (files.file_at (files_in view.now) file) section }
+    ensures ordered { IsNonDecreasingBy (λ (r : Reloc). r.offset) result.now }
 {
     let Some(file) = view.tables.files.get(file as usize) else {
         return &[];
@@ -291,7 +315,7 @@ fn relocs_at<'t>(view: &View<'t, '_>, file: FileNo, section: u32) -> &'t [Reloc]
 
 /// The partner of a lower part: the first upper part at its label.
 #[tactic(auto, unfolding(crate::specs::Values::partner_of))]
-fn partner_of(view: &View, file: FileNo, section: u32, reloc: &Reloc) -> Option<Reloc>
+fn partner_of(view: &KnownView, file: FileNo, section: u32, reloc: &Reloc) -> Option<Reloc>
     ensures { result ≡ spec.partner_of (files_in view.now) (names_in view.now) (starts_in view.now) file section reloc.now }
 {
     let Some(offset) = label_at(view, site_for(view, file, reloc.symbol), file, section) else {
@@ -316,7 +340,7 @@ pub struct NoPartner;
 /// The value of a relocation of a section that stands at an address.
 #[tactic(auto, unfolding(crate::specs::Values::value_of, rv_code::specs::Kinds::has_value))]
 pub fn value_of(
-    view: &View,
+    view: &KnownView,
     file: FileNo,
     section: u32,
     start: u64,

@@ -18,3 +18,7 @@ mod tests;
 mod words;
 
 pub use binding::bind;
+pub use files::{file, file_count, symbol, symbol_count, symbol_name};
+pub use numbers::{Key, Numbers, number};
+pub use offers::{CLASS_RANKS, FILE_RANKS, class_of, is_offer, rank_at};
+pub use words::value_at;

@@ -92,8 +92,8 @@ fn is_offered(discarded: &[bool], first: usize, symbol: &Symbol) -> bool
     is_offer(symbol) && !is_discarded(discarded, first, symbol.place)
 }
 
-// Whether a symbol offers its name: other files see it, and it is defined.
-fn is_offer(symbol: &Symbol) -> bool
+/// Whether a symbol offers its name: other files see it, and it is defined.
+pub fn is_offer(symbol: &Symbol) -> bool
     ensures { result ≡ spec.is_offer symbol.now }
 {
     symbol.binding != 0 && symbol.place != Place::Undef
@@ -112,8 +112,8 @@ fn is_discarded(discarded: &[bool], first: usize, place: Place) -> bool
     }
 }
 
-// Strong 0, COMMON 1, WEAK 2.
-fn class_of(symbol: &Symbol) -> u64
+/// Strong 0, COMMON 1, WEAK 2.
+pub fn class_of(symbol: &Symbol) -> u64
     ensures { result ≡ spec.class_of symbol.now }
 {
     if is_common(symbol) {

@@ -37,8 +37,8 @@ impl Words {
     }
 }
 
-// A number of a list, 0 past its end.
-fn value_at(list: &[u32], at: usize) -> u32
+/// A number of a list, 0 past its end.
+pub fn value_at(list: &[u32], at: usize) -> u32
     ensures { result ≡ slice_index list.now at }
 {
     match list.get(at) {

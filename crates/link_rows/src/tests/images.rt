@@ -135,3 +135,65 @@ pub const HALVES: Image = Image {
     ],
     ..FIRST
 };
+
+/// A jump to a `ret` of another file.
+pub const ASKED: Image = Image {
+    contents: &[
+        (0x1000, b"\xef\0\x80\0\x67\x80\0\0\x67\x80\0\0"),
+        (0x100c, NAMES),
+    ],
+    ..TWO_FILES
+};
+
+/// A jump to an `ebreak` of another file.
+pub const ASKED_BREAK: Image = Image {
+    contents: &[
+        (0x1000, b"\xef\0\x80\0\x67\x80\0\0\x73\0\x10\0"),
+        (0x100c, NAMES),
+    ],
+    ..TWO_FILES
+};
+
+/// A jump back to a `ret` of a file before.
+pub const ASKED_BEFORE: Image = Image {
+    entry: 0x11004,
+    contents: &[
+        (0x1000, b"\x67\x80\0\0\xef\xf0\xdf\xff\x67\x80\0\0"),
+        (0x100c, NAMES),
+    ],
+    ..TWO_FILES
+};
+
+/// A jump to a file behind another, and from there a jump back to that.
+pub const ASKED_TWICE: Image = Image {
+    segments: &[READ, [1, 5, 0x1000, 0x11000, 20, 20, 4096], STACK],
+    contents: &[
+        (
+            0x1000,
+            b"\xef\0\xc0\0\x67\x80\0\0\x67\x80\0\0\xef\xf0\xdf\xff\x67\x80\0\0",
+        ),
+        (0x1014, NAMES),
+    ],
+    table: 0x1028,
+    sections: &[
+        [1, 1, 6, 0x11000, 0x1000, 20, 4],
+        [7, 3, 0, 0, 0x1014, 17, 1],
+    ],
+    ..FIRST
+};
+
+/// The first, and a common of 8 bytes.
+pub const ASKED_COMMON: Image = Image {
+    segments: &[
+        READ_OF_FOUR,
+        [1, 5, 0x1000, 0x11000, 8, 8, 4096],
+        [1, 6, 0x2000, 0x12000, 0, 8, 4096],
+        STACK,
+    ],
+    sections: &[
+        [1, 1, 6, 0x11000, 0x1000, 8, 4],
+        [7, 8, 3, 0x12000, 0x2000, 8, 8],
+        [12, 3, 0, 0, 0x1008, 22, 1],
+    ],
+    ..COMMON_OF_16
+};

@@ -10,10 +10,10 @@ pub struct Input<'a> {
     pub most: usize,
 }
 
-const WHOLE: usize = 100_000;
+pub const WHOLE: usize = 100_000;
 
 /// `.text` of one `ret`.
-const RETURN: Section = Section {
+pub const RETURN: Section = Section {
     name: b".text",
     sort: 1,
     flags: 6,
@@ -23,7 +23,13 @@ const RETURN: Section = Section {
     relocs: &[],
 };
 
-const START: Symbol = Symbol {
+/// `.text` of one `ebreak`.
+pub const BREAK: Section = Section {
+    bytes: b"\x73\0\x10\0",
+    ..RETURN
+};
+
+pub const START: Symbol = Symbol {
     name: b"_start",
     binding: 1,
     sort: 2,
@@ -33,7 +39,7 @@ const START: Symbol = Symbol {
 };
 
 /// A function named `x`.
-const X: Symbol = Symbol {
+pub const X: Symbol = Symbol {
     name: b"x",
     ..START
 };
@@ -48,7 +54,7 @@ const LABEL: Symbol = Symbol {
 };
 
 /// A jump to symbol 2 at the beginning.
-const TO_SECOND: Reloc = Reloc {
+pub const TO_SECOND: Reloc = Reloc {
     offset: 0,
     kind: 17,
     symbol: 2,
@@ -56,7 +62,7 @@ const TO_SECOND: Reloc = Reloc {
 };
 
 /// A jump to the function behind it.
-const A: Object = Object {
+pub const A: Object = Object {
     flags: 0,
     sections: &[Section {
         bytes: b"\xef\0\0\0\x67\x80\0\0",
@@ -81,7 +87,7 @@ const WEAK: Object = Object {
 };
 
 /// A strong `x`.
-const STRONG: Object = Object {
+pub const STRONG: Object = Object {
     flags: 0,
     sections: &[RETURN],
     symbols: &[X],
@@ -113,7 +119,7 @@ const COMMON: Symbol = Symbol {
     ..X
 };
 
-const COMMON_OF_8: Object = Object {
+pub const COMMON_OF_8: Object = Object {
     flags: 0,
     sections: &[],
     symbols: &[COMMON],
@@ -327,8 +333,85 @@ const HALVES: Object = Object {
     ],
 };
 
-/// All inputs. Each link has them all at hand.
-pub const INPUTS: [Input; 20] = [
+/// `n`, which another file defines.
+const ASKED_N: Symbol = Symbol {
+    name: b"n",
+    sort: 0,
+    section: 0,
+    size: 0,
+    ..START
+};
+
+/// `m`, which another file defines.
+pub const ASKED_M: Symbol = Symbol {
+    name: b"m",
+    ..ASKED_N
+};
+
+/// A jump at the beginning to `n`.
+const ASKER: Object = Object {
+    flags: 0,
+    sections: &[Section {
+        bytes: b"\xef\0\0\0\x67\x80\0\0",
+        relocs: &[Reloc {
+            symbol: 1,
+            ..TO_SECOND
+        }],
+        ..RETURN
+    }],
+    symbols: &[ASKED_N, START],
+};
+
+/// Jumps to `n` and to `m`.
+const ASKER_OF_BOTH: Object = Object {
+    flags: 0,
+    sections: &[Section {
+        bytes: b"\xef\0\0\0\xef\0\0\0\x67\x80\0\0",
+        relocs: &[
+            Reloc {
+                symbol: 1,
+                ..TO_SECOND
+            },
+            Reloc {
+                offset: 4,
+                ..TO_SECOND
+            },
+        ],
+        ..RETURN
+    }],
+    symbols: &[ASKED_N, ASKED_M, START],
+};
+
+/// A jump to the function behind it; `x` is of another file.
+const ASKER_OF_X: Object = Object {
+    symbols: &[
+        START,
+        Symbol {
+            name: b"f",
+            value: 4,
+            ..START
+        },
+        Symbol {
+            name: b"x",
+            ..ASKED_N
+        },
+    ],
+    ..A
+};
+
+/// A weak `n` of one `ebreak`.
+const WEAK_N: Object = Object {
+    flags: 0,
+    sections: &[BREAK],
+    symbols: &[Symbol {
+        name: b"n",
+        binding: 2,
+        ..START
+    }],
+};
+
+/// All inputs that are objects. Each link has them all at hand.
+pub const INPUTS: [Input; 24] = [
     Input {
         name: "a.o",
         object: A,
@@ -427,6 +510,26 @@ pub const INPUTS: [Input; 20] = [
     Input {
         name: "halves.o",
         object: HALVES,
+        most: WHOLE,
+    },
+    Input {
+        name: "m.o",
+        object: ASKER,
+        most: WHOLE,
+    },
+    Input {
+        name: "both.o",
+        object: ASKER_OF_BOTH,
+        most: WHOLE,
+    },
+    Input {
+        name: "x.o",
+        object: ASKER_OF_X,
+        most: WHOLE,
+    },
+    Input {
+        name: "n.o",
+        object: WEAK_N,
         most: WHOLE,
     },
 ];

@@ -1,6 +1,5 @@
-use Rattle.std.proofs.Common.{◌≡◌, ◌∙◌, ap, sym, subst, List}
-use Rattle.elf_out.specs.Executable.{executable, laid_out, places}
-use Rattle.lk_base.specs.declared.defects.Defect.{Defect}
+use Rattle.std.proofs.Common.{◌∙◌, ap, sym, subst}
+use Rattle.elf_out.specs.Executable.{executable, laid_out}
 use Rattle.lk_base.specs.Firsts.{StopsAt}
 use Rattle.lk_tables.specs.BindingView.{binding_view}
 use Rattle.lk_tables.specs.FileView.{files_of}

@@ -1,4 +1,4 @@
-use Rattle.std.proofs.Common.{arith, length, ap, sym, ◌∙◌}
+use Rattle.std.proofs.Common.{arith, ap}
 use Rattle.lk_tables.specs.Files.{section_count}
 use Rattle.lk_tables.specs.FileView.{file_view}
 use Rattle.link_driver.proofs.Totals.{sections_step}

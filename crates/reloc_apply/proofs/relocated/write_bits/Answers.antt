@@ -1,8 +1,8 @@
-use Rattle.std.proofs.Common.{◌≡◌, ◌+◌, ◌-◌, ◌≤◌, ◌<◌, ◌∷◌, [], length, arith, rules, ap, ap₂, ◌∙◌}
+use Rattle.std.proofs.Common.{◌≡◌, ◌+◌, ◌-◌, ◌≤◌, ◌<◌, ◌∷◌, [], length, arith, ap, ◌∙◌}
 use Rattle.lk_tables.specs.Files.{file_at, section_at, relocs_at}
 use Rattle.reloc_apply.specs.Image.{Shows}
 use Rattle.reloc_apply.specs.Relocated.{all_put, contents, bits_piece}
-use Rattle.reloc_apply.specs.Views.{files_in, names_in, starts_in}
+use Rattle.reloc_apply.specs.KnownViews.{files_in, names_in, starts_in}
 use Rattle.reloc_apply.proofs.SectionLies.{on_ok, one_piece}
 use Rattle.reloc_apply.proofs.relocated.write_bits.Goals as goal
 

@@ -2,7 +2,7 @@ use Rattle.std.proofs.Common.{◌≡◌, ◌∙◌, ap, length, map, arith}
 use Rattle.lk_tables.specs.FileView.{file_view}
 use Rattle.reloc_apply.proofs.SectionLies.{on_ok}
 use Rattle.link_driver.proofs.Opening.{written_back}
-use Rattle.link_driver.proofs.bodies.open_all.Goals as goal
+use Rattle.link_driver.proofs.bodies.open_live.Goals as goal
 
 pub returns-clause-files : goal.returns-clause-files
 returns-clause-files c =

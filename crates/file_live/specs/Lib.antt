@@ -1,0 +1,5 @@
+pub mod Early
+pub mod Live
+pub mod Places
+pub mod Pulls
+pub mod Search

@@ -1,0 +1,74 @@
+-- Which files take part in a link: the objects of the command, and each member of an archive that one of those that take part
+-- asks for (ld, "Options": an archive is searched for members that define a symbol that is still undefined; System V gABI,
+-- "Symbol Table": a weak undefined symbol brings in no member).
+use Rattle.std.specs.Prelude.{◌≡◌, ℕ, zero, suc, ◌^◌, ◌<◌, ◌/◌, ◌&&◌, ◌||◌, ◌==◌, not, nat_lt, Bool, true, false, if◌then◌else◌, List, [], ◌∷◌, length, map, slice_index_or, flat_map}
+use Rattle.std.specs.List.{list_any, range_with_len}
+use Rattle.lk_tables.specs.declared.heads.Symbol.{Symbol}
+use Rattle.lk_tables.specs.Bodies.{is_undef}
+use Rattle.lk_tables.specs.Files.{File, file_at, symbol_at, symbol_name}
+use Rattle.lk_tables.specs.Binding.{Offer, is_offer, class_of, rank_of, file_of, least_rank}
+
+-- each offer of a member is behind all offers of the command's objects
+abbrev pub early_class : File → Symbol → ℕ
+early_class file s = if file.member then 3 else class_of s
+
+abbrev pub early_rank : List File → (f i : ℕ) → ℕ
+early_rank files f i = rank_of (early_class (file_at files f) (symbol_at (file_at files f) i)) f i
+
+-- the offers of symbol i of file f, of a file, and of all files, in order of file and symbol
+unfoldable pub early_offer_at : List File → (f i : ℕ) → List Offer
+early_offer_at files f i = if is_offer (symbol_at (file_at files f) i)
+    then record { name = symbol_name (file_at files f) i; rank = early_rank files f i } ∷ [] else []
+
+unfoldable pub early_offers_in : List File → ℕ → List Offer
+early_offers_in files f = flat_map (early_offer_at files f) (range_with_len 0 (length (file_at files f).head.symbols))
+
+unfoldable pub early_offers : List File → List Offer
+early_offers files = flat_map (early_offers_in files) (range_with_len 0 (length files))
+
+-- the rank of the first offer of a name: one of an object of the command, else of the first member that offers it
+unfoldable pub early : List File → List ℕ → ℕ
+early files name = least_rank name (early_offers files)
+
+-- an undefined symbol of binding GLOBAL (1) or GNU_UNIQUE (10) asks for its name
+abbrev pub asks : Symbol → Bool
+asks s = is_undef s.place && (s.binding == 1 || s.binding == 10)
+
+-- the rank is of an offer of the member g
+abbrev pub is_of_member : ℕ → ℕ → Bool
+is_of_member g rank = rank / 2 ^ 56 == 3 && file_of rank == g
+
+-- symbol i of file f, and file f, ask for a name whose first offer is of the member g
+unfoldable pub pulls_by : List File → (f g i : ℕ) → Bool
+pulls_by files f g i = asks (symbol_at (file_at files f) i) && is_of_member g (early files (symbol_name (file_at files f) i))
+
+unfoldable pub pulls : List File → (f g : ℕ) → Bool
+pulls files f g = list_any (pulls_by files f g) (range_with_len 0 (length (file_at files f).head.symbols))
+
+-- an object of the command
+abbrev pub is_command : List File → ℕ → Bool
+is_command files f = nat_lt f (length files) && not (file_at files f).member
+
+-- the objects of the command, and what they pull in so many rounds
+unfoldable pub live_in : List File → (rounds : ℕ) → ℕ → Bool
+live_in files zero f = is_command files f
+live_in files (suc n) f = live_in files n f || list_any (λ e. live_in files n e && pulls files e f) (range_with_len 0 (length files))
+
+-- a round that adds no file is the last that could, so there are no more such rounds than files
+unfoldable pub is_live : List File → ℕ → Bool
+is_live files f = live_in files (length files) f
+
+-- by number, whether a file takes part
+unfoldable pub live_of : List File → List Bool
+live_of files = map (is_live files) (range_with_len 0 (length files))
+
+-- a set of files with the command's objects, and with each member that a file of the set pulls
+pub record IsClosedSet (files : List File) (s : ℕ → Bool) : Type 0 where
+  pub commands : (f : ℕ) → f < length files → (file_at files f).member ≡ false → s f ≡ true
+  pub pulled : (f g : ℕ) → s f ≡ true → pulls files f g ≡ true → s g ≡ true
+
+-- the least such set
+pub record IsLive (files : List File) (live : List Bool) : Type 0 where
+  pub wide : length live ≡ length files
+  pub closed : IsClosedSet files (λ f. slice_index_or live f false)
+  pub least : (s : ℕ → Bool) → IsClosedSet files s → (g : ℕ) → slice_index_or live g false ≡ true → s g ≡ true
