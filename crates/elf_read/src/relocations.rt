@@ -3,7 +3,7 @@
 ghost use Rattle.std.specs.Prelude.{◌≡◌, ◌+◌, ◌<◌, ◌≤◌, length, map, unwrap_or, [], IfOk, IsFalse, ◌^◌};
 ghost use Rattle.std.specs.List.{range_with_len};
 ghost use Rattle.lk_tables.specs.Checks.{checked, passes, from_on, Follows};
-ghost use Rattle.lk_tables.specs.Order.{stable_order};
+ghost use Rattle.lk_base.specs.Order.{stable_order};
 ghost use Rattle.lk_tables.specs.Relocations as read;
 ghost use Rattle.lk_tables.specs.Sections.{section_of};
 

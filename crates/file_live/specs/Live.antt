@@ -1,6 +1,6 @@
--- Which files take part in a link: the objects of the command, and each member of an archive that one of those that take part
--- asks for (ld, "Options": an archive is searched for members that define a symbol that is still undefined; System V gABI,
--- "Symbol Table": a weak undefined symbol brings in no member).
+-- Which files take part in a link: the objects of the command, and each member of an archive whose offer of a name is the first,
+-- where one of those that take part asks for the name. Objects of the command come before members, wherever on the command the
+-- archive stands, and members in the order of the files. An undefined weak symbol brings in no member (System V gABI, "Symbol Table").
 use Rattle.std.specs.Prelude.{◌≡◌, ℕ, zero, suc, ◌^◌, ◌<◌, ◌/◌, ◌&&◌, ◌||◌, ◌==◌, not, nat_lt, Bool, true, false, if◌then◌else◌, List, [], ◌∷◌, length, map, slice_index_or, flat_map}
 use Rattle.std.specs.List.{list_any, range_with_len}
 use Rattle.lk_tables.specs.declared.heads.Symbol.{Symbol}

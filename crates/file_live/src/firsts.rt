@@ -29,7 +29,7 @@ pub fn first_ranks<R: Threads + Sync, G: Gate>(
     ensures { IfOk result (λ ranks. ranks.items ≡ first_ranks (offers_view offers.now) (asks_view asks.now)) }
 {
     let keys = keys_of(alloc, offers, asks)?;
-    let numbers = number(rt, alloc, keys, offers.len() + asks.len())?;
+    let numbers = number(rt, alloc, keys, offers.len() + asks.len(), workers)?;
     let claims = claims_of(alloc, offers, numbers.of.as_slice())?;
     let least = least_offers(rt, alloc, gate, workers, numbers.count, claims.as_slice())?;
     ranks_of(

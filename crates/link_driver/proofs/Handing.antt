@@ -7,6 +7,7 @@ use Rattle.lk_tables.specs.Binding.{Bindings}
 use Rattle.lk_tables.specs.Files.{File, section_total}
 use Rattle.reloc_apply.specs.Parts.{parts}
 use Rattle.reloc_apply.proofs.Sized.{AllSound, are_sized, few_parts}
+use Rattle.sym_resolve.specs.Law.{IsLawful}
 use Rattle.link_driver.specs.Link.{bound_names, executable_in, none_gone}
 use Rattle.link_driver.specs.Sources.{Source, files_in}
 
@@ -32,3 +33,11 @@ unfolding executable_in
 gives_executable entry ss files b exe are names is =
     is ∙ ap (λ n. executable files n (laid_out files n) (places files n)) names
     ∙ ap (λ fs. executable fs (bound_names fs entry) (laid_out fs (bound_names fs entry)) (places fs (bound_names fs entry))) are
+
+-- what the names of these files are bound to
+pub bound_are : (entry asked : List ℕ) (files : List File) (ss : List Source) → files ≡ files_in ss → entry ≡ asked →
+    IsLawful files (none_gone files) entry (bound_names files entry) → IsLawful (files_in ss) (none_gone (files_in ss)) asked (bound_names (files_in ss) asked)
+bound_are entry asked files ss are same bound =
+    let P : List ℕ → Type 0 = λ name. IsLawful (files_in ss) (none_gone (files_in ss)) name (bound_names (files_in ss) name) in
+    let Q : List File → Type 0 = λ fs. IsLawful fs (none_gone fs) entry (bound_names fs entry) in
+    subst P same (subst Q are bound)

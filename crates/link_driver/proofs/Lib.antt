@@ -3,7 +3,9 @@ pub mod Indexes
 pub mod Laying
 pub mod Handing
 pub mod Opening
+pub mod Putting
 pub mod Reading
+pub mod Sharing
 pub mod Totals
 pub mod Finishing
 pub mod Promising

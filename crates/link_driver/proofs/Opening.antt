@@ -4,7 +4,7 @@ use Rattle.std.specs.Prelude.{slice_set, flat_map}
 use Rattle.std.proofs.Math.Seq.{drop-cons}
 use Rattle.std.specs.List.{range_with_len}
 use Rattle.std.proofs.lemmas.List.{length-map, get_or-map, map-set, length-append, length-drop, length-take, append-nil, drop_all, take_all}
-use Rattle.std.proofs.lemmas.List.FromFn.{length-map-range_with_len}
+use Rattle.std.proofs.lemmas.List.FromFn.{length-map-range_with_len, get_or-map-range_with_len}
 use Rattle.lk_base.proofs.Loops.{map_step, range_at}
 use Rattle.lk_tables.specs.declared.files.File.{File as LentFile}
 use Rattle.lk_tables.specs.declared.spans.Span.{Span}
@@ -49,6 +49,13 @@ module _ (done left : ℕ → File) (files : List LentFile) (f n : ℕ) (lt : f 
       ∙ set_mid (map done (range_with_len 0 f)) (map left (range_with_len (f + 1) (n - (f + 1)))) (left f) (file_view file) f front
       ∙ ap (λ l. l ++ map left (range_with_len (f + 1) (n - (f + 1))))
       (map_step done f (map done (range_with_len 0 f)) (map done (range_with_len 0 f) ++ file_view file ∷ []) refl (ap (λ x. map done (range_with_len 0 f) ++ x ∷ []) same))
+
+-- a file by number
+pub headed_at : (f : ℕ → File) (files : List LentFile) (i n : ℕ) → i < n → map file_view files ≡ map f (range_with_len 0 n) → (d : LentFile) → file_view (get_or files i d) ≡ f i
+headed_at f files i n lt is d =
+    let room : i < length files = omega (arith, ap (length {A = File}) is, length-map files file_view, length-map-range_with_len f 0 n) in
+    sym (get_or-map file_view files i d (file_view d) room) ∙ ap (λ l. get_or l i (file_view d)) is
+    ∙ get_or-map-range_with_len f 0 n i i (file_view d) lt (omega arith)
 
 -- how many files there are
 pub count_views : (files items : List LentFile) (f : ℕ → File) (n : ℕ) → files ≡ items → map file_view items ≡ map f (range_with_len 0 n) → length files ≡ n

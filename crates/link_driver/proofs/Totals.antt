@@ -1,5 +1,5 @@
 -- Sums over the files of a link.
-use Rattle.std.proofs.Common.{◌≡◌, Bool, true, false, ℕ, ◌+◌, ◌<◌, ◌≤◌, arith, take, get_or, List, [], ◌∷◌, ◌++◌, length, map, flat_map, sum, refl, sym, ap, ◌∙◌}
+use Rattle.std.proofs.Common.{◌≡◌, Bool, true, false, ℕ, ◌+◌, ◌<◌, ◌≤◌, arith, take, get_or, List, [], ◌∷◌, ◌++◌, length, map, flat_map, sum, refl, ap, ◌∙◌, subst}
 use Rattle.std.specs.Prelude.{if◌then◌else◌}
 use Rattle.std.specs.List.{range_with_len}
 use Rattle.std.proofs.lemmas.Bool.Decides.{nat_tests}
@@ -7,38 +7,45 @@ use Rattle.std.proofs.lemmas.List.{length-map, get_or-map, take_more}
 use Rattle.std.proofs.lemmas.List.FromFn.{length-map-range_with_len}
 use Rattle.lk_base.specs.declared.defects.Defect.{Defect}
 use Rattle.lk_base.specs.Firsts.{BeginsWith}
-use Rattle.file_live.specs.Live.{live_of}
+use Rattle.file_live.specs.Live.{IsLive, live_of}
 use Rattle.link_driver.specs.Link.{body_defects_at, count_defects}
-use Rattle.link_driver.specs.Sources.{Source, files_in, has_body, head_in, headed, heads_in, live_in, opened, opened_files, with_body}
+use Rattle.link_driver.specs.Shares.{HasFewSymbols, IsHeadOf}
+use Rattle.link_driver.specs.Sources.{Source, files_in, has_body, head_in, headed, heads_in, live_in, opened, opened_files, source_at, with_body}
 use Rattle.std.proofs.lemmas.List.{map-append}
 use Rattle.std.proofs.lemmas.List.Sums.{sum_by_push}
-use Rattle.lk_base.proofs.Loops.{map_step}
 use Rattle.lk_tables.specs.declared.files.File.{File as LentFile}
 use Rattle.lk_tables.specs.Files.{File, no_object, first_section, section_count, symbol_total}
 use Rattle.lk_tables.specs.FileView.{file_view}
 
-pub symbols_push : (files : List File) (file : File) → symbol_total (files ++ file ∷ []) ≡ symbol_total files + length file.head.symbols
+symbols_push : (files : List File) (file : File) → symbol_total (files ++ file ∷ []) ≡ symbol_total files + length file.head.symbols
 symbols_push files file =
     ap sum (map-append (λ (f : File). length f.head.symbols) files (file ∷ []))
     ∙ sum_by_push (λ (n : ℕ). n) (map (λ (f : File). length f.head.symbols) files) (length file.head.symbols)
 
-pub symbols_step : (f : ℕ → File) (i : ℕ) → symbol_total (map f (range_with_len 0 (i + 1))) ≡ symbol_total (map f (range_with_len 0 i)) + length (f i).head.symbols
-symbols_step f i =
-    ap symbol_total (sym (map_step f i (map f (range_with_len 0 i)) (map f (range_with_len 0 i) ++ f i ∷ []) refl refl))
-    ∙ symbols_push (map f (range_with_len 0 i)) (f i)
+-- the symbols of one more file
+pub symbols_step : (files : List LentFile) (f : ℕ) (d : LentFile) → f < length files →
+    symbol_total (take (f + 1) (map file_view files)) ≡ symbol_total (take f (map file_view files)) + length (get_or files f d).head.symbols.items
+symbols_step files f d lt =
+    let views = map file_view files in
+    let room : f < length views = omega (arith, length-map files file_view) in
+    ap symbol_total (take_more views f (file_view d) room)
+    ∙ symbols_push (take f views) (get_or views f (file_view d))
+    ∙ ap (λ (file : File). symbol_total (take f views) + length file.head.symbols) (get_or-map file_view files f d (file_view d) lt)
 
--- one more file of which the head was read
-pub headed_push : (old : List LentFile) (file : LentFile) (new : List LentFile) (s : Source) → new ≡ old ++ file ∷ [] →
-    (file_view file).live ≡ false → (file_view file).member ≡ s.member → (file_view file).bytes ≡ s.bytes → (file_view file).head ≡ head_in s →
-    (file_view file).object ≡ no_object →
-    map file_view new ≡ map file_view old ++ record { live = false; member = s.member; bytes = s.bytes; head = head_in s; object = no_object } ∷ []
-headed_push old file new s is live member bytes head object =
-    ap (map file_view) is ∙ map-append file_view old (file ∷ [])
-    ∙ ap (λ x. map file_view old ++ record (file_view file) { live = x } ∷ []) live
-    ∙ ap (λ x. map file_view old ++ record (file_view file) { live = false; member = x } ∷ []) member
-    ∙ ap (λ x. map file_view old ++ record (file_view file) { live = false; member = s.member; bytes = x } ∷ []) bytes
-    ∙ ap (λ x. map file_view old ++ record (file_view file) { live = false; member = s.member; bytes = s.bytes; head = x } ∷ []) head
-    ∙ ap (λ x. map file_view old ++ record { live = false; member = s.member; bytes = s.bytes; head = head_in s; object = x } ∷ []) object
+-- a file of which the head was read
+pub is_head_of : (ss : List Source) (f : ℕ) (file : LentFile) →
+    (file_view file).live ≡ false → (file_view file).member ≡ (source_at ss f).member → (file_view file).bytes ≡ (source_at ss f).bytes →
+    (file_view file).head ≡ head_in (source_at ss f) → (file_view file).object ≡ no_object → HasFewSymbols file → IsHeadOf ss f file
+is_head_of ss f file live member bytes head object few =
+    let s : Source = source_at ss f in record {
+      is =
+          ap (λ x. record (file_view file) { live = x }) live
+          ∙ ap (λ x. record (file_view file) { live = false; member = x }) member
+          ∙ ap (λ x. record (file_view file) { live = false; member = s.member; bytes = x }) bytes
+          ∙ ap (λ x. record (file_view file) { live = false; member = s.member; bytes = s.bytes; head = x }) head
+          ∙ ap (λ x. record { live = false; member = s.member; bytes = s.bytes; head = head_in s; object = x }) object;
+      few = few;
+    }
 
 -- a file has as many symbols whether it takes part or not
 one_len : (ss : List Source) (f : ℕ) (t : Bool) → length (headed ss f).head.symbols ≡ length (if t then with_body (headed ss f) else headed ss f).head.symbols
@@ -68,6 +75,13 @@ how_many_heads ss = length-map-range_with_len (headed ss) 0 (length ss)
 pub live_same : (ss : List Source) (files : List File) → files ≡ heads_in ss → live_of files ≡ live_in ss
 unfolding live_in
 live_same ss files are = ap live_of are
+
+-- they are the least closed set of them
+pub taking_part_of : (ss : List Source) (files : List File) (live : List Bool) → files ≡ heads_in ss → live ≡ live_in ss → IsLive files live → IsLive (heads_in ss) (live_in ss)
+taking_part_of ss files live are same least =
+    let P : List File → Type 0 = λ fs. IsLive fs (live_in ss) in
+    let Q : List Bool → Type 0 = λ l. IsLive files l in
+    subst P are (subst Q same least)
 
 pub are_files : (ss : List Source) (live : List Bool) (m : ℕ) (files : List File) → files ≡ map (opened ss live) (range_with_len 0 m) →
     m ≡ length ss → live ≡ live_in ss → files ≡ files_in ss

@@ -4,6 +4,7 @@ pub mod Endings
 pub mod Link
 pub mod Phases
 pub mod Promises
+pub mod Shares
 pub mod Sources
 pub mod Stops
 pub mod Tables

@@ -3,10 +3,12 @@ use Rattle.std.specs.Prelude.{◌≡◌, ℕ, List, [], Some, Result, Ok, Err}
 use Rattle.lk_base.specs.declared.defects.LinkStop.{LinkStop}
 use Rattle.lk_base.specs.declared.limits.Limits.{Limits}
 use Rattle.lk_base.specs.Firsts.{StopsAt}
+use Rattle.file_live.specs.Live.{IsLive}
 use Rattle.link_command.specs.Command.{Asked}
+use Rattle.sym_resolve.specs.Law.{IsLawful}
 use Rattle.link_driver.specs.declared.linking.Linked.{Linked}
-use Rattle.link_driver.specs.Link.{defects_in, executable_in, link}
-use Rattle.link_driver.specs.Sources.{Source}
+use Rattle.link_driver.specs.Link.{bound_names, defects_in, executable_in, link, none_gone}
+use Rattle.link_driver.specs.Sources.{Source, files_in, heads_in, live_in}
 
 -- what a link without a defect gives
 pub record Gives (entry : List ℕ) (ss : List Source) (linked : Linked) : Type 0 where
@@ -14,11 +16,16 @@ pub record Gives (entry : List ℕ) (ss : List Source) (linked : Linked) : Type 
   pub map : linked.map.items ≡ []
   pub report : linked.report.items ≡ []
 
--- what Link gives where there is no defect, the first defect where there is one, or want of memory
+-- a link without a defect gives Link. Of Link's own words it is said, as laws: the files that take part are the least set with
+-- the command's objects and all that they pull; each name is bound to the least offer of it, where there is one, and bound COMMON
+-- symbols get the greatest room asked for
 pub record Links (limits : Limits) (entry : List ℕ) (ss : List Source) (linked : Linked) : Type 0 where
   pub sound : defects_in limits entry ss ≡ []
+  pub taking_part : IsLive (heads_in ss) (live_in ss)
+  pub bound : IsLawful (files_in ss) (none_gone (files_in ss)) entry (bound_names (files_in ss) entry)
   pub gives : Gives entry ss linked
 
+-- Link where there is no defect, the first defect where there is one, or want of memory
 abbrev pub AfterLink : Limits → (entry : List ℕ) → List Source → Result Linked LinkStop → Type 0
 AfterLink limits entry ss (Ok linked) = Links limits entry ss linked
 AfterLink limits entry ss (Err stop) = StopsAt stop (defects_in limits entry ss)

@@ -426,8 +426,10 @@ fn tell<E: Sink>(err: &mut E, line: &[u8])
 /// file is begun, and given back at the end.
 ///
 /// The answer is the exit status: 0 linked; 1 the inputs have a defect, whose line is told; 2 the command is refused; 3 an input
-/// could not be read, or a file or the report could not be written; 4 memory was wanting. `rt` starts the workers, as many as the
-/// command asks for, and `gate` is called by each before and after its piece of work: no answer depends on either.
+/// could not be read, or a file or the report could not be written; 4 memory was wanting. `rt` starts the workers: as many as the
+/// command asks for share the files and claim names, and where these are two or more, names are sorted by as many threads as there
+/// are processors. `gate` is called by each worker before and after its piece, where there are two pieces or more. No answer depends on
+/// either.
 pub fn run<R: Threads + Sync, D: Depot, S: Sink, E: Sink, G: Gate>(
     rt: &R,
     alloc: Global,

@@ -1,6 +1,6 @@
-//! The first phase of a link: the head of each file is read.
+//! The first phase of a link: the head of each file is read, by the workers.
 
-ghost use Rattle.std.specs.Prelude.{◌≡◌, ℕ, ◌+◌, ◌*◌, ◌<◌, ◌≤◌, ◌^◌, ◌++◌, min, length, map, flat_map, Ok, Err, IfOk, OnOk, []};
+ghost use Rattle.std.specs.Prelude.{◌≡◌, ℕ, ◌+◌, ◌*◌, ◌<◌, ◌≤◌, ◌^◌, ◌++◌, All, min, length, map, flat_map, Ok, Err, IfOk};
 ghost use Rattle.std.specs.List.{range_with_len};
 ghost use Rattle.lk_base.specs.declared.defects.Defect.{Defect as DefectOf};
 ghost use Rattle.lk_base.specs.declared.defects.ReadFault.TheVariants as faults;
@@ -12,14 +12,19 @@ ghost use Rattle.lk_tables.specs.Files.{no_head, symbol_total};
 ghost use Rattle.lk_tables.specs.Heads.{head_view};
 ghost use Rattle.link_driver.specs.Contents.{source_view, sources_of};
 ghost use Rattle.link_driver.specs.Link.{defect_in, head_defects, head_defects_at, count_defects, reading_defects};
+ghost use Rattle.link_driver.specs.Shares.{AreShares, HasFewSymbols, IsHeadOf, IsShare};
 ghost use Rattle.link_driver.specs.Sources.{head_in, headed, heads_in};
 ghost use Rattle.link_driver.specs.Stops.{stop_for};
 
+use crate::shares::{join, nothing_else};
 use crate::sources::Source;
 use elf_read::read_head;
 use lk_base::{Defect, DefectKind, FileNo, Flaw, Limits, LinkStop, NO_FILE, ReadFault};
 use lk_tables::{File, Head};
-use std::alloc::Global;
+use std::alloc::{AllocError, Global};
+use std::ops::Range;
+use std::thread::Threads;
+use work_split::{Gate, over_pieces, pieces};
 
 /// A flaw of a file as a defect of the link.
 pub fn defect_in(file: FileNo, flaw: &Flaw) -> Defect
@@ -76,28 +81,24 @@ fn no_head(alloc: Global) -> Head
     }
 }
 
-/// Reads the heads of the first `count` files, in order; gives how many symbols they have.
-fn read_each<'a>(
+/// Reads the heads of the files of one piece, in order.
+fn read_piece<'a>(
     alloc: Global,
     sources: &[Source<'a>],
-    count: u32,
-    files: &mut Vec<File<'a>>,
-) -> Result<u64, LinkStop>
-    requires count { count ≤ length sources.now }
-    requires few { count < 2 ^ 24 }
-    requires none { files.old.items ≡ [] }
-    ensures goes { Goes result (flat_map (head_defects_at (sources_of sources.now)) (range_with_len 0 count)) }
-    ensures files { OnOk result (map file_view files.new.items ≡ map (headed (sources_of sources.now)) (range_with_len 0 count)) }
-    ensures symbols { IfOk result (λ symbols. symbols ≡ symbol_total (map (headed (sources_of sources.now)) (range_with_len 0 count))) }
+    piece: Range<usize>,
+) -> Result<Vec<File<'a>>, LinkStop>
+    requires ordered { piece.start ≤ piece.end }
+    requires within { piece.end ≤ length sources.now }
+    requires few { piece.end < 2 ^ 24 }
+    ensures { IsShare (head_defects_at (sources_of sources.now)) (IsHeadOf (sources_of sources.now)) piece.start piece.end result }
 {
-    let mut symbols = 0;
-    for file in 0..count {
-        let source = &sources[file as usize];
-        let head = match read_one(alloc, source, file) {
+    let mut files = Vec::with_capacity(alloc, piece.end - piece.start)?;
+    for at in piece.start..piece.end {
+        let source = &sources[at];
+        let head = match read_one(alloc, source, at as u32) {
             Ok(head) => head,
             Err(stop) => return Err(stop),
         };
-        symbols += head.symbols.len() as u64;
         files.push(File {
             bytes: source.bytes,
             member: source.member,
@@ -105,7 +106,73 @@ fn read_each<'a>(
             object: None,
         })?;
     }
-    Ok(symbols)
+    Ok(files)
+}
+
+/// What each worker reads of the first `count` files.
+fn shares_of<'a, R: Threads + Sync, G: Gate>(
+    rt: &R,
+    alloc: Global,
+    sources: &[Source<'a>],
+    count: usize,
+    workers: u32,
+    gate: &G,
+) -> Result<Vec<Result<Vec<File<'a>>, LinkStop>>, AllocError>
+    requires count { count ≤ length sources.now }
+    requires few { count < 2 ^ 24 }
+    requires some { 1 ≤ workers }
+    requires most { workers ≤ 64 }
+    ensures { IfOk result (λ shares. AreShares (head_defects_at (sources_of sources.now)) (IsHeadOf (sources_of sources.now)) 0 count shares.items) }
+{
+    let cuts = pieces(alloc, count, workers)?;
+    let given = nothing_else(alloc, cuts.len())?;
+    over_pieces(
+        rt,
+        alloc,
+        gate,
+        cuts.as_slice(),
+        given,
+        |_worker: u32, piece: Range<usize>, _given: ()| -> Result<Vec<File>, LinkStop>
+            requires ordered { piece.start ≤ piece.end }
+            requires within { piece.end ≤ length sources.now }
+            requires few { piece.end < 2 ^ 24 }
+            ensures { IsShare (head_defects_at (sources_of sources.entry.now)) (IsHeadOf (sources_of sources.entry.now)) piece.start piece.end result }
+        { read_piece(alloc, sources, piece) },
+    )
+}
+
+/// Reads the heads of the first `count` files.
+fn read_first<'a, R: Threads + Sync, G: Gate>(
+    rt: &R,
+    alloc: Global,
+    sources: &[Source<'a>],
+    count: usize,
+    workers: u32,
+    gate: &G,
+) -> Result<Vec<File<'a>>, LinkStop>
+    requires count { count ≤ length sources.now }
+    requires few { count < 2 ^ 24 }
+    requires some { 1 ≤ workers }
+    requires most { workers ≤ 64 }
+    ensures goes { Goes result (flat_map (head_defects_at (sources_of sources.now)) (range_with_len 0 count)) }
+    ensures files { IfOk result (λ files. map file_view files.items ≡ map (headed (sources_of sources.now)) (range_with_len 0 count)) }
+    ensures few { IfOk result (λ files. All HasFewSymbols files.items) }
+{
+    let shares = shares_of(rt, alloc, sources, count, workers, gate)?;
+    join(alloc, shares)
+}
+
+/// How many symbols these files have.
+fn count_symbols(files: &[File]) -> u64
+    requires count { length files.now < 2 ^ 24 }
+    requires few { All HasFewSymbols files.now }
+    ensures { result ≡ symbol_total (map file_view files.now) }
+{
+    let mut total = 0;
+    for index in 0..files.len() {
+        total += files[index].head.symbols.len() as u64;
+    }
+    total
 }
 
 /// Refuses a count that is above its limit.
@@ -125,30 +192,34 @@ pub fn check_count(limit: u64, count: u64) -> Result<(), Defect>
     Ok(())
 }
 
-/// Reads the head of each file, in order. A link of more files than the limit has them as its defect, where none of the
-/// first, up to the limit, has one.
+/// Reads the head of each file. A link of more files than the limit has them as its defect, where none of the first, up to
+/// the limit, has one. It answers the same whatever the number of workers.
 #[tactic(auto, unfolding(crate::specs::Link::reading_defects, crate::specs::Sources::heads_in))]
-pub fn read_heads<'a>(
+pub fn read_heads<'a, R: Threads + Sync, G: Gate>(
+    rt: &R,
     alloc: Global,
     limits: &Limits,
     sources: &[Source<'a>],
+    workers: u32,
+    gate: &G,
 ) -> Result<Vec<File<'a>>, LinkStop>
-    requires { IsWithinStandard limits.now }
+    requires limits { IsWithinStandard limits.now }
+    requires some { 1 ≤ workers }
+    requires most { workers ≤ 64 }
     ensures goes { Goes result (reading_defects limits.now (sources_of sources.now)) }
     ensures files { IfOk result (λ files. map file_view files.items ≡ heads_in (sources_of sources.now)) }
     ensures few { IfOk result (λ files. length sources.now ≤ limits.now.files) }
     ensures symbols { IfOk result (λ files. symbol_total (map file_view files.items) ≤ limits.now.symbols) }
 {
-    let mut files = Vec::new(alloc);
     let count = (sources.len() as u64).min(limits.files);
-    let symbols = match read_each(alloc, sources, count as u32, &mut files) {
-        Ok(symbols) => symbols,
+    let files = match read_first(rt, alloc, sources, count as usize, workers, gate) {
+        Ok(files) => files,
         Err(stop) => return Err(stop),
     };
     if let Err(defect) = check_count(limits.files, sources.len() as u64) {
         return Err(LinkStop::Defect(defect));
     }
-    if let Err(defect) = check_count(limits.symbols, symbols) {
+    if let Err(defect) = check_count(limits.symbols, count_symbols(files.as_slice())) {
         return Err(LinkStop::Defect(defect));
     }
     Ok(files)

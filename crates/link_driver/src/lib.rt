@@ -5,8 +5,9 @@
 //! end is want of memory, or follows a failed call of the store of files or of an output, and leaves no more than the first
 //! bytes of a file.
 //!
-//! `linking` runs the phases: `finding` finds the files in the inputs (`sources`), `heads` and `bodies` read them, names are bound, what goes into the executable is laid out
-//! and written. `driving` reads the command, loads, links and writes, and says how it ended.
+//! `linking` runs the phases: `finding` finds the files in the inputs (`sources`), `heads` and `bodies` read them by all workers, whose
+//! shares `shares` joins, names are bound, what goes into the executable is laid out and written. `driving` reads the command, loads,
+//! links and writes, and says how it ended.
 #![tactic(auto)]
 
 mod bodies;
@@ -15,6 +16,7 @@ mod finding;
 mod heads;
 mod linking;
 mod sections;
+mod shares;
 mod sources;
 mod symbol_names;
 

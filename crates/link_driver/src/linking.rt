@@ -10,15 +10,16 @@ ghost use Rattle.lk_tables.specs.Binding.{binding_defects, first_phase};
 ghost use Rattle.lk_tables.specs.BindingView.{binding_view};
 ghost use Rattle.lk_tables.specs.FileView.{file_view, files_of};
 ghost use Rattle.lk_tables.specs.Files.{section_total, symbol_total};
-ghost use Rattle.file_live.specs.Live.{live_of};
+ghost use Rattle.file_live.specs.Live.{IsLive, live_of};
 ghost use Rattle.link_driver.specs.Contents.{contents_of, sources_of};
 ghost use Rattle.link_driver.specs.Link.{bound_names, none_gone, opening_defects, reading_defects};
 ghost use Rattle.link_driver.specs.Phases.{AfterLink};
-ghost use Rattle.link_driver.specs.Sources.{live_in, sources};
+ghost use Rattle.link_driver.specs.Sources.{heads_in, live_in, sources};
 ghost use Rattle.link_driver.specs.Tables.{AreRead, IsLaidOut};
 ghost use Rattle.layout.specs.Parts.{IsSized};
 ghost use Rattle.reloc_apply.specs.Parts.{parts};
 ghost use Rattle.reloc_apply.specs.Relocated.{relocation_defects};
+ghost use Rattle.sym_resolve.specs.Law.{IsLawful};
 
 use crate::bodies::open_live;
 use crate::finding::find_sources;
@@ -64,6 +65,7 @@ fn find_live<R: Threads + Sync, G: Gate>(
     ensures goes { Goes result [] }
     ensures live { IfOk result (λ list. list.items ≡ live_of (files_of tables.now)) }
     ensures wide { IfOk result (λ list. length list.items ≡ length (files_of tables.now)) }
+    ensures least { IfOk result (λ list. IsLive (files_of tables.now) list.items) }
 {
     let list = live(rt, alloc, tables, workers, gate)?;
     Ok(list)
@@ -84,8 +86,9 @@ fn read_files<'a, R: Threads + Sync, G: Gate>(
     requires most { workers ≤ 64 }
     ensures goes { Goes result (first_phase (reading_defects limits.now (sources_of sources.now) ∷ opening_defects limits.now (sources_of sources.now) ∷ [])) }
     ensures tables { IfOk result (λ tables. AreRead (sources_of sources.now) (files_of tables)) }
+    ensures taking_part { IfOk result (λ _. IsLive (heads_in (sources_of sources.now)) (live_in (sources_of sources.now))) }
 {
-    let files = match read_heads(alloc, limits, sources) {
+    let files = match read_heads(rt, alloc, limits, sources, workers, gate) {
         Ok(files) => files,
         Err(stop) => return Err(stop),
     };
@@ -94,7 +97,15 @@ fn read_files<'a, R: Threads + Sync, G: Gate>(
         Ok(live) => live,
         Err(stop) => return Err(stop),
     };
-    if let Err(stop) = open_live(alloc, sources, live.as_slice(), &mut tables.files) {
+    if let Err(stop) = open_live(
+        rt,
+        alloc,
+        sources,
+        live.as_slice(),
+        &mut tables.files,
+        workers,
+        gate,
+    ) {
         return Err(stop);
     }
     if let Err(defect) = check_count(limits.sections, count_sections(tables.files.as_slice())) {
@@ -127,6 +138,7 @@ fn bind_names<R: Threads + Sync, G: Gate>(
     requires sections { section_total (files_of tables.now) ≤ 2 ^ 28 }
     ensures goes { Goes result (binding_defects (files_of tables.now) (none_gone (files_of tables.now)) entry.now) }
     ensures names { IfOk result (λ binding. binding_view binding ≡ bound_names (files_of tables.now) entry.now) }
+    ensures least { IfOk result (λ _. IsLawful (files_of tables.now) (none_gone (files_of tables.now)) entry.now (bound_names (files_of tables.now) entry.now)) }
 {
     let count = count_sections(tables.files.as_slice()) as usize;
     let discarded = none_discarded(alloc, count)?;

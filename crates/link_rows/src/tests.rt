@@ -1,8 +1,10 @@
-//! Worked examples over `run`, each with its words and what it has to leave. All the inputs are at hand in each.
+//! Worked examples over `run`, each with its words and what it has to leave; those of `limits` are over `link`. All the inputs are
+//! at hand in each, and each runs with several numbers of workers.
 
 mod archives;
 mod images;
 mod libraries;
+mod limits;
 mod objects;
 
 use crate::{Image, archive_of, image_of, object_of};
@@ -28,11 +30,27 @@ struct Left {
     err: MemSink,
 }
 
-fn words_of(alloc: Global, words: &[&str]) -> Result<Vec<String>, AllocError> {
-    let mut all = Vec::new(alloc);
+/// The words that are put behind those of an example, so that it runs with the default number of workers, with one, with two
+/// and with 64.
+const WORKERS: [&[&str]; 4] = [
+    &[],
+    &["--threads", "1"],
+    &["--threads", "2"],
+    &["--threads", "64"],
+];
+
+fn push_words(all: &mut Vec<String>, alloc: Global, words: &[&str]) -> Result<(), AllocError> {
     for word in words {
         all.push(word.to_string(alloc)?)?;
     }
+    Ok(())
+}
+
+/// The words of an example, and behind them those that ask for a number of workers.
+fn words_of(alloc: Global, words: &[&str], workers: &[&str]) -> Result<Vec<String>, AllocError> {
+    let mut all = Vec::new(alloc);
+    push_words(&mut all, alloc, words)?;
+    push_words(&mut all, alloc, workers)?;
     Ok(all)
 }
 
@@ -52,10 +70,12 @@ fn files_of(alloc: Global, libraries: &[Library]) -> Result<Vec<(String, Vec<u8>
     Ok(files)
 }
 
-/// A call of the program: its words, the archives that are at hand, and the numbers of the depot's calls that fail.
+/// A call of the program: its words, those that ask for a number of workers, the archives that are at hand, and the numbers of
+/// the depot's calls that fail.
 #[derive(Clone, Copy)]
 struct Call<'a> {
     words: &'a [&'a str],
+    workers: &'a [&'a str],
     libraries: &'a [Library<'a>],
     fails: &'a [u64],
 }
@@ -78,7 +98,7 @@ fn run_with<R: Threads + Sync, G: Gate>(
     call: &Call,
     gate: &G,
 ) -> Result<Left, AllocError> {
-    let words = words_of(alloc, call.words)?;
+    let words = words_of(alloc, call.words, call.workers)?;
     let mut depot = depot_of(alloc, call)?;
     let mut say = sink_of(alloc)?;
     let mut err = sink_of(alloc)?;
@@ -115,20 +135,8 @@ const FIRST_LINK: Link = Link {
     image: FIRST,
 };
 
-const LINKS: [Link; 14] = [
+const LINKS: [Link; 11] = [
     FIRST_LINK,
-    Link {
-        words: &["rvld", "-s", "--threads", "1", "a.o"],
-        ..FIRST_LINK
-    },
-    Link {
-        words: &["rvld", "-s", "--threads", "2", "a.o"],
-        ..FIRST_LINK
-    },
-    Link {
-        words: &["rvld", "-s", "--threads", "64", "a.o"],
-        ..FIRST_LINK
-    },
     Link {
         words: &["rvld", "-s", "-o", "a.o", "a.o"],
         output: "a.o",
@@ -187,10 +195,12 @@ fn is_linked<R: Threads + Sync, G: Gate>(
     rt: &R,
     alloc: Global,
     link: &Link,
+    workers: &[&str],
     gate: &G,
 ) -> Result<bool, AllocError> {
     let call = Call {
         words: link.words,
+        workers,
         libraries: link.libraries,
         fails: &[],
     };
@@ -205,13 +215,24 @@ fn is_linked<R: Threads + Sync, G: Gate>(
     )
 }
 
+/// Whether it does with each number of workers.
+fn is_linked_by_any<R: Threads + Sync>(
+    rt: &R,
+    alloc: Global,
+    link: &Link,
+) -> Result<bool, AllocError> {
+    for workers in &WORKERS {
+        if !is_linked(rt, alloc, link, workers, &OpenGate)? {
+            return Ok(false);
+        }
+    }
+    Ok(true)
+}
+
 #[test]
 fn each_link_leaves_its_executable(rt: HostRuntime) -> Result<(), Fail> {
     for (index, link) in LINKS.iter().enumerate() {
-        assert!(rt;
-            is_linked(&rt, rt.alloc(), link, &OpenGate)?,
-            "example {index}"
-        );
+        assert!(rt; is_linked_by_any(&rt, rt.alloc(), link)?, "example {index}");
     }
     Ok(())
 }
@@ -219,10 +240,7 @@ fn each_link_leaves_its_executable(rt: HostRuntime) -> Result<(), Fail> {
 #[test]
 fn archives_are_read_in_each_form(rt: HostRuntime) -> Result<(), Fail> {
     for (index, link) in archives::READ.iter().enumerate() {
-        assert!(rt;
-            is_linked(&rt, rt.alloc(), link, &OpenGate)?,
-            "example {index}"
-        );
+        assert!(rt; is_linked_by_any(&rt, rt.alloc(), link)?, "example {index}");
     }
     Ok(())
 }
@@ -230,10 +248,7 @@ fn archives_are_read_in_each_form(rt: HostRuntime) -> Result<(), Fail> {
 #[test]
 fn members_that_nothing_pulls_add_nothing(rt: HostRuntime) -> Result<(), Fail> {
     for (index, link) in archives::IDLE.iter().enumerate() {
-        assert!(rt;
-            is_linked(&rt, rt.alloc(), link, &OpenGate)?,
-            "example {index}"
-        );
+        assert!(rt; is_linked_by_any(&rt, rt.alloc(), link)?, "example {index}");
     }
     Ok(())
 }
@@ -241,21 +256,7 @@ fn members_that_nothing_pulls_add_nothing(rt: HostRuntime) -> Result<(), Fail> {
 #[test]
 fn the_first_offer_is_taken(rt: HostRuntime) -> Result<(), Fail> {
     for (index, link) in archives::CHOSEN.iter().enumerate() {
-        assert!(rt;
-            is_linked(&rt, rt.alloc(), link, &OpenGate)?,
-            "example {index}"
-        );
-    }
-    Ok(())
-}
-
-#[test]
-fn archives_link_with_any_number_of_workers(rt: HostRuntime) -> Result<(), Fail> {
-    for (index, link) in archives::WORKERS.iter().enumerate() {
-        assert!(rt;
-            is_linked(&rt, rt.alloc(), link, &OpenGate)?,
-            "example {index}"
-        );
+        assert!(rt; is_linked_by_any(&rt, rt.alloc(), link)?, "example {index}");
     }
     Ok(())
 }
@@ -263,10 +264,7 @@ fn archives_link_with_any_number_of_workers(rt: HostRuntime) -> Result<(), Fail>
 #[test]
 fn members_pull_members(rt: HostRuntime) -> Result<(), Fail> {
     for (index, link) in archives::CHAINS.iter().enumerate() {
-        assert!(rt;
-            is_linked(&rt, rt.alloc(), link, &OpenGate)?,
-            "example {index}"
-        );
+        assert!(rt; is_linked_by_any(&rt, rt.alloc(), link)?, "example {index}");
     }
     Ok(())
 }
@@ -429,9 +427,11 @@ fn is_refused<R: Threads + Sync>(
     rt: &R,
     alloc: Global,
     refusal: &Refusal,
+    workers: &[&str],
 ) -> Result<bool, AllocError> {
     let call = Call {
         words: refusal.words,
+        workers,
         libraries: refusal.libraries,
         fails: &[],
     };
@@ -445,10 +445,27 @@ fn is_refused<R: Threads + Sync>(
     )
 }
 
+/// Whether it does with each number of workers.
+fn is_refused_by_any<R: Threads + Sync>(
+    rt: &R,
+    alloc: Global,
+    refusal: &Refusal,
+) -> Result<bool, AllocError> {
+    for workers in &WORKERS {
+        if !is_refused(rt, alloc, refusal, workers)? {
+            return Ok(false);
+        }
+    }
+    Ok(true)
+}
+
 #[test]
 fn each_refusal_leaves_its_line(rt: HostRuntime) -> Result<(), Fail> {
     for (index, refusal) in REFUSALS.iter().enumerate() {
-        assert!(rt; is_refused(&rt, rt.alloc(), refusal)?, "example {index}");
+        assert!(rt;
+            is_refused_by_any(&rt, rt.alloc(), refusal)?,
+            "example {index}"
+        );
     }
     Ok(())
 }
@@ -456,7 +473,10 @@ fn each_refusal_leaves_its_line(rt: HostRuntime) -> Result<(), Fail> {
 #[test]
 fn each_wrong_member_leaves_its_line(rt: HostRuntime) -> Result<(), Fail> {
     for (index, refusal) in archives::WRONG_MEMBERS.iter().enumerate() {
-        assert!(rt; is_refused(&rt, rt.alloc(), refusal)?, "example {index}");
+        assert!(rt;
+            is_refused_by_any(&rt, rt.alloc(), refusal)?,
+            "example {index}"
+        );
     }
     Ok(())
 }
@@ -464,7 +484,10 @@ fn each_wrong_member_leaves_its_line(rt: HostRuntime) -> Result<(), Fail> {
 #[test]
 fn each_wrong_archive_leaves_its_line(rt: HostRuntime) -> Result<(), Fail> {
     for (index, refusal) in archives::WRONG_ARCHIVES.iter().enumerate() {
-        assert!(rt; is_refused(&rt, rt.alloc(), refusal)?, "example {index}");
+        assert!(rt;
+            is_refused_by_any(&rt, rt.alloc(), refusal)?,
+            "example {index}"
+        );
     }
     Ok(())
 }
@@ -482,11 +505,17 @@ const FAULTS: [Fault; 5] = [
 ];
 
 /// Whether the first link, with this call failing, leaves that much of the executable.
-fn is_cut<R: Threads + Sync>(rt: &R, alloc: Global, fault: &Fault) -> Result<bool, AllocError> {
+fn is_cut<R: Threads + Sync>(
+    rt: &R,
+    alloc: Global,
+    fault: &Fault,
+    workers: &[&str],
+) -> Result<bool, AllocError> {
     let (number, line, calls, written) = *fault;
     let fails = [number];
     let call = Call {
         words: FIRST_LINK.words,
+        workers,
         libraries: &[],
         fails: &fails,
     };
@@ -503,10 +532,24 @@ fn is_cut<R: Threads + Sync>(rt: &R, alloc: Global, fault: &Fault) -> Result<boo
     )
 }
 
+/// Whether it does with each number of workers.
+fn is_cut_by_any<R: Threads + Sync>(
+    rt: &R,
+    alloc: Global,
+    fault: &Fault,
+) -> Result<bool, AllocError> {
+    for workers in &WORKERS {
+        if !is_cut(rt, alloc, fault, workers)? {
+            return Ok(false);
+        }
+    }
+    Ok(true)
+}
+
 #[test]
 fn each_fault_leaves_a_front_of_the_executable(rt: HostRuntime) -> Result<(), Fail> {
     for fault in &FAULTS {
-        assert!(rt; is_cut(&rt, rt.alloc(), fault)?, "call {}", fault.0);
+        assert!(rt; is_cut_by_any(&rt, rt.alloc(), fault)?, "call {}", fault.0);
     }
     Ok(())
 }
@@ -556,12 +599,15 @@ impl Gate for Holder {
 }
 
 const SHARED: Link = Link {
-    words: &["rvld", "-s", "--threads", "2", "a.o", "h.o"],
+    words: &["rvld", "-s", "a.o", "h.o"],
     image: TWO_FILES,
     ..FIRST_LINK
 };
 
-/// Whether a link of two files is as ever where one of its two workers is held, and the other was in time.
+/// The passes that two workers share in a link of two files: heads, the claims for members, bodies, and the claims for names.
+const SHARED_PASSES: u64 = 4;
+
+/// Whether a link of two files is as ever where one of its two workers is held in each pass, and the other was in time.
 fn is_held<R: Threads + Sync>(rt: &R, alloc: Global, held: u32) -> Result<bool, AllocError> {
     let gate = Holder {
         held,
@@ -569,11 +615,11 @@ fn is_held<R: Threads + Sync>(rt: &R, alloc: Global, held: u32) -> Result<bool, 
         passed: AtomicU64::new(0),
         late: AtomicBool::new(false),
     };
-    let linked = is_linked(rt, alloc, &SHARED, &gate)?;
+    let linked = is_linked(rt, alloc, &SHARED, &["--threads", "2"], &gate)?;
     let met = gate.met.load(Ordering::SeqCst);
     Ok(
         linked
-            && met > 0
+            && met == SHARED_PASSES
             && met == gate.passed.load(Ordering::SeqCst)
             && !gate.late.load(Ordering::SeqCst),
     )

@@ -54,7 +54,7 @@ rises_put key x (y ∷ ys) h =
           ((le, all_weaker key (key x) (key y) ys le h.0), h)
     ]
 
-rises_order : {X : Type 0} (key : X → ℕ) (xs : List X) → Rises key (stable_order key xs)
+pub rises_order : {X : Type 0} (key : X → ℕ) (xs : List X) → Rises key (stable_order key xs)
 unfolding stable_order
 rises_order key [] = tt
 rises_order key (x ∷ xs) = rises_put key x (stable_order key xs) (rises_order key xs)

@@ -6,4 +6,3 @@ pub mod Passing
 pub mod Ranges
 pub mod SoundHead
 pub mod SoundBody
-pub mod StableOrder

@@ -21,7 +21,7 @@ use Rattle.lk_tables.specs.FileHeader.{e_shnum, ends_past, place_of}
 use Rattle.lk_tables.specs.Heads.{HeadView, HeadOf}
 use Rattle.lk_tables.specs.Inside.{IsAlignment, IsLinked, IsRelocWithin, IsCommonWithin, IsBodyInside}
 use Rattle.lk_tables.specs.Objects.{ObjectView, BodyOf, object_checks, parts_of, relocs_from, list_before, lists_before}
-use Rattle.lk_tables.specs.Order.{put_in, stable_order}
+use Rattle.lk_base.specs.Order.{put_in, stable_order}
 use Rattle.lk_tables.specs.Relocations.{width_of, rela_count, reloc, target_of, is_past_target, is_bad_addend, entry_checks, placed_of, offset_of, in_order, overlap_checks, entries_checks, relocs_of}
 use Rattle.lk_tables.specs.Sections.{section_of, is_null, is_written, is_loaded, is_among, loaded_types}
 use Rattle.lk_tables.specs.Symbols.{symtab_of, symbol_of, symbol_count, symbol_place}
@@ -31,7 +31,7 @@ use Rattle.lk_tables.proofs.HeadFacts.{section_at}
 use Rattle.lk_tables.proofs.Passing.{each, both_pass, none_from_ok, ok_from_none}
 use Rattle.lk_tables.proofs.Ranges.{found}
 use Rattle.lk_tables.proofs.SoundHead.{second_false, not_false, written_type, written_live, null_is, head_inside}
-use Rattle.lk_tables.proofs.StableOrder.{Rises, rises_order}
+use Rattle.lk_base.proofs.StableOrder.{Rises, rises_order}
 
 alignment_of : (a : ℕ) → is_bad_alignment a ≡ false → IsAlignment a
 unfolding is_bad_alignment

@@ -12,7 +12,6 @@ pub mod Inside
 pub mod Names
 pub mod Numbers
 pub mod Objects
-pub mod Order
 pub mod Relocations
 pub mod Sections
 pub mod Symbols

@@ -11,7 +11,7 @@ use Rattle.lk_tables.specs.declared.heads.Section.{Section}
 use Rattle.lk_tables.specs.Checks.{Check, ◌says◌, flaw_at, from_on}
 use Rattle.lk_tables.specs.Entries.{reloc_at}
 use Rattle.lk_tables.specs.FileHeader.{ends_past}
-use Rattle.lk_tables.specs.Order.{stable_order}
+use Rattle.lk_base.specs.Order.{stable_order}
 use Rattle.lk_tables.specs.Sections.{section_of}
 use Rattle.lk_tables.specs.Symbols.{symbol_count}
 

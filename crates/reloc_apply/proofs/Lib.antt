@@ -1,3 +1,4 @@
+pub mod NoDefects
 pub mod Numbers
 pub mod Placing
 pub mod Positions

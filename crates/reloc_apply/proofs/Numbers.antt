@@ -1,8 +1,7 @@
 -- The numbers of parts.
-use Rattle.std.proofs.Common.{◌≡◌, ℕ, ◌+◌, Bool, true, false, length, List, [], ◌∷◌, ◌++◌, refl, sym, ap, ◌∙◌, arith, Option, Some, None, slice_index}
+use Rattle.std.proofs.Common.{◌≡◌, ℕ, ◌+◌, Bool, true, false, length, List, [], ◌∷◌, ◌++◌, refl, ap, ◌∙◌, Option, Some, None, slice_index}
 use Rattle.std.specs.Prelude.{if◌then◌else◌}
-use Rattle.std.specs.List.{range_with_len}
-use Rattle.lk_base.proofs.Loops.{count_step, map_step}
+use Rattle.lk_base.proofs.Loops.{count_step}
 use Rattle.lk_tables.specs.Files.{File, writes}
 use Rattle.layout.specs.Parts.{Part}
 use Rattle.reloc_apply.specs.Parts.{part_at, sections_before, section_part, start_in}

@@ -1,17 +1,14 @@
 -- Bytes written into a block, place by place.
-use Rattle.std.proofs.Common.{◌≡◌, ℕ, ◌+◌, ◌-◌, ◌<◌, ◌≤◌, List, ◌++◌, length, take, drop, map, get_or, slice_index, nat_le, nat_lt, ◌&&◌, arith, inl, inr, refl, ap, sym, ◌∙◌, min, max}
+use Rattle.std.proofs.Common.{◌≡◌, ℕ, ◌+◌, ◌-◌, ◌<◌, ◌≤◌, List, ◌++◌, length, take, drop, get_or, slice_index, nat_le, nat_lt, ◌&&◌, arith, inl, inr, refl, ap, sym, ◌∙◌, min, max}
 use Rattle.std.specs.Prelude.{if◌then◌else◌}
 use borrow.Rule.Slice.PartMut.{put_mid}
 use Rattle.std.proofs.lemmas.Slice.{put_mid-paste}
 use Rattle.std.proofs.lemmas.List.Edits.{paste_all}
 use Rattle.std.proofs.lemmas.List.{get_or_append_left, get_or-take, get_or-drop, length-take-le, length-drop}
-use Rattle.std.proofs.Math.Seq.{get_or-append_right, take-append_seam}
+use Rattle.std.proofs.Math.Seq.{get_or-append_right}
 use Rattle.std.proofs.lemmas.Bool.{cases_lt}
 use Rattle.std.proofs.lemmas.Bool.Decides.{nat_tests}
-use Rattle.std.specs.List.{range_with_len}
-use Rattle.std.proofs.lemmas.List.{ext_get_or}
-use Rattle.std.proofs.lemmas.List.FromFn.{get_or-map-range_with_len, length-map-range_with_len}
-use Rattle.reloc_apply.specs.Image.{Piece, piece, over, byte_at, image, IsWindow}
+use Rattle.reloc_apply.specs.Image.{piece, over}
 
 inside : (a i b u v : ℕ) → a ≤ i → i < b → (if nat_le a i && nat_lt i b then u else v) ≡ u
 inside a i b u v p q = grind (arith, nat_tests)
@@ -83,13 +80,3 @@ copied block bytes new from at start end i start_is end_is some lt new_is =
             ∙ sym (past at (from + i) (at + length bytes) (slice_index bytes (from + i - at)) (get_or block i 0) more)
       ]
     ]
-
--- a window on the whole file is the file
-pub whole_file : (ps : List Piece) (block after : List ℕ) (size n : ℕ) → length block ≡ size → n ≡ size → IsWindow ps 0 block
-    → take n (block ++ after) ≡ image ps size
-unfolding image
-whole_file ps block after size n long n_is window =
-    let front : take n (block ++ after) ≡ block = rw (n_is, ← long) (take-append_seam block after) in
-    let wide : length block ≡ length (map (byte_at ps) (range_with_len 0 size)) = long ∙ sym (length-map-range_with_len (byte_at ps) 0 size) in
-    front ∙ ext_get_or 0 block (map (byte_at ps) (range_with_len 0 size)) wide
-    (λ i lt. window i lt ∙ sym (get_or-map-range_with_len (byte_at ps) 0 size i (0 + i) 0 (omega arith) refl))

@@ -1,5 +1,5 @@
 -- The relocations of a section lie in it, and its bytes in their place.
-use Rattle.std.proofs.Common.{◌≡◌, ◌≢◌, ℕ, ◌+◌, ◌-◌, ◌<◌, ◌≤◌, ◌==◌, Bool, true, false, List, [], ◌∷◌, ◌++◌, length, take, drop, get_or, slice_index, refl, sym, ap, ◌∙◌, arith, subst, inl, inr, Option, Some, None, Result, Ok, Err, OnOk, nat_le, nat_lt, ◌&&◌}
+use Rattle.std.proofs.Common.{◌≡◌, ◌≢◌, ℕ, ◌+◌, ◌-◌, ◌≤◌, ◌==◌, true, List, [], ◌∷◌, ◌++◌, length, take, drop, get_or, refl, sym, ap, ◌∙◌, arith, subst, inl, inr, Option, Some, None, Result, Ok, Err, OnOk, nat_le, nat_lt, ◌&&◌}
 use Rattle.std.specs.Prelude.{is_some, IfSome, if◌then◌else◌}
 use Rattle.std.specs.List.{All}
 use borrow.Rule.Slice.PartMut.{put_mid}
@@ -9,13 +9,13 @@ use Rattle.std.proofs.lemmas.List.{get_or_past, length-append, length-drop, leng
 use Rattle.std.proofs.lemmas.Bool.{cases_lt, cond-false, ne_eqb}
 use Rattle.lk_tables.specs.declared.objects.Object.{Object}
 use Rattle.lk_tables.specs.declared.objects.Reloc.{Reloc}
-use Rattle.lk_tables.specs.Files.{File, file_at, section_at, relocs_at, no_section}
+use Rattle.lk_tables.specs.Files.{File, file_at, section_at, no_section}
 use Rattle.lk_tables.specs.FileView.{object_of_file}
 use Rattle.lk_tables.specs.Heads.{HeadView}
 use Rattle.lk_tables.specs.Inside.{IsBodyInside, IsRelocWithin}
 use Rattle.lk_tables.specs.Objects.{ObjectView, object_view}
 use Rattle.lk_tables.specs.Binding.{Bindings}
-use Rattle.reloc_apply.specs.Image.{Piece, piece, over, Shows}
+use Rattle.reloc_apply.specs.Image.{piece, Shows}
 use Rattle.reloc_apply.specs.Parts.{Starts, section_start}
 use Rattle.reloc_apply.specs.Relocated.{Lies, bits_piece, piece_by, section_pieces}
 use Rattle.reloc_apply.proofs.Placing.{placed}

@@ -1,5 +1,5 @@
 -- The bytes that a relocation changes, as the reader and as the table of kinds tell them.
-use Rattle.std.proofs.Common.{◌≡◌, ◌≢◌, ℕ, ◌⊎◌, ◌==◌, ◌||◌, Bool, true, false, cond, refl, sym, subst, ap, ◌∙◌, arith, inl, inr, Option, Some, None}
+use Rattle.std.proofs.Common.{◌≡◌, ℕ, ◌⊎◌, ◌==◌, ◌||◌, Bool, true, false, cond, refl, sym, subst, inl, inr, Some, None}
 use Rattle.std.specs.Prelude.{is_some, unwrap_or, IsTrue}
 use Rattle.std.proofs.lemmas.Bool.{eqb-true}
 use Rattle.lk_tables.specs.Relocations.{width_of}

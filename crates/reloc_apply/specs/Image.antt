@@ -28,10 +28,6 @@ byte_at pieces place = byte_over 0 pieces place
 unfoldable pub image : List Piece → ℕ → List ℕ
 image pieces size = map (byte_at pieces) (range_with_len 0 size)
 
--- these are the bytes of the file from an offset on
-abbrev pub IsWindow : List Piece → ℕ → List ℕ → Type 0
-IsWindow pieces from block = (i : ℕ) → i < length block → slice_index block i ≡ byte_at pieces (from + i)
-
 -- these pieces were laid over a file
 abbrev pub Shows : (before after : List ℕ) → List Piece → Type 0
 Shows before after pieces =

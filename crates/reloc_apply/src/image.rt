@@ -1,8 +1,8 @@
-//! A file from pieces that lie in it, written by blocks.
+//! A piece of a file, written into a block of it.
 
-ghost use Rattle.std.specs.Prelude.{◌≡◌, ℕ, ◌+◌, ◌^◌, ◌<◌, ◌≤◌, length, map, slice_index, All};
-ghost use Rattle.reloc_apply.specs.Image.{piece, over, image, IsWindow};
-ghost use Rattle.reloc_apply.specs.PieceView.{piece_of, pieces_of, Ends};
+ghost use Rattle.std.specs.Prelude.{◌≡◌, ℕ, ◌+◌, ◌^◌, ◌<◌, length, slice_index};
+ghost use Rattle.reloc_apply.specs.Image.{over};
+ghost use Rattle.reloc_apply.specs.PieceView.{piece_of, Ends};
 
 /// Bytes that stand at a file offset.
 #[derive(Clone, Copy)]
@@ -24,17 +24,5 @@ pub fn fill_piece(block: &mut [u8], from: u64, piece: &Piece)
     if start < end {
         let taken = &piece.bytes[(start - piece.at) as usize..(end - piece.at) as usize];
         block[(start - from) as usize..(end - from) as usize].copy_from_slice(taken);
-    }
-}
-
-/// Fills a block with the bytes of the file from the file offset `from` on.
-pub fn fill_from(pieces: &[Piece], from: u64, block: &mut [u8])
-    requires block { from + length block.old < 2 ^ 64 }
-    requires pieces { All Ends pieces.now }
-    ensures { IsWindow (pieces_of pieces.now) from block.new }
-{
-    block.fill(0);
-    for piece in pieces {
-        fill_piece(block, from, piece);
     }
 }

@@ -2,10 +2,11 @@
 //! bytes of a section with its relocations done (RISC-V ELF psABI, "Relocations").
 //!
 //! `parts` lists what goes into the layout, `starts` gives each section the address that the layout found, `unbound` finds
-//! what is referred to and bound to nothing, `values` reckons what a relocation puts into its place, `relocated` does so,
-//! and `image` is a file given by pieces.
+//! what is referred to and bound to nothing, `values` reckons what a relocation puts into its place, `checks` finds the first
+//! that can't be done, `relocated` does them all, and `image` writes a piece of a file.
 #![tactic(auto)]
 
+mod checks;
 mod commons;
 mod image;
 mod parts;

@@ -1,9 +1,8 @@
 //! What goes into the layout.
 
-ghost use Rattle.std.specs.Prelude.{◌≡◌, ◌++◌, ◌<◌, length, map, IfOk, OnOk, max};
+ghost use Rattle.std.specs.Prelude.{◌≡◌, ◌++◌, ◌<◌, length, map, IfOk, OnOk};
 ghost use Rattle.layout.specs.Parts.{parts_of};
 ghost use Rattle.lk_tables.specs.BindingView.{binding_view};
-ghost use Rattle.lk_tables.specs.Files as files;
 ghost use Rattle.lk_tables.specs.FileView.{file_view, files_of};
 ghost use Rattle.reloc_apply.specs.Parts as spec;
 

@@ -1,13 +1,11 @@
-//! Sections with their relocations done.
+//! Sections with their relocations done. They are written where no relocation has a defect, so no step of it can fail.
 
-ghost use Rattle.std.specs.Prelude.{◌≡◌, ◌≢◌, ℕ, ◌+◌, ◌-◌, ◌<◌, ◌≤◌, ◌^◌, [], ◌∷◌, All, is_some, unwrap_or, length, slice_index, flat_map, Some, OnOk, true};
+ghost use Rattle.std.specs.Prelude.{◌≡◌, ◌≢◌, ◌+◌, ◌<◌, ◌≤◌, ◌^◌, [], ◌∷◌, All, length, flat_map, OnErr, OnOk, true};
 ghost use Rattle.std.specs.List.{range_with_len};
 ghost use Rattle.lk_base.specs.Firsts.{Passes};
 ghost use Rattle.lk_tables.specs.Files.{file_at, relocs_at, section_at, writes};
-ghost use Rattle.lk_tables.specs.FileView.{file_view, files_of};
-ghost use Rattle.lk_tables.specs.Relocations.{width_of};
+ghost use Rattle.lk_tables.specs.FileView.{file_view};
 ghost use Rattle.reloc_apply.specs.Image.{Shows};
-ghost use Rattle.reloc_apply.specs.Parts.{section_start};
 ghost use Rattle.reloc_apply.specs.Relocated as spec;
 ghost use Rattle.reloc_apply.specs.Values.{value_of};
 ghost use Rattle.reloc_apply.specs.KnownViews.{files_in, names_in, starts_in};
@@ -15,27 +13,13 @@ ghost use Rattle.reloc_apply.specs.Views as views;
 ghost use Rattle.rv_code.specs.Kinds.{HasValue, kind_of};
 ghost use Rattle.rv_code.specs.Reaches.{Takes};
 
+use crate::checks::{SHT_NOBITS, first_defect};
 use crate::commons::{KnownView, are_in_order};
-use crate::unbound::reloc_defect;
-use crate::values::{low_bits, section_start, value_of};
+use crate::values::{file_in, section_start, value_of};
 use crate::views::View;
-use lk_base::{Defect, DefectKind, FileNo, Misfit};
-use lk_tables::{File, Reloc, Section};
-use rv_code::{fits, patch, width};
-
-/// A section without bytes in the file.
-const SHT_NOBITS: u32 = 8;
-
-/// The defect of a value that its field does not take.
-fn misfit_defect(file: FileNo, section: u32, reloc: &Reloc, v: i128, misfit: Misfit) -> Defect
-    ensures { spec.misfit_defects file section reloc.now v (Some misfit) ≡ result ∷ [] }
-{
-    let kind = match misfit {
-        Misfit::Odd => DefectKind::F25,
-        Misfit::Range => DefectKind::F24,
-    };
-    reloc_defect(kind, file, section, reloc, low_bits(v))
-}
+use lk_base::{Defect, FileNo};
+use lk_tables::{File, Reloc};
+use rv_code::{patch, width};
 
 /// Puts a value into its place in the bytes of a section.
 fn put(bytes: &mut [u8], reloc: &Reloc, v: i128)
@@ -49,7 +33,7 @@ fn put(bytes: &mut [u8], reloc: &Reloc, v: i128)
     patch(reloc.kind, place, v);
 }
 
-/// Does one relocation of a section that stands at an address.
+/// Does one relocation of a section that stands at an address. It has its partner, and its field takes the value.
 #[tactic(auto, unfolding(crate::specs::Relocated::reloc_defects))]
 fn relocate_one(
     bytes: &mut [u8],
@@ -58,22 +42,18 @@ fn relocate_one(
     section: u32,
     start: u64,
     reloc: &Reloc,
-) -> Result<(), Defect>
-    requires { spec.Lies (length bytes.old) reloc.now }
-    ensures goes { Passes result (spec.reloc_defects (files_in view.now) (names_in view.now) (starts_in view.now) file section start reloc.now) }
-    ensures bytes { OnOk result (bytes.new ≡ spec.put_value reloc.now (value_of (files_in view.now) (names_in view.now) (starts_in view.now) file section start reloc.now) bytes.old) }
+)
+    requires lies { spec.Lies (length bytes.old) reloc.now }
+    requires sound { spec.reloc_defects (files_in view.now) (names_in view.now) (starts_in view.now) file section start reloc.now ≡ [] }
+    ensures { bytes.new ≡ spec.put_value reloc.now (value_of (files_in view.now) (names_in view.now) (starts_in view.now) file section start reloc.now) bytes.old }
 {
     let Ok(value) = value_of(view, file, section, start, reloc) else {
-        return Err(reloc_defect(DefectKind::F26, file, section, reloc, 0));
+        unreachable!();
     };
     let Some(v) = value else {
-        return Ok(());
+        return;
     };
-    if let Err(misfit) = fits(reloc.kind, v) {
-        return Err(misfit_defect(file, section, reloc, v, misfit));
-    }
     put(bytes, reloc, v);
-    Ok(())
 }
 
 /// Does the relocations of a section that stands at an address.
@@ -84,23 +64,14 @@ fn relocate(
     section: u32,
     start: u64,
     relocs: &[Reloc],
-) -> Result<(), Defect>
-    requires { All (spec.Lies (length bytes.old)) relocs.now }
-    ensures goes { Passes result (flat_map (spec.reloc_defects (files_in view.now) (names_in view.now) (starts_in view.now) file section start) relocs.now) }
-    ensures bytes { OnOk result (bytes.new ≡ spec.all_put (files_in view.now) (names_in view.now) (starts_in view.now) file section start relocs.now bytes.old) }
+)
+    requires lie { All (spec.Lies (length bytes.old)) relocs.now }
+    requires sound { flat_map (spec.reloc_defects (files_in view.now) (names_in view.now) (starts_in view.now) file section start) relocs.now ≡ [] }
+    ensures { bytes.new ≡ spec.all_put (files_in view.now) (names_in view.now) (starts_in view.now) file section start relocs.now bytes.old }
 {
     for reloc in relocs {
-        relocate_one(bytes, view, file, section, start, reloc)?;
+        relocate_one(bytes, view, file, section, start, reloc);
     }
-    Ok(())
-}
-
-/// A file of a link.
-fn file_in<'t, 'a>(view: &KnownView<'t, 'a>, file: FileNo) -> &'t File<'a>
-    requires { file < length (files_in view.now) }
-    ensures { file_view result.now ≡ file_at (files_in view.now) file }
-{
-    &view.tables.files[file as usize]
 }
 
 /// The bytes of a written section in its file.
@@ -126,92 +97,94 @@ fn relocs_in<'t>(file: &'t File, index: usize) -> &'t [Reloc]
 }
 
 /// Writes a section that stands at an address and has bytes in the file into the executable, with its relocations done.
-fn write_bits(
-    out: &mut [u8],
-    view: &KnownView,
-    file: FileNo,
-    section: u32,
-    start: u64,
-) -> Result<(), Defect>
+fn write_bits(out: &mut [u8], view: &KnownView, file: FileNo, section: u32, start: u64)
     requires file { file < length (files_in view.now) }
     requires placed { spec.IsPlaced (file_at (files_in view.now) file) section start (length out.old) }
     requires bits { (section_at (file_at (files_in view.now) file) section).sh_type ≢ 8 }
-    ensures goes { Passes result (flat_map (spec.reloc_defects (files_in view.now) (names_in view.now) (starts_in view.now) file section start) (relocs_at (file_at (files_in view.now) file) section)) }
-    ensures bytes { OnOk result (Shows out.old out.new (spec.bits_piece (files_in view.now) (names_in view.now) (starts_in view.now) file section start ∷ [])) }
+    requires sound { flat_map (spec.reloc_defects (files_in view.now) (names_in view.now) (starts_in view.now) file section start) (relocs_at (file_at (files_in view.now) file) section) ≡ [] }
+    ensures { Shows out.old out.new (spec.bits_piece (files_in view.now) (names_in view.now) (starts_in view.now) file section start ∷ []) }
 {
     let entry = file_in(view, file);
     let bytes = contents(entry, section as usize);
     let relocs = relocs_in(entry, section as usize);
     if bytes.len() == 0 {
-        return relocate(&mut [], view, file, section, start, relocs);
+        relocate(&mut [], view, file, section, start, relocs);
+        return;
     }
     let at = (start - 0x10000) as usize;
     let block = &mut out[at..at + bytes.len()];
     block.copy_from_slice(bytes);
-    relocate(block, view, file, section, start, relocs)
+    relocate(block, view, file, section, start, relocs);
 }
 
 /// Writes a section, where it has an address and bytes in the file.
 #[tactic(auto, unfolding(crate::specs::Relocated::section_defects, crate::specs::Relocated::section_pieces))]
-fn write_section(out: &mut [u8], view: &KnownView, file: FileNo, section: u32) -> Result<(), Defect>
+fn write_section(out: &mut [u8], view: &KnownView, file: FileNo, section: u32)
     requires file { file < length (files_in view.now) }
     requires room { spec.HaveRoom (files_in view.now) (starts_in view.now) (length out.old) }
-    ensures goes { Passes result (spec.section_defects (files_in view.now) (names_in view.now) (starts_in view.now) file section) }
-    ensures bytes { OnOk result (Shows out.old out.new (spec.section_pieces (files_in view.now) (names_in view.now) (starts_in view.now) file section)) }
+    requires sound { spec.section_defects (files_in view.now) (names_in view.now) (starts_in view.now) file section ≡ [] }
+    ensures { Shows out.old out.new (spec.section_pieces (files_in view.now) (names_in view.now) (starts_in view.now) file section) }
 {
     let Some(start) = section_start(view.starts, file, section) else {
-        return Ok(());
+        return;
     };
     let header = file_in(view, file).section(section as usize);
     if header.sh_type == SHT_NOBITS {
-        return Ok(());
+        return;
     }
-    write_bits(out, view, file, section, start)
+    write_bits(out, view, file, section, start);
 }
 
 /// Writes so many sections of a file.
-fn write_sections(
-    out: &mut [u8],
-    view: &KnownView,
-    file: FileNo,
-    sections: u32,
-) -> Result<(), Defect>
+fn write_sections(out: &mut [u8], view: &KnownView, file: FileNo, sections: u32)
     requires file { file < length (files_in view.now) }
     requires room { spec.HaveRoom (files_in view.now) (starts_in view.now) (length out.old) }
-    ensures goes { Passes result (flat_map (spec.section_defects (files_in view.now) (names_in view.now) (starts_in view.now) file) (range_with_len 0 sections)) }
-    ensures bytes { OnOk result (Shows out.old out.new (flat_map (spec.section_pieces (files_in view.now) (names_in view.now) (starts_in view.now) file) (range_with_len 0 sections))) }
+    requires sound { flat_map (spec.section_defects (files_in view.now) (names_in view.now) (starts_in view.now) file) (range_with_len 0 sections) ≡ [] }
+    ensures { Shows out.old out.new (flat_map (spec.section_pieces (files_in view.now) (names_in view.now) (starts_in view.now) file) (range_with_len 0 sections)) }
 {
     for section in 0..sections {
-        if let Err(defect) = write_section(out, view, file, section) {
-            return Err(defect);
-        }
+        write_section(out, view, file, section);
     }
-    Ok(())
 }
 
 /// Writes the sections of a file, where it takes part in the link.
 #[tactic(auto, unfolding(crate::specs::Relocated::defects_in, crate::specs::Relocated::pieces_in))]
-fn write_file(out: &mut [u8], view: &KnownView, file: FileNo) -> Result<(), Defect>
+fn write_file(out: &mut [u8], view: &KnownView, file: FileNo)
     requires file { file < length (files_in view.now) }
     requires room { spec.HaveRoom (files_in view.now) (starts_in view.now) (length out.old) }
-    ensures goes { Passes result (spec.defects_in (files_in view.now) (names_in view.now) (starts_in view.now) file) }
-    ensures bytes { OnOk result (Shows out.old out.new (spec.pieces_in (files_in view.now) (names_in view.now) (starts_in view.now) file)) }
+    requires sound { spec.defects_in (files_in view.now) (names_in view.now) (starts_in view.now) file ≡ [] }
+    ensures { Shows out.old out.new (spec.pieces_in (files_in view.now) (names_in view.now) (starts_in view.now) file) }
 {
     let entry = file_in(view, file);
     if !entry.is_live() {
-        return Ok(());
+        return;
     }
-    write_sections(out, view, file, entry.head.sections.len() as u32)
+    write_sections(out, view, file, entry.head.sections.len() as u32);
+}
+
+/// Writes the sections of all files.
+#[tactic(auto, unfolding(crate::specs::Relocated::relocation_defects, crate::specs::Relocated::relocated_pieces))]
+fn write_files(out: &mut [u8], view: &KnownView)
+    requires files { length (files_in view.now) < 2 ^ 32 }
+    requires room { spec.HaveRoom (files_in view.now) (starts_in view.now) (length out.old) }
+    requires sound { spec.relocation_defects (files_in view.now) (names_in view.now) (starts_in view.now) ≡ [] }
+    ensures { Shows out.old out.new (spec.relocated_pieces (files_in view.now) (names_in view.now) (starts_in view.now)) }
+{
+    let files = view.tables.files.len() as u32;
+    for file in 0..files {
+        write_file(out, view, file);
+    }
 }
 
 /// Writes all sections into the executable, each at its address less 0x10000 and with its relocations done, in order of
-/// file and section. The first defect of a relocation in this order ends it. Takes no memory.
-#[tactic(auto, unfolding(crate::specs::Relocated::relocation_defects, crate::specs::Relocated::relocated_pieces))]
+/// file and section. All relocations are tested before the first byte is written: the first defect of one in this order
+/// is the answer, and the executable is then as it was. Takes no memory.
 pub fn apply(out: &mut [u8], view: &View) -> Result<(), Defect>
     requires files { length (views.files_in view.now) < 2 ^ 32 }
     requires room { spec.HaveRoom (views.files_in view.now) (views.starts_in view.now) (length out.old) }
     ensures goes { Passes result (spec.relocation_defects (views.files_in view.now) (views.names_in view.now) (views.starts_in view.now)) }
     ensures bytes { OnOk result (Shows out.old out.new (spec.relocated_pieces (views.files_in view.now) (views.names_in view.now) (views.starts_in view.now))) }
+    ensures kept { OnErr result (out.new ≡ out.old) }
 {
     let known = KnownView {
         tables: view.tables,
@@ -219,11 +192,9 @@ pub fn apply(out: &mut [u8], view: &View) -> Result<(), Defect>
         starts: view.starts,
         in_order: are_in_order(view.binding),
     };
-    let files = view.tables.files.len() as u32;
-    for file in 0..files {
-        if let Err(defect) = write_file(out, &known, file) {
-            return Err(defect);
-        }
+    if let Some(defect) = first_defect(&known) {
+        return Err(defect);
     }
+    write_files(out, &known);
     Ok(())
 }

@@ -5,13 +5,12 @@ ghost use Rattle.std.specs.List.{range_with_len};
 ghost use Rattle.lk_tables.specs.Binding.{no_rank};
 ghost use Rattle.lk_base.specs.Firsts.{IsFirst};
 ghost use Rattle.lk_tables.specs.BindingView.{binding_view};
-ghost use Rattle.lk_tables.specs.Files.{file_at, section_at, symbol_at};
-ghost use Rattle.lk_tables.specs.FileView.{file_view, files_of};
+ghost use Rattle.lk_tables.specs.FileView.{files_of};
 ghost use Rattle.reloc_apply.specs.Relocated.{reloc_defect};
 ghost use Rattle.reloc_apply.specs.Undefined as spec;
 
 use lk_base::{Defect, DefectKind, FileNo};
-use lk_tables::{Binding, File, NO_RANK, Reloc, Symbol, Tables};
+use lk_tables::{Binding, NO_RANK, Reloc, Symbol, Tables};
 
 /// A defect of a relocation.
 pub fn reloc_defect(

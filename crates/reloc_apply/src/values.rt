@@ -4,6 +4,7 @@ ghost use Rattle.std.specs.Prelude.{◌≡◌, ℕ, ◌+◌, ◌^◌, ◌<◌, �
 ghost use Rattle.std.specs.List.Sorted.{IsNonDecreasingBy};
 ghost use Rattle.lk_tables.specs.Binding.{no_rank};
 ghost use Rattle.lk_tables.specs.Files as files;
+ghost use Rattle.lk_tables.specs.FileView.{file_view};
 ghost use Rattle.reloc_apply.specs.Parts as parts;
 ghost use Rattle.reloc_apply.specs.Places.{site_view};
 ghost use Rattle.reloc_apply.specs.Values as spec;
@@ -17,7 +18,7 @@ use crate::commons::{KnownView, number_of};
 use crate::parts::commons_at;
 use crate::views::{Starts, View};
 use lk_base::{FileNo, SymNo};
-use lk_tables::{NO_RANK, NO_SYMBOL, Place, Reloc, Symbol, is_section_symbol};
+use lk_tables::{File, NO_RANK, NO_SYMBOL, Place, Reloc, Symbol, is_section_symbol};
 use rv_code::kinds::{
     R_RISCV_64, R_RISCV_CALL, R_RISCV_CALL_PLT, R_RISCV_GOT_HI20, R_RISCV_JAL, R_RISCV_PCREL_HI20,
     R_RISCV_PCREL_LO12_I,
@@ -38,6 +39,14 @@ fn symbol_at(view: &KnownView, file: FileNo, index: SymNo) -> Symbol
         return NO_SYMBOL;
     };
     file.symbol(index as usize)
+}
+
+/// A file of a link.
+pub fn file_in<'t, 'a>(view: &KnownView<'t, 'a>, file: FileNo) -> &'t File<'a>
+    requires { file < length (files_in view.now) }
+    ensures { file_view result.now ≡ files.file_at (files_in view.now) file }
+{
+    &view.tables.files[file as usize]
 }
 
 /// The address of a section, where it is written.
@@ -303,7 +312,7 @@ fn find_upper(relocs: &[Reloc], offset: u64) -> Option<Reloc>
 }
 
 /// The relocations of a section, which stand in order of offset.
-fn relocs_at<'t>(view: &KnownView<'t, '_>, file: FileNo, section: u32) -> &'t [Reloc]
+pub fn relocs_at<'t>(view: &KnownView<'t, '_>, file: FileNo, section: u32) -> &'t [Reloc]
     ensures value { result.now ≡ files.relocs_at (files.file_at (files_in view.now) file) section }
     ensures ordered { IsNonDecreasingBy (λ (r : Reloc). r.offset) result.now }
 {

@@ -12,7 +12,7 @@ use Rattle.lk_base.specs.declared.kinds.DefectKind.TheVariants.{F20}
 use Rattle.lk_tables.specs.Binding.{Offer, no_rank, least_rank, is_strong, file_of, symbol_of_rank, duplicate_of, duplicates_of}
 use Rattle.sym_resolve.specs.declared.duplicates.Clash.{Clash}
 use Rattle.sym_resolve.specs.Offers.{rank_at}
-use Rattle.sym_resolve.specs.Stops.{IsFirstIfAny}
+use Rattle.lk_base.specs.Firsts.{IsFirst}
 use Rattle.sym_resolve.specs.Duplicates.{clash, no_clash, least_clash, defect_of}
 
 -- the look at one offer, and at all; L has the least rank of each name
@@ -188,18 +188,18 @@ strong_defect : (o p : Offer) → o.rank < 2 ^ 56 → defect_of (clash o.rank p.
 strong_defect o p lt = cond-false (o.rank == no_rank) None _ (ne_eqb o.rank no_rank (λ e. omega arith))
 
 by_find : (L : List ℕ → ℕ) (o : Offer) (os : List Offer) (high : ℕ) (r : Option Offer) → find (λ p. bytes_eq p.name o.name) os ≡ r → high ≤ 2 ^ 56 → RisesFrom (o.rank + 1) os high → All (λ p. L p.name ≡ least_rank p.name (o ∷ os)) os
-    → (Agrees L os → IsFirstIfAny (duplicates_of os) (defect_of (looked_at L no_clash os))) → IsFirstIfAny (duplicate_of o r ++ duplicates_of os) (defect_of (looked_at L no_clash os))
+    → (Agrees L os → IsFirst (duplicates_of os) (defect_of (looked_at L no_clash os))) → IsFirst (duplicate_of o r ++ duplicates_of os) (defect_of (looked_at L no_clash os))
 by_find L o os high None is most up agrees later = later (all_later L o os agrees (none_found o os is))
 by_find L o os high (Some p) is most up agrees later =
     let end = rises_end os (o.rank + 1) high up in
-    let P : Option Defect → Type 0 = IsFirstIfAny (duplicate_of o (Some p) ++ duplicates_of os) in
+    let P : Option Defect → Type 0 = IsFirst (duplicate_of o (Some p) ++ duplicates_of os) in
     subst P (sym (ap defect_of (finds L o p os no_clash high most up (all_behind L o os high most up agrees) (omega arith) is) ∙ strong_defect o p (omega arith))) (duplicates_of os, refl)
 
-pub first_duplicate : (L : List ℕ → ℕ) (os : List Offer) (a high : ℕ) → high ≤ 2 ^ 56 → RisesFrom a os high → Agrees L os → IsFirstIfAny (duplicates_of os) (defect_of (looked_at L no_clash os))
+pub first_duplicate : (L : List ℕ → ℕ) (os : List Offer) (a high : ℕ) → high ≤ 2 ^ 56 → RisesFrom a os high → Agrees L os → IsFirst (duplicates_of os) (defect_of (looked_at L no_clash os))
 first_duplicate L [] a high most up agrees = refl
 first_duplicate L (o ∷ os) a high most up agrees =
     let own : L o.name ≡ o.rank = All-head (λ (p : Offer). L p.name ≡ least_rank p.name (o ∷ os)) o os agrees ∙ own_least o os high most up.1 in
-    let P : Clash → Type 0 = λ c. IsFirstIfAny (duplicates_of (o ∷ os)) (defect_of (looked_at L c os)) in
+    let P : Clash → Type 0 = λ c. IsFirst (duplicates_of (o ∷ os)) (defect_of (looked_at L c os)) in
     subst P (sym (passed L no_clash o (omega arith)))
     (by_find L o os high (find (λ p. bytes_eq p.name o.name) os) refl most up.1 (All-tail (λ (p : Offer). L p.name ≡ least_rank p.name (o ∷ os)) o os agrees)
     (λ also. first_duplicate L os (o.rank + 1) high most up.1 also))

@@ -8,12 +8,13 @@ use Rattle.std.proofs.lemmas.Slice.Eq.{bytes_eq-Decides}
 use Rattle.sym_resolve.specs.declared.numbers.Key.{Key}
 use Rattle.sym_resolve.specs.Numbers.{Named, named_of, names_of, text_at, ArePlacedOnce, AreSideBySide, AreNumbers, no_named}
 
--- T k is the k-th name and A k its place; the first k of them have numbers below the count
+-- T k is the k-th name and A k its place; the first k of them have numbers below the count, each number is one's
 pub record Counted (T : ℕ → List ℕ) (A : ℕ → ℕ) (ns : List ℕ) (count k : ℕ) : Type 0 where
   pub few : count ≤ k
   pub last : (j : ℕ) → j + 1 ≡ k → get_or ns (A j) 0 + 1 ≡ count
   pub below : (j : ℕ) → j < k → get_or ns (A j) 0 < count
   pub same : (i j : ℕ) → i < k → j < k → (get_or ns (A i) 0 ≡ get_or ns (A j) 0) ↔ (T i ≡ T j)
+  pub used : (m : ℕ) → m < count → (j : ℕ) × ((j < k) × (get_or ns (A j) 0 ≡ m))
 
 pub counted_none : (T : ℕ → List ℕ) (A : ℕ → ℕ) (ns : List ℕ) → Counted T A ns 0 0
 counted_none T A ns = record {
@@ -21,12 +22,13 @@ counted_none T A ns = record {
   last = λ j e. absurd (omega arith);
   below = λ j lt. absurd (omega arith);
   same = λ i j lt. absurd (omega arith);
+  used = λ m lt. absurd (omega arith);
 }
 
 module _ (T : ℕ → List ℕ) (A : ℕ → ℕ) (ns : List ℕ) (count k v more : ℕ) (c : Counted T A ns count k)
     (once : (j : ℕ) → j < k → A j ≡ A k → T j ≡ T k)
     (is : (j : ℕ) → j < k → (get_or ns (A j) 0 ≡ v) ↔ (T j ≡ T k))
-    (next : v + 1 ≡ more) (up : count ≤ more) (few : more ≤ k + 1) (within : A k < length ns) where
+    (next : v + 1 ≡ more) (top : v ≤ count) (up : count ≤ more) (few : more ≤ k + 1) (within : A k < length ns) where
   here : get_or (set ns (A k) v) (A k) 0 ≡ v
   here = get_or-set_same ns (A k) v 0 within
 
@@ -41,6 +43,12 @@ module _ (T : ℕ → List ℕ) (A : ℕ → ℕ) (ns : List ℕ) (count k v mor
 
   cases : (j : ℕ) → j < k + 1 → (j < k) ⊎ (j ≡ k)
   cases j lt = ⊎_elim (λ (less : j < k). inl less) (λ (ge : k ≤ j). inr (omega arith)) (cases_lt j k)
+
+  used_more : (m : ℕ) → m < more → (j : ℕ) × ((j < k + 1) × (get_or (set ns (A k) v) (A j) 0 ≡ m))
+  used_more m lt = ⊎_elim
+      (λ (less : m < count). let h = c.used m less in (h.0, (let before = h.1.0 in omega arith, kept h.0 h.1.0 ∙ h.1.1)))
+      (λ (ge : count ≤ m). let is_m : v ≡ m = omega arith in (k, (omega arith, here ∙ is_m)))
+      (cases_lt m count)
 
   pub counted_more : Counted T A (set ns (A k) v) more (k + 1)
   counted_more = record {
@@ -63,6 +71,7 @@ module _ (T : ℕ → List ℕ) (A : ℕ → ℕ) (ns : List ℕ) (count k v mor
         (λ (e : j ≡ k). (λ q. ap T (d ∙ sym e), λ t. at_last i d ∙ sym (at_last j e)))
         (cases j mt))
         (cases i lt);
+    used = used_more;
   }
 
 -- the name before is another: a new number
@@ -71,7 +80,7 @@ counted_new T A ns count k v more c once new is next within =
     let few = c.few in
     counted_more T A ns count k v more c once
     (λ j lt. (λ e. absurd (let below = c.below j lt in omega arith), λ t. absurd (new j lt t)))
-    (omega arith) (omega arith) (omega arith) within
+    (omega arith) (omega arith) (omega arith) (omega arith) within
 
 -- the name before is the same: its number
 pub counted_again : (T : ℕ → List ℕ) (A : ℕ → ℕ) (ns : List ℕ) (count k m v : ℕ) → Counted T A ns count k → ((j : ℕ) → j < k → A j ≡ A k → T j ≡ T k) → m + 1 ≡ k → T m ≡ T k → v + 1 ≡ count → A k < length ns → Counted T A (set ns (A k) v) count (k + 1)
@@ -80,7 +89,7 @@ counted_again T A ns count k m v c once before t next within =
     let own : get_or ns (A m) 0 ≡ v = omega (arith, c.last m before) in
     counted_more T A ns count k v count c once
     (λ j lt. let h = c.same j m lt (omega arith) in (λ e. h.0 (e ∙ sym own) ∙ t, λ s. h.1 (s ∙ sym t) ∙ own))
-    next (omega arith) (omega arith) within
+    next (omega arith) (omega arith) (omega arith) within
 
 -- the number that a list of names has for a text
 abbrev number_in : List Named → List ℕ → List ℕ → ℕ
@@ -132,6 +141,10 @@ numbers_of names ns count c =
           sym (ap (λ (m : Named). m.text) at)
           ∙ (c.same i j has.1 also.1).0 (ap (λ (m : Named). get_or ns m.at 0) at ∙ sym (own a has) ∙ e ∙ own b also ∙ sym (ap (λ (m : Named). get_or ns m.at 0) to))
           ∙ ap (λ (m : Named). m.text) to;
+      used = λ m lt.
+          let h = c.used m lt in
+          let has : Contains names (get_or names h.0 no_named) = Contains-get_or names h.0 no_named h.1.0 in
+          (get_or names h.0 no_named, (has, own (get_or names h.0 no_named) has ∙ h.1.1));
     }
 
 -- the loop: of so many places, the first k names are counted

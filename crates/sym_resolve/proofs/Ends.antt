@@ -17,7 +17,7 @@ use Rattle.sym_resolve.specs.Words.{IsName, AreWords}
 use Rattle.sym_resolve.specs.Offers.{claims, rank_at}
 use Rattle.sym_resolve.specs.Duplicates.{no_clash, least_clash, defect_of}
 use Rattle.sym_resolve.specs.Law.{IsBound, EachIsBound}
-use Rattle.sym_resolve.specs.Stops.{IsFirst, IsFirstIfAny}
+use Rattle.lk_base.specs.Firsts.{BeginsWith, IsFirst}
 use Rattle.sym_resolve.proofs.Starts.{first_within}
 use Rattle.sym_resolve.proofs.Walks.{Splits, through_symbols, live_within}
 use Rattle.sym_resolve.proofs.Meaning.{claims_are, offers_named, row_bound}
@@ -106,7 +106,7 @@ least_below text (o ∷ os) p (zero, lt, is) same =
     omega (arith, ap (λ (x : Offer). x.rank) is)
 least_below text (o ∷ os) p (suc k, lt, is) same = min_later o.rank (least_rank text os) p.rank (bytes_eq o.name text) (least_below text os p (k, omega arith, is) same)
 
-abbrev offer : List ℕ → ℕ → Offer
+abbrev pub offer : List ℕ → ℕ → Offer
 offer name rank = record { name = name; rank = rank }
 
 in_tail : (o p : Offer) (os : List Offer) → Contains os p → Contains (o ∷ os) p
@@ -172,26 +172,26 @@ module _ (files : List File) (gone : List Bool) (entry : List ℕ) (word : ℕ �
       let both = strong_least p.name os in
       row_bound files gone entry word own count w row is p.name name ∙ (let e : least_rank p.name os ≡ least_rank p.name (filter is_strong os) = omega arith in e)
 
-  pub duplicates_first : length files < 2 ^ 24 → symbol_total files < 2 ^ 31 → IsFirstIfAny (duplicate_defects files gone) (defect_of (least_clash row no_clash (claims files gone word)))
+  pub duplicates_first : length files < 2 ^ 24 → symbol_total files < 2 ^ 31 → IsFirst (duplicate_defects files gone) (defect_of (least_clash row no_clash (claims files gone word)))
   unfolding duplicate_defects
   duplicates_first many few =
       let os = offers files gone in
       let L : List ℕ → ℕ = λ t. rank_at row (w.word_of t) in
-      let P : Option Defect → Type 0 = IsFirstIfAny (duplicates_of (filter is_strong os)) in
+      let P : Option Defect → Type 0 = IsFirst (duplicates_of (filter is_strong os)) in
       let seen = ap (least_clash row no_clash) (claims_are files gone entry word own count w) ∙ looks row w.word_of no_clash os ∙ strong_alone L no_clash os in
       subst P (sym (ap defect_of seen)) (first_duplicate L (filter is_strong os) 0 (2 ^ 56) (omega arith) (strong_rises files gone many few) strong_agrees)
 
-  pub duplicate_told : (seen : List ℕ) (es : List Event) (r : Option Defect) → length files < 2 ^ 24 → symbol_total files < 2 ^ 31 → seen ≡ row → es ≡ claims files gone word → r ≡ defect_of (least_clash seen no_clash es) → IsFirstIfAny (duplicate_defects files gone) r
+  pub duplicate_told : (seen : List ℕ) (es : List Event) (r : Option Defect) → length files < 2 ^ 24 → symbol_total files < 2 ^ 31 → seen ≡ row → es ≡ claims files gone word → r ≡ defect_of (least_clash seen no_clash es) → IsFirst (duplicate_defects files gone) r
   duplicate_told seen es r many few same also e =
-      let P : Option Defect → Type 0 = IsFirstIfAny (duplicate_defects files gone) in
+      let P : Option Defect → Type 0 = IsFirst (duplicate_defects files gone) in
       subst P (sym (e ∙ ap (λ l. defect_of (least_clash l no_clash es)) same ∙ ap (λ l. defect_of (least_clash row no_clash l)) also)) (duplicates_first many few)
 
 -- the phases
-pub second_phase : (a b c : List Defect) (d : Defect) → a ≡ [] → IsFirst b d → IsFirst (first_phase (a ∷ b ∷ c ∷ [])) d
+pub second_phase : (a b c : List Defect) (d : Defect) → a ≡ [] → BeginsWith b d → BeginsWith (first_phase (a ∷ b ∷ c ∷ [])) d
 second_phase a b c d none first =
     (first.0, ap (λ l. first_phase (l ∷ b ∷ c ∷ [])) none ∙ ap (λ l. first_phase (l ∷ c ∷ [])) first.1)
 
-pub third_phase : (a b c : List Defect) (d : Defect) → a ≡ [] → b ≡ [] → c ≡ d ∷ [] → IsFirst (first_phase (a ∷ b ∷ c ∷ [])) d
+pub third_phase : (a b c : List Defect) (d : Defect) → a ≡ [] → b ≡ [] → c ≡ d ∷ [] → BeginsWith (first_phase (a ∷ b ∷ c ∷ [])) d
 third_phase a b c d none also is =
     ([], ap (λ l. first_phase (l ∷ b ∷ c ∷ [])) none ∙ ap (λ l. first_phase (l ∷ c ∷ [])) also ∙ ap (λ l. first_phase (l ∷ [])) is)
 

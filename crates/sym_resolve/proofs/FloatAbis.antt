@@ -1,12 +1,12 @@
 -- The float ABIs of the files from one on, with the first that was met.
-use Rattle.std.proofs.Common.{◌≡◌, ◌≢◌, ℕ, suc, ◌+◌, ◌-◌, ◌<◌, ◌≤◌, true, false, Option, Some, None, List, [], ◌∷◌, ◌++◌, length, refl, sym, ap, ◌∙◌, arith, bit_and}
+use Rattle.std.proofs.Common.{◌≡◌, ℕ, suc, ◌+◌, ◌-◌, ◌<◌, ◌≤◌, ◌==◌, true, false, Option, Some, None, List, [], ◌∷◌, ◌++◌, length, refl, sym, ap, ◌∙◌, arith, bit_and}
 use Rattle.std.specs.Prelude.{flat_map}
 use Rattle.std.specs.List.{range_with_len}
-use Rattle.std.proofs.lemmas.Bool.{eq-eqb, ne_eqb, cond-true, cond-false}
+use Rattle.std.proofs.lemmas.Bool.{eq-eqb, cond-true, cond-false}
 use Rattle.lk_base.specs.declared.defects.Defect.{Defect}
+use Rattle.lk_base.specs.Firsts.{BeginsWith}
 use Rattle.lk_tables.specs.Files.{File, file_at}
 use Rattle.lk_tables.specs.Binding.{FloatAbi, float_abi_at, clash_of, clashes_with_first, flag_defects}
-use Rattle.sym_resolve.specs.Stops.{IsFirst, clash_defect}
 
 -- the clashes with the first, if there is one yet
 abbrev pub clashes_behind : Option ℕ → List FloatAbi → List Defect
@@ -46,16 +46,19 @@ first_next files f own all lt live is before = ap (clashes_behind None) (sym (ab
 clash_at : (abi f own : ℕ) (rest : List FloatAbi) → flat_map (clash_of abi) (abi_of f own ∷ rest) ≡ clash_of abi (abi_of f own) ++ flat_map (clash_of abi) rest
 clash_at abi f own rest = refl
 
+same_none : (abi f own : ℕ) → own ≡ abi → clash_of abi (abi_of f own) ≡ []
+same_none abi f own same = cond-true (own == abi) [] _ (eq-eqb own abi same)
+
 pub same_next : (files : List File) (f own abi : ℕ) (all : List Defect) → f < length files → (file_at files f).live ≡ true → own ≡ bit_and (file_at files f).head.flags 6 → own ≡ abi → clashes_behind (Some abi) (abis_from files f) ≡ all → clashes_behind (Some abi) (abis_from files (f + 1)) ≡ all
 same_next files f own abi all lt live is same before =
     sym (ap (clashes_behind (Some abi)) (abis_own files f own lt live is)
-    ∙ ap (λ ds. ds ++ flat_map (clash_of abi) (abis_from files (f + 1))) (cond-true _ [] (clash_defect f own abi ∷ []) (eq-eqb own abi same))) ∙ before
+    ∙ ap (λ ds. ds ++ flat_map (clash_of abi) (abis_from files (f + 1))) (same_none abi f own same)) ∙ before
 
-pub clash_first : (files : List File) (f own abi : ℕ) (all : List Defect) → f < length files → (file_at files f).live ≡ true → own ≡ bit_and (file_at files f).head.flags 6 → own ≢ abi → clashes_behind (Some abi) (abis_from files f) ≡ all → IsFirst all (clash_defect f own abi)
-clash_first files f own abi all lt live is other before = (
+pub clash_first : (files : List File) (f own abi : ℕ) (all : List Defect) (d : Defect) → f < length files → (file_at files f).live ≡ true → own ≡ bit_and (file_at files f).head.flags 6 → clash_of abi (abi_of f own) ≡ d ∷ [] → clashes_behind (Some abi) (abis_from files f) ≡ all → BeginsWith all d
+clash_first files f own abi all d lt live is one before = (
   flat_map (clash_of abi) (abis_from files (f + 1)),
   sym before ∙ ap (clashes_behind (Some abi)) (abis_own files f own lt live is)
-      ∙ ap (λ ds. ds ++ flat_map (clash_of abi) (abis_from files (f + 1))) (cond-false _ [] (clash_defect f own abi ∷ []) (ne_eqb own abi other)),
+      ∙ ap (λ ds. ds ++ flat_map (clash_of abi) (abis_from files (f + 1))) one,
 )
 
 none_behind : (first : Option ℕ) → clashes_behind first [] ≡ []

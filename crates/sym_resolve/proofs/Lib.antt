@@ -9,3 +9,5 @@ pub mod Least
 pub mod Meaning
 pub mod Clashes
 pub mod Ends
+pub mod CommonRoom
+pub mod Lawful

@@ -46,7 +46,7 @@ map_if : {X Y : Type 0} (g v : X → Y) (b : Bool) (x : X) → (b ≡ true → g
 map_if g v true x same = ap (λ y. y ∷ []) (same refl)
 map_if g v false x same = refl
 
-all_if : {X : Type 0} (P : X → Type 0) (b : Bool) (x : X) → (b ≡ true → P x) → All P (if b then x ∷ [] else [])
+pub all_if : {X : Type 0} (P : X → Type 0) (b : Bool) (x : X) → (b ≡ true → P x) → All P (if b then x ∷ [] else [])
 all_if P true x holds = All-cons P x [] (holds refl) (All-nil P)
 all_if P false x holds = All-nil P
 
@@ -72,7 +72,7 @@ unfolding greatest_align
 align_some text [] = omega arith
 align_some text (d ∷ ds) = align_some_next (bytes_eq d.name text) d.align (greatest_align text ds) (align_some text ds)
 
-least_most : (text : List ℕ) (os : List Offer) → least_rank text os ≤ no_rank
+pub least_most : (text : List ℕ) (os : List Offer) → least_rank text os ≤ no_rank
 unfolding least_rank
 least_most text [] = omega arith
 least_most text (o ∷ os) = least_most_next (bytes_eq o.name text) o.rank (least_rank text os) (least_most text os)
@@ -91,7 +91,7 @@ same_map g k a (suc n) each =
     ap (λ x. x ∷ map g (range_with_len (a + 1) n)) (each a (omega arith) (omega arith))
     ∙ ap (λ xs. k a ∷ xs) (same_map g k (a + 1) n (λ j low high. each j (omega arith) (omega arith)))
 
-abbrev common_of : (file symbol size align : ℕ) → BoundCommon
+abbrev pub common_of : (file symbol size align : ℕ) → BoundCommon
 common_of file symbol size align = record { file = file; symbol = symbol; size = size; align = align }
 
 abbrev made_of : List Bool → List (List ℕ) → ℕ → List (List BoundCommon) → Bindings

@@ -74,4 +74,5 @@ module _ (keys sorted : List Key) (moved : IsPermutation keys sorted) where
     each = λ n has. are.each n (forth n has);
     below = λ n has. are.below n (forth n has);
     apart = λ a b has also e. are.apart a b (forth a has) (forth b also) e;
+    used = λ m lt. let h = are.used m lt in (h.0, (back h.0 h.1.0, h.1.1));
   }

@@ -86,19 +86,27 @@ if_all : {X : Type 0} (P : X → Type 0) (b : Bool) (xs : List X) → (b ≡ tru
 if_all P true xs all = all refl
 if_all P false xs all = All-nil P
 
+pub all_in_file : {X : Type 0} (P : X → Type 0) (files : List File) (g : ℕ → ℕ → List X) (f : ℕ) → ((i : ℕ) → (file_at files f).live ≡ true → i < length (file_at files f).head.symbols → All P (g f i)) → All P (in_file files g f)
+all_in_file P files g f each =
+    if_all P (file_at files f).live _ (λ live. all_range P (g f) 0 (length (file_at files f).head.symbols) (λ i low high. each i live (omega arith)))
+
 pub all_symbols : {X : Type 0} (P : X → Type 0) (files : List File) (g : ℕ → ℕ → List X) → ((f i : ℕ) → (file_at files f).live ≡ true → i < length (file_at files f).head.symbols → All P (g f i)) → All P (over_symbols files g)
 all_symbols P files g each =
     all_range P (in_file files g) 0 (length files)
-    (λ f low high. if_all P (file_at files f).live _ (λ live. all_range P (g f) 0 (length (file_at files f).head.symbols) (λ i low high. each f i live (omega arith))))
+    (λ f low high. all_in_file P files g f (each f))
 
 if_in : {X : Type 0} (x : X) (b : Bool) (xs : List X) → b ≡ true → Contains xs x → Contains (if b then xs else []) x
 if_in x true xs is has = has
 if_in x false xs is has = absurd cc
 
+pub in_own_file : {X : Type 0} (files : List File) (g : ℕ → ℕ → List X) (f i : ℕ) (x : X) → (file_at files f).live ≡ true → i < length (file_at files f).head.symbols → Contains (g f i) x → Contains (in_file files g f) x
+in_own_file files g f i x live lt has =
+    if_in x (file_at files f).live _ live (in_range (g f) 0 (length (file_at files f).head.symbols) i x (omega arith) (omega arith) has)
+
 pub in_symbols : {X : Type 0} (files : List File) (g : ℕ → ℕ → List X) (f i : ℕ) (x : X) → (file_at files f).live ≡ true → i < length (file_at files f).head.symbols → Contains (g f i) x → Contains (over_symbols files g) x
 in_symbols files g f i x live lt has =
     in_range (in_file files g) 0 (length files) f x (omega arith) (let within : f < length files = live_within files f live in omega arith)
-    (if_in x (file_at files f).live _ live (in_range (g f) 0 (length (file_at files f).head.symbols) i x (omega arith) (omega arith) has))
+    (in_own_file files g f i x live lt has)
 
 pub live_in_file : {X : Type 0} (files : List File) (g : ℕ → ℕ → List X) (f n : ℕ) → (file_at files f).live ≡ true → n ≡ length (file_at files f).head.symbols → flat_map (g f) (range_with_len 0 n) ≡ in_file files g f
 live_in_file files g f n live all =

@@ -1,7 +1,11 @@
--- What a name is bound to (System V gABI, "Symbol Table").
-use Rattle.std.specs.Prelude.{◌≡◌, ◌≢◌, ℕ, ◌<◌, ◌≤◌, ◌⊎◌, Bool, true, List, [], length, Contains, slice_index_or}
+-- What a name is bound to, and the room of COMMON symbols (System V gABI, "Symbol Table").
+use Rattle.std.specs.Prelude.{◌≡◌, ◌≢◌, ℕ, ◌<◌, ◌≤◌, ◌⊎◌, max, Bool, true, List, [], length, map, All, Contains, slice_index_or}
+use Rattle.std.specs.List.Sorted.{IsStrictlyIncreasing}
+use Rattle.lk_tables.specs.declared.binding.BoundCommon.{BoundCommon}
+use Rattle.lk_tables.specs.declared.heads.Symbol.{Symbol}
+use Rattle.lk_tables.specs.Bodies.{is_common}
 use Rattle.lk_tables.specs.Files.{File, file_at, symbol_at, symbol_name}
-use Rattle.lk_tables.specs.Binding.{Offer, Bindings, no_rank, offers}
+use Rattle.lk_tables.specs.Binding.{Offer, Bindings, no_rank, rank_of, offers}
 
 -- the rank of an offer of the name, or none; and no offer of the name has a smaller one
 pub record IsBound (all : List Offer) (name : List ℕ) (rank : ℕ) : Type 0 where
@@ -13,3 +17,57 @@ abbrev pub EachIsBound : List File → List Bool → Bindings → Type 0
 EachIsBound files gone b =
     (f i : ℕ) → (file_at files f).live ≡ true → i < length (file_at files f).head.symbols → (symbol_at (file_at files f) i).binding ≢ 0
     → IsBound (offers files gone) (symbol_name (file_at files f) i) (slice_index_or (slice_index_or b.ranks f []) i no_rank)
+
+-- symbol i of file f is a COMMON one, and the file is live
+pub record IsCommonIn (files : List File) (f i : ℕ) : Type 0 where
+  pub live : (file_at files f).live ≡ true
+  pub within : i < length (file_at files f).head.symbols
+  pub common : is_common (symbol_at (file_at files f) i).place ≡ true
+
+-- one that other files see, and to whose own offer its name is bound
+pub record IsBoundCommon (files : List File) (gone : List Bool) (f i : ℕ) : Type 0 where
+  pub common : IsCommonIn files f i
+  pub seen : (symbol_at (file_at files f) i).binding ≢ 0
+  pub own : IsBound (offers files gone) (symbol_name (file_at files f) i) (rank_of 1 f i)
+
+-- what a COMMON symbol asks for: its bytes, and its alignment, 0 being read as 1
+abbrev pub size_asked : Symbol → ℕ
+size_asked s = s.size
+
+abbrev pub align_asked : Symbol → ℕ
+align_asked s = max 1 s.value
+
+-- one of the COMMON symbols of a name asks for so much, and none for more
+pub record IsMostAsked (files : List File) (name : List ℕ) (asked : Symbol → ℕ) (most : ℕ) : Type 0 where
+  pub file : ℕ
+  pub symbol : ℕ
+  pub common : IsCommonIn files file symbol
+  pub named : symbol_name (file_at files file) symbol ≡ name
+  pub reached : asked (symbol_at (file_at files file) symbol) ≡ most
+  pub greatest : (f i : ℕ) → IsCommonIn files f i → symbol_name (file_at files f) i ≡ name → asked (symbol_at (file_at files f) i) ≤ most
+
+-- a bound COMMON symbol of file f, with the greatest room that is asked for under its name
+pub record HasItsRoom (files : List File) (gone : List Bool) (f : ℕ) (c : BoundCommon) : Type 0 where
+  pub file_is : c.file ≡ f
+  pub bound : IsBoundCommon files gone f c.symbol
+  pub size_is : IsMostAsked files (symbol_name (file_at files f) c.symbol) size_asked c.size
+  pub align_is : IsMostAsked files (symbol_name (file_at files f) c.symbol) align_asked c.align
+
+-- what a binding gives room to in file f, and by which symbols
+abbrev pub commons_of : Bindings → ℕ → List BoundCommon
+commons_of b f = slice_index_or b.commons f []
+
+abbrev pub common_symbols : Bindings → ℕ → List ℕ
+common_symbols b f = map (λ c. c.symbol) (commons_of b f)
+
+-- the bound COMMON symbols get room: no others, each of them, and each once, in order
+pub record GetRoom (files : List File) (gone : List Bool) (b : Bindings) : Type 0 where
+  pub only : (f : ℕ) → All (HasItsRoom files gone f) (commons_of b f)
+  pub each : (f i : ℕ) → IsBoundCommon files gone f i → Contains (common_symbols b f) i
+  pub once : (f : ℕ) → IsStrictlyIncreasing (common_symbols b f)
+
+-- the law of a binding: each symbol, the entry of this name, and the COMMON symbols
+pub record IsLawful (files : List File) (gone : List Bool) (name : List ℕ) (b : Bindings) : Type 0 where
+  pub symbols : EachIsBound files gone b
+  pub entry : IsBound (offers files gone) name b.entry
+  pub commons : GetRoom files gone b

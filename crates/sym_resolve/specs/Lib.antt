@@ -4,6 +4,5 @@ pub mod Found
 pub mod Law
 pub mod Numbers
 pub mod Offers
-pub mod Stops
 pub mod Symbols
 pub mod Words

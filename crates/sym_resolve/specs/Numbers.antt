@@ -27,9 +27,10 @@ text_at names k = (slice_index_or names k no_named).text
 abbrev pub AreSideBySide : List Named → Type 0
 AreSideBySide names = (i j k : ℕ) → i ≤ j → j ≤ k → k < length names → text_at names i ≡ text_at names k → text_at names j ≡ text_at names k
 
--- the numbers by place, below a count
+-- the numbers by place, below a count; each number below it is that of a name
 pub record AreNumbers (names : List Named) (count : ℕ) (numbers : List ℕ) : Type 0 where
   pub number_of : List ℕ → ℕ
   pub each : (n : Named) → Contains names n → slice_index numbers n.at ≡ number_of n.text
   pub below : (n : Named) → Contains names n → number_of n.text < count
   pub apart : (a b : Named) → Contains names a → Contains names b → number_of a.text ≡ number_of b.text → a.text ≡ b.text
+  pub used : (m : ℕ) → m < count → (n : Named) × (Contains names n × (number_of n.text ≡ m))

@@ -1,13 +1,13 @@
 //! What each name of a link is bound to.
 
-ghost use Rattle.std.specs.Prelude.{◌≡◌, ◌<◌, ◌≤◌, ◌^◌, [], length, IfOk, IfErr};
+ghost use Rattle.std.specs.Prelude.{◌≡◌, ◌<◌, ◌≤◌, ◌^◌, length, IfOk};
+ghost use Rattle.lk_base.specs.Firsts.{Goes};
 ghost use Rattle.lk_tables.specs.Files.{symbol_total};
 ghost use Rattle.lk_tables.specs.FileView.{files_of};
 ghost use Rattle.lk_tables.specs.Binding.{bindings, binding_defects};
 ghost use Rattle.lk_tables.specs.BindingView.{binding_view};
-ghost use Rattle.sym_resolve.specs.Law.{EachIsBound};
+ghost use Rattle.sym_resolve.specs.Law.{IsLawful};
 ghost use Rattle.sym_resolve.specs.Offers.{rank_at};
-ghost use Rattle.sym_resolve.specs.Stops.{StopsAtFirst};
 ghost use Rattle.sym_resolve.specs.Found.{AreFound, IsTable};
 
 use crate::commons::{commons_of, rooms_of};
@@ -40,9 +40,8 @@ pub fn bind<R: Threads + Sync, G: Gate>(
     requires files { length (files_of tables.now) < 2 ^ 24 }
     requires symbols { symbol_total (files_of tables.now) < 2 ^ 31 }
     ensures bound { IfOk result (λ b. binding_view b ≡ bindings (files_of tables.now) discarded.now entry.now) }
-    ensures least { IfOk result (λ b. EachIsBound (files_of tables.now) discarded.now (binding_view b)) }
-    ensures sound { IfOk result (λ _. binding_defects (files_of tables.now) discarded.now entry.now ≡ []) }
-    ensures stops { IfErr result (StopsAtFirst (binding_defects (files_of tables.now) discarded.now entry.now)) }
+    ensures least { IfOk result (λ b. IsLawful (files_of tables.now) discarded.now entry.now (binding_view b)) }
+    ensures goes { Goes result (binding_defects (files_of tables.now) discarded.now entry.now) }
 {
     if let Some(clash) = float_clash(tables) {
         return Err(LinkStop::Defect(clash));
@@ -95,7 +94,7 @@ fn find<R: Threads + Sync, G: Gate>(
     requires symbols { symbol_total (files_of tables.now) < 2 ^ 31 }
     ensures { IfOk result (AreFound (files_of tables.now) discarded.now entry.now) }
 {
-    let words = words_of(rt, alloc, tables, entry)?;
+    let words = words_of(rt, alloc, tables, entry, workers)?;
     let offers = offers_of(alloc, tables, discarded, &words)?;
     let least = least_offers(rt, alloc, gate, workers, words.count, offers.as_slice())?;
     Ok(Found {

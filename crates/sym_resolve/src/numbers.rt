@@ -2,6 +2,7 @@
 
 ghost use Rattle.std.specs.Prelude.{◌≡◌, ℕ, ◌<◌, ◌≤◌, ◌^◌, ◌||◌, ◌==◌, ◌-◌, not, length, vec_len, IfOk, Contains};
 ghost use Rattle.std.specs.Str.{bytes_eq};
+ghost use Rattle.std.specs.List.Sorted.{IsPermutation};
 ghost use Rattle.sym_resolve.specs.Numbers.{Named, names_of, text_at, ArePlacedOnce, AreSideBySide, AreNumbers};
 
 use rayon::prelude::*;
@@ -26,20 +27,35 @@ pub struct Numbers {
     pub count: u32,
 }
 
-/// Numbers the names. The places are below `width`; a place that no name has stays 0.
+/// Numbers the names. The places are below `width`; a place that no name has stays 0. One worker sorts by itself; more are as
+/// many as the machine has processors.
 pub fn number<R: Threads + Sync>(
     rt: &R,
     alloc: Global,
     mut keys: Vec<Key>,
     width: usize,
+    workers: u32,
 ) -> Result<Numbers, AllocError>
     requires few { vec_len keys ≤ 2 ^ 31 }
     requires within { (n : Named) → Contains (names_of keys.items) n → n.at < width }
     requires once { ArePlacedOnce (names_of keys.items) }
     ensures { IfOk result (λ n. AreNumbers (names_of keys.entry.items) n.count n.of.items) }
 {
-    par_sort(rt, alloc, keys.as_mut_slice())?;
+    sort_keys(rt, keys.as_mut_slice(), workers);
     count_names(alloc, keys.as_slice(), width)
+}
+
+// Sorts the names, so that equal ones stand side by side. Keys that tie are equal in all, so their order does not matter.
+fn sort_keys<R: Threads + Sync>(rt: &R, keys: &mut [Key], workers: u32)
+    ensures permutation { IsPermutation keys.old keys.new }
+    ensures len { length keys.new ≡ length keys.old }
+    ensures together { AreSideBySide (names_of keys.new) }
+{
+    if workers == 1 {
+        keys.sort_unstable();
+    } else {
+        par_sort_unstable(rt, keys);
+    }
 }
 
 // Numbers names that stand in order.

@@ -53,6 +53,7 @@ pub fn words_of<R: Threads + Sync>(
     alloc: Global,
     tables: &Tables,
     entry: &[u8],
+    workers: u32,
 ) -> Result<Words, AllocError>
     requires { symbol_total (files_of tables.now) < 2 ^ 31 }
     ensures { IfOk result (λ w. AreWords (files_of tables.now) entry.now (word_at w) w.entry w.count) }
@@ -60,7 +61,7 @@ pub fn words_of<R: Threads + Sync>(
     let starts = starts_of(alloc, tables)?;
     let total = value_at(starts.as_slice(), file_count(tables));
     let keys = keys_of(alloc, tables, starts.as_slice(), entry)?;
-    let numbers = number(rt, alloc, keys, total as usize + 1)?;
+    let numbers = number(rt, alloc, keys, total as usize + 1, workers)?;
     let own = value_at(numbers.of.as_slice(), total as usize);
     Ok(Words {
         starts,

@@ -126,80 +126,10 @@ pub const CHOSEN: [Link; 7] = [
     },
 ];
 
-/// One, two and 64 workers.
-pub const WORKERS: [Link; 9] = [
-    Link {
-        words: &["rvld", "-s", "--threads", "1", "m.o", "lib.a"],
-        libraries: &[WITH_TEXT],
-        image: ASKED,
-        ..FIRST_LINK
-    },
-    Link {
-        words: &["rvld", "-s", "--threads", "2", "m.o", "lib.a"],
-        libraries: &[WITH_TEXT],
-        image: ASKED,
-        ..FIRST_LINK
-    },
-    Link {
-        words: &["rvld", "-s", "--threads", "64", "m.o", "lib.a"],
-        libraries: &[WITH_TEXT],
-        image: ASKED,
-        ..FIRST_LINK
-    },
-    Link {
-        words: &["rvld", "-s", "--threads", "1", "m.o", "lib.a"],
-        libraries: &[CHAIN],
-        image: ASKED_TWICE,
-        ..FIRST_LINK
-    },
-    Link {
-        words: &["rvld", "-s", "--threads", "2", "m.o", "lib.a"],
-        libraries: &[CHAIN],
-        image: ASKED_TWICE,
-        ..FIRST_LINK
-    },
-    Link {
-        words: &["rvld", "-s", "--threads", "64", "m.o", "lib.a"],
-        libraries: &[CHAIN],
-        image: ASKED_TWICE,
-        ..FIRST_LINK
-    },
-    Link {
-        words: &["rvld", "-s", "--threads", "1", "m.o", "lib.a"],
-        libraries: &[PACKED_LAST],
-        image: ASKED,
-        ..FIRST_LINK
-    },
-    Link {
-        words: &["rvld", "-s", "--threads", "2", "m.o", "lib.a"],
-        libraries: &[PACKED_LAST],
-        image: ASKED,
-        ..FIRST_LINK
-    },
-    Link {
-        words: &["rvld", "-s", "--threads", "64", "m.o", "lib.a"],
-        libraries: &[PACKED_LAST],
-        image: ASKED,
-        ..FIRST_LINK
-    },
-];
-
 /// A member that another pulls.
-pub const CHAINS: [Link; 4] = [
+pub const CHAINS: [Link; 2] = [
     Link {
         words: &["rvld", "-s", "m.o", "lib.a"],
-        libraries: &[CHAIN],
-        image: ASKED_TWICE,
-        ..FIRST_LINK
-    },
-    Link {
-        words: &["rvld", "-s", "--threads", "1", "m.o", "lib.a"],
-        libraries: &[CHAIN],
-        image: ASKED_TWICE,
-        ..FIRST_LINK
-    },
-    Link {
-        words: &["rvld", "-s", "--threads", "64", "m.o", "lib.a"],
         libraries: &[CHAIN],
         image: ASKED_TWICE,
         ..FIRST_LINK

@@ -1,7 +1,7 @@
 use Rattle.std.proofs.Common.{rules}
 use Rattle.std.proofs.lemmas.List.Sorted.{IsNonDecreasingBy-from_sort_by_key, answers_always}
 use Rattle.lk_tables.specs.Relocations.{offset_of}
-use Rattle.lk_tables.proofs.StableOrder.{sorted_is}
+use Rattle.lk_base.proofs.StableOrder.{sorted_is}
 use Rattle.elf_read.proofs.relocations.sort_entries.Goals as goal
 
 pub returns : goal.returns

@@ -7,7 +7,7 @@ use Rattle.lk_tables.specs.FileView.{files_of}
 use Rattle.link_driver.specs.Contents.{sources_of}
 use Rattle.link_driver.specs.Link.{bound_names, none_gone}
 use Rattle.link_driver.proofs.Chain.{at_reading, at_binding, at_undefined, at_layout, at_relocations, no_defects}
-use Rattle.link_driver.proofs.Handing.{few_parts_of, sized_parts_of, gives_executable}
+use Rattle.link_driver.proofs.Handing.{bound_are, few_parts_of, sized_parts_of, gives_executable}
 use Rattle.link_driver.proofs.linking.link_sources.Goals as goal
 
 pub returns-in-Err : goal.returns-in-Err
@@ -73,6 +73,9 @@ returns g c =
           (ap (binding_defects files (none_gone files)) (sym c.as_str-entry.ensures.value) ∙ c.in-Ok-bind_names.ensures.goes)
           (binding_view c.in-Ok-bind_names.binding) names
           c.in_default.ensures c.in-Ok-lay_out.ensures.goes c.in-Ok-write.ensures.goes;
+      taking_part = c.in-Ok.ensures.taking_part;
+      bound = bound_are c.as_str-entry.result.now (string_bytes c.args.command.now.entry) files (sources_of c.args.sources.now)
+          c.in-Ok.ensures.tables.files_are c.as_str-entry.ensures.value c.in-Ok-bind_names.ensures.least;
       gives = record {
         executable = gives_executable (string_bytes c.args.command.now.entry) (sources_of c.args.sources.now) files (binding_view c.in-Ok-bind_names.binding) c.in-Ok-write.exe.items
             c.in-Ok.ensures.tables.files_are names c.in-Ok-write.ensures.written;

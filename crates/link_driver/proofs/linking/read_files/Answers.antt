@@ -11,7 +11,7 @@ use Rattle.link_driver.specs.Sources.{files_in, headed, heads_in, live_in}
 use Rattle.link_driver.proofs.Chain.{front_stop, two_phases, second_phase, second_stop}
 use Rattle.link_driver.proofs.Opening.{count_views}
 use Rattle.link_driver.proofs.Reading.{each_headed, sound_files}
-use Rattle.link_driver.proofs.Totals.{are_bodies, are_files, both_parts, how_many, how_many_heads, live_same, same_symbols, second_part, within_limit}
+use Rattle.link_driver.proofs.Totals.{are_bodies, are_files, both_parts, how_many, how_many_heads, live_same, same_symbols, second_part, taking_part_of, within_limit}
 use Rattle.link_driver.proofs.linking.read_files.Goals as goal
 
 pub find_live-requires-clause-few : goal.find_live-requires-clause-few
@@ -23,21 +23,21 @@ find_live-requires-clause-few g c κs within =
 
 pub open_live-requires-clause-files : goal.open_live-requires-clause-files
 unfolding heads_in
-open_live-requires-clause-files g c =
+open_live-requires-clause-files g c κs within =
     let ss = sources_of c.args.sources.now in
     let n : length ss ≡ length c.args.sources.now = length-map c.args.sources.now _ in
     let few : length c.args.sources.now ≤ c.args.limits.now.files = c.in-Ok.ensures.few in
     c.in-Ok.ensures.files ∙ ap (λ m. map (headed ss) (range_with_len 0 m)) n
 
 pub open_live-requires-clause-live : goal.open_live-requires-clause-live
-open_live-requires-clause-live g c =
+open_live-requires-clause-live g c κs within =
     let ss = sources_of c.args.sources.now in
     let n : length ss ≡ length c.args.sources.now = length-map c.args.sources.now _ in
     let few : length c.args.sources.now ≤ c.args.limits.now.files = c.in-Ok.ensures.few in
     omega (arith, ap length c.as_slice.ensures.value, c.in-Ok-find_live.ensures.wide, ap (length {A = File}) c.in-Ok.ensures.files, how_many_heads ss, n)
 
 pub open_live-requires-clause-heads : goal.open_live-requires-clause-heads
-open_live-requires-clause-heads g c = λ f lt whole.
+open_live-requires-clause-heads g c κs within = λ f lt whole.
     let ss = sources_of c.args.sources.now in
     let n : length ss ≡ length c.args.sources.now = length-map c.args.sources.now _ in
     let few : length c.args.sources.now ≤ c.args.limits.now.files = c.in-Ok.ensures.few in
@@ -110,3 +110,9 @@ returns-clause-tables g c =
       symbols = omega arith;
       sections = omega (arith, c.count_sections.ensures, ap (λ items. section_total (map file_view items)) c.as_slice-2.ensures.value);
     }
+
+pub returns-clause-taking_part : goal.returns-clause-taking_part
+returns-clause-taking_part g c =
+    let ss = sources_of c.args.sources.now in
+    let live = c.in-Ok-find_live.ensures.live ∙ live_same ss (map file_view c.in-Ok.files.items) c.in-Ok.ensures.files in
+    taking_part_of ss (map file_view c.in-Ok.files.items) c.in-Ok-find_live.live.items c.in-Ok.ensures.files live c.in-Ok-find_live.ensures.least

@@ -1,6 +1,5 @@
 use Rattle.std.proofs.Common.{length, arith}
 use Rattle.std.proofs.lemmas.List.{length-map}
-use Rattle.layout.specs.Parts.{parts_of}
 use Rattle.lk_base.proofs.Loops.{collect_step, collect_end}
 use Rattle.lk_tables.specs.BindingView.{binding_view}
 use Rattle.lk_tables.specs.FileView.{file_view, files_of}

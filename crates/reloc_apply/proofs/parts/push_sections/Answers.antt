@@ -1,8 +1,7 @@
 use Rattle.std.proofs.Common.{length, arith}
-use Rattle.layout.specs.Parts.{parts_of}
 use Rattle.lk_base.proofs.Loops.{collect_step}
 use Rattle.lk_tables.specs.FileView.{file_view}
-use Rattle.reloc_apply.specs.Parts.{part_at, section_parts}
+use Rattle.reloc_apply.specs.Parts.{part_at}
 use Rattle.reloc_apply.proofs.parts.push_sections.Goals as goal
 
 pub loop-index-preserved : goal.loop-index-preserved

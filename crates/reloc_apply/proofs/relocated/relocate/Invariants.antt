@@ -1,12 +1,10 @@
-use Rattle.std.proofs.Common.{◌≡◌, drop, flat_map, length}
-use Rattle.reloc_apply.specs.Relocated.{reloc_defects, all_put}
+use Rattle.std.proofs.Common.{◌≡◌, drop, length}
+use Rattle.reloc_apply.specs.Relocated.{all_put}
 use Rattle.reloc_apply.specs.KnownViews.{files_in, names_in, starts_in}
 use Rattle.reloc_apply.proofs.relocated.relocate.Given as goal
 
 abbrev pub invariant-loop-reloc : goal.invariant-loop-reloc
 invariant-loop-reloc l = record {
-  none : flat_map (reloc_defects (files_in l.view) (names_in l.view) (starts_in l.view) l.file l.section l.start) (drop l.reloc-index l.relocs)
-      ≡ flat_map (reloc_defects (files_in l.view) (names_in l.view) (starts_in l.view) l.file l.section l.start) l.relocs;
   done : all_put (files_in l.view) (names_in l.view) (starts_in l.view) l.file l.section l.start (drop l.reloc-index l.relocs) l.bytes
       ≡ all_put (files_in l.view) (names_in l.view) (starts_in l.view) l.file l.section l.start l.relocs l.fn.bytes;
   long : length l.bytes ≡ length l.fn.bytes;

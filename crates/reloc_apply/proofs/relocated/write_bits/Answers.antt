@@ -1,13 +1,12 @@
-use Rattle.std.proofs.Common.{◌≡◌, ◌+◌, ◌-◌, ◌≤◌, ◌<◌, ◌∷◌, [], length, arith, ap, ◌∙◌}
+use Rattle.std.proofs.Common.{◌≡◌, ◌+◌, ◌-◌, ◌≤◌, ◌<◌, length, arith, ap, ◌∙◌}
 use Rattle.lk_tables.specs.Files.{file_at, section_at, relocs_at}
-use Rattle.reloc_apply.specs.Image.{Shows}
-use Rattle.reloc_apply.specs.Relocated.{all_put, contents, bits_piece}
+use Rattle.reloc_apply.specs.Relocated.{all_put, contents}
 use Rattle.reloc_apply.specs.KnownViews.{files_in, names_in, starts_in}
-use Rattle.reloc_apply.proofs.SectionLies.{on_ok, one_piece}
+use Rattle.reloc_apply.proofs.SectionLies.{one_piece}
 use Rattle.reloc_apply.proofs.relocated.write_bits.Goals as goal
 
-pub returns-clause-bytes : goal.returns-clause-bytes
-returns-clause-bytes c =
+pub returns : goal.returns
+returns c =
     let files = files_in c.args.view.now in
     let b = names_in c.args.view.now in
     let starts = starts_in c.args.view.now in
@@ -23,8 +22,7 @@ returns-clause-bytes c =
     let low = c.requires.placed.low c.requires.bits some in
     let high = c.requires.placed.high c.requires.bits some in
     let room : (c.args.start - 65536) + length raw ≤ length c.args.out.now = omega arith in
-    on_ok c.relocate-2.result _ (Shows c.args.out.now _ (bits_piece files b starts f k c.args.start ∷ [])) c.relocate-2.ensures.bytes
-    (λ e. one_piece c.args.out.now c.relocate-2.new.bytes (all_put files b starts f k c.args.start (relocs_at (file_at files f) k) (contents (file_at files f) (section_at (file_at files f) k)))
+    one_piece c.args.out.now c.relocate-2.new.bytes (all_put files b starts f k c.args.start (relocs_at (file_at files f) k) (contents (file_at files f) (section_at (file_at files f) k)))
     (c.args.start - 65536) (length raw)
-    (e ∙ ap (λ rs. all_put files b starts f k c.args.start rs c.copy_from_slice.new.self) relocs_are ∙ ap (λ bs. all_put files b starts f k c.args.start (relocs_at (file_at files f) k) bs) raw_is)
-    long room)
+    (c.relocate-2.ensures ∙ ap (λ rs. all_put files b starts f k c.args.start rs c.copy_from_slice.new.self) relocs_are ∙ ap (λ bs. all_put files b starts f k c.args.start (relocs_at (file_at files f) k) bs) raw_is)
+    long room

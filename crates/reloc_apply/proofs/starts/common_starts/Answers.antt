@@ -1,4 +1,4 @@
-use Rattle.std.proofs.Common.{◌+◌, slice_index, rules, ap, ◌∙◌, ◌++◌, ◌∷◌, []}
+use Rattle.std.proofs.Common.{◌+◌, slice_index, rules, ap, ◌++◌, ◌∷◌, []}
 use Rattle.lk_base.proofs.Loops.{map_step}
 use Rattle.reloc_apply.proofs.starts.common_starts.Goals as goal
 

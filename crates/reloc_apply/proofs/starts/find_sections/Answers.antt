@@ -1,4 +1,4 @@
-use Rattle.std.proofs.Common.{arith, ap, sym, ◌∙◌, ◌+◌, rules, length}
+use Rattle.std.proofs.Common.{arith, ap, sym, ◌∙◌, ◌+◌, rules}
 use Rattle.std.specs.Prelude.{if◌then◌else◌, Some, None, slice_index}
 use Rattle.lk_base.proofs.Loops.{map_step}
 use Rattle.lk_tables.specs.Files.{writes}

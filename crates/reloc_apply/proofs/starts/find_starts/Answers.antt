@@ -1,4 +1,4 @@
-use Rattle.std.proofs.Common.{ℕ, arith, length, ap, sym, ◌∙◌, ◌+◌}
+use Rattle.std.proofs.Common.{arith, length}
 use Rattle.std.proofs.lemmas.List.{length-map}
 use Rattle.lk_base.proofs.Loops.{map_step, count_step, count_rest}
 use Rattle.lk_tables.specs.BindingView.{binding_view}

@@ -1,14 +1,15 @@
 use Rattle.std.proofs.Common.{Some, None, sym, ◌∙◌, subst}
 use Rattle.lk_tables.specs.Binding.{Bindings, flag_defects, duplicate_defects, entry_defects, no_entry}
 use Rattle.lk_tables.specs.FileView.{files_of}
-use Rattle.sym_resolve.specs.Law.{EachIsBound}
+use Rattle.sym_resolve.specs.Law.{IsLawful}
 use Rattle.sym_resolve.specs.Words.{word_at}
-use Rattle.sym_resolve.proofs.Ends.{duplicate_told, second_phase, third_phase, no_phase, entry_missing, entry_there, each_bound}
+use Rattle.sym_resolve.proofs.Ends.{duplicate_told, second_phase, third_phase, no_phase, entry_missing, entry_there}
+use Rattle.sym_resolve.proofs.Lawful.{lawful}
 use Rattle.sym_resolve.proofs.Meaning.{tables_are, entry_bound}
 use Rattle.sym_resolve.proofs.binding.bind.Goals as goal
 
-pub returns-in-Some-duplicate-clause-stops : goal.returns-in-Some-duplicate-clause-stops
-returns-in-Some-duplicate-clause-stops g c =
+pub returns-in-Some-duplicate-clause-goes : goal.returns-in-Some-duplicate-clause-goes
+returns-in-Some-duplicate-clause-goes g c =
     let files = files_of c.args.tables.now in
     let gone = c.args.discarded.now in
     let entry = c.args.entry.now in
@@ -18,8 +19,8 @@ returns-in-Some-duplicate-clause-stops g c =
     (duplicate_told files gone entry (word_at words) words.entry words.count found.words c.in_ok-found.found.least.items found.least c.as_slice.result.now c.as_slice-2.result.now (Some c.in-Some-duplicate.duplicate)
     c.requires.files c.requires.symbols c.as_slice.ensures.value (c.as_slice-2.ensures.value ∙ found.offers) c.in-Some-duplicate.ensures)
 
-pub returns-then-bound-clause-stops : goal.returns-then-bound-clause-stops
-returns-then-bound-clause-stops g c =
+pub returns-then-bound-clause-goes : goal.returns-then-bound-clause-goes
+returns-then-bound-clause-goes g c =
     let files = files_of c.args.tables.now in
     let gone = c.args.discarded.now in
     let entry = c.args.entry.now in
@@ -51,11 +52,11 @@ returns-clause-least g c =
     let found = c.in_ok-found.ensures in
     let row = c.in_ok-found.found.least.items in
     let rank = c.entry_rank-bound.ensures ∙ entry_bound files gone entry (word_at words) words.entry words.count found.words row found.least in
-    let P : Bindings → Type 0 = EachIsBound files gone in
-    subst P (sym (c.in_ok-table.ensures ∙ tables_are files gone entry (word_at words) words.entry words.count found.words row found.least c.entry_rank-bound.result rank)) (each_bound files gone entry)
+    let P : Bindings → Type 0 = IsLawful files gone entry in
+    subst P (sym (c.in_ok-table.ensures ∙ tables_are files gone entry (word_at words) words.entry words.count found.words row found.least c.entry_rank-bound.result rank)) (lawful files gone c.requires.files c.requires.symbols entry)
 
-pub returns-clause-sound : goal.returns-clause-sound
-returns-clause-sound g c =
+pub returns-clause-goes : goal.returns-clause-goes
+returns-clause-goes g c =
     let files = files_of c.args.tables.now in
     let gone = c.args.discarded.now in
     let entry = c.args.entry.now in

@@ -1,8 +1,6 @@
 use Rattle.std.proofs.Common.{◌≡◌, ℕ, ◌+◌, ◌<◌, Option, length, sym, subst, arith}
-use Rattle.lk_base.specs.declared.defects.Defect.{Defect}
 use Rattle.lk_tables.specs.Binding.{flag_defects}
 use Rattle.lk_tables.specs.FileView.{files_of}
-use Rattle.sym_resolve.specs.Stops.{IsFirst}
 use Rattle.sym_resolve.proofs.FloatAbis.{clashes_behind, abis_from, abis_all, dead_next, first_next, same_next, clash_first}
 use Rattle.sym_resolve.proofs.flags.float_clash.Goals as goal
 use Rattle.sym_resolve.proofs.flags.float_clash.Goals.{in-None, in-Some+else-own-abi}
@@ -22,9 +20,7 @@ returns-then-own-abi c =
     let f = c.loop-f.f in
     let lt : f < length files = omega arith in
     let Q : Option ℕ → Type 0 = λ o. clashes_behind o (abis_from files f) ≡ flag_defects files in
-    let P : Defect → Type 0 = IsFirst (flag_defects files) in
-    subst P (sym c.clash_of.ensures)
-    (clash_first files f c.float_abi-own.result c.in-Some.abi (flag_defects files) lt (sym c.if-not-is_live.ensures) c.float_abi-own.ensures c.if-own-abi.true (subst Q c.in-Some.is c.loop-f.invariant))
+    clash_first files f c.float_abi-own.result c.in-Some.abi (flag_defects files) c.clash_of.result lt (sym c.if-not-is_live.ensures) c.float_abi-own.ensures c.clash_of.ensures (subst Q c.in-Some.is c.loop-f.invariant)
 
 pub loop-f-preserved : goal.loop-f-preserved
 loop-f-preserved c =

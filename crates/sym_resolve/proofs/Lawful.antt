@@ -1,0 +1,141 @@
+-- The binding that is defined is the law's.
+use Rattle.std.proofs.Common.{◌≡◌, ℕ, zero, suc, ◌+◌, ◌^◌, ◌<◌, ◌≤◌, ◌&&◌, ◌==◌, Bool, true, false, if◌then◌else◌, List, [], ◌∷◌, ◌++◌, length, map, filter, get_or, All, Contains, refl, sym, ap, ◌∙◌, subst, ⊎_elim, arith}
+use Rattle.std.specs.Prelude.{flat_map}
+use Rattle.std.specs.List.{range_with_len}
+use Rattle.std.specs.List.Sorted.{IsStrictlyIncreasing}
+use Rattle.std.proofs.lemmas.List.{get_or_past}
+use Rattle.std.proofs.lemmas.List.FromFn.{get_or-map-range_with_len, get_or-range_with_len, length-range_with_len, length-map-range_with_len}
+use Rattle.std.proofs.lemmas.List.Kept.{IsStrictlyIncreasing-filter}
+use Rattle.std.proofs.lemmas.Bool.{cond-true, cond-false, cases_lt, and_parts, and_from, eq-eqb, eqb-true, eqb-false, ne_eqb}
+use Rattle.lk_tables.specs.declared.binding.BoundCommon.{BoundCommon}
+use Rattle.lk_tables.specs.Bodies.{is_common}
+use Rattle.lk_tables.specs.Files.{File, file_at, no_file, symbol_at, symbol_name, symbol_total}
+use Rattle.lk_tables.specs.Binding.{Offer, no_rank, rank_of, offers, bound, rank_bound, demands, greatest_size, greatest_align, bound_common_at, bound_commons_in, bindings}
+use Rattle.sym_resolve.specs.Symbols.{in_file}
+use Rattle.sym_resolve.specs.Law.{IsBound, IsCommonIn, IsBoundCommon, HasItsRoom, IsLawful}
+use Rattle.sym_resolve.proofs.Starts.{first_within}
+use Rattle.sym_resolve.proofs.Walks.{all_in_file, in_own_file, live_within}
+use Rattle.sym_resolve.proofs.Naming.{mapped}
+use Rattle.sym_resolve.proofs.Meaning.{all_if, common_of, least_most}
+use Rattle.sym_resolve.proofs.Ends.{offer, bound_law, each_bound}
+use Rattle.sym_resolve.proofs.CommonRoom.{size_is_most, align_is_most}
+
+-- one rank is bound, where it is not none
+one_rank : (all : List Offer) (name : List ℕ) (a b : ℕ) → a < no_rank → b ≤ no_rank → IsBound all name a → IsBound all name b → a ≡ b
+one_rank all name a b some most x y = ⊎_elim
+    (λ (none : a ≡ no_rank). absurd (omega arith))
+    (λ (has : Contains all (offer name a)).
+    let low = y.least (offer name a) has refl in
+    ⊎_elim
+    (λ (none : b ≡ no_rank). absurd (omega arith))
+    (λ (also : Contains all (offer name b)). let high = x.least (offer name b) also refl in omega arith)
+    y.offered)
+    x.offered
+
+rank_below : (f i : ℕ) → f < 2 ^ 24 → i < 2 ^ 31 → rank_of 1 f i < no_rank
+rank_below f i many few = omega arith
+
+taken_if : (b : Bool) (none x r : ℕ) → (if b then none else x) ≡ r → r < none → (b ≡ false) × (x ≡ r)
+taken_if true none x r is lt = absurd (omega arith)
+taken_if false none x r is lt = (refl, is)
+
+increasing_if : (b : Bool) (xs : List BoundCommon) → IsStrictlyIncreasing (map (λ c. c.symbol) xs) → IsStrictlyIncreasing (map (λ c. c.symbol) (if b then xs else []))
+increasing_if true xs up = up
+increasing_if false xs up = λ k lt. absurd (omega arith)
+
+range_rises : (a n : ℕ) → IsStrictlyIncreasing (range_with_len a n)
+range_rises a n k lt =
+    let long = length-range_with_len a n in
+    omega (arith, get_or-range_with_len a n k 0 (omega arith), get_or-range_with_len a n (k + 1) 0 (omega arith))
+
+kept_step : (b : Bool) (c : BoundCommon) (rest : List BoundCommon) (a : ℕ) (kept : List ℕ) → c.symbol ≡ a → map (λ x. x.symbol) rest ≡ kept → map (λ x. x.symbol) ((if b then c ∷ [] else []) ++ rest) ≡ (if b then a ∷ kept else kept)
+kept_step true c rest a kept is later = ap (λ k. k ∷ map (λ x. x.symbol) rest) is ∙ ap (λ ks. a ∷ ks) later
+kept_step false c rest a kept is later = later
+
+-- the symbols of entries are those of the range that pass a test
+kept_range : (test : ℕ → Bool) (entry : ℕ → BoundCommon) → ((i : ℕ) → (entry i).symbol ≡ i) → (a n : ℕ) → map (λ c. c.symbol) (flat_map (λ i. if test i then entry i ∷ [] else []) (range_with_len a n)) ≡ filter test (range_with_len a n)
+kept_range test entry own a zero = refl
+kept_range test entry own a (suc n) =
+    kept_step (test a) (entry a) (flat_map (λ i. if test i then entry i ∷ [] else []) (range_with_len (a + 1) n)) a (filter test (range_with_len (a + 1) n)) (own a) (kept_range test entry own (a + 1) n)
+
+module _ (files : List File) (gone : List Bool) where
+  abbrev entry_of : (f i : ℕ) → BoundCommon
+  entry_of f i = common_of f i (greatest_size (symbol_name (file_at files f) i) (demands files)) (greatest_align (symbol_name (file_at files f) i) (demands files))
+
+  abbrev is_entry : (f i : ℕ) → Bool
+  is_entry f i = is_common (symbol_at (file_at files f) i).place && rank_bound files gone f i == rank_of 1 f i
+
+  -- the list of file f, which past the last file is empty
+  list_at : (f : ℕ) (lists : List (List BoundCommon)) → lists ≡ map (bound_commons_in files gone) (range_with_len 0 (length files)) → get_or lists f [] ≡ in_file files (bound_common_at files gone) f
+  unfolding bound_commons_in
+  list_at f lists is = ⊎_elim
+      (λ (lt : f < length files). ap (λ l. get_or l f []) is ∙ get_or-map-range_with_len (bound_commons_in files gone) 0 (length files) f f [] lt (omega arith))
+      (λ (past : length files ≤ f).
+      let dead : (file_at files f).live ≡ false = ap (λ (x : File). x.live) (get_or_past files f no_file past) in
+      let long = length-map-range_with_len (bound_commons_in files gone) 0 (length files) in
+      ap (λ l. get_or l f []) is ∙ get_or_past (map (bound_commons_in files gone) (range_with_len 0 (length files))) f [] (omega arith)
+      ∙ sym (cond-false (file_at files f).live (flat_map (bound_common_at files gone f) (range_with_len 0 (length (file_at files f).head.symbols))) [] dead))
+      (cases_lt f (length files))
+
+  symbols_rise : (f : ℕ) → IsStrictlyIncreasing (map (λ c. c.symbol) (in_file files (bound_common_at files gone) f))
+  unfolding bound_common_at
+  symbols_rise f =
+      let n = length (file_at files f).head.symbols in
+      increasing_if (file_at files f).live (flat_map (bound_common_at files gone f) (range_with_len 0 n))
+      (subst IsStrictlyIncreasing (sym (kept_range (is_entry f) (entry_of f) (λ i. refl) 0 n))
+      (IsStrictlyIncreasing-filter (is_entry f) (range_with_len 0 n) (range_rises 0 n)))
+
+  module _ (many : length files < 2 ^ 24) (few : symbol_total files < 2 ^ 31) where
+    own_below : (f i : ℕ) → (file_at files f).live ≡ true → i < length (file_at files f).head.symbols → rank_of 1 f i < no_rank
+    own_below f i live lt =
+        let within = live_within files f live in
+        let sum = first_within files f within in
+        rank_below f i (omega arith) (omega arith)
+
+    entry_room : (f i : ℕ) → (file_at files f).live ≡ true → i < length (file_at files f).head.symbols → is_entry f i ≡ true → HasItsRoom files gone f (entry_of f i)
+    unfolding rank_bound
+    entry_room f i live lt is =
+        let s = symbol_at (file_at files f) i in
+        let name = symbol_name (file_at files f) i in
+        let parts = and_parts (is_common s.place) (rank_bound files gone f i == rank_of 1 f i) is in
+        let c : IsCommonIn files f i = record { live = live; within = lt; common = parts.0 } in
+        let taken = taken_if (s.binding == 0) no_rank (bound files gone name) (rank_of 1 f i) (eqb-true (rank_bound files gone f i) (rank_of 1 f i) parts.1) (own_below f i live lt) in
+        let P : ℕ → Type 0 = IsBound (offers files gone) name in
+        record {
+          file_is = refl;
+          bound = record { common = c; seen = eqb-false s.binding 0 taken.0; own = subst P taken.1 (bound_law files gone name) };
+          size_is = size_is_most files f i c;
+          align_is = align_is_most files f i c;
+        }
+
+    rooms : (f : ℕ) → All (HasItsRoom files gone f) (in_file files (bound_common_at files gone) f)
+    unfolding bound_common_at
+    rooms f = all_in_file (HasItsRoom files gone f) files (bound_common_at files gone) f (λ i live lt. all_if (HasItsRoom files gone f) (is_entry f i) (entry_of f i) (entry_room f i live lt))
+
+    bound_there : (f i : ℕ) → IsBoundCommon files gone f i → Contains (in_file files (bound_common_at files gone) f) (entry_of f i)
+    unfolding bound_common_at bound rank_bound
+    bound_there f i b =
+        let s = symbol_at (file_at files f) i in
+        let name = symbol_name (file_at files f) i in
+        let own : rank_of 1 f i ≡ bound files gone name = one_rank (offers files gone) name (rank_of 1 f i) (bound files gone name) (own_below f i b.common.live b.common.within) (least_most name (offers files gone)) b.own (bound_law files gone name) in
+        let rank : rank_bound files gone f i ≡ rank_of 1 f i = cond-false (s.binding == 0) no_rank (bound files gone name) (ne_eqb s.binding 0 b.seen) ∙ sym own in
+        let is : is_entry f i ≡ true = and_from (is_common s.place) (rank_bound files gone f i == rank_of 1 f i) b.common.common (eq-eqb (rank_bound files gone f i) (rank_of 1 f i) rank) in
+        let one : bound_common_at files gone f i ≡ entry_of f i ∷ [] = cond-true (is_entry f i) (entry_of f i ∷ []) [] is in
+        let P : List BoundCommon → Type 0 = λ l. Contains l (entry_of f i) in
+        in_own_file files (bound_common_at files gone) f i (entry_of f i) b.common.live b.common.within (subst P (sym one) (0, omega arith, refl))
+
+    pub lawful : (entry : List ℕ) → IsLawful files gone entry (bindings files gone entry)
+    unfolding bindings
+    lawful entry =
+        let list = λ (f : ℕ). list_at f (map (bound_commons_in files gone) (range_with_len 0 (length files))) refl in
+        record {
+          symbols = each_bound files gone entry;
+          entry = bound_law files gone entry;
+          commons = record {
+            only = λ f. let P : List BoundCommon → Type 0 = All (HasItsRoom files gone f) in subst P (sym (list f)) (rooms f);
+            each = λ f i b.
+                let P : List BoundCommon → Type 0 = λ l. Contains (map (λ c. c.symbol) l) i in
+                subst P (sym (list f)) (mapped (λ (c : BoundCommon). c.symbol) (in_file files (bound_common_at files gone) f) (entry_of f i) (bound_there f i b));
+            once = λ f. let P : List BoundCommon → Type 0 = λ l. IsStrictlyIncreasing (map (λ c. c.symbol) l) in subst P (sym (list f)) (symbols_rise f);
+          };
+        }
