@@ -1,11 +1,12 @@
 #!/usr/bin/env python3
-"""Links altered copies of a real object, and of an archive of real objects, with rvld; and links that are made by chance.
+"""Links altered copies of a real object, and of an archive of real objects, with rvld; and links that are made by chance, sound or not.
 
-Usage: scripts/altered.py [RVLD] [--count 10000] [--mode objects|archive|links|all] [--seed 1] [--only K] [--keep DIR] [--workers 3] [--loose]
+Usage: scripts/altered.py [RVLD] [--count 10000] [--mode objects|archive|links|several|all] [--seed 1] [--only K] [--keep DIR] [--workers 3] [--loose]
 
 Copy K is made from the seed and K alone: one byte changed, the end cut off, an entry of the section table doubled, or a field of a
 section, a symbol or a relocation set to a hard value; for an archive a byte or a cut, most often near the headers. Link K of the mode
-`links` has a few files, one to sixty-four workers, and sometimes another entry (scripts/chance_links.py). Each run must end
+`links` has a few files, one to sixty-four workers, and sometimes another entry (scripts/chance_links.py); one of `several` has the files of
+a few such links, and up to a dozen of these are altered, so that it is seen which defect is told by any number of workers. Each run must end
 by itself within the limit of time, with status 0 (no line, an executable), 1 (the line of a defect, no executable) or 3. Its status,
 line and bytes are compared with those of scripts/plain_link.py, which has the same rules in another form; --loose leaves that out.
 --only K makes and links one copy, and leaves it in DIR.
@@ -115,6 +116,30 @@ def altered_archive(original, places, chance):
     return bytes(contents)
 
 
+def is_alterable(contents):
+    """Whether it is an object with symbols, and with relocations in each table of these."""
+    if contents[:4] != b'\x7fELF':
+        return False
+    table, = struct.unpack_from('<Q', contents, 40)
+    count, = struct.unpack_from('<H', contents, 60)
+    rows = [struct.unpack_from('<IIQQQQIIQQ', contents, table + 64 * i) for i in range(count)]
+    sizes = [row[5] for row in rows if row[1] == 4]
+    return any(row[1] == 2 for row in rows) and min(sizes, default=0) > 0
+
+
+def several_defects(chance):
+    """The files of one to four links, of which some are altered; an altered one may stand in an archive of its own."""
+    options, inputs = chance_link(chance)
+    for n in range(chance.randrange(4)):
+        inputs += [('%d_%s' % (n, name), contents) for name, contents in chance_link(chance)[1]]
+    objects = [k for k, (_, contents) in enumerate(inputs) if is_alterable(contents)]
+    for k in chance.sample(objects, min(len(objects), chance.randrange(1, 13))):
+        name, contents = inputs[k]
+        contents = altered_object(contents, chance)
+        inputs[k] = (name + '.a', archive([(name, contents)])) if chance.randrange(4) == 0 else (name, contents)
+    return options, inputs
+
+
 def member_places(contents):
     places = []
     at = 8
@@ -177,6 +202,8 @@ class Maker:
             return [], [('x.o', altered_object(self.object, chance))]
         if mode == 'archive':
             return [], [('x.a', altered_archive(self.archive, self.places, chance)), ('start.o', self.start)]
+        if mode == 'several':
+            return several_defects(chance)
         return chance_link(chance)
 
 
@@ -232,7 +259,7 @@ def main():
     reader = argparse.ArgumentParser(usage=__doc__)
     reader.add_argument('rvld', nargs='?', default=os.path.join(here, '../crates/rvld/out/rvld'))
     reader.add_argument('--count', type=int, default=10000)
-    reader.add_argument('--mode', choices=['objects', 'archive', 'links', 'all'], default='all')
+    reader.add_argument('--mode', choices=['objects', 'archive', 'links', 'several', 'all'], default='all')
     reader.add_argument('--seed', type=int, default=1)
     reader.add_argument('--workers', type=int, default=3)
     reader.add_argument('--limit', type=float, default=20, help='seconds for one run')
@@ -243,10 +270,10 @@ def main():
     if not os.access(words.rvld, os.X_OK):
         sys.exit('altered: no program at ' + words.rvld)
     rvld = os.path.abspath(words.rvld)
-    modes = ['objects', 'archive', 'links'] if words.mode == 'all' else [words.mode]
+    modes = ['objects', 'archive', 'links', 'several'] if words.mode == 'all' else [words.mode]
     if not shutil.which('clang'):
         print('altered: skipped the altered copies of real files (clang is not there)')
-        modes = [mode for mode in modes if mode == 'links']
+        modes = [mode for mode in modes if mode in ('links', 'several')]
     work = tempfile.mkdtemp()
     try:
         maker = Maker(words.seed, work, modes)

@@ -11,6 +11,7 @@ ghost use Rattle.lk_base.specs.Limits.{standard};
 ghost use Rattle.reloc_apply.specs.Image.{piece, image, Shows};
 ghost use Rattle.reloc_apply.specs.PieceView.{piece_of, Ends};
 ghost use Rattle.reloc_apply.specs.Relocated.{HaveRoom, relocated_pieces, relocation_defects};
+ghost use Rattle.reloc_apply.specs.Uppers.{uppers_in, uppers_view};
 ghost use Rattle.reloc_apply.specs.Views.{files_in, names_in, starts_in};
 
 use crate::flags::kept_flags;
@@ -71,6 +72,7 @@ fn lay(
     table: &Piece,
 ) -> Result<(), Defect>
     requires files { length (files_in view.now) < 2 ^ 32 }
+    requires uppers { uppers_view view.now.uppers.now ≡ uppers_in (files_in view.now) }
     requires room { HaveRoom (files_in view.now) (starts_in view.now) (length out.old) }
     requires small { length out.old < 2 ^ 63 }
     requires names { Ends names.now }
@@ -99,6 +101,7 @@ fn joined(
     size: usize,
 ) -> Result<Vec<u8>, LinkStop>
     requires files { length (files_in view.now) < 2 ^ 32 }
+    requires uppers { uppers_view view.now.uppers.now ≡ uppers_in (files_in view.now) }
     requires room { HaveRoom (files_in view.now) (starts_in view.now) size }
     requires names { Ends names.now }
     requires table { table.now.at ≤ size }
@@ -117,6 +120,7 @@ pub fn write_executable(alloc: Global, view: &View, layout: &Layout) -> Result<V
     requires limits { IsWithin standard (view_of layout.now) }
     requires bounds { spec.AreSane layout.now.bounds }
     requires files { length (files_in view.now) < 2 ^ 32 }
+    requires uppers { uppers_view view.now.uppers.now ≡ uppers_in (files_in view.now) }
     requires room { HaveRoom (files_in view.now) (starts_in view.now) (layout.now.bounds.file_end - 0x10000) }
     ensures written { IfOk result (λ v. v.items ≡ spec.executable (files_in view.now) (names_in view.now) (view_of layout.now) (starts_in view.now)) }
     ensures goes { Goes result (relocation_defects (files_in view.now) (names_in view.now) (starts_in view.now)) }

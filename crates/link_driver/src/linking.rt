@@ -32,7 +32,7 @@ use layout::{Layout, place};
 use link_command::Command;
 use lk_base::{Limits, LinkStop};
 use lk_tables::{Binding, Tables};
-use reloc_apply::{View, find_starts, members, undefined};
+use reloc_apply::{View, find_starts, find_uppers, members, undefined};
 use std::alloc::{AllocError, Global};
 use std::thread::Threads;
 use sym_resolve::bind;
@@ -189,10 +189,12 @@ fn write(
     ensures written { IfOk result (λ exe. exe.items ≡ executable (files_of tables.now) (binding_view binding.now) (laid_out (files_of tables.now) (binding_view binding.now)) (places (files_of tables.now) (binding_view binding.now))) }
 {
     let starts = find_starts(alloc, tables, binding, layout.starts.as_slice())?;
+    let uppers = find_uppers(alloc, tables)?;
     let view = View {
         tables,
         binding,
         starts: &starts,
+        uppers: &uppers,
     };
     match write_executable(alloc, &view, layout) {
         Ok(exe) => Ok(exe),

@@ -6,5 +6,5 @@ pub mod Rooms
 pub mod SectionLies
 pub mod Showing
 pub mod Sized
-pub mod Uppers
+pub mod UpperParts
 pub mod Widths

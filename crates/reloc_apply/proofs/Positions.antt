@@ -63,13 +63,13 @@ missing_at commons index n d ordered lt before behind =
     ]))
 
 -- a list of such, by number
-pub ordered_at : (lists : List (List BoundCommon)) (k : ℕ) → All (IsNonDecreasingBy (λ (c : BoundCommon). c.symbol)) lists →
-    IsNonDecreasingBy (λ (c : BoundCommon). c.symbol) (get_or lists k [])
-ordered_at lists k ordered = elim (cases_lt k (length lists)) [
+pub ordered_at : {X : Type 0} (key : X → ℕ) (lists : List (List X)) (k : ℕ) → All (IsNonDecreasingBy key) lists →
+    IsNonDecreasingBy key (get_or lists k [])
+ordered_at key lists k ordered = elim (cases_lt k (length lists)) [
   | inl lt ↦ ordered k [] lt
   | inr le ↦
       let past : length (get_or lists k []) ≡ 0 = ap length (get_or_past lists k [] le) in
-      IsNonDecreasingBy-short (λ (c : BoundCommon). c.symbol) (get_or lists k []) (omega (arith, past))
+      IsNonDecreasingBy-short key (get_or lists k []) (omega (arith, past))
 ]
 
 -- what holds of the lists holds of them as plain lists

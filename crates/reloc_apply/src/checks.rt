@@ -3,10 +3,10 @@
 ghost use Rattle.std.specs.Prelude.{◌≡◌, ◌<◌, ◌^◌, [], ◌∷◌, length, flat_map, Some};
 ghost use Rattle.std.specs.List.{range_with_len};
 ghost use Rattle.lk_base.specs.Firsts.{IsFirst};
-ghost use Rattle.reloc_apply.specs.KnownViews.{files_in, names_in, starts_in};
+ghost use Rattle.reloc_apply.specs.ListedViews.{files_in, names_in, starts_in};
 ghost use Rattle.reloc_apply.specs.Relocated as spec;
 
-use crate::commons::KnownView;
+use crate::listed::ListedView;
 use crate::unbound::reloc_defect;
 use crate::values::{file_in, low_bits, relocs_at, section_start, value_of};
 use lk_base::{Defect, DefectKind, FileNo, Misfit};
@@ -30,7 +30,7 @@ fn misfit_defect(file: FileNo, section: u32, reloc: &Reloc, v: i128, misfit: Mis
 /// The defect of one relocation of a section that stands at an address, where it can't be done.
 #[tactic(auto, unfolding(crate::specs::Relocated::reloc_defects))]
 fn check_reloc(
-    view: &KnownView,
+    view: &ListedView,
     file: FileNo,
     section: u32,
     start: u64,
@@ -52,7 +52,7 @@ fn check_reloc(
 
 /// The first defect of the relocations of a section that stands at an address.
 fn check_relocs(
-    view: &KnownView,
+    view: &ListedView,
     file: FileNo,
     section: u32,
     start: u64,
@@ -70,23 +70,23 @@ fn check_relocs(
 
 /// The first defect of a section, where it has an address and bytes in the file.
 #[tactic(auto, unfolding(crate::specs::Relocated::section_defects))]
-fn check_section(view: &KnownView, file: FileNo, section: u32) -> Option<Defect>
+fn check_section(view: &ListedView, file: FileNo, section: u32) -> Option<Defect>
     requires { file < length (files_in view.now) }
     ensures { IsFirst (spec.section_defects (files_in view.now) (names_in view.now) (starts_in view.now) file section) result }
 {
-    let Some(start) = section_start(view.starts, file, section) else {
+    let Some(start) = section_start(view.known.starts, file, section) else {
         return None;
     };
-    let header = file_in(view, file).section(section as usize);
+    let header = file_in(&view.known, file).section(section as usize);
     if header.sh_type == SHT_NOBITS {
         return None;
     }
-    let relocs = relocs_at(view, file, section);
+    let relocs = relocs_at(&view.known, file, section);
     check_relocs(view, file, section, start, relocs)
 }
 
 /// The first defect of so many sections of a file.
-fn check_sections(view: &KnownView, file: FileNo, sections: u32) -> Option<Defect>
+fn check_sections(view: &ListedView, file: FileNo, sections: u32) -> Option<Defect>
     requires { file < length (files_in view.now) }
     ensures { IsFirst (flat_map (spec.section_defects (files_in view.now) (names_in view.now) (starts_in view.now) file) (range_with_len 0 sections)) result }
 {
@@ -100,11 +100,11 @@ fn check_sections(view: &KnownView, file: FileNo, sections: u32) -> Option<Defec
 
 /// The first defect of a file, where it takes part in the link.
 #[tactic(auto, unfolding(crate::specs::Relocated::defects_in))]
-fn check_file(view: &KnownView, file: FileNo) -> Option<Defect>
+fn check_file(view: &ListedView, file: FileNo) -> Option<Defect>
     requires { file < length (files_in view.now) }
     ensures { IsFirst (spec.defects_in (files_in view.now) (names_in view.now) (starts_in view.now) file) result }
 {
-    let entry = file_in(view, file);
+    let entry = file_in(&view.known, file);
     if !entry.is_live() {
         return None;
     }
@@ -113,11 +113,11 @@ fn check_file(view: &KnownView, file: FileNo) -> Option<Defect>
 
 /// The first relocation, in order of file, section and offset, that can't be done.
 #[tactic(auto, unfolding(crate::specs::Relocated::relocation_defects))]
-pub fn first_defect(view: &KnownView) -> Option<Defect>
+pub fn first_defect(view: &ListedView) -> Option<Defect>
     requires { length (files_in view.now) < 2 ^ 32 }
     ensures { IsFirst (spec.relocation_defects (files_in view.now) (names_in view.now) (starts_in view.now)) result }
 {
-    let files = view.tables.files.len() as u32;
+    let files = view.known.tables.files.len() as u32;
     for file in 0..files {
         if let Some(defect) = check_file(view, file) {
             return Some(defect);

@@ -8,13 +8,15 @@ ghost use Rattle.lk_tables.specs.FileView.{file_view};
 ghost use Rattle.reloc_apply.specs.Image.{Shows};
 ghost use Rattle.reloc_apply.specs.Relocated as spec;
 ghost use Rattle.reloc_apply.specs.Values.{value_of};
-ghost use Rattle.reloc_apply.specs.KnownViews.{files_in, names_in, starts_in};
+ghost use Rattle.reloc_apply.specs.ListedViews.{files_in, names_in, starts_in};
+ghost use Rattle.reloc_apply.specs.Uppers.{uppers_in, uppers_view};
 ghost use Rattle.reloc_apply.specs.Views as views;
 ghost use Rattle.rv_code.specs.Kinds.{HasValue, kind_of};
 ghost use Rattle.rv_code.specs.Reaches.{Takes};
 
 use crate::checks::{SHT_NOBITS, first_defect};
 use crate::commons::{KnownView, are_in_order};
+use crate::listed::ListedView;
 use crate::values::{file_in, section_start, value_of};
 use crate::views::View;
 use lk_base::{Defect, FileNo};
@@ -37,7 +39,7 @@ fn put(bytes: &mut [u8], reloc: &Reloc, v: i128)
 #[tactic(auto, unfolding(crate::specs::Relocated::reloc_defects))]
 fn relocate_one(
     bytes: &mut [u8],
-    view: &KnownView,
+    view: &ListedView,
     file: FileNo,
     section: u32,
     start: u64,
@@ -59,7 +61,7 @@ fn relocate_one(
 /// Does the relocations of a section that stands at an address.
 fn relocate(
     bytes: &mut [u8],
-    view: &KnownView,
+    view: &ListedView,
     file: FileNo,
     section: u32,
     start: u64,
@@ -97,14 +99,14 @@ fn relocs_in<'t>(file: &'t File, index: usize) -> &'t [Reloc]
 }
 
 /// Writes a section that stands at an address and has bytes in the file into the executable, with its relocations done.
-fn write_bits(out: &mut [u8], view: &KnownView, file: FileNo, section: u32, start: u64)
+fn write_bits(out: &mut [u8], view: &ListedView, file: FileNo, section: u32, start: u64)
     requires file { file < length (files_in view.now) }
     requires placed { spec.IsPlaced (file_at (files_in view.now) file) section start (length out.old) }
     requires bits { (section_at (file_at (files_in view.now) file) section).sh_type ≢ 8 }
     requires sound { flat_map (spec.reloc_defects (files_in view.now) (names_in view.now) (starts_in view.now) file section start) (relocs_at (file_at (files_in view.now) file) section) ≡ [] }
     ensures { Shows out.old out.new (spec.bits_piece (files_in view.now) (names_in view.now) (starts_in view.now) file section start ∷ []) }
 {
-    let entry = file_in(view, file);
+    let entry = file_in(&view.known, file);
     let bytes = contents(entry, section as usize);
     let relocs = relocs_in(entry, section as usize);
     if bytes.len() == 0 {
@@ -119,16 +121,16 @@ fn write_bits(out: &mut [u8], view: &KnownView, file: FileNo, section: u32, star
 
 /// Writes a section, where it has an address and bytes in the file.
 #[tactic(auto, unfolding(crate::specs::Relocated::section_defects, crate::specs::Relocated::section_pieces))]
-fn write_section(out: &mut [u8], view: &KnownView, file: FileNo, section: u32)
+fn write_section(out: &mut [u8], view: &ListedView, file: FileNo, section: u32)
     requires file { file < length (files_in view.now) }
     requires room { spec.HaveRoom (files_in view.now) (starts_in view.now) (length out.old) }
     requires sound { spec.section_defects (files_in view.now) (names_in view.now) (starts_in view.now) file section ≡ [] }
     ensures { Shows out.old out.new (spec.section_pieces (files_in view.now) (names_in view.now) (starts_in view.now) file section) }
 {
-    let Some(start) = section_start(view.starts, file, section) else {
+    let Some(start) = section_start(view.known.starts, file, section) else {
         return;
     };
-    let header = file_in(view, file).section(section as usize);
+    let header = file_in(&view.known, file).section(section as usize);
     if header.sh_type == SHT_NOBITS {
         return;
     }
@@ -136,7 +138,7 @@ fn write_section(out: &mut [u8], view: &KnownView, file: FileNo, section: u32)
 }
 
 /// Writes so many sections of a file.
-fn write_sections(out: &mut [u8], view: &KnownView, file: FileNo, sections: u32)
+fn write_sections(out: &mut [u8], view: &ListedView, file: FileNo, sections: u32)
     requires file { file < length (files_in view.now) }
     requires room { spec.HaveRoom (files_in view.now) (starts_in view.now) (length out.old) }
     requires sound { flat_map (spec.section_defects (files_in view.now) (names_in view.now) (starts_in view.now) file) (range_with_len 0 sections) ≡ [] }
@@ -149,13 +151,13 @@ fn write_sections(out: &mut [u8], view: &KnownView, file: FileNo, sections: u32)
 
 /// Writes the sections of a file, where it takes part in the link.
 #[tactic(auto, unfolding(crate::specs::Relocated::defects_in, crate::specs::Relocated::pieces_in))]
-fn write_file(out: &mut [u8], view: &KnownView, file: FileNo)
+fn write_file(out: &mut [u8], view: &ListedView, file: FileNo)
     requires file { file < length (files_in view.now) }
     requires room { spec.HaveRoom (files_in view.now) (starts_in view.now) (length out.old) }
     requires sound { spec.defects_in (files_in view.now) (names_in view.now) (starts_in view.now) file ≡ [] }
     ensures { Shows out.old out.new (spec.pieces_in (files_in view.now) (names_in view.now) (starts_in view.now) file) }
 {
-    let entry = file_in(view, file);
+    let entry = file_in(&view.known, file);
     if !entry.is_live() {
         return;
     }
@@ -164,13 +166,13 @@ fn write_file(out: &mut [u8], view: &KnownView, file: FileNo)
 
 /// Writes the sections of all files.
 #[tactic(auto, unfolding(crate::specs::Relocated::relocation_defects, crate::specs::Relocated::relocated_pieces))]
-fn write_files(out: &mut [u8], view: &KnownView)
+fn write_files(out: &mut [u8], view: &ListedView)
     requires files { length (files_in view.now) < 2 ^ 32 }
     requires room { spec.HaveRoom (files_in view.now) (starts_in view.now) (length out.old) }
     requires sound { spec.relocation_defects (files_in view.now) (names_in view.now) (starts_in view.now) ≡ [] }
     ensures { Shows out.old out.new (spec.relocated_pieces (files_in view.now) (names_in view.now) (starts_in view.now)) }
 {
-    let files = view.tables.files.len() as u32;
+    let files = view.known.tables.files.len() as u32;
     for file in 0..files {
         write_file(out, view, file);
     }
@@ -181,6 +183,7 @@ fn write_files(out: &mut [u8], view: &KnownView)
 /// is the answer, and the executable is then as it was. Takes no memory.
 pub fn apply(out: &mut [u8], view: &View) -> Result<(), Defect>
     requires files { length (views.files_in view.now) < 2 ^ 32 }
+    requires uppers { uppers_view view.now.uppers.now ≡ uppers_in (views.files_in view.now) }
     requires room { spec.HaveRoom (views.files_in view.now) (views.starts_in view.now) (length out.old) }
     ensures goes { Passes result (spec.relocation_defects (views.files_in view.now) (views.names_in view.now) (views.starts_in view.now)) }
     ensures bytes { OnOk result (Shows out.old out.new (spec.relocated_pieces (views.files_in view.now) (views.names_in view.now) (views.starts_in view.now))) }
@@ -192,9 +195,13 @@ pub fn apply(out: &mut [u8], view: &View) -> Result<(), Defect>
         starts: view.starts,
         in_order: are_in_order(view.binding),
     };
-    if let Some(defect) = first_defect(&known) {
+    let listed = ListedView {
+        known,
+        uppers: view.uppers,
+    };
+    if let Some(defect) = first_defect(&listed) {
         return Err(defect);
     }
-    write_files(out, &known);
+    write_files(out, &listed);
     Ok(())
 }

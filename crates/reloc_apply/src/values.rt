@@ -1,6 +1,6 @@
 //! What a relocation puts into its place (RISC-V ELF psABI, "Relocations").
 
-ghost use Rattle.std.specs.Prelude.{◌≡◌, ℕ, ◌+◌, ◌^◌, ◌<◌, ◌≤◌, length, ◌==◌, ◌||◌, ◌&&◌, not, true, false, ◌≤ℤ◌, ◌+ℤ◌, pos, negsuc, [], IfOk, IfSome, MatchResult, is_some, option_map, find, position, slice_index_or};
+ghost use Rattle.std.specs.Prelude.{◌≡◌, ℕ, ◌+◌, ◌^◌, ◌<◌, ◌≤◌, length, ◌==◌, ◌||◌, ◌&&◌, not, true, false, ◌≤ℤ◌, ◌+ℤ◌, pos, negsuc, [], IfOk, IfSome, MatchResult, filter, is_some, option_map, find, position, slice_index_or};
 ghost use Rattle.std.specs.List.Sorted.{IsNonDecreasingBy};
 ghost use Rattle.lk_tables.specs.Binding.{no_rank};
 ghost use Rattle.lk_tables.specs.Files as files;
@@ -9,18 +9,22 @@ ghost use Rattle.reloc_apply.specs.Parts as parts;
 ghost use Rattle.reloc_apply.specs.Places.{site_view};
 ghost use Rattle.reloc_apply.specs.Values as spec;
 ghost use Rattle.reloc_apply.specs.KnownViews.{files_in, names_in, starts_in};
+ghost use Rattle.reloc_apply.specs.ListedViews as listed;
+ghost use Rattle.reloc_apply.specs.Uppers.{is_upper, uppers_view};
 ghost use Rattle.reloc_apply.specs.Views as views;
 ghost use Rattle.reloc_apply.specs.Views.{starts_view};
 ghost use Rattle.rv_code.specs.Kinds.{HasValue};
 ghost use Rattle.rv_code.specs.Places.{bits_of};
 
 use crate::commons::{KnownView, number_of};
+use crate::listed::ListedView;
 use crate::parts::commons_at;
+use crate::uppers::Uppers;
 use crate::views::{Starts, View};
 use lk_base::{FileNo, SymNo};
 use lk_tables::{File, NO_RANK, NO_SYMBOL, Place, Reloc, Symbol, is_section_symbol};
 use rv_code::kinds::{
-    R_RISCV_64, R_RISCV_CALL, R_RISCV_CALL_PLT, R_RISCV_GOT_HI20, R_RISCV_JAL, R_RISCV_PCREL_HI20,
+    R_RISCV_64, R_RISCV_CALL, R_RISCV_CALL_PLT, R_RISCV_JAL, R_RISCV_PCREL_HI20,
     R_RISCV_PCREL_LO12_I,
 };
 
@@ -271,44 +275,29 @@ fn label_at(view: &KnownView, site: Option<Site>, file: FileNo, section: u32) ->
     label_in(symbol.place, section, &symbol)
 }
 
-/// Whether a relocation is an upper part at an offset.
-fn is_upper_at(offset: u64, reloc: &Reloc) -> bool
-    ensures { result ≡ spec.is_upper_at offset reloc.now }
-{
-    reloc.offset == offset && R_RISCV_GOT_HI20 <= reloc.kind && reloc.kind <= R_RISCV_PCREL_HI20
-}
-
 /// How many relocations come before an offset, of relocations in order of offset.
 fn count_before(relocs: &[Reloc], offset: u64) -> usize
     requires { IsNonDecreasingBy (λ (r : Reloc). r.offset) relocs.now }
     ensures bound { result ≤ length relocs.now }
     ensures before { (k : ℕ) (d : Reloc) → k < result → (slice_index_or relocs.now k d).offset < offset }
+    ensures next { (d : Reloc) → result < length relocs.now → offset ≤ (slice_index_or relocs.now result d).offset }
 {
     relocs.partition_point(|reloc| reloc.offset < offset)
 }
 
-/// The first upper part at an offset, found by looking on from the first relocation.
-fn look_on(relocs: &[Reloc], offset: u64) -> Option<Reloc>
+/// The first relocation at an offset, of relocations in order of offset.
+fn find_at(relocs: &[Reloc], offset: u64) -> Option<Reloc>
     requires { IsNonDecreasingBy (λ (r : Reloc). r.offset) relocs.now }
-    ensures { result ≡ find (spec.is_upper_at offset) relocs.now }
+    ensures { result ≡ find (λ r. r.offset == offset) relocs.now }
 {
-    for reloc in relocs {
-        if offset < reloc.offset {
-            return None;
-        }
-        if is_upper_at(offset, reloc) {
-            return Some(*reloc);
-        }
+    let n = count_before(relocs, offset);
+    let Some(reloc) = relocs.get(n) else {
+        return None;
+    };
+    if reloc.offset != offset {
+        return None;
     }
-    None
-}
-
-/// The first upper part at an offset, of relocations in order of offset.
-fn find_upper(relocs: &[Reloc], offset: u64) -> Option<Reloc>
-    requires { IsNonDecreasingBy (λ (r : Reloc). r.offset) relocs.now }
-    ensures { result ≡ find (spec.is_upper_at offset) relocs.now }
-{
-    look_on(&relocs[count_before(relocs, offset)..], offset)
+    Some(*reloc)
 }
 
 /// The relocations of a section, which stand in order of offset.
@@ -322,15 +311,44 @@ pub fn relocs_at<'t>(view: &KnownView<'t, '_>, file: FileNo, section: u32) -> &'
     file.relocs(section as usize)
 }
 
+/// A list of upper parts by the numbers of its file and section.
+fn list_at<'t>(uppers: &'t Uppers, file: FileNo, section: u32) -> &'t [Reloc]
+    ensures { result.now ≡ slice_index_or (slice_index_or (uppers_view uppers.now) file []) section [] }
+{
+    let Some(lists) = uppers.lists.get(file as usize) else {
+        return &[];
+    };
+    let Some(list) = lists.get(section as usize) else {
+        return &[];
+    };
+    list.as_slice()
+}
+
+/// The upper parts of a section, which stand in order of offset.
+fn uppers_at<'t>(view: &ListedView<'t, '_>, file: FileNo, section: u32) -> &'t [Reloc]
+    ensures value { result.now ≡ filter is_upper (files.relocs_at (files.file_at (listed.files_in view.now) file) section) }
+    ensures ordered { IsNonDecreasingBy (λ (r : Reloc). r.offset) result.now }
+{
+    list_at(view.uppers, file, section)
+}
+
+/// The first upper part of a section at an offset.
+fn find_upper(view: &ListedView, file: FileNo, section: u32, offset: u64) -> Option<Reloc>
+    ensures { result ≡ find (spec.is_upper_at offset) (files.relocs_at (files.file_at (listed.files_in view.now) file) section) }
+{
+    find_at(uppers_at(view, file, section), offset)
+}
+
 /// The partner of a lower part: the first upper part at its label.
 #[tactic(auto, unfolding(crate::specs::Values::partner_of))]
-fn partner_of(view: &KnownView, file: FileNo, section: u32, reloc: &Reloc) -> Option<Reloc>
-    ensures { result ≡ spec.partner_of (files_in view.now) (names_in view.now) (starts_in view.now) file section reloc.now }
+fn partner_of(view: &ListedView, file: FileNo, section: u32, reloc: &Reloc) -> Option<Reloc>
+    ensures { result ≡ spec.partner_of (listed.files_in view.now) (listed.names_in view.now) (listed.starts_in view.now) file section reloc.now }
 {
-    let Some(offset) = label_at(view, site_for(view, file, reloc.symbol), file, section) else {
+    let known = &view.known;
+    let Some(offset) = label_at(known, site_for(known, file, reloc.symbol), file, section) else {
         return None;
     };
-    find_upper(relocs_at(view, file, section), offset)
+    find_upper(view, file, section, offset)
 }
 
 /// The address of a relocation's place.
@@ -349,22 +367,22 @@ pub struct NoPartner;
 /// The value of a relocation of a section that stands at an address.
 #[tactic(auto, unfolding(crate::specs::Values::value_of, rv_code::specs::Kinds::has_value))]
 pub fn value_of(
-    view: &KnownView,
+    view: &ListedView,
     file: FileNo,
     section: u32,
     start: u64,
     reloc: &Reloc,
 ) -> Result<Option<i128>, NoPartner>
-    ensures value { IfOk result (λ v. v ≡ spec.value_of (files_in view.now) (names_in view.now) (starts_in view.now) file section start reloc.now) }
+    ensures value { IfOk result (λ v. v ≡ spec.value_of (listed.files_in view.now) (listed.names_in view.now) (listed.starts_in view.now) file section start reloc.now) }
     ensures kind { IfOk result (λ v. IfSome v (λ x. HasValue reloc.now.kind)) }
-    ensures partner { MatchResult result (λ _. (reloc.now.kind == 24 && not (is_some (spec.partner_of (files_in view.now) (names_in view.now) (starts_in view.now) file section reloc.now))) ≡ false)
-        (λ _. (reloc.now.kind == 24 && not (is_some (spec.partner_of (files_in view.now) (names_in view.now) (starts_in view.now) file section reloc.now))) ≡ true) }
+    ensures partner { MatchResult result (λ _. (reloc.now.kind == 24 && not (is_some (spec.partner_of (listed.files_in view.now) (listed.names_in view.now) (listed.starts_in view.now) file section reloc.now))) ≡ false)
+        (λ _. (reloc.now.kind == 24 && not (is_some (spec.partner_of (listed.files_in view.now) (listed.names_in view.now) (listed.starts_in view.now) file section reloc.now))) ≡ true) }
 {
     if reloc.kind != R_RISCV_PCREL_LO12_I {
-        return Ok(direct_value(view, file, place_of(start, reloc), reloc));
+        return Ok(direct_value(&view.known, file, place_of(start, reloc), reloc));
     }
     let Some(partner) = partner_of(view, file, section, reloc) else {
         return Err(NoPartner);
     };
-    Ok(direct_value(view, file, place_of(start, &partner), &partner))
+    Ok(direct_value(&view.known, file, place_of(start, &partner), &partner))
 }

@@ -1,5 +1,6 @@
 //! The tables that a relocation's value is reckoned from.
 
+use crate::uppers::Uppers;
 use lk_tables::{Binding, Tables};
 
 /// The addresses of what goes into the executable, one list for each file.
@@ -17,4 +18,5 @@ pub struct View<'t, 'a> {
     pub tables: &'t Tables<'a>,
     pub binding: &'t Binding,
     pub starts: &'t Starts,
+    pub uppers: &'t Uppers,
 }

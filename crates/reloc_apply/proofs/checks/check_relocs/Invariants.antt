@@ -1,5 +1,5 @@
 use Rattle.std.proofs.Common.{◌≡◌, drop, flat_map}
-use Rattle.reloc_apply.specs.KnownViews.{files_in, names_in, starts_in}
+use Rattle.reloc_apply.specs.ListedViews.{files_in, names_in, starts_in}
 use Rattle.reloc_apply.specs.Relocated.{reloc_defects}
 use Rattle.reloc_apply.proofs.checks.check_relocs.Given as goal
 

@@ -1,6 +1,6 @@
 use Rattle.std.proofs.Common.{arith}
 use Rattle.lk_base.proofs.Loops.{pass_step, found_step}
-use Rattle.reloc_apply.specs.KnownViews.{files_in, names_in, starts_in}
+use Rattle.reloc_apply.specs.ListedViews.{files_in, names_in, starts_in}
 use Rattle.reloc_apply.specs.Relocated.{section_defects}
 use Rattle.reloc_apply.proofs.checks.check_sections.Goals as goal
 

@@ -1,6 +1,6 @@
 use Rattle.std.proofs.Common.{arith}
 use Rattle.lk_tables.specs.Files.{no_reloc}
-use Rattle.reloc_apply.specs.KnownViews.{files_in, names_in, starts_in}
+use Rattle.reloc_apply.specs.ListedViews.{files_in, names_in, starts_in}
 use Rattle.reloc_apply.specs.Relocated.{reloc_defects}
 use Rattle.reloc_apply.proofs.NoDefects.{none_at}
 use Rattle.reloc_apply.proofs.relocated.relocate.Goals as goal

@@ -1,6 +1,6 @@
 use Rattle.std.proofs.Common.{◌≡◌, drop, length}
 use Rattle.reloc_apply.specs.Relocated.{all_put}
-use Rattle.reloc_apply.specs.KnownViews.{files_in, names_in, starts_in}
+use Rattle.reloc_apply.specs.ListedViews.{files_in, names_in, starts_in}
 use Rattle.reloc_apply.proofs.relocated.relocate.Given as goal
 
 abbrev pub invariant-loop-reloc : goal.invariant-loop-reloc

@@ -1,7 +1,7 @@
 use Rattle.std.proofs.Common.{arith, rules}
 use Rattle.rv_code.specs.Kinds.{HasValue, kind_of}
 use Rattle.rv_code.specs.Reaches.{Takes}
-use Rattle.reloc_apply.specs.KnownViews.{files_in, names_in, starts_in}
+use Rattle.reloc_apply.specs.ListedViews.{files_in, names_in, starts_in}
 use Rattle.reloc_apply.proofs.NoDefects.{takes_value}
 use Rattle.reloc_apply.proofs.Widths.{width_is}
 use Rattle.reloc_apply.proofs.relocated.relocate_one.Goals as goal

@@ -1,7 +1,7 @@
 use Rattle.std.proofs.Common.{◌≡◌, ◌+◌, ◌-◌, ◌≤◌, ◌<◌, length, arith, ap, ◌∙◌}
 use Rattle.lk_tables.specs.Files.{file_at, section_at, relocs_at}
 use Rattle.reloc_apply.specs.Relocated.{all_put, contents}
-use Rattle.reloc_apply.specs.KnownViews.{files_in, names_in, starts_in}
+use Rattle.reloc_apply.specs.ListedViews.{files_in, names_in, starts_in}
 use Rattle.reloc_apply.proofs.SectionLies.{one_piece}
 use Rattle.reloc_apply.proofs.relocated.write_bits.Goals as goal
 

@@ -2,7 +2,7 @@ use Rattle.std.proofs.Common.{◌≡◌, ◌≢◌, List, subst, rules, Some, ap
 use Rattle.lk_tables.specs.Files.{file_at, section_at}
 use Rattle.reloc_apply.specs.Image.{Piece, Shows}
 use Rattle.reloc_apply.specs.Parts.{section_start}
-use Rattle.reloc_apply.specs.KnownViews.{files_in, names_in, starts_in}
+use Rattle.reloc_apply.specs.ListedViews.{files_in, names_in, starts_in}
 use Rattle.reloc_apply.proofs.SectionLies.{pieces_are}
 use Rattle.reloc_apply.proofs.relocated.write_section.Goals as goal
 

@@ -1,6 +1,6 @@
 use Rattle.std.proofs.Common.{arith}
 use Rattle.reloc_apply.specs.Relocated.{section_defects, section_pieces}
-use Rattle.reloc_apply.specs.KnownViews.{files_in, names_in, starts_in}
+use Rattle.reloc_apply.specs.ListedViews.{files_in, names_in, starts_in}
 use Rattle.reloc_apply.proofs.NoDefects.{none_below}
 use Rattle.reloc_apply.proofs.Showing.{shows_step}
 use Rattle.reloc_apply.proofs.relocated.write_sections.Goals as goal

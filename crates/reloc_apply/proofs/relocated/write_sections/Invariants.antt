@@ -2,7 +2,7 @@ use Rattle.std.proofs.Common.{flat_map}
 use Rattle.std.specs.List.{range_with_len}
 use Rattle.reloc_apply.specs.Image.{Shows}
 use Rattle.reloc_apply.specs.Relocated.{section_pieces}
-use Rattle.reloc_apply.specs.KnownViews.{files_in, names_in, starts_in}
+use Rattle.reloc_apply.specs.ListedViews.{files_in, names_in, starts_in}
 use Rattle.reloc_apply.proofs.relocated.write_sections.Given as goal
 
 abbrev pub invariant-loop-section : goal.invariant-loop-section
