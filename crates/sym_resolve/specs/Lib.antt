@@ -5,4 +5,5 @@ pub mod Law
 pub mod Numbers
 pub mod Offers
 pub mod Symbols
+pub mod Tags
 pub mod Words

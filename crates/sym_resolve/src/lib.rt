@@ -13,6 +13,7 @@ mod flags;
 mod numbers;
 mod offers;
 mod ranks;
+mod tags;
 #[cfg(test)]
 mod tests;
 mod words;

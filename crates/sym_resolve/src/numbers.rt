@@ -5,7 +5,7 @@ ghost use Rattle.std.specs.Str.{bytes_eq};
 ghost use Rattle.std.specs.List.Sorted.{IsPermutation};
 ghost use Rattle.sym_resolve.specs.Numbers.{Named, names_of, text_at, ArePlacedOnce, AreSideBySide, AreNumbers};
 
-use rayon::prelude::*;
+use crate::tags::{keys_of, sort_tagged, tagged_of};
 use std::alloc::{AllocError, Global};
 use std::thread::Threads;
 
@@ -32,7 +32,7 @@ pub struct Numbers {
 pub fn number<R: Threads + Sync>(
     rt: &R,
     alloc: Global,
-    mut keys: Vec<Key>,
+    keys: Vec<Key>,
     width: usize,
     workers: u32,
 ) -> Result<Numbers, AllocError>
@@ -41,21 +41,23 @@ pub fn number<R: Threads + Sync>(
     requires once { ArePlacedOnce (names_of keys.items) }
     ensures { IfOk result (λ n. AreNumbers (names_of keys.entry.items) n.count n.of.items) }
 {
-    sort_keys(rt, keys.as_mut_slice(), workers);
-    count_names(alloc, keys.as_slice(), width)
+    let sorted = sort_keys(rt, alloc, keys, workers)?;
+    count_names(alloc, sorted.as_slice(), width)
 }
 
-// Sorts the names, so that equal ones stand side by side. Keys that tie are equal in all, so their order does not matter.
-fn sort_keys<R: Threads + Sync>(rt: &R, keys: &mut [Key], workers: u32)
-    ensures permutation { IsPermutation keys.old keys.new }
-    ensures len { length keys.new ≡ length keys.old }
-    ensures together { AreSideBySide (names_of keys.new) }
+// The names sorted, so that equal ones stand side by side.
+fn sort_keys<'a, R: Threads + Sync>(
+    rt: &R,
+    alloc: Global,
+    keys: Vec<Key<'a>>,
+    workers: u32,
+) -> Result<Vec<Key<'a>>, AllocError>
+    ensures permutation { IfOk result (λ sorted. IsPermutation keys.entry.items sorted.items) }
+    ensures together { IfOk result (λ sorted. AreSideBySide (names_of sorted.items)) }
 {
-    if workers == 1 {
-        keys.sort_unstable();
-    } else {
-        par_sort_unstable(rt, keys);
-    }
+    let mut tagged = tagged_of(alloc, keys)?;
+    sort_tagged(rt, tagged.as_mut_slice(), workers);
+    keys_of(alloc, tagged)
 }
 
 // Numbers names that stand in order.

@@ -1,6 +1,6 @@
-use Rattle.std.proofs.Common.{◌≡◌, List, length, drop, sym, ◌∙◌, subst, arith}
+use Rattle.std.proofs.Common.{List, sym, subst, arith}
 use Rattle.std.specs.List.Sorted.{IsPermutation}
-use Rattle.std.proofs.lemmas.List.{take_at}
+use Rattle.std.proofs.lemmas.List.Sorted.{length_permutation}
 use Rattle.std.proofs.lemmas.Result.{IfOk-weaker}
 use Rattle.sym_resolve.specs.declared.numbers.Key.{Key}
 use Rattle.sym_resolve.specs.declared.numbers.Numbers.{Numbers}
@@ -11,30 +11,22 @@ use Rattle.sym_resolve.proofs.numbers.number.Goals as goal
 pub count_names-requires : goal.count_names-requires
 count_names-requires g c =
     let keys = c.args.keys.items in
-    let sorted = c.sort_keys.new.keys in
-    let ok = c.args.keys.ok in
-    let len : length sorted ≡ c.args.keys.len = c.sort_keys.ensures.len ∙ c.as_mut_slice.ensures.len in
-    let is : c.as_slice.result.now ≡ sorted = c.as_slice.ensures.value ∙ take_at sorted (drop (length sorted) keys) c.args.keys.len len in
-    let P : List Key → Type 0 = λ l. IsPermutation l sorted in
+    let is = c.as_slice.ensures.value in
     let Q : List Key → Type 0 = λ l. IsPermutation keys l in
     let S : List Key → Type 0 = λ l. AreSideBySide (names_of l) in
-    let moved : IsPermutation keys c.as_slice.result.now = subst Q (sym is) (subst P c.as_mut_slice.ensures.value c.sort_keys.ensures.permutation) in
+    let moved : IsPermutation keys c.as_slice.result.now = subst Q (sym is) c.in_ok-sorted.ensures.permutation in
     record {
-      few = let few = c.requires.few in omega (arith, c.as_slice.ensures.len);
+      few = let few = c.requires.few in let ok = c.args.keys.ok in omega (arith, length_permutation keys c.as_slice.result.now moved);
       within = within_moved keys c.as_slice.result.now moved c.args.width c.requires.within;
       once = once_moved keys c.as_slice.result.now moved c.requires.once;
-      together = subst S (sym is) c.sort_keys.ensures.together;
+      together = subst S (sym is) c.in_ok-sorted.ensures.together;
     }
 
 pub returns : goal.returns
 returns g c =
     let keys = c.args.keys.items in
-    let sorted = c.sort_keys.new.keys in
-    let len : length sorted ≡ c.args.keys.len = c.sort_keys.ensures.len ∙ c.as_mut_slice.ensures.len in
-    let is : c.as_slice.result.now ≡ sorted = c.as_slice.ensures.value ∙ take_at sorted (drop (length sorted) keys) c.args.keys.len len in
-    let P : List Key → Type 0 = λ l. IsPermutation l sorted in
     let Q : List Key → Type 0 = λ l. IsPermutation keys l in
-    let moved : IsPermutation keys c.as_slice.result.now = subst Q (sym is) (subst P c.as_mut_slice.ensures.value c.sort_keys.ensures.permutation) in
+    let moved : IsPermutation keys c.as_slice.result.now = subst Q (sym c.as_slice.ensures.value) c.in_ok-sorted.ensures.permutation in
     let A : Numbers → Type 0 = λ n. AreNumbers (names_of c.as_slice.result.now) n.count n.of.items in
     let B : Numbers → Type 0 = λ n. AreNumbers (names_of keys) n.count n.of.items in
     IfOk-weaker c.count_names.result A B (λ n are. numbers_back keys c.as_slice.result.now moved n.count n.of.items are) c.count_names.ensures
