@@ -65,7 +65,7 @@ entry_reads b table at head name entry sound named_so member_is table_is next_is
     (checked_passed (form_checks b at) (head_of b at) tt head (sym sound))
     ∙ checked_passed (name_checks b table at (kind_at b at)) (name_of b table at (kind_at b at)) (entry_at b table at) name (sym named_so))
 
--- where its name and data lie in the file, so does the member
+-- if its name and data lie in the file, so does the member
 pub lies_in : (b : List ℕ) (body : Span) (name : Option Span) → body.from + body.len ≤ length b → MatchOption name (Unit {0}) (λ s. s.from + s.len ≤ length b) →
     MatchOption (option_map (named body) name) (Unit {0}) (LiesIn (length b))
 lies_in b body None inside named_in = tt

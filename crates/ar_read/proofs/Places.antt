@@ -1,21 +1,22 @@
--- Where headers stand: each behind the one before, so that there are finitely many in a file, and only one number of them.
+-- Where headers stand: each after the one before, so that there are finitely many in a file, and only one number of them.
 use Rattle.std.proofs.Common.{◌≡◌, ℕ, zero, suc, ◌+◌, ◌*◌, ◌<◌, ◌≤◌, Bool, true, false, nat_lt, List, length, get_or, sym, ap, ◌∙◌, subst, arith, inl, inr, zero-add}
 use Rattle.std.proofs.Math.Nat.{eq-or-lt_of_le, le_refl}
 use Rattle.std.specs.List.{range_with_len, prefix_len}
 use Rattle.std.proofs.lemmas.Bool.{cases_lt, ltb-true, ltb-false}
 use Rattle.std.proofs.lemmas.List.FromFn.{length-range_with_len, get_or-range_with_len}
 use Rattle.std.proofs.lemmas.List.Sums.{prefix_len_passes, prefix_len_stops, prefix_len-le-length}
+use Rattle.ar_read.specs.declared.format.TheConstants.{AR_HDR_LEN, SARMAG}
 use Rattle.ar_read.specs.Archives.{place, next, count, HasHeaders}
 
 pub place_next : (b : List ℕ) (j : ℕ) → place b (j + 1) ≡ next b (place b j)
 unfolding place
 place_next b j = let e : j + 1 ≡ suc j = omega arith in ap (place b) e
 
-place_up : (b : List ℕ) (j : ℕ) → place b j + 60 ≤ place b (suc j)
+place_up : (b : List ℕ) (j : ℕ) → place b j + AR_HDR_LEN ≤ place b (suc j)
 unfolding place
 place_up b j = omega arith
 
-place_low : (b : List ℕ) (j : ℕ) → 8 + 60 * j ≤ place b j
+place_low : (b : List ℕ) (j : ℕ) → SARMAG + AR_HDR_LEN * j ≤ place b j
 unfolding place
 place_low b zero = omega arith
 place_low b (suc j) = omega (arith, place_low b j)
@@ -62,7 +63,7 @@ no_more b n m of_n of_m =
 pub count_is : (b : List ℕ) (n : ℕ) → HasHeaders b n → n ≡ count b
 count_is b n all = omega (arith, no_more b n (count b) all (count_has b), no_more b (count b) n (count_has b) all)
 
--- a header in the file is one of them, and behind the last there is none
+-- a header in the file is one of them, and after the last there is none
 pub below_count : (b : List ℕ) (j : ℕ) → place b j < length b → j < count b
 below_count b j lt =
     elim (cases_lt j (count b)) [ inl less ↦ less | inr ge ↦ absurd (omega (arith, over_count b, place_le b (count b) j ge)) ]

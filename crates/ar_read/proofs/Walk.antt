@@ -1,4 +1,4 @@
--- The headers one after another: what is known behind some of them, and what the answer says of the archive.
+-- The headers one after another: what is known after some of them, and what the answer says of the archive.
 use Rattle.std.proofs.Common.{append-nil, ◌≡◌, ℕ, ◌+◌, ◌<◌, ◌≤◌, Bool, true, false, cond, List, [], ◌∷◌, ◌++◌, length, Option, Some, None, refl, sym, ap, ◌∙◌, subst, arith}
 use Rattle.std.specs.Prelude.{All, MatchOption, Result, Ok, Err, find, IfOk}
 use Rattle.std.specs.List.{range_with_len, filter_map, cons_option}
@@ -14,6 +14,7 @@ use Rattle.ar_read.specs.declared.entries.Entry.{Entry}
 use Rattle.ar_read.specs.declared.headers.ArHead.{ArHead}
 use Rattle.ar_read.specs.Fields.{head_of, form_checks, HeaderAt}
 use Rattle.ar_read.specs.Names.{is_long_names}
+use Rattle.ar_read.specs.declared.format.TheConstants.{SARMAG}
 use Rattle.ar_read.specs.Archives.{place, next, count, kind_at, table_before, checks_at, header_checks, member_at, member_of, members_of, entry_at, archive_checks, archive_of, ArOf, ArFlaw}
 use Rattle.ar_read.proofs.Places.{place_next, count_has, count_is, below_count, above_count}
 
@@ -26,7 +27,7 @@ pub record Walked (b : List ℕ) (at : ℕ) (table : Option Span) (members : Lis
   pub table_is : table ≡ table_before b headers
   pub members_are : members ≡ members_of b headers
 
-pub begun : (b : List ℕ) (list : List Member) → list ≡ [] → Walked b 8 None list
+pub begun : (b : List ℕ) (list : List Member) → list ≡ [] → Walked b SARMAG None list
 unfolding place table_before members_of
 begun b list is = record { headers = 0; few = omega arith; here = refl; so_far = refl; table_is = refl; members_are = is }
 
@@ -91,7 +92,7 @@ walk_fails b at table old flaw w lt bad =
     (step_fails (header_checks b) j (count b) (entry_at b (table_before b j) (place b j)) flaw
     (passes (from_on (header_checks b) 0 (count b))) (below_count b j inside) w.so_far there)
 
--- behind the last header
+-- after the last header
 pub walk_ends : (b : List ℕ) (at : ℕ) (table : Option Span) (list : List Member) → Walked b at table list → length b ≤ at →
     checked (from_on (header_checks b) 0 (count b)) (members_of b (count b)) ≡ Ok list
 walk_ends b at table list w over =

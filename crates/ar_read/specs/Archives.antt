@@ -9,6 +9,7 @@ use Rattle.lk_tables.specs.declared.spans.Span.{Span}
 use Rattle.lk_tables.specs.Checks.{Check, ◌says◌, checked, flaw_at, from_on, NoneBroken, IsFirstBroken}
 use Rattle.ar_read.specs.declared.archive.Member.{Member}
 use Rattle.ar_read.specs.declared.entries.Entry.{Entry}
+use Rattle.ar_read.specs.declared.format.TheConstants.{AR_HDR_LEN, SARMAG}
 use Rattle.ar_read.specs.declared.names.NameKind.{NameKind}
 use Rattle.ar_read.specs.Fields.{form_checks, head_of, name_text, size}
 use Rattle.ar_read.specs.Names.{kind_of, name_checks, name_of, is_long_names}
@@ -17,13 +18,13 @@ use Rattle.ar_read.specs.Names.{kind_of, name_checks, name_of, is_long_names}
 abbrev pub even : ℕ → ℕ
 even n = n + n % 2
 
--- where the header stands that follows: behind the data, and after an odd size a byte of padding
+-- where the header stands that follows: after the data, and after an odd size a byte of padding
 abbrev pub next : List ℕ → ℕ → ℕ
-next b at = even (at + 60 + size b at)
+next b at = even (at + AR_HDR_LEN + size b at)
 
 -- where header j stands, from 0
 unfoldable pub place : List ℕ → ℕ → ℕ
-place b zero = 8
+place b zero = SARMAG
 place b (suc j) = next b (place b j)
 
 -- these are all headers: they stand in the file, and the next would stand at its end or past it
@@ -43,7 +44,7 @@ kind_at b at = kind_of (name_text b at)
 unfoldable pub table_before : List ℕ → ℕ → Option Span
 table_before b j = option_map (λ k. (head_of b (place b k)).body) (find (λ k. is_long_names (kind_at b (place b k))) (range_with_len 0 j))
 
--- the checks of the header at an offset behind a table of long names, and of header j
+-- the checks of the header at an offset after a table of long names, and of header j
 unfoldable pub checks_at : List ℕ → Option Span → ℕ → List Check
 checks_at b table at = form_checks b at ++ name_checks b table at (kind_at b at)
 
@@ -61,7 +62,7 @@ member_at b table at = option_map (named (head_of b at).body) (name_of b table a
 abbrev pub member_of : List ℕ → ℕ → Option Member
 member_of b j = member_at b (table_before b j) (place b j)
 
--- the file begins as an archive does that has its members' bytes
+-- the file starts as an archive does that has its members' bytes
 unfoldable pub magic_checks : List ℕ → List Check
 magic_checks b =
     (starts_with nat_eq b (codes "!<thin>\n") says flaw_at F07 0 0)

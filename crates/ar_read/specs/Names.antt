@@ -9,12 +9,13 @@ use Rattle.lk_base.specs.declared.kinds.DefectKind.TheVariants.{F06, F18}
 use Rattle.lk_tables.specs.declared.spans.Span.{Span}
 use Rattle.lk_tables.specs.Checks.{Check, ◌says◌, flaw_at}
 use Rattle.lk_tables.specs.Names.{span}
+use Rattle.ar_read.specs.declared.format.TheConstants.{SLASH}
 use Rattle.ar_read.specs.declared.names.NameKind.{NameKind}
 use Rattle.ar_read.specs.declared.names.NameKind.TheVariants.{Index, LongNames, Long, Foreign, Short}
 use Rattle.ar_read.specs.Fields.{decimal}
 
 abbrev pub is_slash : ℕ → Bool
-is_slash byte = byte == 47
+is_slash byte = byte == SLASH
 
 -- `/` and `/SYM64/` are indexes of symbols
 unfoldable pub is_index : List ℕ → Bool
@@ -51,7 +52,7 @@ kind_of name =
 
 -- how many bytes stand before the first `/` and newline
 unfoldable pub ended_len : List ℕ → Option ℕ
-ended_len text = first_of (matches text (47 ∷ 10 ∷ []) 0)
+ended_len text = first_of (matches text (codes "/\n") 0)
 
 -- the name at byte n of the table that stands before, if it ends there
 unfoldable pub long_name : List ℕ → Option Span → ℕ → Option Span

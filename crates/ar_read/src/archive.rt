@@ -8,6 +8,7 @@ ghost use Rattle.lk_tables.specs.Checks.{checked, passes, from_on, Gives};
 ghost use Rattle.ar_read.specs.Archives as read;
 
 use crate::entries::read_entry;
+use crate::format::SARMAG;
 use crate::headers::flaw;
 use lk_base::{DefectKind, Flaw, ReadFault};
 use lk_tables::Span;
@@ -46,14 +47,14 @@ fn push_some(members: &mut Vec<Member>, member: Option<Member>) -> Result<(), Re
     Ok(())
 }
 
-/// The members of a file that begins as an archive does.
+/// The members of a file that starts as an archive does.
 fn read_members(alloc: Global, bytes: &[u8]) -> Result<Vec<Member>, ReadFault>
     ensures exact { Gives (λ v. v.items) result (checked (from_on (read.header_checks bytes.now) 0 (read.count bytes.now)) (read.members_of bytes.now (read.count bytes.now))) }
     ensures inside { IfOk result (λ v. All (read.LiesIn (length bytes.now)) v.items) }
 {
     let mut members = Vec::new(alloc);
     let mut table = None;
-    let mut at = 8;
+    let mut at = SARMAG;
     while at < bytes.len() {
         let entry = read_entry(bytes, table, at)?;
         push_some(&mut members, entry.member)?;
@@ -74,7 +75,7 @@ fn read_archive(alloc: Global, bytes: &[u8]) -> Result<Vec<Member>, ReadFault>
 }
 
 /// The members of an archive in order, without its indexes and the table of long names, or its first broken check:
-/// Thin for a thin archive, BadArchive where the format is broken, BsdName for a name in the way of BSD, with the offset
+/// Thin for a thin archive, BadArchive if the format is broken, BsdName for a name of the BSD format, with the offset
 /// of the header at fault. Spans count from the first byte of the archive. Takes time linear in the file, but for long
 /// names that share one end in the table: each of these is searched for up to that end.
 pub fn members(alloc: Global, bytes: &[u8]) -> Result<Vec<Member>, ReadFault>

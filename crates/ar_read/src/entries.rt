@@ -1,13 +1,15 @@
-//! One header behind the earlier ones: its member, and where the next one stands.
+//! One header after the earlier ones: its member, and where the next one stands.
 
 ghost use Rattle.std.specs.Prelude.{◌≡◌, ℕ, ◌+◌, ◌<◌, ◌≤◌, length, IfOk, MatchOption};
 ghost use Rattle.lk_tables.specs.Checks.{checked};
 ghost use Rattle.std.specs.Option.{option_map};
+ghost use Rattle.ar_read.specs.declared.format.TheConstants.{AR_NAME_LEN};
 ghost use Rattle.ar_read.specs.Names.{ShortWithin};
 ghost use Rattle.ar_read.specs.Archives as read;
 
 use crate::archive::Member;
 use crate::fields::field_at;
+use crate::format::AR_NAME_LEN;
 use crate::headers::header_at;
 use crate::names::{NameKind, kind_of, later_table, name_of};
 use lk_base::Flaw;
@@ -27,11 +29,11 @@ pub struct Entry {
 /// What the name of a sound header says.
 #[tactic(auto, unfolding(crate::specs::Archives::kind_at, crate::specs::Fields::name_text))]
 fn kind_at(bytes: &[u8], at: usize) -> NameKind
-    requires { at + 16 ≤ length bytes.now }
+    requires { at + AR_NAME_LEN ≤ length bytes.now }
     ensures value { result ≡ read.kind_at bytes.now at }
-    ensures short { ShortWithin 16 result }
+    ensures short { ShortWithin AR_NAME_LEN result }
 {
-    kind_of(field_at(bytes, at, 16))
+    kind_of(field_at(bytes, at, AR_NAME_LEN))
 }
 
 /// The member of that name, if it is one.
@@ -44,7 +46,7 @@ fn member_named(name: Option<Span>, body: Span) -> Option<Member>
     Some(Member { name, body })
 }
 
-/// The header at an offset, where `table` is the table of long names that stands before it.
+/// The header at an offset, if `table` is the table of long names that stands before it.
 pub fn read_entry(bytes: &[u8], table: Option<Span>, at: usize) -> Result<Entry, Flaw>
     requires { MatchOption table (Unit {0}) (λ t. t.from + t.len ≤ length bytes.now) }
     ensures value { result ≡ checked (read.checks_at bytes.now table at) (read.entry_at bytes.now table at) }

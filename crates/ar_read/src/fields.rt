@@ -3,16 +3,19 @@
 ghost use Rattle.std.specs.Prelude.{◌≡◌, ℕ, ◌+◌, ◌-◌, ◌≤◌, true, length, take, drop};
 ghost use Rattle.std.specs.Char.{is_ascii_digit};
 ghost use Rattle.std.specs.List.{suffix_len, list_all};
+ghost use Rattle.ar_read.specs.declared.format.TheConstants.{AR_NAME_LEN};
 ghost use Rattle.ar_read.specs.Fields as read;
 
-/// How many bytes stay where the spaces at the end go.
+use crate::format::{DIGIT_0, SPACE};
+
+/// The length without the spaces at the end.
 fn text_len(field: &[u8]) -> usize
     ensures value { result ≡ length field.now - suffix_len read.is_space field.now }
     ensures within { result ≤ length field.now }
 {
     let mut len = field.len();
     while len > 0 {
-        if field[len - 1] != b' ' {
+        if field[len - 1] != SPACE {
             return len;
         }
         len -= 1;
@@ -57,13 +60,13 @@ fn is_decimal(text: &[u8]) -> bool
 /// The number that decimal digits write.
 #[tactic(auto, unfolding(crate::specs::Fields::number))]
 fn number(digits: &[u8]) -> u64
-    requires short { length digits.now ≤ 16 }
+    requires short { length digits.now ≤ AR_NAME_LEN }
     requires digits { list_all is_ascii_digit digits.now ≡ true }
     ensures { result ≡ read.number digits.now }
 {
     let mut number = 0;
     for digit in digits {
-        number = 10 * number + (*digit - b'0') as u64;
+        number = 10 * number + (*digit - DIGIT_0) as u64;
     }
     number
 }
@@ -71,7 +74,7 @@ fn number(digits: &[u8]) -> u64
 /// The number that a text writes, if it is one.
 #[tactic(auto, unfolding(crate::specs::Fields::decimal, crate::specs::Fields::is_decimal))]
 pub fn decimal(text: &[u8]) -> Option<u64>
-    requires { length text.now ≤ 16 }
+    requires { length text.now ≤ AR_NAME_LEN }
     ensures { result ≡ read.decimal text.now }
 {
     if !is_decimal(text) {

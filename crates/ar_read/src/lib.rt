@@ -2,13 +2,14 @@
 //! gives the name and the data of each member, and `header_at` one header. Both answer what the bytes say, or the first
 //! broken check of the format.
 //!
-//! `fields` reads the text of a header, `headers` one header, `names` what a name says, `entries` one header behind the
-//! earlier ones, and `archive` them all.
+//! `format` has the names of the format, `fields` reads the text of a header, `headers` one header, `names` what a name
+//! says, `entries` one header after the earlier ones, and `archive` them all.
 #![tactic(auto)]
 
 mod archive;
 mod entries;
 mod fields;
+mod format;
 mod headers;
 mod names;
 

@@ -4,9 +4,11 @@ ghost use Rattle.std.specs.Prelude.{codes, nat_eq, position, ◌≡◌, ℕ, ◌
 ghost use Rattle.std.specs.List.{starts_with};
 ghost use Rattle.std.specs.Option.{option_or};
 ghost use Rattle.lk_tables.specs.Checks.{checked};
+ghost use Rattle.ar_read.specs.declared.format.TheConstants.{AR_NAME_LEN};
 ghost use Rattle.ar_read.specs.Names as read;
 
 use crate::fields::decimal;
+use crate::format::SLASH;
 use crate::headers::{flaw, span};
 use lk_base::{DefectKind, Flaw};
 use lk_tables::Span;
@@ -19,9 +21,9 @@ pub enum NameKind {
     Index,
     /// The table of long names.
     LongNames,
-    /// A member whose name begins at this byte of the table of long names.
+    /// A member whose name starts at this byte of the table of long names.
     Long(u64),
-    /// A name in the way of BSD, or one that does not end.
+    /// A name of the BSD format, or one that does not end.
     Foreign,
     /// A member whose name has this many bytes, and stands in the header.
     Short(usize),
@@ -51,8 +53,8 @@ fn is_bsd(name: &[u8]) -> bool
     name.starts_with(b"#1/") || name.starts_with(b"__.SYMDEF")
 }
 
-/// Whether a name begins with `/`.
-fn begins_with_slash(name: &[u8]) -> bool
+/// Whether a name starts with `/`.
+fn starts_with_slash(name: &[u8]) -> bool
     ensures { result ≡ starts_with nat_eq name.now (codes "/") }
 {
     name.starts_with(b"/".as_slice())
@@ -61,13 +63,13 @@ fn begins_with_slash(name: &[u8]) -> bool
 /// The place in the table of long names that `/` and digits name.
 #[tactic(auto, unfolding(crate::specs::Names::long_place))]
 fn long_place(name: &[u8]) -> Option<u64>
-    requires { length name.now ≤ 16 }
+    requires { length name.now ≤ AR_NAME_LEN }
     ensures { result ≡ read.long_place name.now }
 {
     if name.is_empty() {
         return None;
     }
-    if !begins_with_slash(name) {
+    if !starts_with_slash(name) {
         return None;
     }
     let (_, digits) = name.split_at(1);
@@ -79,13 +81,13 @@ fn slash_in(name: &[u8]) -> Option<usize>
     ensures value { result ≡ position read.is_slash name.now }
     ensures within { IfSome result (λ len. len ≤ length name.now) }
 {
-    name.iter().position(|byte| *byte == b'/')
+    name.iter().position(|byte| *byte == SLASH)
 }
 
 /// What a header's name says.
 #[tactic(auto, unfolding(crate::specs::Names::kind_of))]
 pub fn kind_of(name: &[u8]) -> NameKind
-    requires { length name.now ≤ 16 }
+    requires { length name.now ≤ AR_NAME_LEN }
     ensures value { result ≡ read.kind_of name.now }
     ensures short { read.ShortWithin (length name.now) result }
 {
@@ -115,7 +117,7 @@ fn ended_len(text: &[u8]) -> Option<usize>
     memmem::find(text, b"/\n")
 }
 
-/// The name that begins at byte `place` of the table of long names, if it ends there. The search goes no further than
+/// The name that starts at byte `place` of the table of long names, if it ends there. The search goes no further than
 /// the table; names that share an end are each searched for up to it.
 #[tactic(auto, unfolding(crate::specs::Names::long_name))]
 fn long_name(bytes: &[u8], table: Option<Span>, place: u64) -> Option<Span>
@@ -146,8 +148,8 @@ pub fn name_of(
     kind: NameKind,
 ) -> Result<Option<Span>, Flaw>
     requires table { MatchOption table (Unit {0}) (λ t. t.from + t.len ≤ length bytes.now) }
-    requires header { at + 16 ≤ length bytes.now }
-    requires short { read.ShortWithin 16 kind }
+    requires header { at + AR_NAME_LEN ≤ length bytes.now }
+    requires short { read.ShortWithin AR_NAME_LEN kind }
     ensures value { result ≡ checked (read.name_checks bytes.now table at kind) (read.name_of bytes.now table at kind) }
     ensures inside { IfOk result (λ name. MatchOption name (Unit {0}) (λ s. s.from + s.len ≤ length bytes.now)) }
 {

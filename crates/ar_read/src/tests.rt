@@ -86,7 +86,7 @@ fn lists_the_members_in_order(rt: HostRuntime) -> Result<(), Fail> {
     assert_eq!(rt; list.as_slice(), wanted.as_slice());
     let empty = members(rt.alloc(), b"!<arch>\n")?;
     assert_eq!(rt; empty.len(), 0);
-    // A name that begins with `/` and is no number has no byte before its first `/`.
+    // A name that starts with `/` and is no number has no byte before its first `/`.
     let nameless = altered(rt.alloc(), 186, b"/foo  ")?;
     let list = members(rt.alloc(), nameless.as_slice())?;
     assert_eq!(rt; list.first().map(|member| member.name), Some(span(186, 0)));

@@ -1,8 +1,8 @@
 -- Steps that were claimed stay claimed when more are made or joined, and pieces that tile leave no offer out.
 use Rattle.std.proofs.Math.Seq.{get_or-append_right}
 use Rattle.std.proofs.Common.{◌≡◌, ℕ, ◌+◌, ◌<◌, ◌≤◌, Result, Ok, Err, List, [], ◌∷◌, ◌++◌, length, get_or, All, IfOk, sym, ap, ◌∙◌, subst, ⊎_elim, arith, length-append, ◌-◌}
-use Rattle.std.proofs.lemmas.List.{get_or_default, append-nil, append_assoc, nil_from_length}
-use Rattle.std.proofs.lemmas.List.Elements.{All-push, All-weaker, Contains-append_left, Contains-append_right, Contains-push, All-contains_itself}
+use Rattle.std.proofs.lemmas.List.{get_or_default}
+use Rattle.std.proofs.lemmas.List.Elements.{All-push, All-weaker, Contains-push, All-contains_itself}
 use Rattle.std.proofs.lemmas.Bool.{cases_lt}
 use Rattle.std.specs.declared.ops.Range.{Range}
 use Rattle.claim_core.specs.declared.events.Event.{Event}
@@ -10,17 +10,11 @@ use Rattle.claim_core.specs.Events.{event, none_of, after, EachIsLeast}
 use Rattle.rank_claims.specs.declared.rule.OwnStep.{OwnStep}
 use Rattle.rank_claims.specs.declared.rule.OwnStep.TheVariants.{Claimed}
 use Rattle.rank_claims.specs.Claims.{TableView, SeatView, SitsAt, HasClaimed, HasClaimedEach, IsClosing, offer_at}
+use Rattle.rank_claims.proofs.Claimed.{HasClaimed-left, HasClaimed-right}
 use Rattle.work_split.specs.Pieces.{Tiles}
 use Rattle.work_split.specs.Tasks.{IsAt}
 use Rattle.work_split.proofs.Tiling.{tiles_cover}
 use Rattle.claim_rows.specs.Shares.{HasClaimedFrom, KeepsClaims, AreDone}
-
--- steps that are made or joined behind others keep their claims
-pub HasClaimed-left : (steps more : List OwnStep) (e : Event) → HasClaimed steps e → HasClaimed (steps ++ more) e
-HasClaimed-left steps more e has = (has.0, Contains-append_left steps more (Claimed e has.0) has.1)
-
-HasClaimed-right : (steps more : List OwnStep) (e : Event) → HasClaimed more e → HasClaimed (steps ++ more) e
-HasClaimed-right steps more e has = (has.0, Contains-append_right steps more (Claimed e has.0) has.1)
 
 -- a claim of the next offer
 pub HasClaimedFrom-more : (offers : List Event) (start i found : ℕ) (steps : List OwnStep) → HasClaimedFrom offers start i steps
@@ -55,14 +49,6 @@ claimed-each table offers cuts seats whole tiles done kept i d lt =
     let has : HasClaimed s.steps (offer_at offers i) = done.each cut.worker cut.piece s cut.within cut.at at i cut.from cut.below in
     let P : Event → Type 0 = HasClaimed whole.steps in
     subst P (get_or_default offers i (event 0 0) d lt) (kept cut.worker whole within (offer_at offers i) has)
-
--- one item more from an iterator
-pub yielded-more : {X : Type 0} (yielded items rest all : List X) (x : X) → yielded ++ items ≡ all → items ≡ x ∷ rest → (yielded ++ x ∷ []) ++ rest ≡ all
-yielded-more {X} yielded items rest all x is next = append_assoc yielded (x ∷ []) rest ∙ ap (λ (l : List X). yielded ++ l) (sym next) ∙ is
-
--- an iterator with nothing left has yielded all
-pub yielded-all : {X : Type 0} (yielded items all : List X) → yielded ++ items ≡ all → length items ≡ 0 → yielded ≡ all
-yielded-all {X} yielded items all is none = sym (append-nil yielded) ∙ ap (λ (l : List X). yielded ++ l) (sym (nil_from_length items none)) ∙ is
 
 -- two facts of one answer are a third
 pub IfOk-both : {X E : Type 0} (r : Result X E) (P Q R : X → Type 0) → ((x : X) → P x → Q x → R x) → IfOk r P → IfOk r Q → IfOk r R

@@ -11,8 +11,8 @@ use std::ops::Range;
 use std::thread::Threads;
 use work_split::{Gate, over_pieces, pieces};
 
-/// The least rank on offer for each word, or `NONE` where there is none, claimed by as many workers as there are, or
-/// by one for each offer where there are fewer offers. It answers the same whatever the number of workers.
+/// The least rank on offer for each word, or `NONE` if there is none, claimed by as many workers as there are, or
+/// by one for each offer if there are fewer offers. It answers the same whatever the number of workers.
 pub fn least_offers<R: Threads + Sync, G: Gate>(
     rt: &R,
     alloc: Global,

@@ -34,7 +34,7 @@ are_contents_push (Some m) names contents index bytes within so_far here = recor
       ∙ sym (map-append {A = List ℕ} {B = Option (List ℕ)} Some contents (bytes ∷ []));
 }
 
--- One more buffer, loaded under one more name, where both lists are seen through their bytes.
+-- One more buffer, loaded under one more name, if both lists are seen through their bytes.
 pub loaded_one_more : {X Y : Type 0} (items : X → List ℕ) (bytes : Y → List ℕ) (files now : Option Files) (names : List Y) (buffers pushed : List X) (index : ℕ) (x : X) (y : Y) (name : List ℕ)
     → index < length names → y ≡ get_or names index y → name ≡ bytes y → now ≡ files → pushed ≡ buffers ++ x ∷ []
     → AreContents files (take index (map bytes names)) (map items buffers) → IfSome now (λ m. get m name ≡ Some (items x))
@@ -52,7 +52,7 @@ same_value {X} {a} e = ap (λ o. unwrap_or o a) e
 same_heads : {X : Type 0} {a b : X} {xs ys : List X} → a ∷ xs ≡ b ∷ ys → (a ≡ b) × (xs ≡ ys)
 same_heads e = (cc, cc)
 
--- Lists of values that are there are equal where the values are.
+-- Lists of values that are there are equal if the values are.
 pub same_values : (a b : List (List ℕ)) → map {A = List ℕ} {B = Option (List ℕ)} Some a ≡ map {A = List ℕ} {B = Option (List ℕ)} Some b → a ≡ b
 same_values [] [] e = refl
 same_values [] (y ∷ b) e = cc
@@ -67,7 +67,7 @@ same_values (x ∷ a) (y ∷ b) e =
 pub same_contents : (m : Files) (names a b : List (List ℕ)) → AreContents (Some m) names a → AreContents (Some m) names b → a ≡ b
 same_contents m names a b left right = same_values a b (sym left.found ∙ right.found)
 
--- Where each name has its content, none is lacking.
+-- If each name has its content, none is lacking.
 pub not_lacking : (files : Option Files) (names contents : List (List ℕ)) (index : ℕ) → AreContents files names contents → IsFirstLacking files names index → ⊥
 not_lacking None names contents index held gone = gone.lacks
 not_lacking (Some m) names contents index held gone =

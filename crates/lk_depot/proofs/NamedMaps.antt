@@ -87,7 +87,7 @@ pub added_nothing : (name : List ℕ) (files : Files) → added name [] files �
 unfolding added
 added_nothing name files = refl
 
--- Added twice is added once, one list behind the other.
+-- Added twice is added once, one list after the other.
 pub added_twice : (name first second : List ℕ) (files : Files) → added name second (added name first files) ≡ added name (first ++ second) files
 unfolding added
 added_twice name [] second files = refl

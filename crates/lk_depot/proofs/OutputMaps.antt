@@ -12,11 +12,11 @@ use Rattle.lk_depot.specs.declared.kinds.FileKind.{FileKind}
 use Rattle.lk_depot.proofs.NamedMaps.{put_there}
 use Rattle.lk_depot.proofs.Overlaying.{overlaid_set, overlaid_push, get_overlaid_found, get_overlaid_none, named_found, within_found}
 
--- What is added to a file goes behind its content.
-added_some : (name front : List ℕ) (files : Files) → 0 < length front → added name front files ≡ insert files name (content files name ++ front)
+-- What is added to a file goes after its content.
+added_some : (name prefix : List ℕ) (files : Files) → 0 < length prefix → added name prefix files ≡ insert files name (content files name ++ prefix)
 unfolding added
 added_some name [] files some = absurd (omega arith)
-added_some name (b ∷ front) files some = refl
+added_some name (b ∷ prefix) files some = refl
 
 -- The output of a name, at its place.
 pub record IsHeldAt (outputs : List Held) (name : List ℕ) (i : ℕ) (held : Held) : Type 0 where
@@ -51,15 +51,15 @@ module _ (outputs : List Held) (inputs : Files) (name : List ℕ) where
     pub room_found : (room : ℕ) → All (λ h. h.room ≡ room) outputs → held.room ≡ room
     room_found room each = ap (λ h. h.room) placed.here ∙ each i held (within_found (λ h. h.name) outputs name i placed.found)
 
-    pub files_appended : (front : List ℕ) → 0 < length front
-        → files_with (set outputs i (record held { bytes = held.bytes ++ front })) inputs ≡ added name front (files_with outputs inputs)
-    files_appended front some =
+    pub files_appended : (prefix : List ℕ) → 0 < length prefix
+        → files_with (set outputs i (record held { bytes = held.bytes ++ prefix })) inputs ≡ added name prefix (files_with outputs inputs)
+    files_appended prefix some =
         overlaid_set (λ h. h.name) (λ h. h.bytes) outputs inputs name i _ placed.found name_found
-        ∙ ap (λ before. insert (files_with outputs inputs) name (before ++ front)) (sym content_found)
-        ∙ sym (added_some name front (files_with outputs inputs) some)
+        ∙ ap (λ before. insert (files_with outputs inputs) name (before ++ prefix)) (sym content_found)
+        ∙ sym (added_some name prefix (files_with outputs inputs) some)
 
-    pub kinds_appended : (front : List ℕ) → kinds_of (set outputs i (record held { bytes = held.bytes ++ front })) ≡ kinds_of outputs
-    kinds_appended front =
+    pub kinds_appended : (prefix : List ℕ) → kinds_of (set outputs i (record held { bytes = held.bytes ++ prefix })) ≡ kinds_of outputs
+    kinds_appended prefix =
         overlaid_set (λ h. h.name) (λ h. h.kind) outputs empty name i _ placed.found name_found ∙ put_there (kinds_of outputs) name held.kind kind_found
 
     pub files_begun : (kind : FileKind) (room : ℕ)

@@ -115,7 +115,7 @@ module _ {A X : Type 0} (name : A → List ℕ) (value : A → X) where
       → get (overlaid name value list m) sought ≡ Some (value (get_or list i d))
   get_overlaid_found list m sought i d found = get_first list m sought i d (first_at name list sought i d found)
 
-  -- Where the list has no thing of a name, the map has what was below it.
+  -- If the list has no thing of a name, the map has what was below it.
   pub get_overlaid_none : (list : List A) (m : Named X) (sought : List ℕ) → place_of name list sought ≡ None
       → get (overlaid name value list m) sought ≡ get m sought
   get_overlaid_none list m sought none = get_unnamed list m sought (unnamed name list sought none)

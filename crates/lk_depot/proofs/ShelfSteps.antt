@@ -1,4 +1,4 @@
--- What the calls on a shelf answer and leave, told by its outputs.
+-- What the calls on a shelf answer and leave, said of its outputs.
 use Rattle.std.proofs.Common.{◌≡◌, ℕ, ◌-◌, ◌<◌, ◌≤◌, min, Bool, true, false, not, cond, nat_lt, nat_le, ◌||◌, ◌&&◌, ◌==◌, List, [], ◌∷◌, ◌++◌, length, set, take, refl, sym, ◌∙◌, ap, subst, arith, eq-eqb, None, Ok, Err}
 use Rattle.std.proofs.lemmas.Grind.{common_steps}
 use Rattle.std.proofs.lemmas.List.{length-take}
@@ -155,9 +155,9 @@ module _ (s : Shelf) (outputs : List Held) (inputs : Files) (shows : Shows s out
         let room : 0 < room_left s name = rw left (omega arith) in
         let done = append_done s name piece (takes_some s name listed an_output room) in
         let length_is : length_appended s name piece ≡ taken = ap (min (min (length piece) s.most)) left ∙ sym is in
-        let front : 0 < length (take taken piece) = rw length-take (omega arith) in
+        let prefix : 0 < length (take taken piece) = rw length-take (omega arith) in
         let files : added name (take (length_appended s name piece) piece) s.files ≡ files_with (set outputs i (record held { bytes = held.bytes ++ take taken piece })) inputs =
         ap (λ n. added name (take n piece) s.files) length_is ∙ ap (added name (take taken piece)) shows.files
-        ∙ sym (files_appended outputs inputs name i held placed (take taken piece) front) in
+        ∙ sym (files_appended outputs inputs name i held placed (take taken piece) prefix) in
         let kinds = shows.kinds ∙ sym (kinds_appended outputs inputs name i held placed (take taken piece)) in
         (done.0 ∙ ap Ok length_is, done.1 ∙ (λ j. record s { calls = next_count s.calls; files = files j; kinds = kinds j }))

@@ -11,7 +11,7 @@ pub record Rises (before now : ℕ) : Type 0 where
   pub later : before ≤ now
   pub rose : Rose before now
 
--- The count did not fall, and the call failed only where it rose.
+-- The count did not fall, and the call failed only if it rose.
 pub record HasCause {T E : Type 0} (before now : ℕ) (result : Result T E) : Type 0 where
   pub later : before ≤ now
   pub failed : OnErr result (Rose before now)

@@ -22,7 +22,7 @@ Kinds = Named FileKind
 abbrev pub content : Files → List ℕ → List ℕ
 content files name = unwrap_or (get files name) []
 
--- Where the files are told, these are the bytes of that one.
+-- If the files are told, these are the bytes of that one.
 abbrev pub IsFile : Option Files → List ℕ → List ℕ → Type 0
 IsFile files name bytes = IfSome files (λ m. get m name ≡ Some bytes)
 

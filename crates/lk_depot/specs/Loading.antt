@@ -8,7 +8,7 @@ use Rattle.lk_depot.specs.Store.{Store}
 use Rattle.lk_depot.specs.declared.stops.LoadAllStop.{LoadAllStop}
 use Rattle.lk_depot.specs.declared.stops.LoadAllStop.TheVariants.{Absent, Failed, Memory}
 
--- As many contents as names, and, where the files are told, each is the file of its name.
+-- As many contents as names, and, if the files are told, each is the file of its name.
 pub record AreContents (files : Option Files) (names contents : List (List ℕ)) : Type 0 where
   pub as_many : length contents ≡ length names
   pub found : IfSome files (λ m. map (get m) names ≡ map Some contents)
@@ -27,7 +27,8 @@ pub record IsFirstLacking (files : Option Files) (names : List (List ℕ)) (inde
   pub lacks : Lacks files (name_at names index)
   pub earlier : HaveContents files (take index names)
 
--- The load of the name at this index failed, as the first: the faults rose, and that name alone was added to the unread ones.
+-- The load of the name at this index failed: the faults rose, that name alone was added to the unread ones, and each name
+-- before it has its content.
 pub record FailedAt (before after : Store) (names : List (List ℕ)) (index : ℕ) : Type 0 where
   pub within : index < length names
   pub rose : Rose before.faults after.faults

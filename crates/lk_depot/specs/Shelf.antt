@@ -40,7 +40,7 @@ fails_now shelf = is_listed shelf.fails shelf.calls
 abbrev pub is_output : Shelf → List ℕ → Bool
 is_output shelf name = contains_key shelf.kinds name
 
--- What a load answers, but for want of memory.
+-- What a load answers, if there is memory.
 abbrev pub answer_load : Shelf → List ℕ → Result (List ℕ) LoadStop
 answer_load shelf name = (if fails_now shelf then Err Failed else ok_or (get shelf.files name) Absent)
 
@@ -51,7 +51,7 @@ after_load shelf name (Err Absent) = record shelf { calls = next_count shelf.cal
 after_load shelf name (Err Failed) = record shelf { calls = next_count shelf.calls; faults = next_count shelf.faults; unread = shelf.unread ++ name ∷ [] }
 after_load shelf name (Err Memory) = record shelf { calls = next_count shelf.calls }
 
--- A begin fails exactly where the call is listed, the name is longer than 256 bytes, or two other files are outputs.
+-- A begin fails exactly if the call is listed, the name is longer than 256 bytes, or two other files are outputs.
 abbrev pub refuses_begin : Shelf → List ℕ → Bool
 refuses_begin shelf name = fails_now shelf || (nat_lt 256 (length name) || (not (is_output shelf name) && nat_le 2 (len shelf.kinds)))
 
@@ -75,7 +75,7 @@ after_begin shelf name kind =
 abbrev pub room_left : Shelf → List ℕ → ℕ
 room_left shelf name = shelf.room - length (content shelf.files name)
 
--- An append fails exactly where the call is listed, the file is no output, or it has no room left.
+-- An append fails exactly if the call is listed, the file is no output, or it has no room left.
 abbrev pub refuses_append : Shelf → List ℕ → Bool
 refuses_append shelf name = fails_now shelf || (not (is_output shelf name) || (room_left shelf name == 0))
 

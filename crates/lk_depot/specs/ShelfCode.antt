@@ -1,4 +1,4 @@
--- How a shelf is stored, by which two of them are told apart.
+-- How a shelf is stored, by which two of them are compared.
 use Rattle.std.specs.Prelude.{◌≡◌, ℕ, Bool, true, false, List, refl}
 use Rattle.std.specs.Coded.{Coded, code_by, coded×, coded_ℕ, coded_bool, coded_list}
 use Rattle.std.specs.FinMap.{code}

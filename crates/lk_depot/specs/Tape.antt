@@ -20,7 +20,7 @@ output_of tape = record { written = Some tape.written; faults = tape.faults }
 abbrev pub room_left : Tape → ℕ
 room_left tape = tape.room - length tape.written
 
--- A put fails exactly where the call is listed or there is no room left.
+-- A put fails exactly if the call is listed or there is no room left.
 abbrev pub refuses_put : Tape → Bool
 refuses_put tape = is_listed tape.fails tape.calls || (room_left tape == 0)
 

@@ -1,4 +1,4 @@
-//! The outside of a program: a store of files and streams to write to, each as a trait whose contracts tell what a call
+//! The outside of a program: a store of files and streams to write to, each as a trait whose contracts say what a call
 //! does to it, the loops that load and write all of something, and forms of both that live in memory.
 #![tactic(auto)]
 

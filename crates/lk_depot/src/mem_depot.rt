@@ -17,7 +17,7 @@ use std::marker::Model;
 
 /// A store of files in memory, for tests of what is written and of what follows a fault.
 ///
-/// It means a `Shelf`, which tells all: the files, the kinds of the outputs, the counts, the names that could not be read, the
+/// It means a `Shelf`, which has all of it: the files, the kinds of the outputs, the counts, the names that could not be read, the
 /// calls that are to fail and the limits. Load, begin and append are numbered together, from 0.
 #[derive(Drop)]
 pub struct MemDepot {

@@ -13,7 +13,7 @@ use std::marker::Model;
 
 /// A stream in memory, for tests of what is written and of what follows a fault.
 ///
-/// It means a `Tape`, which tells all: the bytes written, the faults, the calls so far, the calls that are to fail and
+/// It means a `Tape`, which has all of it: the bytes written, the faults, the calls so far, the calls that are to fail and
 /// the room.
 #[derive(Drop)]
 pub struct MemSink {

@@ -9,13 +9,13 @@ use crate::stops::Failed;
 
 /// A stream that takes bytes.
 ///
-/// It means an `Output`: what was written to it, where it tells that, and the count of its faults since it was made.
+/// It means an `Output`: what was written to it, if it tells that, and the count of its faults since it was made.
 pub trait Sink {
     ghost output: { Self → Output };
 
     /// Writes the first bytes of `piece`, at least one of them, and says how many.
     ///
-    /// Where it fails, nothing was written.
+    /// If it fails, nothing was written.
     fn put(&mut self, piece: &[u8]) -> Result<usize, Failed>
         requires { 0 < length piece.now }
         ensures some { IfOk result (λ n. 0 < n) }

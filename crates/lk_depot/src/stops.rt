@@ -1,4 +1,4 @@
-// How a call on the outside ends where it does not succeed.
+// How a call on the outside ends if it does not succeed.
 
 /// Why a load gave no bytes.
 #[derive(Clone, Copy, Debug, PartialEq, Eq)]

@@ -12,7 +12,7 @@ use std::alloc::Global;
 
 /// A store of files.
 ///
-/// It means a `Store`: its files, with the kind of each, where it tells them, the count of its faults, the count of the
+/// It means a `Store`: its files, with the kind of each, if it tells them, the count of its faults, the count of the
 /// files that were begun, and the names that it could not read. The counts are those of this depot, since it was made.
 pub trait Depot {
     ghost store: { Self → Store };
@@ -32,7 +32,7 @@ pub trait Depot {
 
     /// Makes the file of this name anew and empty, or empties the one that is there.
     ///
-    /// Where it fails, the file is left as it was.
+    /// If it fails, the file is left as it was.
     fn begin(&mut self, name: &str, kind: FileKind) -> Result<(), Failed>
         ensures files { let old = (store self.old).files in
             (store self.new).files ≡ (if is_ok result then told_put name.now [] old else old) }
@@ -44,7 +44,7 @@ pub trait Depot {
 
     /// Adds the first bytes of `piece` to the end of the file of this name, at least one of them, and says how many.
     ///
-    /// Where it fails, the file is left as it was.
+    /// If it fails, the file is left as it was.
     fn append(&mut self, name: &str, piece: &[u8]) -> Result<usize, Failed>
         requires { 0 < length piece.now }
         ensures some { IfOk result (λ n. 0 < n) }

@@ -79,7 +79,7 @@ fn a_file_is_written_piece_by_piece(rt: HostRuntime) -> Result<(), Fail> {
 }
 
 #[test]
-fn a_fault_in_mid_append_leaves_a_front(rt: HostRuntime) -> Result<(), Fail> {
+fn a_fault_in_mid_append_leaves_a_prefix(rt: HostRuntime) -> Result<(), Fail> {
     let alloc = rt.alloc();
     let mut depot = MemDepot::new(alloc, Vec::new(alloc), vec![in alloc; 3]?, 4, 16)?;
     assert_eq!(rt; depot.begin("out", FileKind::Plain), Ok(()));

@@ -12,7 +12,7 @@ use crate::store::Depot;
 
 /// Adds these bytes to the end of the file of this name.
 ///
-/// Where a call of the depot fails, a front of them was added, and not all. No bytes make no call.
+/// If a call of the depot fails, a prefix of them was added, and not all. No bytes make no call.
 pub fn put_all<D: Depot>(depot: &mut D, name: &str, bytes: &[u8]) -> Result<(), Failed>
     ensures ok { OnOk result ((D.store depot.new).files ≡ told_added name.now bytes.now (D.store depot.old).files) }
     ensures err { OnErr result ((n : ℕ) × (n < length bytes.now)
@@ -31,7 +31,7 @@ pub fn put_all<D: Depot>(depot: &mut D, name: &str, bytes: &[u8]) -> Result<(), 
 
 /// Writes these bytes to the sink.
 ///
-/// Where a call of the sink fails, a front of them was written, and not all. No bytes make no call.
+/// If a call of the sink fails, a prefix of them was written, and not all. No bytes make no call.
 pub fn say_all<S: Sink>(sink: &mut S, bytes: &[u8]) -> Result<(), Failed>
     ensures ok { OnOk result ((S.output sink.new).written ≡ told_said bytes.now (S.output sink.old).written) }
     ensures err { OnErr result ((n : ℕ) × (n < length bytes.now)

@@ -1,4 +1,4 @@
--- What is told of real files: what failed, and nothing of what the files hold.
+-- What is known of real files: what failed, and nothing of what the files hold.
 use Rattle.std.specs.Prelude.{ℕ, List, [], ◌∷◌, ◌++◌, None, Result, Ok, Err}
 use Rattle.lk_depot.specs.Faults.{next_count}
 use Rattle.lk_depot.specs.Store.{Store}
@@ -16,6 +16,7 @@ pub record RealFiles : Type 0 where
 abbrev pub store_of : RealFiles → Store
 store_of real = record { files = None; kinds = None; faults = real.faults; begun = real.begun; unread = real.unread }
 
+-- One more call failed.
 abbrev pub with_fault : RealFiles → RealFiles
 with_fault real = record real { faults = next_count real.faults }
 

@@ -1,5 +1,5 @@
-//! The outside for real: the files of the system as a store, and the two standard streams to write to. They tell what
-//! failed, and nothing of what a file holds or a stream was given: that is the system's.
+//! The outside for real: the files of the system as a store, and the two standard streams to write to. Their contracts say
+//! what failed, and nothing of what a file holds or a stream was given: that is the system's.
 #![tactic(auto)]
 
 mod real_depot;
@@ -8,4 +8,4 @@ mod std_sink;
 mod tests;
 
 pub use real_depot::RealDepot;
-pub use std_sink::StdSink;
+pub use std_sink::{StdSink, Stream};

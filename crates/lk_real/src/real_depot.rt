@@ -1,19 +1,22 @@
 // The files of the system as a store of files.
 #![tactic(auto)]
 
-ghost use Rattle.std.specs.Prelude.{◌≡◌, ◌≢◌, ◌<◌, ◌≤◌, [], map, length, string_bytes, IfOk, Err};
+ghost use Rattle.std.specs.Prelude.{◌≡◌, ◌≢◌, ◌^◌, ◌<◌, ◌≤◌, [], map, length, string_bytes, IfOk, Err};
 ghost use Rattle.lk_real.specs.RealFiles.{store_of, after_load, after_begin, after_append};
 
 use lk_depot::{Depot, Failed, FileKind, LoadStop};
 use std::alloc::Global;
 use std::fs::{File, Permissions};
 use std::io;
-use std::io::{ErrorKind, Read, Write};
+use std::io::{ErrorKind, Read, Seek, SeekFrom, Write};
 use std::marker::Model;
 use std::os::unix::fs::{OpenOptionsExt, PermissionsExt};
 
 /// How many bytes of a file a load takes at most: one more than an input may have, so that its length is refused.
 const MOST_READ: u64 = 1 << 31;
+
+/// An end that no file has. A folder may seek to such a one, and its read then fails as it should.
+const NO_END: u64 = 1 << 62;
 
 /// The permissions of a file that may be run, less the umask.
 const EXECUTABLE_MODE: u32 = 0o755;
@@ -31,7 +34,7 @@ struct OpenOutput {
 /// The files of the system, by path.
 ///
 /// It means a `RealFiles`: how many calls failed, how many files were begun, and the names that could not be read. As a depot it
-/// tells neither files nor kinds, so a load answers `Failed` where there is no file, and never `Absent`. A file that was
+/// tells neither files nor kinds, so a load answers `Failed` if there is no file, and never `Absent`. A file that was
 /// written to is closed once another is, or when the depot is dropped.
 #[derive(Drop)]
 pub struct RealDepot<'a> {
@@ -56,12 +59,27 @@ impl<'a> Model for RealDepot<'a> {
     } };
 }
 
+/// How many bytes a load makes room for at first: those of the file, or none if seeking does not tell them, as at a pipe.
+/// It takes less time than `metadata`, which fills a buffer for a path.
+fn first_room(file: &mut File) -> io::Result<u64>
+    ensures { IfOk result (λ n. n ≤ 2 ^ 31) }
+{
+    let Ok(end) = file.seek(SeekFrom::End(0)) else {
+        return Ok(0);
+    };
+    file.seek(SeekFrom::Start(0))?;
+    if end >= NO_END {
+        return Ok(0);
+    }
+    Ok(end.min(MOST_READ))
+}
+
 /// Up to `MOST_READ` bytes of a file, from its start.
 fn bytes_of(rt: &HostRuntime, alloc: Global, name: &str) -> io::Result<Vec<u8>> {
-    let file = File::open(rt, name)?;
-    let size = file.metadata()?.len().min(MOST_READ);
+    let mut file = File::open(rt, name)?;
+    let room = first_room(&mut file)?;
     // With room for one byte more the last read, which finds the end, moves nothing.
-    let mut bytes = Vec::with_capacity(alloc, size as usize + 1)?;
+    let mut bytes = Vec::with_capacity(alloc, room as usize + 1)?;
     file.take(MOST_READ).read_to_end(&mut bytes)?;
     Ok(bytes)
 }
@@ -98,7 +116,7 @@ fn emptied(rt: &HostRuntime, name: &str, kind: FileKind) -> io::Result<File> {
     Ok(file)
 }
 
-/// Lets those who may read a file that was there run it. Where that is refused the permissions stay.
+/// Lets those who may read a file that was there run it. If that is refused, the permissions stay.
 fn allow_running(file: &File) {
     let Ok(metadata) = file.metadata() else {
         return;
@@ -109,7 +127,7 @@ fn allow_running(file: &File) {
     }
 }
 
-/// The file of this name, made where it is not there, to be written to at its end.
+/// The file of this name, made if it is not there, to be written to at its end.
 fn at_end(rt: &HostRuntime, name: &str) -> io::Result<File> {
     File::options()
         .append(true)
@@ -118,7 +136,7 @@ fn at_end(rt: &HostRuntime, name: &str) -> io::Result<File> {
         .open(rt, name)
 }
 
-/// One write, made again where a signal interrupts it.
+/// One write, made again if a signal interrupts it.
 fn write_some(file: &mut File, piece: &[u8]) -> io::Result<usize>
     ensures { IfOk result (λ n. n ≤ length piece.now) }
 {
@@ -172,8 +190,8 @@ impl<'a> RealDepot<'a> {
         self.unread.as_slice()
     }
 
-    /// Keeps a file open for the appends that follow, where there is memory for its name. Where there is none, the next
-    /// append opens it again.
+    /// Keeps a file open for the appends that follow, if there is memory for its name. If there is none, the next append
+    /// opens it again.
     fn keep_open(&mut self, name: &str, file: File)
         ensures { self.new ≡ self.old }
     {
@@ -198,10 +216,14 @@ impl<'a> RealDepot<'a> {
         self.keep_open(name, file);
         Ok(written)
     }
+}
 
-    /// Loads a file, and says what was counted.
-    fn load_counted(&mut self, alloc: Global, name: &str) -> Result<Vec<u8>, LoadStop>
-        ensures told { result ≢ Err LoadStop.Absent }
+impl Depot for RealDepot<'_> {
+    ghost store = { store_of };
+
+    /// The file's bytes to its end, or the first 2^31 of a longer one.
+    fn load(&mut self, alloc: Global, name: &str) -> Result<Vec<u8>, LoadStop>
+        ensures untold { result ≢ Err LoadStop.Absent }
         ensures after { self.new ≡ after_load self.old name.now result }
     {
         let error = match bytes_of(self.rt, alloc, name) {
@@ -221,9 +243,10 @@ impl<'a> RealDepot<'a> {
         Err(LoadStop::Failed)
     }
 
-    /// Begins a file, and says what was counted.
-    fn begin_counted(&mut self, name: &str, kind: FileKind) -> Result<(), Failed>
-        ensures { self.new ≡ after_begin self.old result }
+    /// A new file gets the permissions 0755 or 0644, less the umask. One that is there is emptied in place, and an
+    /// executable may then be run by those who may read it.
+    fn begin(&mut self, name: &str, kind: FileKind) -> Result<(), Failed>
+        ensures after { self.new ≡ after_begin self.old result }
     {
         self.begun = self.begun.saturating_add(1);
         let Ok(file) = emptied(self.rt, name, kind) else {
@@ -234,8 +257,8 @@ impl<'a> RealDepot<'a> {
         Ok(())
     }
 
-    /// Appends to a file, and says what was counted.
-    fn append_counted(&mut self, name: &str, piece: &[u8]) -> Result<usize, Failed>
+    fn append(&mut self, name: &str, piece: &[u8]) -> Result<usize, Failed>
+        requires { 0 < length piece.now }
         ensures some { IfOk result (λ n. 0 < n) }
         ensures most { IfOk result (λ n. n ≤ length piece.now) }
         ensures after { self.new ≡ after_append self.old result }
@@ -248,24 +271,5 @@ impl<'a> RealDepot<'a> {
             return Err(Failed);
         }
         Ok(written)
-    }
-}
-
-impl Depot for RealDepot<'_> {
-    ghost store = { store_of };
-
-    /// The file's bytes to its end, or the first 2^31 of a longer one.
-    fn load(&mut self, alloc: Global, name: &str) -> Result<Vec<u8>, LoadStop> {
-        self.load_counted(alloc, name)
-    }
-
-    /// A new file gets the permissions 0755 or 0644, less the umask. One that is there is emptied in place, and an
-    /// executable may then be run by those who may read it.
-    fn begin(&mut self, name: &str, kind: FileKind) -> Result<(), Failed> {
-        self.begin_counted(name, kind)
-    }
-
-    fn append(&mut self, name: &str, piece: &[u8]) -> Result<usize, Failed> {
-        self.append_counted(name, piece)
     }
 }

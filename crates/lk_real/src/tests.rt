@@ -1,5 +1,5 @@
 // Real files and streams: what reaches the system and comes back, which no clause says.
-use crate::{RealDepot, StdSink};
+use crate::{RealDepot, StdSink, Stream};
 use lk_depot::{Depot, Failed, FileKind, LoadStop, put_all, say_all};
 use std::alloc::{AllocError, Global};
 use std::os::unix::fs::PermissionsExt;
@@ -62,7 +62,19 @@ fn files_are_made_written_and_read(rt: HostRuntime) -> Result<(), Fail> {
     assert_eq!(rt; depot.faults(), 0);
     assert_eq!(rt; depot.begun(), 3);
 
-    // What cannot be read or written is a fault.
+    // The end of these is not found by seeking.
+    assert!(rt;
+        depot
+            .load(alloc, "/dev/null")
+            .is_ok_and(|bytes| bytes.is_empty())
+    );
+    assert!(rt;
+        depot
+            .load(alloc, "/proc/self/status")
+            .is_ok_and(|bytes| !bytes.is_empty())
+    );
+
+    // A file that cannot be read or written is a fault.
     assert!(rt;
         depot
             .load(alloc, nowhere.as_str())
@@ -90,6 +102,8 @@ fn streams_are_written_to(rt: HostRuntime) -> Result<(), Fail> {
     let mut err = StdSink::err(&rt);
     assert_eq!(rt; say_all(&mut out, b"to the output\n"), Ok(()));
     assert_eq!(rt; say_all(&mut err, b"to the error\n"), Ok(()));
+    assert_eq!(rt; out.stream(), Stream::Output);
+    assert_eq!(rt; err.stream(), Stream::Error);
     assert_eq!(rt; out.faults(), 0);
     assert_eq!(rt; err.faults(), 0);
     Ok(())

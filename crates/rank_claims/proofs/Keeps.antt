@@ -1,18 +1,23 @@
 -- Each step on a table of claims keeps its rule.
-use Rattle.std.proofs.Common.{◌≡◌, ◌≢◌, ℕ, zero, suc, ◌<◌, ◌≤◌, true, false, List, [], ◌∷◌, ◌++◌, length, max, min, get_or, set, Contains, refl, sym, ap, ◌∙◌, subst, ⊎_elim, arith}
+use Rattle.std.proofs.Common.{◌≡◌, ◌≢◌, ℕ, ◌<◌, ◌≤◌, true, List, [], ◌∷◌, ◌++◌, length, max, min, get_or, set, Contains, refl, sym, ap, ◌∙◌, subst, ⊎_elim, arith}
 use Rattle.std.proofs.lemmas.List.{length-set, length-replicate, get_or-replicate, get_or-set_same, get_or-set_other, set-get_or}
 use Rattle.std.proofs.lemmas.List.Elements.{All-nil, All-push}
 use Rattle.std.proofs.lemmas.Bool.{cases_eq}
-use mathlib.Core.Option.{none, some, some-injective, some-ne-none}
+use mathlib.Core.Option.{none, some}
 use lib.ListN.{get_elem?}
 use Rattle.atomic_table.specs.Table.{State, step, keeps, opening, Allows, Splits, Joins}
-use Rattle.atomic_table.proofs.Lists.{at_set, at_snoc}
 use Rattle.claim_core.specs.declared.events.Event.{Event}
 use Rattle.claim_core.specs.declared.events.TheConstants.{NONE}
-use Rattle.claim_core.specs.Events.{none_of, lowered, after, IsReached, IsOffered}
+use Rattle.claim_core.specs.Events.{event, none_of, lowered, after, IsReached, IsOffered}
 use Rattle.claim_core.proofs.EventLemmas.{length-lowered, after-push, lowered_at, lowered_else, lowered_falls, IsReached-offered}
+use Rattle.rank_claims.specs.declared.rule.OwnStep.TheVariants.{Claimed, Read}
 use Rattle.rank_claims.specs.declared.rule.View.{View}
-use Rattle.rank_claims.specs.Rule.{Seated, Fits, Kept, ViewFinds, TellsClaim, TellsLook, IsSeated, Covers, founder, view_after_claim, view_after_look, view_split, view_joined, view_spent}
+use Rattle.rank_claims.specs.Claims.{HasClaimed}
+use Rattle.rank_claims.specs.Rule.{is_live, Seated, Fits, Kept, ViewFinds, TellsClaim, TellsLook, IsSeated, Covers, founder, view_after_claim, view_after_look, view_split, view_joined, view_spent}
+use Rattle.rank_claims.proofs.Claimed.{HasClaimed-left, HasClaimed-push, HasClaimed-right, claimed_lowered, claimed_none, claimed_stays}
+use Rattle.seat_views.proofs.EachViews.{each_first, each_join, each_split, each_step}
+use Rattle.seat_views.proofs.Places.{other_view}
+use Rattle.seat_views.proofs.SomeViews.{some_here, some_join, some_split, some_step}
 use Rattle.rank_claims.proofs.Rows.{length-lesser_of, le-lesser_of, Covers-claimed, Covers-looked, Covers-joined}
 
 abbrev Table : Type 0
@@ -77,36 +82,34 @@ claim_keeps count slots id offers me e on lt live s r wide at small =
       record {
         wide = length-lowered s.words e ∙ r.wide;
         reached = IsReached-lowered offers s.words e on r.reached;
-        each = λ seat v there alive. ⊎_elim
-            (λ (mine : (seat ≡ id) × (w ≡ v)). let P : View → Type 0 = Fits count offers (lowered s.words e) in subst P mine.1 (Fits-claimed count offers s.words e me.0 here lt f))
-            (λ (other : (seat ≢ id) × (get_elem? s.views seat ≡ some v)). Fits-lowered count offers s.words e v (r.each seat v other.1 alive))
-            (at_set s.views id seat w v there);
+        claimed = claimed_lowered s.views (set s.views id w) s.words e here
+            (λ word rank. some_step is_live (λ v. HasClaimed v.steps (event word rank)) s.views id me.0 w at live (HasClaimed-left me.0.steps (Claimed e x ∷ []) (event word rank)))
+            (some_here is_live (λ v. HasClaimed v.steps e) s.views id me.0 w at live (HasClaimed-push me.0.steps e x))
+            r.claimed;
+        each = each_step is_live (Fits count offers s.words) (Fits count offers (lowered s.words e)) s.views id w (Fits-lowered count offers s.words e)
+            (λ _. Fits-claimed count offers s.words e me.0 here lt f) r.each;
       },
       record { view = refl; slots = refl; finds = finds count offers s me.0 e.word lt r f },
     )
 
--- the rule over words that are written as they were
-same_words : (count : ℕ) (offers : List Event) (ws : List ℕ) (v : View) (i : ℕ) → Fits count offers ws v → Fits count offers (set ws i (get_or ws i 0)) v
-same_words count offers ws v i f = let P : List ℕ → Type 0 = λ l. Fits count offers l v in subst P (sym (set-get_or ws i 0)) f
-
+-- a look writes the word as it was
 pub look_keeps : (count slots id : ℕ) (offers : List Event) (me : Seated) (word : ℕ) → word < count → me.0.live ≡ true
     → Allows (Kept count offers) slots id me word (λ n. n) (TellsLook (step slots word 0 0 none) me)
 look_keeps count slots id offers me word lt live s r wide at small =
     let x : ℕ = get_or s.words word 0 in
     let f = r.each id me.0 at live in
     let w : View = view_after_look me.0 word x in
-    let Reached : List ℕ → Type 0 = IsReached offers in (
+    let Holds : List ℕ → Type 0 = λ ws. Kept count offers (record { words = ws; homes = s.homes; views = set s.views id w }) in (
       w,
       keeps,
       tt,
-      record {
-        wide = length-set s.words word x ∙ r.wide;
-        reached = subst Reached (sym (set-get_or s.words word 0)) r.reached;
-        each = λ seat v there alive. same_words count offers s.words v word (⊎_elim
-            (λ (mine : (seat ≡ id) × (w ≡ v)). let P : View → Type 0 = Fits count offers s.words in subst P mine.1 (Fits-looked count offers s.words word me.0 lt f))
-            (λ (other : (seat ≢ id) × (get_elem? s.views seat ≡ some v)). r.each seat v other.1 alive)
-            (at_set s.views id seat w v there));
-      },
+      subst Holds (sym (set-get_or s.words word 0)) (record {
+        wide = r.wide;
+        reached = r.reached;
+        claimed = claimed_stays s.views (set s.views id w) s.words
+            (λ other rank. some_step is_live (λ v. HasClaimed v.steps (event other rank)) s.views id me.0 w at live (HasClaimed-left me.0.steps (Read word x ∷ []) (event other rank))) r.claimed;
+        each = each_step is_live (Fits count offers s.words) (Fits count offers s.words) s.views id w (λ v fits. fits) (λ _. Fits-looked count offers s.words word me.0 lt f) r.each;
+      }),
       record { view = refl; slots = refl; finds = finds count offers s me.0 word lt r f },
     )
 
@@ -114,15 +117,9 @@ pub split_keeps : (count id : ℕ) (offers : List Event) (v : View) → Splits (
 split_keeps count id offers v s r at = record {
   wide = r.wide;
   reached = r.reached;
-  each = λ seat w there alive. ⊎_elim
-      (λ (old : get_elem? (set s.views id v) seat ≡ some w). ⊎_elim
-      (λ (mine : (seat ≡ id) × (v ≡ w)). let P : View → Type 0 = λ u. u.live ≡ true → Fits count offers s.words u in subst P mine.1 (r.each id v at) alive)
-      (λ (other : (seat ≢ id) × (get_elem? s.views seat ≡ some w)). r.each seat w other.1 alive)
-      (at_set s.views id seat v w old))
-      (λ (new : view_split v ≡ w).
-      let P : View → Type 0 = λ u. u.live ≡ true → Fits count offers s.words u in
-      subst P new (λ on. let f = r.each id v at on in record { one_list = f.one_list; wide = f.wide; above = f.above }) alive)
-      (at_snoc (set s.views id v) (view_split v) w seat there);
+  claimed = claimed_stays s.views (set s.views id v ++ view_split v ∷ []) s.words (λ word rank. some_split is_live (λ u. HasClaimed u.steps (event word rank)) s.views id v (view_split v) at) r.claimed;
+  each = each_split is_live (Fits count offers s.words) s.views id v (view_split v) (r.each id v at)
+      (λ on. let f = r.each id v at on in record { one_list = f.one_list; wide = f.wide; above = f.above }) r.each;
 }
 
 Fits-joined : (count : ℕ) (offers : List Event) (ws : List ℕ) (v w : View) → Fits count offers ws v → Fits count offers ws w → Fits count offers ws (view_joined v w)
@@ -135,16 +132,14 @@ Fits-joined count offers ws v w f g = record {
 pub join_keeps : (count id other : ℕ) (offers : List Event) (v w : View) → v.live ≡ true → w.live ≡ true → Joins (Kept count offers) id v other w (view_joined v w) view_spent
 join_keeps count id other offers v w live alive s r at ne there =
     let both : View = view_joined v w in
-    let theirs : get_elem? s.views other ≡ some w = ⊎_elim (λ (same : (other ≡ id) × (both ≡ w)). absurd (ne same.0)) (λ (apart : (other ≢ id) × (get_elem? s.views other ≡ some w)). apart.1) (at_set s.views id other both w there) in record {
+    let theirs : get_elem? s.views other ≡ some w = other_view s.views id other both w ne there in record {
       wide = r.wide;
       reached = r.reached;
-      each = λ seat u here on. ⊎_elim
-          (λ (spent : (seat ≡ other) × (view_spent ≡ u)). let wrong : false ≡ true = ap (λ (x : View). x.live) spent.1 ∙ on in cc)
-          (λ (apart : (seat ≢ other) × (get_elem? (set s.views id both) seat ≡ some u)). ⊎_elim
-          (λ (mine : (seat ≡ id) × (both ≡ u)). let P : View → Type 0 = Fits count offers s.words in subst P mine.1 (Fits-joined count offers s.words v w (r.each id v at live) (r.each other w theirs alive)))
-          (λ (old : (seat ≢ id) × (get_elem? s.views seat ≡ some u)). r.each seat u old.1 on)
-          (at_set s.views id seat both u apart.1))
-          (at_set (set s.views id both) other seat view_spent u here);
+      claimed = claimed_stays s.views (set (set s.views id both) other view_spent) s.words
+          (λ word rank. some_join is_live (λ u. HasClaimed u.steps (event word rank)) s.views id other v w both view_spent at ne theirs live
+          (HasClaimed-left v.steps w.steps (event word rank)) (HasClaimed-right v.steps w.steps (event word rank)))
+          r.claimed;
+      each = each_join is_live (Fits count offers s.words) s.views id other both view_spent (λ _. Fits-joined count offers s.words v w (r.each id v at live) (r.each other w theirs alive)) refl r.each;
     }
 
 founder_fits : (count : ℕ) (offers : List Event) → Fits count offers (none_of (max count 1)) (founder count offers)
@@ -158,11 +153,9 @@ pub opening_keeps : (count : ℕ) (offers : List Event) → Kept count offers (o
 opening_keeps count offers = record {
   wide = length-replicate (max count 1) NONE;
   reached = record { events = []; offered = All-nil (Contains offers); leads = ap none_of (length-replicate (max count 1) NONE) };
-  each = first_only;
-} where
-  first_only : (seat : ℕ) (v : View) → get_elem? (founder count offers ∷ []) seat ≡ some v → v.live ≡ true → Fits count offers (none_of (max count 1)) v
-  first_only zero v at live = let P : View → Type 0 = Fits count offers (none_of (max count 1)) in subst P (some-injective (founder count offers) v at) (founder_fits count offers)
-  first_only (suc k) v at live = absurd (some-ne-none v (sym at))
+  claimed = claimed_none (founder count offers ∷ []) (max count 1);
+  each = each_first is_live (Fits count offers (none_of (max count 1))) (founder count offers) (founder_fits count offers);
+}
 
 -- a seat stays one that callers have
 pub seated-claimed : (slots : ℕ) (e : Event) (m m' : Seated) (found : ℕ) → IsSeated m → TellsClaim (step slots e.word e.rank 0 none) m found m' → IsSeated m'

@@ -1,4 +1,5 @@
-pub mod Rows
-pub mod Keeps
+pub mod Claimed
 pub mod Ends
+pub mod Keeps
+pub mod Rows
 pub mod Sitting

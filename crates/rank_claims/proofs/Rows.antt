@@ -41,7 +41,7 @@ written xs w n = ⊎_elim
     (λ (past : length xs ≤ w). omega (arith, ap (λ (l : List ℕ). get_or l w 0) (set_past xs w n past), get_or_past xs w 0 past))
     (cases_lt w (length xs))
 
--- where no more is written than was there, no number rises
+-- if no more is written than was there, no number rises
 pub written_falls : (xs : List ℕ) (w n k : ℕ) → n ≤ get_or xs w 0 → get_or (set xs w n) k 0 ≤ get_or xs k 0
 written_falls xs w n k h = ⊎_elim
     (λ (at : k ≡ w). let P : ℕ → Type 0 = λ v. get_or (set xs w n) v 0 ≤ get_or xs v 0 in subst P (sym at) (omega (arith, written xs w n)))

@@ -75,7 +75,7 @@ pub record IsClosing (t : TableView) (s : SeatView) (words : List ℕ) : Type 0 
   pub reached : IsReached t.offers words
   pub offered : EachIsOffered t.offers words
   pub at_most_known : (word : ℕ) → slice_index words word ≤ slice_index s.known word
-  -- where the seat has claimed each offer, or was joined by those that did, they are the least offers
+  -- if the seat has claimed each offer, or was joined by those that did, the words are the least offers
   pub least : HasClaimedEach t.offers s.steps → EachIsLeast t.offers words
   -- and one thread alone, doing the offers' events in any order, comes to the same words
   pub agrees : HasClaimedEach t.offers s.steps → (events : List Event) → DrawsEach t.offers events → words ≡ after (none_of t.words) events

@@ -1,16 +1,16 @@
 -- The rule that every step on a table of claims keeps, and what a step tells its seat. What a seat knows is its view.
-use Rattle.std.specs.Prelude.{◌≡◌, ℕ, ◌<◌, ◌≤◌, true, false, List, [], ◌∷◌, ◌++◌, length, max, min, slice_index, slice_set, Contains}
-use mathlib.Core.Option.{some}
-use lib.ListN.{get_elem?}
+use Rattle.std.specs.Prelude.{◌≡◌, ℕ, ◌<◌, ◌≤◌, ◌⊎◌, Bool, true, false, List, [], ◌∷◌, ◌++◌, length, max, min, slice_index, slice_set, Contains}
 use Rattle.atomic_table.specs.Table.{State, Me, Step}
 use Rattle.atomic_table.specs.Seated.{TableId}
 use Rattle.atomic_table.specs.declared.shared.Seat.{Seat}
 use Rattle.claim_core.specs.declared.events.Event.{Event}
+use Rattle.claim_core.specs.declared.events.TheConstants.{NONE}
 use Rattle.claim_core.specs.Events.{event, none_of, AllInRow, IsReached, IsOffered}
 use Rattle.rank_claims.specs.declared.rule.OwnStep.{OwnStep}
 use Rattle.rank_claims.specs.declared.rule.OwnStep.TheVariants.{Claimed, Read}
 use Rattle.rank_claims.specs.declared.rule.View.{View}
-use Rattle.rank_claims.specs.Claims.{SeatView, lesser_of}
+use Rattle.rank_claims.specs.Claims.{HasClaimed, SeatView, lesser_of}
+use Rattle.seat_views.specs.Views.{EachView, SomeView}
 
 -- a seat at a table with no slots
 abbrev pub Seated : Type 0
@@ -40,18 +40,31 @@ view_joined v w = record v { known = lesser_of v.known w.known; steps = v.steps 
 abbrev pub view_spent : View
 view_spent = record { live = false; offers = []; known = []; steps = [] }
 
+-- whether a view is that of a seat which was not joined into another
+abbrev pub is_live : View → Bool
+is_live v = v.live
+
 -- A view fits the words: it has the table's offers, and no word is above what it knows
 pub record Fits (count : ℕ) (offers : List Event) (words : List ℕ) (v : View) : Type 0 where
   pub one_list : v.offers ≡ offers
   pub wide : length v.known ≡ count
   pub above : (word : ℕ) → word < count → slice_index words word ≤ slice_index v.known word
 
--- The rule. At each moment the words are a state that events of the offers lead to, and they fit each live view.
--- A table for no words has one all the same, which no offer and no call names
+-- one of these views has claimed the rank for the word, by a step of its seat or of one that was joined into it
+abbrev pub IsClaimed : List View → (word rank : ℕ) → Type 0
+IsClaimed views word rank = SomeView is_live (λ v. HasClaimed v.steps (event word rank)) views
+
+-- each word is NONE, or its rank is claimed: no word falls but by a claim that a seat has among its steps
+abbrev pub EachIsClaimed : List View → List ℕ → Type 0
+EachIsClaimed views words = (word : ℕ) → word < length words → (slice_index words word ≡ NONE) ⊎ IsClaimed views word (slice_index words word)
+
+-- The rule. At each moment the words are a state that events of the offers lead to, each rank in them was claimed, and they
+-- fit each live view. A table for no words has one all the same, which no offer and no call names
 pub record Kept (count : ℕ) (offers : List Event) (s : State (Unit {0}) View) : Type 0 where
   pub wide : length s.words ≡ max count 1
   pub reached : IsReached offers s.words
-  pub each : (seat : ℕ) (v : View) → get_elem? s.views seat ≡ some v → v.live ≡ true → Fits count offers s.words v
+  pub claimed : EachIsClaimed s.views s.words
+  pub each : EachView is_live (Fits count offers s.words) s.views
 
 -- what a step may find at a word
 abbrev pub ViewFinds : View → ℕ → ℕ → Type 0
@@ -79,9 +92,9 @@ pub record IsSeated (m : Seated) : Type 0 where
   pub slots : m.1 ≡ []
   pub covers : Covers m.0.known m.0.steps
 
--- a table that callers have: its words and slots, what it was told, and offers that its words can take
-pub record IsTableFor (count : ℕ) (table : TableId) (told : ℕ) (offers : List Event) : Type 0 where
+-- a table that callers have: its words and slots, what it was made for, and offers that its words can take
+pub record IsTableFor (count : ℕ) (table : TableId) (given : ℕ) (offers : List Event) : Type 0 where
   pub wide : table.words ≡ max count 1
   pub slots : table.slots ≡ 0
-  pub told_count : told ≡ count
+  pub given_count : given ≡ count
   pub in_row : AllInRow count offers

@@ -19,14 +19,14 @@ pub struct View {
     pub steps: LinkedList<OwnStep>,
 }
 
-// What a table is told when it is made.
+// What a table is given when it is made.
 #[derive(Drop)]
 pub struct Key<'a> {
     pub words: u32,
     pub offers: &'a [Event],
 }
 
-// The words only fall, and only to ranks on offer.
+// The words only fall, and only to ranks on offer that a seat has claimed.
 pub struct Falling;
 
 impl<'a> TableRule<(), View, Key<'a>> for Falling {

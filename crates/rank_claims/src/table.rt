@@ -74,7 +74,7 @@ impl<'a> Claims<'a> {
         Ok((claims, ClaimSeat { seat }))
     }
 
-    /// Claims the offer at `i`, by one atomic step that lowers the offer's word to its rank where that is smaller, and
+    /// Claims the offer at `i`, by one atomic step that lowers the offer's word to its rank if that is smaller, and
     /// answers the word as it was before.
     pub fn claim(&self, seat: &mut ClaimSeat, offers: &[Event], i: usize) -> u64
         requires seat { SitsAt self.now seat.old }
@@ -110,7 +110,7 @@ impl<'a> Claims<'a> {
         ClaimSeat { seat: other }
     }
 
-    /// The seat learns what the other knows, and takes the other's steps behind its own.
+    /// The seat learns what the other knows, and takes the other's steps after its own.
     pub fn join(&self, seat: &mut ClaimSeat, other: ClaimSeat)
         requires seat { SitsAt self.now seat.old }
         requires other { SitsAt self.now other }
@@ -121,8 +121,8 @@ impl<'a> Claims<'a> {
         shared.join_seat::<Sharing>(&mut seat.seat, other);
     }
 
-    /// The words as the steps of all seats left them, whether these were joined or not. Where there is no memory for
-    /// the list, the table and the seat come back as they were.
+    /// The words as the steps of all seats left them, whether these were joined or not. If there is no memory for the
+    /// list, the table and the seat come back as they were.
     pub fn close(self, seat: ClaimSeat) -> Result<Vec<u64>, (Claims<'a>, ClaimSeat)>
         requires { SitsAt self seat }
         ensures ok { IfOk result (λ words. IsClosing self.entry seat words.items) }

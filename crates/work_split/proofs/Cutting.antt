@@ -19,7 +19,7 @@ pub record IsCutting (size left len start done : ℕ) (ps : List (Range ℕ)) : 
   pub most : len - start ≤ (size + 1) * left
 
 -- one share of the rest, for which m others still wait
-record IsShare (size m rest share : ℕ) : Type 0 where
+record Leaves (size m rest share : ℕ) : Type 0 where
   least : size ≤ share
   most : share ≤ size + 1
   within : share ≤ rest
@@ -27,10 +27,10 @@ record IsShare (size m rest share : ℕ) : Type 0 where
   few : rest - share ≤ (size + 1) * m
 
 share_from : (size m rest s : ℕ) → s * (m + 1) ≤ rest → rest < (s + 1) * (m + 1)
-    → size ≤ s → s ≤ size + 1 → rest ≤ (size + 1) * (m + 1) → IsShare size m rest s
+    → size ≤ s → s ≤ size + 1 → rest ≤ (size + 1) * (m + 1) → Leaves size m rest s
 share_from size m rest s low high least most few = by_size (cases_lt s (size + 1))
   where
-    by_size : (s < size + 1) ⊎ (size + 1 ≤ s) → IsShare size m rest s
+    by_size : (s < size + 1) ⊎ (size + 1 ≤ s) → Leaves size m rest s
     by_size (inl below) =
         let same : s ≡ size = omega arith in
         let times : s * m ≡ size * m = ap (λ x. x * m) same in
@@ -40,7 +40,7 @@ share_from size m rest s low high least most few = by_size (cases_lt s (size + 1
         let times : s * m ≡ (size + 1) * m = ap (λ x. x * m) same in
         record { least = least; most = most; within = omega arith; enough = omega arith; few = omega arith }
 
-share_of : (size m rest : ℕ) → size * (m + 1) ≤ rest → rest ≤ (size + 1) * (m + 1) → IsShare size m rest (rest / (m + 1))
+share_of : (size m rest : ℕ) → size * (m + 1) ≤ rest → rest ≤ (size + 1) * (m + 1) → Leaves size m rest (rest / (m + 1))
 share_of size m rest enough few =
     let low : rest / (m + 1) * (m + 1) ≤ rest = div-mul-le_self rest (m + 1) in
     let sum : rest / (m + 1) * (m + 1) + rest % (m + 1) ≡ rest = div-add-mod' rest (m + 1) in
@@ -53,8 +53,8 @@ share_of size m rest enough few =
     at_most (inl above) low = let more : (size + 2) * (m + 1) ≤ rest / (m + 1) * (m + 1) = mul-le-mul_right (m + 1) (omega arith) in omega arith
     at_most (inr within) low = within
 
--- one more piece behind those that tile
-tiles-push : (from start end : ℕ) (ps : List (Range ℕ)) → start < end → Tiles from start ps
+-- one more piece after those that tile
+pub tiles-push : (from start end : ℕ) (ps : List (Range ℕ)) → start < end → Tiles from start ps
     → Tiles from end (ps ++ record { start = start; end = end } ∷ [])
 tiles-push from start end [] more tiles = (sym tiles, omega (arith, tiles), refl)
 tiles-push from start end (p ∷ ps) more tiles = (tiles.0, tiles.1, tiles-push p.end start end ps more tiles.2)
@@ -62,10 +62,10 @@ tiles-push from start end (p ∷ ps) more tiles = (tiles.0, tiles.1, tiles-push 
 pub cutting-next : (size m left len start done : ℕ) (ps : List (Range ℕ)) → left ≡ m + 1 → IsCutting size left len start done ps
     → IsCutting size m len (start + (len - start) / left) (done + 1) (ps ++ record { start = start; end = start + (len - start) / left } ∷ [])
 cutting-next size m left len start done ps one_more so_far =
-    let Share : ℕ → Type 0 = λ l. IsShare size m (len - start) ((len - start) / l) in
+    let Share : ℕ → Type 0 = λ l. Leaves size m (len - start) ((len - start) / l) in
     let enough : size * (m + 1) ≤ len - start = rw (← one_more) so_far.enough in
     let most : len - start ≤ (size + 1) * (m + 1) = rw (← one_more) so_far.most in
-    let share : IsShare size m (len - start) ((len - start) / left) = subst Share (sym one_more) (share_of size m (len - start) enough most) in
+    let share : Leaves size m (len - start) ((len - start) / left) = subst Share (sym one_more) (share_of size m (len - start) enough most) in
     let positive : 0 < size = so_far.positive (omega arith) in
     let least = share.least in
     let within = share.within in

@@ -1,5 +1,5 @@
 -- The list of jobs, as it is made.
-use Rattle.std.proofs.Common.{◌≡◌, ℕ, ◌<◌, List, [], ◌∷◌, ◌++◌, Result, Ok, Err, IfOk, length, get_or, sym, ◌∙◌, ap, subst, inl, inr, arith, append_assoc, length-append}
+use Rattle.std.proofs.Common.{◌≡◌, ℕ, ◌<◌, List, [], ◌∷◌, ◌++◌, Result, Ok, Err, IfOk, length, get_or, sym, ◌∙◌, ap, subst, inl, inr, arith, length-append}
 use Rattle.std.proofs.lemmas.Bool.{cases_lt}
 use Rattle.std.proofs.lemmas.List.{length_push, get_or_push, get_or_append_left, get_or_at, get_or_default}
 use Rattle.std.specs.declared.ops.Range.{Range}
@@ -20,13 +20,6 @@ jobs-push {T} pieces given jobs last is_last each w job within at =
           let Is : Job T → Type 0 = λ j. IsJob pieces given w j in
           subst Is (sym same) (subst Fits here is_last)
     ]
-
--- what the loop has taken, with one more element
-pub taken_next : {T : Type 0} (yielded rest rest' given : List T) (own : T)
-    → yielded ++ rest ≡ given → rest ≡ own ∷ rest' → (yielded ++ own ∷ []) ++ rest' ≡ given
-taken_next yielded rest rest' given own all next =
-    let joined : yielded ++ (own ∷ rest') ≡ given = rw (← next) all in
-    append_assoc yielded (own ∷ []) rest' ∙ joined
 
 -- the job of the next worker
 pub jobs_next : {T : Type 0} (pieces : List (Range ℕ)) (empty : Range ℕ) (yielded rest rest' given : List T) (own : T) (jobs jobs' : List (Job T)) (worker : ℕ)
@@ -72,7 +65,7 @@ job_at {T} pieces given jobs w p x are whole within at_p at_x =
     ap (λ (z : T). record { worker = found.worker; piece = found.piece; given = z }) same_own in
     by_worker ∙ by_piece ∙ by_own
 
--- what is told of each job's answer, told of each piece
+-- what holds of each job's answer, said of each piece
 pub each_piece : {T U E : Type 0} (Post : ℕ → Range ℕ → T → U → Type 0)
     (pieces : List (Range ℕ)) (given : List T) (jobs : List (Job T)) (r : Result (Vec U) E)
     → AreJobs pieces given jobs → length given ≡ length pieces

@@ -1,3 +1,5 @@
 pub mod Cutting
 pub mod Jobs
+pub mod Sharing
 pub mod Tiling
+pub mod Weighing

@@ -1,4 +1,4 @@
--- What the workers are handed.
+-- What the workers are given.
 use Rattle.std.specs.Prelude.{◌≡◌, ℕ, ◌<◌, List, length, slice_index_or}
 use Rattle.std.specs.declared.ops.Range.{Range}
 use Rattle.work_split.specs.declared.tasks.Job.{Job}

@@ -6,7 +6,7 @@ ghost use Rattle.work_split.specs.Pieces.{HasSize, Tiles};
 use std::alloc::{AllocError, Global};
 use std::ops::Range;
 
-/// Cuts the places below `len` into pieces, one for each worker, or for each place where there are fewer places than
+/// Cuts the places below `len` into pieces, one for each worker, or for each place if there are fewer places than
 /// workers.
 pub fn pieces(alloc: Global, len: usize, workers: u32) -> Result<Vec<Range<usize>>, AllocError>
     requires some { 1 ≤ workers }

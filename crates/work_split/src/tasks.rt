@@ -9,7 +9,7 @@ use std::ops::Range;
 use std::thread;
 use std::thread::Threads;
 
-// What one worker is handed.
+// What one worker is given.
 #[derive(Drop)]
 struct Job<T> {
     worker: u32,
@@ -39,7 +39,7 @@ fn jobs_of<T: Drop>(
     Ok(jobs)
 }
 
-// What one worker's task gives. The task stands between the two steps of the gate where there are more workers.
+// What one worker's task gives. If there are more workers, the task stands between the two steps of the gate.
 fn answer_of<G: Gate, T: Drop, U, F: Fn(u32, Range<usize>, T) -> U>(
     gate: &G,
     many: bool,
@@ -84,9 +84,13 @@ fn run_jobs<
 }
 
 /// Runs `task` once for each piece: the task of piece w is given the number w, the piece and, by a move, what stands
-/// at w in `given`. The answers stand in the order of the pieces. Worker w calls `gate.at(w, 0)` before its task and
-/// `gate.at(w, 1)` after it; a lone piece calls no gate. Where memory runs out some tasks may not have run, and what
-/// was given and answered is dropped.
+/// at w in `given`. The answers stand in the order of the pieces.
+///
+/// Each task is done exactly once: what it is given is moved into it, and there is no second value of `T` to do it again
+/// with; and its answer, of a type that only the task makes, is there.
+///
+/// Worker w calls `gate.at(w, 0)` before its task and `gate.at(w, 1)` after it; a lone piece calls no gate. If memory
+/// runs out, some tasks may not have run, and what was given and answered is dropped.
 pub fn over_pieces<
     R: Threads + Sync,
     G: Gate,

@@ -1,8 +1,10 @@
 //! What no clause says: that tasks of two pieces run side by side, and when a gate is called.
 
-ghost use Rattle.std.specs.Prelude.{◌≤◌};
+ghost use Rattle.std.specs.Prelude.{◌≡◌, ◌<◌, ◌≤◌, ◌-◌, []};
+ghost use Rattle.work_split.specs.Shares.{IsShare};
 
-use crate::{Gate, OpenGate, over_pieces, pieces};
+use crate::{Gate, OpenGate, over_pieces, over_shares, pieces, pieces_by_weight};
+use lk_base::LinkStop;
 use std::alloc::{AllocError, Global};
 use std::hint;
 use std::ops::Range;
@@ -41,7 +43,26 @@ fn cuts(rt: HostRuntime) -> Result<(), Fail> {
     Ok(())
 }
 
-// Whether each worker is told its number, its piece and what it was given, and answers at its place.
+#[test]
+fn cuts_by_weight(rt: HostRuntime) -> Result<(), Fail> {
+    assert_eq!(rt; pieces_by_weight(rt.alloc(), &[], 4)?.len(), 0);
+    assert_eq!(rt;
+        pieces_by_weight(rt.alloc(), &[100, 1, 1, 1, 1, 1, 1], 4)?.as_slice(),
+        [0..1, 1..3, 3..5, 5..7].as_slice()
+    );
+    assert_eq!(rt;
+        pieces_by_weight(rt.alloc(), &[1, 1, 1, 9, 0, 0], 2)?.as_slice(),
+        [0..4, 4..6].as_slice()
+    );
+    let heavy = [u64::MAX, u64::MAX, u64::MAX, u64::MAX];
+    assert_eq!(rt;
+        pieces_by_weight(rt.alloc(), &heavy, 2)?.as_slice(),
+        [0..2, 2..4].as_slice()
+    );
+    Ok(())
+}
+
+// Whether each worker gets its number, its piece and what it was given, and answers at its place.
 fn is_answered_in_order<R: Threads + Sync>(
     rt: &R,
     alloc: Global,
@@ -204,5 +225,50 @@ fn a_gate_holds_the_first_worker(rt: HostRuntime) -> Result<(), Fail> {
     let answers = over_pieces(&rt, rt.alloc(), &gate, &TWO, given, |_, _, own| own)?;
     assert_eq!(rt; answers.as_slice(), [3, 4].as_slice());
     assert!(rt; gate.held.load(Ordering::SeqCst));
+    Ok(())
+}
+
+// The numbers from one up to another, by one worker.
+fn numbers_of(alloc: Global, piece: Range<usize>) -> Result<Vec<usize>, LinkStop>
+    requires ordered { piece.start ≤ piece.end }
+    ensures { IsShare (λ _. []) (λ n x. x ≡ n) piece.start piece.end result }
+{
+    let mut numbers = Vec::with_capacity(alloc, piece.end - piece.start)?;
+    for number in piece.start..piece.end {
+        numbers.push(number)?;
+    }
+    Ok(numbers)
+}
+
+// The same by several.
+fn numbers<R: Threads + Sync>(
+    rt: &R,
+    alloc: Global,
+    len: usize,
+    workers: u32,
+) -> Result<Vec<usize>, LinkStop>
+    requires some { 1 ≤ workers }
+    requires most { workers ≤ 64 }
+    ensures { IsShare (λ _. []) (λ n x. x ≡ n) 0 len result }
+{
+    let cuts = pieces(alloc, len, workers)?;
+    over_shares(
+        rt,
+        alloc,
+        &OpenGate,
+        cuts.as_slice(),
+        |piece: Range<usize>| -> Result<Vec<usize>, LinkStop>
+            requires ordered { piece.start ≤ piece.end }
+            ensures { IsShare (λ _. []) (λ n x. x ≡ n) piece.start piece.end result }
+        { numbers_of(alloc, piece) },
+    )
+}
+
+#[test]
+fn shares_are_joined_in_order(rt: HostRuntime) -> Result<(), Fail> {
+    let Ok(found) = numbers(&rt, rt.alloc(), 5, 3) else {
+        panic!(rt; "no memory for five numbers")
+    };
+    assert_eq!(rt; found.as_slice(), [0, 1, 2, 3, 4].as_slice());
     Ok(())
 }

@@ -3,7 +3,7 @@ use Rattle.std.specs.List.{suffix_len}
 use Rattle.ar_read.specs.Fields.{is_space}
 use Rattle.ar_read.proofs.fields.text_len.Given as goal
 
--- the spaces at the end are those behind, and those at the end of what is left
+-- the spaces at the end are those passed, and those at the end of what is left
 abbrev pub invariant-loop-len : goal.invariant-loop-len
 invariant-loop-len l = record {
   within : l.len ≤ length l.field;

@@ -1,7 +1,7 @@
 use Rattle.std.proofs.Common.{sym, ◌∙◌, ap}
 use Rattle.std.specs.Prelude.{Ok}
 use Rattle.ar_read.specs.Fields.{form_checks, head_of}
-use Rattle.lk_tables.proofs.Passing.{first_from_err, ok_from_none}
+use Rattle.lk_tables.proofs.Passing.{first_from_err, err_from_first, ok_from_none}
 use Rattle.ar_read.proofs.Walk.{header_from}
 use Rattle.ar_read.proofs.headers.header_at.Goals as goal
 
@@ -16,3 +16,7 @@ returns-clause-only c = λ head is.
 pub returns-clause-refused : goal.returns-clause-refused
 returns-clause-refused c = λ flaw is.
     first_from_err (form_checks c.args.bytes.now c.args.off) (head_of c.args.bytes.now c.args.off) flaw (sym c.read_header.ensures.value ∙ is)
+
+pub returns-clause-broken : goal.returns-clause-broken
+returns-clause-broken c = λ flaw is.
+    c.read_header.ensures.value ∙ err_from_first (form_checks c.args.bytes.now c.args.off) (head_of c.args.bytes.now c.args.off) flaw is

@@ -2,7 +2,7 @@ use Rattle.std.proofs.Common.{refl, sym, ◌∙◌, ap, arith}
 use Rattle.std.proofs.lemmas.List.{take_rest, length-drop}
 use Rattle.lk_depot.specs.Files.{told_added}
 use Rattle.lk_depot.proofs.NamedMaps.{told_added_nothing}
-use Rattle.lk_depot.proofs.Fronts.{told_added_goes_on}
+use Rattle.lk_depot.proofs.Prefixes.{told_added_goes_on}
 use Rattle.lk_depot.proofs.writing.put_all.Goals as goal
 
 pub loop-done-init : goal.loop-done-init

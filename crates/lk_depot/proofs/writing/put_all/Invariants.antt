@@ -2,7 +2,7 @@ use Rattle.std.proofs.Common.{length, ◌-◌, ◌≡◌, ◌≤◌, take}
 use Rattle.lk_depot.specs.Files.{told_added}
 use Rattle.lk_depot.proofs.writing.put_all.Given as goal
 
--- a front of the bytes was added, and all else is as it was
+-- a prefix of the bytes was added, and all else is as it was
 abbrev pub invariant-loop-done : goal.invariant-loop-done
 invariant-loop-done g l =
     let before = g.D.Depot.store l.fn.depot in

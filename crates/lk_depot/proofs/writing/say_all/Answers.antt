@@ -1,7 +1,7 @@
 use Rattle.std.proofs.Common.{◌∙◌, ap, arith}
 use Rattle.std.proofs.lemmas.List.{take_rest, length-drop}
 use Rattle.lk_depot.specs.Output.{told_said}
-use Rattle.lk_depot.proofs.Fronts.{told_said_goes_on}
+use Rattle.lk_depot.proofs.Prefixes.{told_said_goes_on}
 use Rattle.lk_depot.proofs.writing.say_all.Goals as goal
 
 pub loop-said-preserved : goal.loop-said-preserved

@@ -2,7 +2,7 @@ use Rattle.std.proofs.Common.{length, ◌-◌, ◌≡◌, ◌≤◌, take}
 use Rattle.lk_depot.specs.Output.{told_said}
 use Rattle.lk_depot.proofs.writing.say_all.Given as goal
 
--- a front of the bytes was written
+-- a prefix of the bytes was written
 abbrev pub invariant-loop-said : goal.invariant-loop-said
 invariant-loop-said g l =
     let before = g.S.Sink.output l.fn.sink in

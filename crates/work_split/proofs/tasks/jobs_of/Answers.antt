@@ -1,5 +1,6 @@
 use Rattle.std.proofs.Common.{arith}
-use Rattle.work_split.proofs.Jobs.{count_next, jobs_next, taken_next}
+use Rattle.work_split.proofs.Jobs.{count_next, jobs_next}
+use Rattle.work_split.proofs.Sharing.{taken_more}
 use Rattle.work_split.proofs.tasks.jobs_of.Goals as goal
 
 pub loop-own-preserved : goal.loop-own-preserved
@@ -13,7 +14,7 @@ loop-own-preserved g c =
     let number = c.len-worker.ensures in (
       tt,
       tt,
-      taken_next _ _ _ _ _ kept.2 next,
+      taken_more _ _ _ _ _ kept.2 next,
       count_next _ _ _ _ _ kept.3 grown,
       jobs_next c.args.pieces.now (record { start = 0; end = 0 }) _ _ _ _ _ _ _ _ kept.2 next (omega arith) kept.3 (omega arith) kept.4 grown,
     )

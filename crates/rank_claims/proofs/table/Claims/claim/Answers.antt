@@ -15,7 +15,7 @@ fetch_min-requires c =
     let on : Contains key.offers.now e = subst P same (Contains-get_or c.args.offers.now c.args.i (event 0 0) c.requires.place) in
     let inv = c.self.invariant in
     let in_row : e.word < c.self.inside.words = All-contains (λ (x : Event). x.word < c.self.inside.words) key.offers.now e inv.in_row on in
-    let counts = inv.told_count in
+    let counts = inv.given_count in
     let wide = inv.wide in
     (search rules, omega arith, claim_keeps key.words _ _ key.offers.now _ e on (omega arith) c.seat.invariant.live)
 

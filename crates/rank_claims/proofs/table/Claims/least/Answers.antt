@@ -7,7 +7,7 @@ pub load-requires : goal.load-requires
 load-requires c =
     let key = c.self.inside.table.shared.key in
     let inv = c.self.invariant in
-    let counts = inv.told_count in
+    let counts = inv.given_count in
     let wide = inv.wide in
     let words : c.self.inside.words ≡ c.args.self.now.words = ap (λ (t : TableView). t.words) c.self.view_is in
     let asked = c.requires.word in

@@ -1,0 +1,4 @@
+pub mod EachViews
+pub mod Places
+pub mod SomeViews
+pub mod TwoViews

@@ -1,0 +1,21 @@
+-- What a rule may say of the views of all seats at a table. A view that is not live was joined into another, and no rule speaks of it.
+use Rattle.std.specs.Prelude.{◌≡◌, ℕ, Bool, true, List}
+use mathlib.Core.Option.{some}
+use lib.ListN.{get_elem?}
+
+module _ {V : Type 0} (live : V → Bool) where
+  -- each live view is so
+  abbrev pub EachView : (V → Type 0) → List V → Type 0
+  EachView Is views = (seat : ℕ) (v : V) → get_elem? views seat ≡ some v → live v ≡ true → Is v
+
+  -- each two live views, of two seats, are so to one another
+  abbrev pub EachTwoViews : (V → V → Type 0) → List V → Type 0
+  EachTwoViews Are views = (seat : ℕ) (v : V) → get_elem? views seat ≡ some v → live v ≡ true → (other : ℕ) (w : V) → ¬ (other ≡ seat) → get_elem? views other ≡ some w → live w ≡ true → Are v w
+
+  -- one live view is so
+  pub record SomeView (Is : V → Type 0) (views : List V) : Type 0 where
+    pub seat : ℕ
+    pub view : V
+    pub at : get_elem? views seat ≡ some view
+    pub lives : live view ≡ true
+    pub is : Is view
