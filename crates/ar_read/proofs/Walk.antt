@@ -8,7 +8,8 @@ use Rattle.lk_base.specs.declared.defects.Flaw.{Flaw}
 use Rattle.lk_tables.specs.declared.spans.Span.{Span}
 use Rattle.lk_tables.specs.Checks.{checked, passes, from_on, NoneBroken, IsFirstBroken}
 use Rattle.lk_tables.proofs.Passing.{step_passes, step_fails, all_pass, checked_failed, checked_passed, checked_value, ok_from_none, none_from_ok, err_from_first}
-use Rattle.lk_tables.proofs.Ranges.{find_more, range_more}
+use Rattle.lk_tables.proofs.Ranges.{find_more}
+use Rattle.lk_base.proofs.Loops.{range_more}
 use Rattle.ar_read.specs.declared.archive.Member.{Member}
 use Rattle.ar_read.specs.declared.entries.Entry.{Entry}
 use Rattle.ar_read.specs.declared.headers.ArHead.{ArHead}

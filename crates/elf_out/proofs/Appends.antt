@@ -1,4 +1,4 @@
--- Headers behind one another.
+-- Headers one after the other.
 use Rattle.std.proofs.Common.{◌≡◌, ℕ, List, [], ◌∷◌, ◌++◌, flat_map, append_assoc, append-nil, ap, sym, ◌∙◌}
 use Rattle.std.proofs.lemmas.Grind.{flat_map-append}
 use Rattle.elf_out.specs.declared.headers.ProgramHeader.{ProgramHeader}

@@ -2,6 +2,7 @@
 use Rattle.std.proofs.Common.{◌≡◌, ℕ, suc, ◌+◌, ◌-◌, ◌<◌, List, [], ◌∷◌, ◌++◌, flat_map, bit_and, bit_or, refl, ap, sym, ◌∙◌, arith}
 use Rattle.std.specs.List.{fold, range_with_len}
 use Rattle.std.proofs.lemmas.List.Sums.{fold-append}
+use Rattle.lk_base.specs.declared.abi.TheConstants.{EF_RISCV_RVC, EF_RISCV_TSO, EF_RISCV_FLOAT_ABI}
 use Rattle.elf_out.specs.Headers.{first_flags, flags_together, kept_flags}
 
 -- the numbers that are left: the first of them and the others
@@ -32,7 +33,7 @@ first_split f i n total own lt e whole =
     sym (ap first_flags (each_next f i n lt ∙ ap (λ l. l ++ rest) e)) ∙ whole
 
 -- without a file the flags are 0
-pub kept_is : (flags : List ℕ) → bit_or (bit_and (flags_together flags) 17) (bit_and (first_flags flags) 6) ≡ kept_flags flags
+pub kept_is : (flags : List ℕ) → bit_or (bit_and (flags_together flags) (EF_RISCV_RVC + EF_RISCV_TSO)) (bit_and (first_flags flags) EF_RISCV_FLOAT_ABI) ≡ kept_flags flags
 unfolding kept_flags
 kept_is [] = refl
 kept_is (first ∷ rest) = refl

@@ -17,7 +17,7 @@ shows_both ps qs a b c first second = (
       second.1 i within ∙ ap (λ u. byte_over u qs i) (first.1 i lt) ∙ sym (over_append (slice_index a i) i ps qs),
 )
 
--- one piece, copied from the begin of the file
+-- one piece, copied from the start of the file
 abbrev pub IsCopied : Piece → (before after : List ℕ) → Type 0
 IsCopied p before after = (i : ℕ) → i < length before → slice_index after i ≡ over p (slice_index before i) (0 + i)
 
@@ -45,7 +45,7 @@ laid size ps out long shown =
     (λ i lt. let within : i < size = omega arith in
     shown i within ∙ sym (get_or-map-range_with_len (byte_at ps) 0 size i i 0 within (omega arith)))
 
--- so is a vector, whose items are what was written and what stands behind it
+-- so is a vector, whose items are what was written and what stands after it
 pub whole : (size n : ℕ) (ps : List Piece) (zeros block after : List ℕ) → length zeros ≡ n → n ≡ size → zeros ≡ replicate size 0
     → Shows zeros block ps → take n (block ++ after) ≡ image ps size
 whole size n ps zeros block after zeros_long n_is zeros_is shown =

@@ -2,4 +2,3 @@ pub mod Appends
 pub mod FlagSteps
 pub mod Laying
 pub mod NameSteps
-pub mod SaneBounds

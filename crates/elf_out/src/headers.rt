@@ -1,24 +1,11 @@
 //! The bytes of single headers (System V gABI, "ELF Header", "Program Header", "Section Header").
 
 ghost use Rattle.std.specs.Prelude.{◌≡◌, ◌≤◌, ◌-◌, ◌++◌, OnOk};
-ghost use Rattle.elf_out.specs.Headers.{half, word, long, identification, image_base, file_header, program_header, section_header};
+ghost use Rattle.lk_base.specs.declared.abi.TheConstants.{IMAGE_BASE};
+ghost use Rattle.elf_out.specs.Headers.{half, word, long, identification, file_header, program_header, section_header};
 
+use lk_base::abi::{EHDR_SIZE, EM_RISCV, ET_EXEC, EV_CURRENT, IMAGE_BASE, PHDR_SIZE, SHDR_SIZE};
 use std::alloc::AllocError;
-
-/// An executable file.
-const ET_EXEC: u16 = 2;
-/// RISC-V.
-const EM_RISCV: u16 = 243;
-/// The version of the format.
-const EV_CURRENT: u32 = 1;
-/// Bytes of the file header, at whose end the program headers begin.
-const EHDR_SIZE: u16 = 64;
-/// Bytes of one program header.
-const PHDR_SIZE: u16 = 56;
-/// Bytes of one section header.
-const SHDR_SIZE: u16 = 64;
-/// The address of the first byte of the file.
-pub const IMAGE_BASE: u64 = 0x10000;
 
 /// One program header (`Elf64_Phdr`); its physical address is the virtual one.
 #[derive(Clone, Copy)]
@@ -35,7 +22,7 @@ pub struct ProgramHeader {
 /// One section header (`Elf64_Shdr`) of a section with no link, no info and no entries.
 #[derive(Clone, Copy)]
 pub struct SectionHeader {
-    /// Where the name begins among the section names, in bytes.
+    /// Where the name starts among the section names, in bytes.
     pub name: u32,
     pub sh_type: u32,
     pub flags: u64,
@@ -47,7 +34,7 @@ pub struct SectionHeader {
 
 /// The file offset of an address.
 pub fn offset_of(address: u64) -> u64
-    ensures { result ≡ address - image_base }
+    ensures { result ≡ address - IMAGE_BASE }
 {
     address.saturating_sub(IMAGE_BASE)
 }
@@ -96,15 +83,15 @@ pub fn push_file_header(
     push_identification(out)?;
     push_half(out, ET_EXEC)?;
     push_half(out, EM_RISCV)?;
-    push_word(out, EV_CURRENT)?;
+    push_word(out, EV_CURRENT as u32)?;
     push_long(out, entry)?;
-    push_long(out, EHDR_SIZE as u64)?;
+    push_long(out, EHDR_SIZE)?;
     push_long(out, table)?;
     push_word(out, flags)?;
-    push_half(out, EHDR_SIZE)?;
-    push_half(out, PHDR_SIZE)?;
+    push_half(out, EHDR_SIZE as u16)?;
+    push_half(out, PHDR_SIZE as u16)?;
     push_half(out, segments)?;
-    push_half(out, SHDR_SIZE)?;
+    push_half(out, SHDR_SIZE as u16)?;
     push_half(out, sections)?;
     // The last section has the names.
     push_half(out, sections - 1)?;

@@ -6,16 +6,15 @@ ghost use Rattle.layout.specs.Walk.{view, views};
 
 use crate::headers::{SectionHeader, offset_of, push_section_header};
 use layout::Output;
+use lk_base::abi::{SHT_NULL, SHT_STRTAB};
 use std::alloc::{AllocError, Global};
 
-/// A string table.
-const SHT_STRTAB: u32 = 3;
 /// The name of the section that has the names.
 const OWN_NAME: &[u8] = b".shstrtab";
-/// The first section header tells of no section.
+/// The first section header is that of no section.
 const NULL_SECTION: SectionHeader = SectionHeader {
     name: 0,
-    sh_type: 0,
+    sh_type: SHT_NULL,
     flags: 0,
     address: 0,
     offset: 0,
@@ -56,7 +55,7 @@ pub fn name_bytes(alloc: Global, outputs: &[Output]) -> Result<Vec<u8>, AllocErr
     Ok(out)
 }
 
-/// The header of an output section whose name begins at `name`.
+/// The header of an output section whose name starts at `name`.
 #[tactic(auto, unfolding(layout::specs::Walk::view))]
 fn output_section(name: u64, output: &Output) -> SectionHeader
     ensures { result ≡ spec.output_section name (view output.now) }
@@ -87,7 +86,7 @@ fn names_section(name: u64, offset: u64, size: u64) -> SectionHeader
     }
 }
 
-/// Adds the headers of output sections, and tells where the name behind theirs begins.
+/// Adds the headers of output sections, and gives where the name after theirs starts.
 fn push_output_headers(out: &mut Vec<u8>, outputs: &[Output]) -> Result<u64, AllocError>
     requires { length (spec.output_names (views outputs.now)) < 2 ^ 63 }
     ensures written { OnOk result (out.new.items ≡ out.old.items ++ spec.output_headers 1 (views outputs.now)) }
@@ -101,7 +100,7 @@ fn push_output_headers(out: &mut Vec<u8>, outputs: &[Output]) -> Result<u64, All
     Ok(name)
 }
 
-/// The section headers, where the names, of so many bytes, stand at a file offset.
+/// The section headers, if the names, of so many bytes, stand at a file offset.
 pub fn header_table(
     alloc: Global,
     outputs: &[Output],
@@ -122,7 +121,8 @@ pub fn header_table(
 #[cfg(test)]
 mod tests {
     use super::*;
-    use layout::Class;
+    use lk_base::abi::{SHF_ALLOC, SHF_EXECINSTR, SHT_PROGBITS};
+    use lk_tables::Class;
     use std::test::Fail;
 
     #[test]
@@ -130,8 +130,8 @@ mod tests {
         let text = Output {
             name: b".text",
             class: Class::Rx,
-            sh_type: 1,
-            flags: 6,
+            sh_type: SHT_PROGBITS,
+            flags: SHF_ALLOC + SHF_EXECINSTR,
             address: 0x11000,
             size: 8,
             align: 4,

@@ -1,24 +1,13 @@
-//! What stands at the begin of the file: the file header, and the program headers of the segments.
+//! What stands at the start of the file: the file header, and the program headers of the segments.
 
-ghost use Rattle.std.specs.Prelude.{◌≡◌, ◌≤◌, ◌++◌, ◌∷◌, [], if◌then◌else◌, flat_map, IfOk, OnOk};
-ghost use Rattle.elf_out.specs.Headers.{file_header, loaded, program_header, program_headers};
+ghost use Rattle.std.specs.Prelude.{◌≡◌, ◌≤◌, ◌++◌, ◌∷◌, [], if◌then◌else◌, flat_map, length, IfOk, OnOk};
+ghost use Rattle.elf_out.specs.Headers.{file_header, loaded, program_header, program_headers, segments};
 
-use crate::headers::{IMAGE_BASE, ProgramHeader, offset_of, push_file_header, push_program_header};
+use crate::headers::{ProgramHeader, offset_of, push_file_header, push_program_header};
 use layout::Bounds;
+use lk_base::abi::{IMAGE_BASE, PAGE, PF_R, PF_W, PF_X, PT_GNU_STACK, PT_LOAD};
 use std::alloc::{AllocError, Global};
 
-/// A segment that is loaded.
-const PT_LOAD: u32 = 1;
-/// The flags of the stack.
-const PT_GNU_STACK: u32 = 0x6474_e551;
-/// Executed.
-const PF_X: u32 = 1;
-/// Written.
-const PF_W: u32 = 2;
-/// Read.
-const PF_R: u32 = 4;
-/// Bytes of a page, to which segments are aligned.
-const PAGE: u64 = 4096;
 /// The stack is read and written.
 const STACK: ProgramHeader = ProgramHeader {
     kind: PT_GNU_STACK,
@@ -45,7 +34,7 @@ fn loaded(flags: u32, start: u64, bits: u64, end: u64) -> ProgramHeader
     }
 }
 
-/// Adds the program header of a segment, where there is one.
+/// Adds the program header of a segment, if there is one.
 fn push_if(out: &mut Vec<u8>, is_there: bool, header: &ProgramHeader) -> Result<(), AllocError>
     ensures { OnOk result (out.new.items ≡ out.old.items ++ flat_map program_header (if is_there then header.now ∷ [] else [])) }
 {
@@ -75,7 +64,20 @@ fn push_program_headers(out: &mut Vec<u8>, bounds: &Bounds) -> Result<(), AllocE
     Ok(())
 }
 
-/// The bytes from the file's begin to the end of the program headers.
+/// How many program headers there are.
+fn segment_count(bounds: &Bounds) -> u16
+    ensures { result ≡ length (segments bounds.now) }
+{
+    if bounds.has_rx && bounds.has_rw {
+        return 4;
+    }
+    if bounds.has_rx || bounds.has_rw {
+        return 3;
+    }
+    2
+}
+
+/// The bytes from the file's start to the end of the program headers.
 pub fn front_bytes(
     alloc: Global,
     entry: u64,
@@ -84,9 +86,8 @@ pub fn front_bytes(
     sections: u16,
     bounds: &Bounds,
 ) -> Result<Vec<u8>, AllocError>
-    requires some { 1 ≤ sections }
-    requires few { bounds.now.headers ≤ 4 }
-    ensures { IfOk result (λ v. v.items ≡ file_header entry table flags bounds.now.headers sections ++ program_headers bounds.now) }
+    requires { 1 ≤ sections }
+    ensures { IfOk result (λ v. v.items ≡ file_header entry table flags (length (segments bounds.now)) sections ++ program_headers bounds.now) }
 {
     let mut out = Vec::new(alloc);
     push_file_header(
@@ -94,7 +95,7 @@ pub fn front_bytes(
         entry,
         table,
         flags,
-        bounds.headers as u16,
+        segment_count(bounds),
         sections,
     )?;
     push_program_headers(&mut out, bounds)?;

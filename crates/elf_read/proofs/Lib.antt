@@ -1,1 +1,4 @@
+pub mod LastNames
+pub mod Overlaps
+pub mod RelocLists
 pub mod ZeroEnded

@@ -1,19 +1,57 @@
 //! The body of an object: what is read of a file that takes part in the link.
 
-ghost use Rattle.std.specs.Prelude.{◌≡◌, ◌≤◌, [], Ok, Err, IfOk, length, map, replicate};
+ghost use Rattle.std.specs.Prelude.{◌≡◌, [], Ok, Err, IfOk, map, replicate};
 ghost use Rattle.lk_base.specs.declared.defects.Flaw.{Flaw as FlawOf};
 ghost use Rattle.lk_base.specs.declared.defects.ReadFault.TheVariants.{Bad};
 ghost use Rattle.lk_tables.specs.Checks.{Gives, IsFirstBroken};
-ghost use Rattle.lk_tables.specs.Heads.{HeadOf, head_view};
-ghost use Rattle.lk_tables.specs.Inside.{IsBodyInside};
+ghost use Rattle.lk_tables.specs.Heads.{head_of, head_view};
 ghost use Rattle.lk_tables.specs.Objects.{ObjectView, object_view, object_of, object_checks, BodyOf};
 
-use crate::known::reopen;
-use crate::targets::read_sections;
-use crate::uses::check_uses;
+use crate::rela_sections::read_sections;
+use crate::sound_file::reopen;
+use crate::symbol_checks::check_uses;
 use lk_base::ReadFault;
 use lk_tables::{Head, Object, Reloc};
 use std::alloc::{AllocError, Global};
+
+/// Reads the relocations of a relocatable object for 64-bit RISC-V whose head is read.
+///
+/// The answer is the body whose relocations are the numbers at their places, one list for each section in stable order
+/// of offset, if no check is broken; else the first broken check in the order of `object_checks`, with its place; or
+/// that memory ran out.
+pub fn read_body(alloc: Global, bytes: &[u8], head: &Head) -> Result<Object, ReadFault>
+    // The head is of these bytes.
+    requires { head_of bytes.now ≡ Ok (head_view head.now) }
+    // What is read, and which flaw it is.
+    ensures exact { Gives object_view result (object_of bytes.now) }
+    // What is read is the body of these bytes.
+    ensures found { IfOk result (λ object. BodyOf bytes.now (object_view object)) }
+    // The body of these bytes is read, unless memory runs out.
+    ensures only { (object : ObjectView) → BodyOf bytes.now object → Gives object_view result (Ok object) }
+    // A flaw is that of the first broken check.
+    ensures refused { (flaw : FlawOf) → result ≡ Err (Bad flaw) → IsFirstBroken (object_checks bytes.now) flaw }
+    // The first broken check is reported, unless memory runs out.
+    ensures broken { (flaw : FlawOf) → IsFirstBroken (object_checks bytes.now) flaw → Gives object_view result (Err flaw) }
+{
+    read(alloc, bytes, head)
+}
+
+/// The body of a file, or its first broken check.
+fn read(alloc: Global, bytes: &[u8], head: &Head) -> Result<Object, ReadFault>
+    requires { head_of bytes.now ≡ Ok (head_view head.now) }
+    ensures { Gives object_view result (object_of bytes.now) }
+{
+    let file = reopen(bytes, head);
+    let count = file.sections.len();
+    let mut marks = vec![in alloc; false; count]?;
+    let mut lists = empty_lists(alloc, count)?;
+    read_sections(alloc, &file, marks.as_mut_slice(), lists.as_mut_slice())?;
+    check_uses(&file)?;
+    Ok(Object {
+        groups: Vec::new(alloc),
+        relocs: lists,
+    })
+}
 
 /// Empty lists.
 fn empty_lists(alloc: Global, count: usize) -> Result<Vec<Vec<Reloc>>, AllocError>
@@ -24,45 +62,4 @@ fn empty_lists(alloc: Global, count: usize) -> Result<Vec<Vec<Reloc>>, AllocErro
         lists.push(Vec::new(alloc))?;
     }
     Ok(lists)
-}
-
-/// The body of a file, or its first broken check.
-fn read(alloc: Global, bytes: &[u8], head: &Head) -> Result<Object, ReadFault>
-    requires { HeadOf bytes.now (head_view head.now) }
-    ensures { Gives object_view result (object_of bytes.now) }
-{
-    let known = reopen(bytes, head);
-    let count = known.sections.len();
-    let mut marks = vec![in alloc; false; count]?;
-    let mut lists = empty_lists(alloc, count)?;
-    read_sections(alloc, &known, marks.as_mut_slice(), lists.as_mut_slice())?;
-    check_uses(&known)?;
-    Ok(Object {
-        groups: Vec::new(alloc),
-        relocs: lists,
-    })
-}
-
-/// Reads the relocations of a relocatable object for 64-bit RISC-V whose head is read.
-///
-/// The answer is the body whose relocations are the numbers at their places, one list for each section in stable order
-/// of offset, where no check is broken; else the first broken check in the order of `object_checks`, with its place; or
-/// want of memory.
-pub fn read_body(alloc: Global, bytes: &[u8], head: &Head) -> Result<Object, ReadFault>
-    // The head is of these bytes.
-    requires { HeadOf bytes.now (head_view head.now) }
-    // What is read, and which flaw it is.
-    ensures exact { Gives object_view result (object_of bytes.now) }
-    // What is read is the body of these bytes.
-    ensures found { IfOk result (λ object. BodyOf bytes.now (object_view object)) }
-    // The body of these bytes is read, unless memory runs out.
-    ensures only { (object : ObjectView) → BodyOf bytes.now object → Gives object_view result (Ok object) }
-    // A flaw is that of the first broken check.
-    ensures refused { (flaw : FlawOf) → result ≡ Err (Bad flaw) → IsFirstBroken (object_checks bytes.now) flaw }
-    // The first broken check is told, unless memory runs out.
-    ensures broken { (flaw : FlawOf) → IsFirstBroken (object_checks bytes.now) flaw → Gives object_view result (Err flaw) }
-    // In a file of less than 2^31 bytes its relocations lie in their sections, and what is linked can be.
-    ensures inside { IfOk result (λ object. length bytes.now ≤ 2147483647 → IsBodyInside bytes.now (head_view head.now) (object_view object)) }
-{
-    read(alloc, bytes, head)
 }

@@ -2,6 +2,7 @@
 //! "Relocation").
 
 ghost use Rattle.std.specs.Prelude.{◌≡◌, ◌+◌, ◌≤◌, length};
+ghost use Rattle.lk_base.specs.declared.abi.TheConstants.{RELA_SIZE, SHDR_SIZE, SYM_SIZE};
 ghost use Rattle.lk_tables.specs.Entries as read;
 
 use crate::numbers::{half_at, sxword_at, word_at, xword_at};
@@ -10,7 +11,7 @@ use lk_tables::{Reloc, SectionHeader, SymbolEntry};
 /// The section header at the file offset `at`.
 #[tactic(auto, unfolding(lk_tables::specs::Entries::header_at))]
 pub fn header_at(bytes: &[u8], at: usize) -> SectionHeader
-    requires { at + 64 ≤ length bytes.now }
+    requires { at + SHDR_SIZE ≤ length bytes.now }
     ensures { result ≡ read.header_at bytes.now at }
 {
     SectionHeader {
@@ -29,7 +30,7 @@ pub fn header_at(bytes: &[u8], at: usize) -> SectionHeader
 /// The symbol table entry at the file offset `at`.
 #[tactic(auto, unfolding(lk_tables::specs::Entries::entry_at))]
 pub fn entry_at(bytes: &[u8], at: usize) -> SymbolEntry
-    requires { at + 24 ≤ length bytes.now }
+    requires { at + SYM_SIZE ≤ length bytes.now }
     ensures { result ≡ read.entry_at bytes.now at }
 {
     SymbolEntry {
@@ -44,7 +45,7 @@ pub fn entry_at(bytes: &[u8], at: usize) -> SymbolEntry
 /// The relocation entry at the file offset `at`.
 #[tactic(auto, unfolding(lk_tables::specs::Entries::reloc_at))]
 pub fn reloc_at(bytes: &[u8], at: usize) -> Reloc
-    requires { at + 24 ≤ length bytes.now }
+    requires { at + RELA_SIZE ≤ length bytes.now }
     ensures { result ≡ read.reloc_at bytes.now at }
 {
     Reloc {

@@ -1,14 +1,24 @@
 //! The file header (System V gABI, "ELF Header"; RISC-V ELF psABI, "File Header"), and a file whose header is sound.
 
-ghost use Rattle.std.specs.Prelude.{◌≡◌, ◌+◌, ◌*◌, ◌<◌, ◌≤◌, length, IfOk, OnOk, [], ◌∷◌};
+ghost use Rattle.std.specs.Prelude.{◌≡◌, ◌+◌, ◌*◌, ◌^◌, ◌<◌, ◌≤◌, length, IfOk, OnOk, [], ◌∷◌};
+ghost use Rattle.lk_base.specs.declared.abi.TheConstants.{EHDR_SIZE, SHDR_SIZE};
 ghost use Rattle.lk_tables.specs.Checks.{outcome, passes, ◌says◌, flaw_at};
 ghost use Rattle.lk_tables.specs.FileHeader as read;
 ghost use Rattle.lk_tables.specs.Sections.{names_from as first_name, names_size as size_of_names};
 
 use crate::entries::header_at;
 use crate::numbers::{half_at, word_at, xword_at};
+use lk_base::abi::{
+    EF_RISCV_RVE, EHDR_SIZE, ELFCLASS64, ELFDATA2LSB, EM_RISCV, ET_REL, EV_CURRENT, SHDR_SIZE,
+    SHNUM_MAX, SHT_STRTAB,
+};
+use lk_base::kinds::{BAD_HEADER, BAD_SECTION, LIMIT, NOT_OBJECT, OUTSIDE};
 use lk_base::{DefectKind, Flaw};
 use lk_tables::SectionHeader;
+use lk_tables::ehdr::{
+    E_FLAGS, E_MACHINE, E_SHENTSIZE, E_SHNUM, E_SHOFF, E_SHSTRNDX, E_TYPE, E_VERSION, EI_CLASS,
+    EI_DATA, EI_VERSION,
+};
 
 /// A file whose header is sound: its section table and its section names lie in it.
 #[derive(Clone, Copy)]
@@ -22,15 +32,52 @@ pub struct File<'a> {
     pub names_from: usize,
     pub names_size: usize,
 
-    ghost long: { 64 ≤ length bytes.now },
+    ghost long: { EHDR_SIZE ≤ length bytes.now },
     ghost counted: { 0 < count },
-    ghost few: { count ≤ 65279 },
+    ghost few: { count ≤ 2 ^ 28 },
     ghost table_is: { table ≡ read.e_shoff bytes.now },
-    ghost count_is: { count ≡ read.e_shnum bytes.now },
-    ghost within: { table + 64 * count ≤ length bytes.now },
+    ghost count_is: { count ≡ read.section_count bytes.now },
+    ghost within: { table + SHDR_SIZE * count ≤ length bytes.now },
     ghost names_from_is: { names_from ≡ first_name bytes.now },
     ghost names_size_is: { names_size ≡ size_of_names bytes.now },
     ghost names_within: { names_from + names_size ≤ length bytes.now },
+}
+
+/// The file, if its header is sound.
+#[tactic(auto, using(lk_tables::proofs::Passing::checked_append), unfolding(lk_tables::specs::FileHeader::header_checks))]
+pub fn open(bytes: &[u8]) -> Result<File<'_>, Flaw>
+    ensures checked { outcome result ≡ passes (read.header_checks bytes.now) }
+    ensures same { IfOk result (λ file. file.bytes.now ≡ bytes.now) }
+{
+    check_identity(bytes)?;
+    check_form(bytes)?;
+    open_table(bytes)
+}
+
+impl<'a> File<'a> {
+    /// The file offset of a section's header.
+    pub fn place_of(&self, index: u32) -> usize
+        requires { index < read.section_count self.now.bytes.now }
+        ensures value { result ≡ read.place_of self.now.bytes.now index }
+        ensures within { result + EHDR_SIZE ≤ length self.now.bytes.now }
+    {
+        self.table + SHDR_SIZE as usize * index as usize
+    }
+
+    /// A section's header.
+    pub fn header(&self, index: u32) -> SectionHeader
+        requires { index < read.section_count self.now.bytes.now }
+        ensures { result ≡ read.header self.now.bytes.now index }
+    {
+        header_at(self.bytes, self.place_of(index))
+    }
+
+    /// Whether a section is a string table; index 0 names no section.
+    pub fn is_strtab(&self, index: u32) -> bool
+        ensures { result ≡ read.is_strtab self.now.bytes.now index }
+    {
+        is_strtab_in(self.bytes, self.table, self.count, index)
+    }
 }
 
 /// A flaw of the entry or header at a file offset; `section` is the section's index.
@@ -63,13 +110,13 @@ pub fn ends_past(file: u64, from: u64, size: u64) -> bool
 #[tactic(auto, unfolding(lk_tables::specs::FileHeader::identity_checks))]
 fn check_identity(bytes: &[u8]) -> Result<(), Flaw>
     ensures checked { result ≡ passes (read.identity_checks bytes.now) }
-    ensures long { OnOk result (64 ≤ length bytes.now) }
+    ensures long { OnOk result (EHDR_SIZE ≤ length bytes.now) }
 {
     if !bytes.starts_with(b"\x7fELF") {
-        return Err(flaw(DefectKind::F01, 0, 0));
+        return Err(flaw(NOT_OBJECT, 0, 0));
     }
-    if bytes.len() < 64 {
-        return Err(flaw(DefectKind::F02, 0, bytes.len()));
+    if bytes.len() < EHDR_SIZE as usize {
+        return Err(flaw(BAD_HEADER, 0, bytes.len()));
     }
     Ok(())
 }
@@ -77,57 +124,65 @@ fn check_identity(bytes: &[u8]) -> Result<(), Flaw>
 /// 64 bits, the lowest byte first, version 1, relocatable, RISC-V, not RVE, section headers of 64 bytes.
 #[tactic(auto, unfolding(lk_tables::specs::FileHeader::form_checks))]
 fn check_form(bytes: &[u8]) -> Result<(), Flaw>
-    requires { 64 ≤ length bytes.now }
+    requires { EHDR_SIZE ≤ length bytes.now }
     ensures { result ≡ passes (read.form_checks bytes.now) }
 {
-    reject(bytes[4] != 2, flaw(DefectKind::F02, 0, 4))?;
-    reject(bytes[5] != 1, flaw(DefectKind::F02, 0, 5))?;
-    reject(bytes[6] != 1, flaw(DefectKind::F02, 0, 6))?;
-    reject(half_at(bytes, 16) != 1, flaw(DefectKind::F02, 0, 16))?;
-    reject(half_at(bytes, 18) != 243, flaw(DefectKind::F02, 0, 18))?;
-    reject(word_at(bytes, 20) != 1, flaw(DefectKind::F02, 0, 20))?;
-    reject(word_at(bytes, 48) & 8 != 0, flaw(DefectKind::F02, 0, 48))?;
-    reject(xword_at(bytes, 40) == 0, flaw(DefectKind::F02, 0, 40))?;
-    reject(half_at(bytes, 58) != 64, flaw(DefectKind::F02, 0, 58))
+    reject(bytes[EI_CLASS] != ELFCLASS64, flaw(BAD_HEADER, 0, EI_CLASS))?;
+    reject(bytes[EI_DATA] != ELFDATA2LSB, flaw(BAD_HEADER, 0, EI_DATA))?;
+    reject(
+        bytes[EI_VERSION] != EV_CURRENT,
+        flaw(BAD_HEADER, 0, EI_VERSION),
+    )?;
+    reject(
+        half_at(bytes, E_TYPE) != ET_REL,
+        flaw(BAD_HEADER, 0, E_TYPE),
+    )?;
+    reject(
+        half_at(bytes, E_MACHINE) != EM_RISCV,
+        flaw(BAD_HEADER, 0, E_MACHINE),
+    )?;
+    reject(
+        word_at(bytes, E_VERSION) != EV_CURRENT as u32,
+        flaw(BAD_HEADER, 0, E_VERSION),
+    )?;
+    reject(
+        word_at(bytes, E_FLAGS) & EF_RISCV_RVE != 0,
+        flaw(BAD_HEADER, 0, E_FLAGS),
+    )?;
+    reject(xword_at(bytes, E_SHOFF) == 0, flaw(BAD_HEADER, 0, E_SHOFF))?;
+    reject(
+        half_at(bytes, E_SHENTSIZE) as u64 != SHDR_SIZE,
+        flaw(BAD_HEADER, 0, E_SHENTSIZE),
+    )
 }
 
-/// Whether a section is a string table; index 0 names no section.
-fn is_strtab_in(bytes: &[u8], table: usize, count: u32, index: u32) -> bool
-    requires table_is { table ≡ read.e_shoff bytes.now }
-    requires count_is { count ≡ read.e_shnum bytes.now }
-    requires within { table + 64 * count ≤ length bytes.now }
-    ensures { result ≡ read.is_strtab bytes.now index }
-{
-    0 < index && index < count && header_at(bytes, table + 64 * index as usize).sh_type == 3
-}
-
-/// The section table and the section names of a file whose header is of the form that is linked.
-#[tactic(auto, unfolding(lk_tables::specs::FileHeader::table_checks))]
+/// The section table and the section names of a file of the form that is linked.
+#[tactic(auto, unfolding(lk_tables::specs::FileHeader::table_checks, lk_tables::specs::FileHeader::section_count, lk_tables::specs::FileHeader::names_index))]
 fn open_table(bytes: &[u8]) -> Result<File<'_>, Flaw>
-    requires { 64 ≤ length bytes.now }
+    requires { EHDR_SIZE ≤ length bytes.now }
     ensures checked { outcome result ≡ passes (read.table_checks bytes.now) }
     ensures same { IfOk result (λ file. file.bytes.now ≡ bytes.now) }
 {
-    let table = xword_at(bytes, 40);
-    let count = half_at(bytes, 60) as u32;
-    let names = half_at(bytes, 62) as u32;
+    let table = xword_at(bytes, E_SHOFF);
+    let count = half_at(bytes, E_SHNUM) as u32;
+    let names = half_at(bytes, E_SHSTRNDX) as u32;
     let len = bytes.len() as u64;
     if count == 0 {
-        return Err(flaw(DefectKind::F04, 0, 60));
+        return Err(flaw(BAD_SECTION, 0, E_SHNUM));
     }
-    if 65279 < count {
-        return Err(flaw(DefectKind::F08, 0, 60));
+    if SHNUM_MAX < count as u64 {
+        return Err(flaw(LIMIT, 0, E_SHNUM));
     }
-    if ends_past(len, table, 64 * count as u64) {
-        return Err(flaw(DefectKind::F03, 0, 40));
+    if ends_past(len, table, SHDR_SIZE * count as u64) {
+        return Err(flaw(OUTSIDE, 0, E_SHOFF));
     }
     let table = table as usize;
     if !is_strtab_in(bytes, table, count, names) {
-        return Err(flaw(DefectKind::F04, 0, 62));
+        return Err(flaw(BAD_SECTION, 0, E_SHSTRNDX));
     }
-    let header = header_at(bytes, table + 64 * names as usize);
+    let header = header_at(bytes, table + SHDR_SIZE as usize * names as usize);
     if ends_past(len, header.offset, header.size) {
-        return Err(flaw(DefectKind::F03, 0, 62));
+        return Err(flaw(OUTSIDE, 0, E_SHSTRNDX));
     }
     Ok(File {
         bytes,
@@ -138,39 +193,14 @@ fn open_table(bytes: &[u8]) -> Result<File<'_>, Flaw>
     })
 }
 
-/// The file, where its header is sound.
-#[tactic(auto, using(lk_tables::proofs::Passing::checked_append), unfolding(lk_tables::specs::FileHeader::header_checks))]
-pub fn open(bytes: &[u8]) -> Result<File<'_>, Flaw>
-    ensures checked { outcome result ≡ passes (read.header_checks bytes.now) }
-    ensures same { IfOk result (λ file. file.bytes.now ≡ bytes.now) }
+/// Whether a section is a string table; index 0 names no section.
+fn is_strtab_in(bytes: &[u8], table: usize, count: u32, index: u32) -> bool
+    requires table_is { table ≡ read.e_shoff bytes.now }
+    requires count_is { count ≡ read.section_count bytes.now }
+    requires within { table + SHDR_SIZE * count ≤ length bytes.now }
+    ensures { result ≡ read.is_strtab bytes.now index }
 {
-    check_identity(bytes)?;
-    check_form(bytes)?;
-    open_table(bytes)
-}
-
-impl<'a> File<'a> {
-    /// The file offset of a section's header.
-    pub fn place_of(&self, index: u32) -> usize
-        requires { index < read.e_shnum self.now.bytes.now }
-        ensures value { result ≡ read.place_of self.now.bytes.now index }
-        ensures within { result + 64 ≤ length self.now.bytes.now }
-    {
-        self.table + 64 * index as usize
-    }
-
-    /// A section's header.
-    pub fn header(&self, index: u32) -> SectionHeader
-        requires { index < read.e_shnum self.now.bytes.now }
-        ensures { result ≡ read.header self.now.bytes.now index }
-    {
-        header_at(self.bytes, self.place_of(index))
-    }
-
-    /// Whether a section is a string table; index 0 names no section.
-    pub fn is_strtab(&self, index: u32) -> bool
-        ensures { result ≡ read.is_strtab self.now.bytes.now index }
-    {
-        is_strtab_in(self.bytes, self.table, self.count, index)
-    }
+    0 < index
+        && index < count
+        && header_at(bytes, table + SHDR_SIZE as usize * index as usize).sh_type == SHT_STRTAB
 }

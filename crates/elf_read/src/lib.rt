@@ -3,26 +3,27 @@
 //! the link. Each answers the first broken check of the format, in the order in which lk_tables lists them, or what
 //! the bytes say.
 //!
-//! `numbers` and `entries` read at a place, `header` tests the file header, `sections` and `symbols` read the tables
-//! of a head. `known` is a file whose head is sound; `loaded`, `relocations`, `targets` and `uses` test its body, and
-//! `body` reads it.
+//! `numbers`, `entries` and `names` read at a place. `header` tests the file header, `sections` and `symbols` read the tables
+//! of a head, and `head` all of it. `sound_file` is a file whose head is sound; `section_checks` and `symbol_checks` are what is
+//! asked of it before it is linked, `relocations` reads one relocation section, `rela_sections` all of them, and `body` the
+//! whole.
 #![tactic(auto)]
 
 mod body;
 mod entries;
 mod head;
 mod header;
-mod known;
-mod loaded;
 mod names;
 mod numbers;
+mod rela_sections;
 mod relocations;
+mod section_checks;
 mod sections;
+mod sound_file;
+mod symbol_checks;
 mod symbols;
-mod targets;
 #[cfg(test)]
 mod tests;
-mod uses;
 
 pub use body::read_body;
 pub use head::read_head;

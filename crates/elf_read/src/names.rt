@@ -2,32 +2,45 @@
 
 ghost use Rattle.std.specs.Prelude.{◌≡◌, ℕ, ◌+◌, ◌≤◌, length, position, IfSome};
 ghost use Rattle.lk_tables.specs.Names as read;
+ghost use Rattle.elf_read.specs.Names.{IsLast};
 
 use lk_base::NO_FILE;
 use lk_tables::Span;
 use memchr::memchr;
 
-/// The first zero byte.
-fn zero_in(bytes: &[u8]) -> Option<usize>
-    ensures { result ≡ position read.is_zero bytes.now }
-{
-    memchr(0, bytes)
+/// The name that was found last in a string table: where it starts and where its zero byte stands, in bytes of the table. A
+/// name that starts in it ends where it does, and is not searched for again: many symbols may share one long name.
+#[derive(Clone, Copy)]
+pub struct LastName {
+    pub from: usize,
+    pub end: usize,
 }
 
-/// How many bytes the name has that begins at `at` of the string table of `size` bytes at `from`, if it ends there.
-#[tactic(auto, unfolding(lk_tables::specs::Names::name_len))]
-pub fn find_len(bytes: &[u8], from: usize, size: usize, at: u32) -> Option<usize>
-    requires { from + size ≤ length bytes.now }
+/// No name was found yet.
+pub const NO_LAST: LastName = LastName { from: 1, end: 0 };
+
+/// How many bytes the name has that starts at `at` of the string table of `size` bytes at `from`, if it ends there.
+pub fn find_len(
+    bytes: &[u8],
+    from: usize,
+    size: usize,
+    last: &mut LastName,
+    at: u32,
+) -> Option<usize>
+    requires within { from + size ≤ length bytes.now }
+    requires last { IsLast bytes.now from size last.old }
     ensures value { result ≡ read.name_len bytes.now from size at }
     ensures within { IfSome result (λ len. from + at + len ≤ length bytes.now) }
+    ensures last { IsLast bytes.now from size last.new }
 {
     let at = at as usize;
-    if size <= at {
-        return None;
+    if last.from <= at && at <= last.end {
+        return Some(last.end - at);
     }
-    let rest = &bytes[from + at..from + size];
-    let Some(len) = zero_in(rest) else {
-        return None;
+    let len = search(bytes, from, size, at)?;
+    *last = LastName {
+        from: at,
+        end: at + len,
     };
     Some(len)
 }
@@ -43,13 +56,26 @@ pub fn span(from: usize, len: usize) -> Span
     }
 }
 
-/// The bytes of a name, as far as they are there.
-#[tactic(auto, unfolding(lk_tables::specs::Names::text_of), using(std::proofs::lemmas::List::take_min, std::proofs::lemmas::List::drop_min))]
-pub fn text_of<'a>(bytes: &'a [u8], name: &Span) -> &'a [u8]
-    ensures { result.now ≡ read.text_of bytes.now name.now }
+/// The same by a search.
+#[tactic(auto, unfolding(lk_tables::specs::Names::name_len))]
+fn search(bytes: &[u8], from: usize, size: usize, at: usize) -> Option<usize>
+    requires { from + size ≤ length bytes.now }
+    ensures value { result ≡ read.name_len bytes.now from size at }
+    ensures within { IfSome result (λ len. from + at + len ≤ length bytes.now) }
 {
-    let from = (name.from as usize).min(bytes.len());
-    let rest = &bytes[from..];
-    let len = (name.len as usize).min(rest.len());
-    &rest[..len]
+    if size <= at {
+        return None;
+    }
+    let rest = &bytes[from + at..from + size];
+    let Some(len) = zero_in(rest) else {
+        return None;
+    };
+    Some(len)
+}
+
+/// The first zero byte.
+fn zero_in(bytes: &[u8]) -> Option<usize>
+    ensures { result ≡ position read.is_zero bytes.now }
+{
+    memchr(0, bytes)
 }

@@ -1,16 +1,20 @@
 //! The section table (System V gABI, "Section Header Table").
 
 ghost use Rattle.std.specs.Prelude.{◌≡◌, ◌+◌, ◌&&◌, ◌==◌, ◌<◌, if◌then◌else◌, length, IfOk};
+ghost use Rattle.lk_base.specs.declared.abi.TheConstants.{SHT_SYMTAB};
 ghost use Rattle.lk_tables.specs.Checks.{checked, Follows};
-ghost use Rattle.lk_tables.specs.FileHeader.{e_shnum, header as header_of};
+ghost use Rattle.lk_tables.specs.FileHeader.{section_count, header as header_of};
 ghost use Rattle.lk_tables.specs.Heads.{sections_of, all_section_checks};
 ghost use Rattle.lk_tables.specs.Sections as read;
 ghost use Rattle.lk_tables.specs.Symbols.{symtab_of};
+ghost use Rattle.elf_read.specs.Names.{IsLast};
 
 use crate::header::{File, ends_past, flaw};
-use crate::names::{find_len, span, text_of};
-use lk_base::{DefectKind, Flaw, ReadFault};
-use lk_tables::{Section, SectionHeader, Span};
+use crate::names::{LastName, NO_LAST, find_len, span};
+use lk_base::abi::{SHT_NOBITS, SHT_NULL, SHT_SYMTAB, SHT_SYMTAB_SHNDX, SYM_SIZE};
+use lk_base::kinds::{BAD_NAME, BAD_SECTION, OUTSIDE};
+use lk_base::{Flaw, ReadFault};
+use lk_tables::{Section, SectionHeader, Span, is_written};
 use std::alloc::Global;
 
 /// The sections of a file, and which of them is the symbol table (0: none).
@@ -18,6 +22,75 @@ use std::alloc::Global;
 pub struct Sections {
     pub list: Vec<Section>,
     pub symtab: u32,
+}
+
+/// All sections, if their headers are sound.
+pub fn read_sections(alloc: Global, file: &File) -> Result<Sections, ReadFault>
+    ensures checked { Follows result (all_section_checks file.now.bytes.now) }
+    ensures list { IfOk result (λ sections. sections.list.items ≡ sections_of file.now.bytes.now) }
+    ensures symtab { IfOk result (λ sections. sections.symtab ≡ symtab_of file.now.bytes.now) }
+{
+    let mut list = Vec::with_capacity(alloc, file.count as usize)?;
+    let mut symtab = 0;
+    let mut last = NO_LAST;
+    for index in 0..file.count {
+        let section = read_section(file, symtab, &mut last, index)?;
+        symtab = later_symtab(symtab, index, section.sh_type);
+        list.push(section)?;
+    }
+    Ok(Sections { list, symtab })
+}
+
+/// One section of the list.
+pub fn section_in(bytes: &[u8], sections: &[Section], index: usize) -> Section
+    requires sections { sections.now ≡ sections_of bytes.now }
+    requires index { index < length sections.now }
+    ensures { result ≡ read.section_of bytes.now index }
+{
+    sections[index]
+}
+
+/// Whether a section of the list is written; section 0 is none.
+#[tactic(auto, unfolding(lk_tables::specs::Sections::written_at))]
+pub fn written_at(bytes: &[u8], sections: &[Section], index: usize) -> bool
+    requires sections { sections.now ≡ sections_of bytes.now }
+    requires index { index < length sections.now }
+    ensures { result ≡ read.written_at bytes.now index }
+{
+    0 < index && is_written(bytes, &section_in(bytes, sections, index))
+}
+
+/// One section, if its header is sound; `earlier` is the symbol table before it, or 0.
+#[tactic(auto, unfolding(lk_tables::specs::Sections::section_of, lk_tables::specs::Sections::section_checks))]
+fn read_section(file: &File, earlier: u32, last: &mut LastName, index: u32) -> Result<Section, Flaw>
+    requires index { index < section_count file.now.bytes.now }
+    requires earlier { earlier ≡ read.symtab_before file.now.bytes.now index }
+    requires last { IsLast file.now.bytes.now (read.names_from file.now.bytes.now) (read.names_size file.now.bytes.now) last.old }
+    ensures section { result ≡ checked (read.section_checks file.now.bytes.now index) (read.section_of file.now.bytes.now index) }
+    ensures sh_type { IfOk result (λ section. section.sh_type ≡ (header_of file.now.bytes.now index).sh_type) }
+    ensures last { IsLast file.now.bytes.now (read.names_from file.now.bytes.now) (read.names_size file.now.bytes.now) last.new }
+{
+    let header = file.header(index);
+    if index == 0 || header.sh_type == SHT_NULL {
+        return Ok(with_name(&header, span(0, 0)));
+    }
+    let place = file.place_of(index);
+    if is_outside(file, &header) {
+        return Err(flaw(OUTSIDE, index, place));
+    }
+    let Some(len) = find_len(
+        file.bytes,
+        file.names_from,
+        file.names_size,
+        last,
+        header.name,
+    ) else {
+        return Err(flaw(BAD_NAME, index, place));
+    };
+    if is_bad_symtab(file, earlier, &header) || header.sh_type == SHT_SYMTAB_SHNDX {
+        return Err(flaw(BAD_SECTION, index, place));
+    }
+    Ok(with_name(&header, span(file.names_from + header.name as usize, len)))
 }
 
 /// A section's header with its name.
@@ -42,7 +115,7 @@ fn with_name(header: &SectionHeader, name: Span) -> Section
 fn is_outside(file: &File, header: &SectionHeader) -> bool
     ensures { result ≡ read.is_outside file.now.bytes.now header.now }
 {
-    header.sh_type != 8 && ends_past(file.bytes.len() as u64, header.offset, header.size)
+    header.sh_type != SHT_NOBITS && ends_past(file.bytes.len() as u64, header.offset, header.size)
 }
 
 /// Whether this is a second symbol table, or one that cannot be.
@@ -50,89 +123,21 @@ fn is_outside(file: &File, header: &SectionHeader) -> bool
 fn is_bad_symtab(file: &File, earlier: u32, header: &SectionHeader) -> bool
     ensures { result ≡ read.is_bad_symtab file.now.bytes.now earlier header.now }
 {
-    header.sh_type == 2
+    header.sh_type == SHT_SYMTAB
         && (earlier != 0
-            || header.entsize != 24
-            || header.size % 24 != 0
+            || header.entsize != SYM_SIZE
+            || header.size % SYM_SIZE != 0
             || !file.is_strtab(header.link)
-            || header.size / 24 < header.info as u64)
+            || header.size / SYM_SIZE < header.info as u64)
 }
 
 /// The first symbol table, one section on.
 fn later_symtab(earlier: u32, index: u32, sh_type: u32) -> u32
-    ensures { result ≡ (if earlier == 0 && sh_type == 2 then index else earlier) }
+    ensures { result ≡ (if earlier == 0 && sh_type == SHT_SYMTAB then index else earlier) }
 {
-    if earlier == 0 && sh_type == 2 {
+    if earlier == 0 && sh_type == SHT_SYMTAB {
         index
     } else {
         earlier
     }
-}
-
-/// One section, where its header is sound; `earlier` is the symbol table before it, or 0.
-#[tactic(auto, unfolding(lk_tables::specs::Sections::section_of, lk_tables::specs::Sections::section_checks))]
-fn read_section(file: &File, earlier: u32, index: u32) -> Result<Section, Flaw>
-    requires index { index < e_shnum file.now.bytes.now }
-    requires earlier { earlier ≡ read.symtab_before file.now.bytes.now index }
-    ensures section { result ≡ checked (read.section_checks file.now.bytes.now index) (read.section_of file.now.bytes.now index) }
-    ensures sh_type { IfOk result (λ section. section.sh_type ≡ (header_of file.now.bytes.now index).sh_type) }
-{
-    let header = file.header(index);
-    if index == 0 || header.sh_type == 0 {
-        return Ok(with_name(&header, span(0, 0)));
-    }
-    let place = file.place_of(index);
-    if is_outside(file, &header) {
-        return Err(flaw(DefectKind::F03, index, place));
-    }
-    let Some(len) = find_len(file.bytes, file.names_from, file.names_size, header.name) else {
-        return Err(flaw(DefectKind::F10, index, place));
-    };
-    if is_bad_symtab(file, earlier, &header) || header.sh_type == 18 {
-        return Err(flaw(DefectKind::F04, index, place));
-    }
-    Ok(with_name(&header, span(file.names_from + header.name as usize, len)))
-}
-
-/// All sections, where their headers are sound.
-pub fn read_sections(alloc: Global, file: &File) -> Result<Sections, ReadFault>
-    ensures checked { Follows result (all_section_checks file.now.bytes.now) }
-    ensures list { IfOk result (λ sections. sections.list.items ≡ sections_of file.now.bytes.now) }
-    ensures symtab { IfOk result (λ sections. sections.symtab ≡ symtab_of file.now.bytes.now) }
-{
-    let mut list = Vec::with_capacity(alloc, file.count as usize)?;
-    let mut symtab = 0;
-    for index in 0..file.count {
-        let section = read_section(file, symtab, index)?;
-        symtab = later_symtab(symtab, index, section.sh_type);
-        list.push(section)?;
-    }
-    Ok(Sections { list, symtab })
-}
-
-/// Whether a section is loaded when the program runs.
-#[tactic(auto, unfolding(lk_tables::specs::Sections::is_loaded))]
-pub fn is_loaded(section: &Section) -> bool
-    ensures { result ≡ read.is_loaded section.now }
-{
-    section.flags & 2 != 0 && section.flags & 0x8000_0000 == 0
-}
-
-/// Whether a section's bytes go into the executable.
-#[tactic(auto, unfolding(lk_tables::specs::Sections::is_written))]
-pub fn is_written(bytes: &[u8], section: &Section) -> bool
-    ensures { result ≡ read.is_written bytes.now section.now }
-{
-    is_loaded(section)
-        && [1, 7, 8, 14, 15, 16].contains(&section.sh_type)
-        && text_of(bytes, &section.name) != b".eh_frame".as_slice()
-}
-
-/// One section of the list.
-pub fn section_in(bytes: &[u8], sections: &[Section], index: usize) -> Section
-    requires sections { sections.now ≡ sections_of bytes.now }
-    requires index { index < length sections.now }
-    ensures { result ≡ read.section_of bytes.now index }
-{
-    sections[index]
 }

@@ -1,9 +1,12 @@
-//! An object built by hand, and what one altered byte of it is answered by: the expected answers are worked out from
+//! An object built by hand, and the answer for each altered byte of it: the expected answers are worked out from
 //! the format.
 
 use crate::{read_body, read_head};
-use lk_base::DefectKind::{self, F01, F02, F03, F04, F05, F08, F09, F10, F11, F12, F15, F17};
-use lk_base::{Flaw, NO_FILE, ReadFault};
+use lk_base::kinds::{
+    BAD_ALIGNMENT, BAD_HEADER, BAD_NAME, BAD_RELOC, BAD_SECTION, BAD_SYMBOL, COMPRESSED, IFUNC,
+    LIMIT, NOT_OBJECT, OUTSIDE, RELOC_KIND,
+};
+use lk_base::{DefectKind, Flaw, NO_FILE, ReadFault};
 use lk_tables::{Place, Reloc, Span};
 use std::alloc::{AllocError, Global};
 use std::test::Fail;
@@ -80,79 +83,79 @@ type Row = (usize, u8, DefectKind, u32, u64, u64);
 
 const ROWS: [Row; 60] = [
     // The file header.
-    (0, 0x7e, F01, 0, 0, 0),
-    (4, 1, F02, 0, 4, 0),
-    (5, 2, F02, 0, 5, 0),
-    (6, 2, F02, 0, 6, 0),
-    (16, 2, F02, 0, 16, 0),
-    (18, 62, F02, 0, 18, 0),
-    (20, 2, F02, 0, 20, 0),
-    (23, 1, F02, 0, 20, 0),
-    (48, 9, F02, 0, 48, 0),
+    (0, 0x7e, NOT_OBJECT, 0, 0, 0),
+    (4, 1, BAD_HEADER, 0, 4, 0),
+    (5, 2, BAD_HEADER, 0, 5, 0),
+    (6, 2, BAD_HEADER, 0, 6, 0),
+    (16, 2, BAD_HEADER, 0, 16, 0),
+    (18, 62, BAD_HEADER, 0, 18, 0),
+    (20, 2, BAD_HEADER, 0, 20, 0),
+    (23, 1, BAD_HEADER, 0, 20, 0),
+    (48, 9, BAD_HEADER, 0, 48, 0),
     // The section table at 0, at 257 and far past the file.
-    (41, 0, F02, 0, 40, 0),
-    (40, 1, F03, 0, 40, 0),
-    (47, 0x80, F03, 0, 40, 0),
-    (58, 63, F02, 0, 58, 0),
+    (41, 0, BAD_HEADER, 0, 40, 0),
+    (40, 1, OUTSIDE, 0, 40, 0),
+    (47, 0x80, OUTSIDE, 0, 40, 0),
+    (58, 63, BAD_HEADER, 0, 58, 0),
     // How many sections: 0, 5, 7, 65,030 and 65,286.
-    (60, 0, F04, 0, 60, 0),
-    (60, 5, F04, 0, 62, 0),
-    (60, 7, F03, 0, 40, 0),
-    (61, 0xfe, F03, 0, 40, 0),
-    (61, 0xff, F08, 0, 60, 0),
+    (60, 0, BAD_SECTION, 0, 60, 0),
+    (60, 5, BAD_SECTION, 0, 62, 0),
+    (60, 7, OUTSIDE, 0, 40, 0),
+    (61, 0xfe, OUTSIDE, 0, 40, 0),
+    (61, 0xff, LIMIT, 0, 60, 0),
     // The section of their names: 0, 1, 6, 261, one whose table ends at 10, and one that ends past the file.
-    (62, 0, F04, 0, 62, 0),
-    (62, 1, F04, 0, 62, 0),
-    (62, 6, F04, 0, 62, 0),
-    (63, 1, F04, 0, 62, 0),
-    (62, 4, F10, 3, 448, 0),
-    (609, 2, F03, 0, 62, 0),
+    (62, 0, BAD_SECTION, 0, 62, 0),
+    (62, 1, BAD_SECTION, 0, 62, 0),
+    (62, 6, BAD_SECTION, 0, 62, 0),
+    (63, 1, BAD_SECTION, 0, 62, 0),
+    (62, 4, BAD_NAME, 3, 448, 0),
+    (609, 2, OUTSIDE, 0, 62, 0),
     // Section headers: .text at 320, .rela.text at 384, .symtab at 448.
-    (320, 44, F10, 1, 320, 0),
-    (353, 0x10, F03, 1, 320, 0),
-    (388, 18, F04, 2, 384, 0),
-    (504, 23, F04, 3, 448, 0),
-    (492, 4, F04, 3, 448, 0),
-    (488, 1, F04, 3, 448, 0),
+    (320, 44, BAD_NAME, 1, 320, 0),
+    (353, 0x10, OUTSIDE, 1, 320, 0),
+    (388, 18, BAD_SECTION, 2, 384, 0),
+    (504, 23, BAD_SECTION, 3, 448, 0),
+    (492, 4, BAD_SECTION, 3, 448, 0),
+    (488, 1, BAD_SECTION, 3, 448, 0),
     // The symbol `_start` at 152.
-    (152, 10, F10, 3, 152, 0),
-    (152, 0, F09, 3, 152, 0),
-    (156, 0x32, F09, 3, 152, 0),
-    (156, 0x17, F09, 3, 152, 0),
-    (156, 0x02, F09, 3, 152, 0),
-    (158, 6, F09, 3, 152, 0),
-    (160, 17, F09, 3, 152, 0),
-    (156, 0x1a, F17, 3, 152, 0),
+    (152, 10, BAD_NAME, 3, 152, 0),
+    (152, 0, BAD_SYMBOL, 3, 152, 0),
+    (156, 0x32, BAD_SYMBOL, 3, 152, 0),
+    (156, 0x17, BAD_SYMBOL, 3, 152, 0),
+    (156, 0x02, BAD_SYMBOL, 3, 152, 0),
+    (158, 6, BAD_SYMBOL, 3, 152, 0),
+    (160, 17, BAD_SYMBOL, 3, 152, 0),
+    (156, 0x1a, IFUNC, 3, 152, 0),
     // The body's section headers.
-    (329, 8, F05, 1, 320, 0),
-    (388, 9, F04, 2, 384, 0),
-    (328, 7, F04, 1, 320, 0),
-    (328, 0x16, F04, 1, 320, 0),
-    (329, 4, F04, 1, 320, 0),
-    (324, 7, F04, 1, 320, 0),
-    (324, 14, F04, 1, 320, 0),
-    (324, 15, F04, 1, 320, 0),
-    (324, 16, F04, 1, 320, 0),
-    (388, 17, F04, 2, 384, 0),
-    (368, 3, F15, 1, 320, 0),
-    (440, 25, F04, 2, 384, 0),
-    (424, 4, F04, 2, 384, 0),
-    (428, 0, F04, 2, 384, 0),
-    (428, 6, F04, 2, 384, 0),
+    (329, 8, COMPRESSED, 1, 320, 0),
+    (388, 9, BAD_SECTION, 2, 384, 0),
+    (328, 7, BAD_SECTION, 1, 320, 0),
+    (328, 0x16, BAD_SECTION, 1, 320, 0),
+    (329, 4, BAD_SECTION, 1, 320, 0),
+    (324, 7, BAD_SECTION, 1, 320, 0),
+    (324, 14, BAD_SECTION, 1, 320, 0),
+    (324, 15, BAD_SECTION, 1, 320, 0),
+    (324, 16, BAD_SECTION, 1, 320, 0),
+    (388, 17, BAD_SECTION, 2, 384, 0),
+    (368, 3, BAD_ALIGNMENT, 1, 320, 0),
+    (440, 25, BAD_SECTION, 2, 384, 0),
+    (424, 4, BAD_SECTION, 2, 384, 0),
+    (428, 0, BAD_SECTION, 2, 384, 0),
+    (428, 6, BAD_SECTION, 2, 384, 0),
     // The relocations at 80 and 104.
-    (92, 3, F11, 2, 80, 0),
-    (88, 16, F12, 2, 80, 16),
-    (88, 51, F12, 2, 80, 51),
+    (92, 3, BAD_RELOC, 2, 80, 0),
+    (88, 16, RELOC_KIND, 2, 80, 16),
+    (88, 51, RELOC_KIND, 2, 80, 51),
     // .text has no bytes in the file.
-    (324, 8, F11, 2, 80, 0),
-    (80, 13, F11, 2, 80, 0),
-    (88, 24, F11, 2, 80, 0),
+    (324, 8, BAD_RELOC, 2, 80, 0),
+    (80, 13, BAD_RELOC, 2, 80, 0),
+    (88, 24, BAD_RELOC, 2, 80, 0),
     // A call at 0 meets the jump at 4, which comes later and stands first.
-    (112, 18, F11, 2, 80, 0),
+    (112, 18, BAD_RELOC, 2, 80, 0),
 ];
 
 #[test]
-fn tells_the_first_broken_check(rt: HostRuntime) -> Result<(), Fail> {
+fn reports_the_first_broken_check(rt: HostRuntime) -> Result<(), Fail> {
     for (at, byte, kind, section, place, other) in ROWS {
         let bytes = altered(rt.alloc(), &[(at, byte)])?;
         let wanted = Some(Flaw {
@@ -189,23 +192,23 @@ fn passes_what_is_not_checked(rt: HostRuntime) -> Result<(), Fail> {
     Ok(())
 }
 
-/// Changes of the symbol `_start`, which is COMMON, and what is told of it.
+/// Changes of the symbol `_start`, which is COMMON, and what is reported of it.
 const COMMONS: [(Change, Option<DefectKind>); 12] = [
     // Type COMMON, TLS and GNU_IFUNC; LOCAL.
     ((156, 0x15), None),
-    ((156, 0x16), Some(F09)),
-    ((156, 0x1a), Some(F17)),
-    ((156, 0x02), Some(F09)),
+    ((156, 0x16), Some(BAD_SYMBOL)),
+    ((156, 0x1a), Some(IFUNC)),
+    ((156, 0x02), Some(BAD_SYMBOL)),
     // Alignments of 0, 3, 16, 2^20, 2^21 and 2^32.
     ((160, 0), None),
-    ((160, 3), Some(F15)),
+    ((160, 3), Some(BAD_ALIGNMENT)),
     ((160, 16), None),
     ((162, 0x10), None),
-    ((162, 0x20), Some(F15)),
-    ((164, 1), Some(F15)),
+    ((162, 0x20), Some(BAD_ALIGNMENT)),
+    ((164, 1), Some(BAD_ALIGNMENT)),
     // Sizes of 2^32 - 2^24 + 8 and of 2^32 + 8.
     ((171, 0xff), None),
-    ((172, 1), Some(F08)),
+    ((172, 1), Some(LIMIT)),
 ];
 
 #[test]
@@ -232,12 +235,12 @@ fn reads_common_symbols(rt: HostRuntime) -> Result<(), Fail> {
 }
 
 #[test]
-fn tells_what_two_bytes_break(rt: HostRuntime) -> Result<(), Fail> {
+fn reports_what_two_bytes_break(rt: HostRuntime) -> Result<(), Fail> {
     for (first, second, kind) in [
         // .text has no bytes in the file and 2^32 + 16 in memory.
-        ((324, 8), (356, 1), F08),
+        ((324, 8), (356, 1), LIMIT),
         // .text is ordered by section 6, which is not there.
-        ((328, 0x86), (360, 6), F04),
+        ((328, 0x86), (360, 6), BAD_SECTION),
     ] {
         let bytes = altered(rt.alloc(), &[first, second])?;
         let wanted = Some(Flaw {
@@ -257,7 +260,12 @@ fn tells_what_two_bytes_break(rt: HostRuntime) -> Result<(), Fail> {
 #[test]
 fn cut_files_have_no_head(rt: HostRuntime) -> Result<(), Fail> {
     let bytes = sound(rt.alloc())?;
-    for (len, kind, place) in [(0, F01, 0), (3, F01, 0), (63, F02, 63), (639, F03, 40)] {
+    for (len, kind, place) in [
+        (0, NOT_OBJECT, 0),
+        (3, NOT_OBJECT, 0),
+        (63, BAD_HEADER, 63),
+        (639, OUTSIDE, 40),
+    ] {
         let wanted = Some(Flaw {
             kind,
             section: 0,

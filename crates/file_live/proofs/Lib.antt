@@ -1,6 +1,5 @@
-pub mod Walking
 pub mod Searching
-pub mod Placing
+pub mod Claimed
 pub mod Pulling
 pub mod Rounds
 pub mod TakePart

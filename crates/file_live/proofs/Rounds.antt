@@ -7,7 +7,7 @@ use Rattle.std.proofs.lemmas.List.Folds.{Any-from_list_any, list_any_at}
 use Rattle.std.proofs.lemmas.Bool.{cases_lt, and_parts, and_from, or_left, or_right, or_cases, lt-ltb, ltb-true, not-true, not_from_false, both_ways}
 use Rattle.lk_tables.specs.Files.{File, file_at}
 use Rattle.file_live.specs.Live.{pulls, live_in, is_live, live_of, IsClosedSet, IsLive}
-use Rattle.file_live.proofs.Pulling.{range_at}
+use Rattle.file_live.proofs.Pulling.{range_read}
 
 -- how many of a range pass a test
 abbrev one : Bool → ℕ
@@ -60,7 +60,7 @@ unfolding live_in
 live_by files n e f lt is pulled =
     let test : ℕ → Bool = λ k. live_in files n k && pulls files k f in
     let r = range_with_len 0 (length files) in
-    let at : get_or r e 0 ≡ e = range_at (length files) e 0 lt in
+    let at : get_or r e 0 ≡ e = range_read (length files) e 0 lt in
     let P : ℕ → Type 0 = λ k. test k ≡ true in
     or_right (live_in files n f) (list_any test r)
     (list_any_at test r e 0 (omega (arith, length-range_with_len 0 (length files))) (subst P (sym at) (and_from (live_in files n e) (pulls files e f) is pulled)))
@@ -77,7 +77,7 @@ live_cases X files n f is before pulled =
     let e : ℕ = any.1 in
     let short = any.2 in
     let lt : k < length files = omega (arith, length-range_with_len 0 (length files)) in
-    let at : e ≡ k = sym any.3 ∙ range_at (length files) k e lt in
+    let at : e ≡ k = sym any.3 ∙ range_read (length files) k e lt in
     let both = and_parts (live_in files n e) (pulls files e f) any.4 in
     pulled e (omega arith) both.0 both.1)
     (or_cases (live_in files n f) (list_any test r) is)

@@ -1,10 +1,13 @@
 -- What a search by a queue comes to.
 use Rattle.std.proofs.Common.{◌≡◌, ◌≢◌, ℕ, zero, suc, ◌+◌, ◌<◌, ◌≤◌, Bool, true, false, Vec, Global, List, [], ◌∷◌, ◌++◌, length, get_or, set, replicate, All, Contains, refl, sym, ap, ◌∙◌, subst, ⊎_elim, arith}
-use Rattle.std.proofs.lemmas.List.{length-set, length_push, length-replicate, get_or-replicate, get_or-set_same, get_or-set_other, get_or_append_left, get_or_past, get_or_default, get_or-map}
+use Rattle.std.proofs.lemmas.List.{length-set, length_push, length-replicate, get_or-replicate, get_or-set_same, get_or-set_other, get_or_append_left, get_or_past, get_or_default}
 use Rattle.std.proofs.lemmas.List.Elements.{All-nil, All-cons, All-head, All-tail, All-weaker, All-contains, Contains-append_left, Contains-append_right, Contains-push, Contains-push_cases, Contains-get_or}
 use Rattle.std.proofs.lemmas.Bool.{cases_Bool, cases_eq, cases_lt, cond-true, cond-false, both_ways}
-use Rattle.file_live.specs.Pulls.{lists_of}
-use Rattle.file_live.specs.Search.{mark, ends_at, IsClosed, IsReach, Reached, reached, visited, all_visited}
+use Rattle.lk_tables.specs.Reach.{mark, ends_at, IsClosed, IsReach}
+use Rattle.std.specs.Prelude.{flat_map}
+use Rattle.std.specs.List.{range_with_len}
+use Rattle.name_numbers.proofs.Walks.{walk_skip, walk_push}
+use Rattle.file_live.specs.Visits.{Reached, reached, visited, all_visited}
 
 -- how many places have no mark
 abbrev pub unmarked : List Bool → ℕ
@@ -218,9 +221,29 @@ searched_all roots ends next r all s = record {
   least = λ p closed f is. s.least p closed f (s.tied.queued f is);
 }
 
--- the same of the lists that the code has
-pub ends_read : (ends : List (Vec ℕ Global)) (queue : List ℕ) (next place : ℕ) (v : Vec ℕ Global) (slice : List ℕ) → next < length queue → get_or queue next 0 < length ends → place ≡ get_or queue next place → v ≡ get_or ends place v → slice ≡ v.items → slice ≡ ends_at (lists_of ends) (get_or queue next 0)
-ends_read ends queue next place v slice lt low is read sliced =
-    let items : Vec ℕ Global → List ℕ = λ w. w.items in
-    let at : place ≡ get_or queue next 0 = is ∙ get_or_default queue next place 0 lt in
-    sliced ∙ ap items read ∙ sym (get_or-map items ends place v [] (omega arith)) ∙ ap (ends_at (lists_of ends)) at
+-- more places, one list after the other
+pub visited_append : (r : Reached) (fs gs : List ℕ) → all_visited r (fs ++ gs) ≡ all_visited (all_visited r fs) gs
+visited_append r [] gs = refl
+visited_append r (f ∷ fs) gs = visited_append (visited r f) fs gs
+
+pub length_visited : (r : Reached) (f : ℕ) → length (visited r f).seen ≡ length r.seen
+length_visited r f = one_visit (λ s. length s.seen ≡ length r.seen) r f (λ is. refl) (λ is. length-set r.seen f true)
+
+-- a loop that visits what numbers give
+abbrev pub AreVisited : (g : ℕ → List ℕ) (start now : Reached) (i : ℕ) → Type 0
+AreVisited g start now i = (length now.seen ≡ length start.seen) × (now ≡ all_visited start (flat_map g (range_with_len 0 i)))
+
+pub visit_skip : (g : ℕ → List ℕ) (start now : Reached) (i : ℕ) → AreVisited g start now i → g i ≡ [] → AreVisited g start now (i + 1)
+visit_skip g start now i are none =
+    (are.0, are.1 ∙ ap (all_visited start) (walk_skip g [] (flat_map g (range_with_len 0 i)) i refl none))
+
+pub visit_next : (g : ℕ → List ℕ) (start now new : Reached) (i f : ℕ) → AreVisited g start now i → g i ≡ f ∷ [] → new ≡ visited now f → AreVisited g start new (i + 1)
+visit_next g start now new i f are one is = (
+  ap (λ (r : Reached). length r.seen) is ∙ length_visited now f ∙ are.0,
+  is ∙ ap (λ r. visited r f) are.1 ∙ sym (visited_append start (flat_map g (range_with_len 0 i)) (f ∷ []))
+      ∙ ap (all_visited start) (walk_push g [] (flat_map g (range_with_len 0 i)) (flat_map g (range_with_len 0 i) ++ f ∷ []) f i refl refl one),
+)
+
+-- the same marks and queue, in the vectors that the code has
+pub reached_same : (seen seen2 : Vec Bool Global) (queue queue2 : Vec ℕ Global) → seen ≡ seen2 → queue ≡ queue2 → reached seen.items queue.items ≡ reached seen2.items queue2.items
+reached_same seen seen2 queue queue2 a b = ap (λ (v : Vec Bool Global). reached v.items queue.items) a ∙ ap (λ (v : Vec ℕ Global). reached seen2.items v.items) b

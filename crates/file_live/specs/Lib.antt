@@ -1,5 +1,4 @@
-pub mod Early
+pub mod Claims
 pub mod Live
-pub mod Places
 pub mod Pulls
-pub mod Search
+pub mod Visits

@@ -1,16 +1,19 @@
 -- Which files take part in a link: the objects of the command, and each member of an archive whose offer of a name is the first,
 -- where one of those that take part asks for the name. Objects of the command come before members, wherever on the command the
 -- archive stands, and members in the order of the files. An undefined weak symbol brings in no member (System V gABI, "Symbol Table").
-use Rattle.std.specs.Prelude.{◌≡◌, ℕ, zero, suc, ◌^◌, ◌<◌, ◌/◌, ◌&&◌, ◌||◌, ◌==◌, not, nat_lt, Bool, true, false, if◌then◌else◌, List, [], ◌∷◌, length, map, slice_index_or, flat_map}
+use Rattle.std.specs.Prelude.{◌≡◌, ℕ, zero, suc, ◌<◌, ◌&&◌, ◌||◌, ◌==◌, not, nat_lt, Bool, true, false, if◌then◌else◌, List, [], ◌∷◌, length, map, slice_index_or, flat_map}
 use Rattle.std.specs.List.{list_any, range_with_len}
 use Rattle.lk_tables.specs.declared.heads.Symbol.{Symbol}
-use Rattle.lk_tables.specs.Bodies.{is_undef}
+use Rattle.lk_tables.specs.Symbols.{is_undef}
 use Rattle.lk_tables.specs.Files.{File, file_at, symbol_at, symbol_name}
-use Rattle.lk_tables.specs.Binding.{Offer, is_offer, class_of, rank_of, file_of, least_rank}
+use Rattle.lk_base.specs.declared.abi.TheConstants.{STB_GLOBAL, STB_GNU_UNIQUE}
+use Rattle.lk_tables.specs.Binding.{Offer, is_offer, class_of, least_rank}
+use Rattle.lk_tables.specs.Ranks.{rank_of, class_of_rank, file_of}
+use Rattle.file_live.specs.declared.claims.TheConstants.{MEMBER_CLASS}
 
--- each offer of a member is behind all offers of the command's objects
+-- each offer of a member comes after all offers of the command's objects
 abbrev pub early_class : File → Symbol → ℕ
-early_class file s = if file.member then 3 else class_of s
+early_class file s = if file.member then MEMBER_CLASS else class_of s
 
 abbrev pub early_rank : List File → (f i : ℕ) → ℕ
 early_rank files f i = rank_of (early_class (file_at files f) (symbol_at (file_at files f) i)) f i
@@ -30,13 +33,13 @@ early_offers files = flat_map (early_offers_in files) (range_with_len 0 (length 
 unfoldable pub early : List File → List ℕ → ℕ
 early files name = least_rank name (early_offers files)
 
--- an undefined symbol of binding GLOBAL (1) or GNU_UNIQUE (10) asks for its name
+-- an undefined symbol of binding GLOBAL or GNU_UNIQUE asks for its name
 abbrev pub asks : Symbol → Bool
-asks s = is_undef s.place && (s.binding == 1 || s.binding == 10)
+asks s = is_undef s.place && (s.binding == STB_GLOBAL || s.binding == STB_GNU_UNIQUE)
 
 -- the rank is of an offer of the member g
 abbrev pub is_of_member : ℕ → ℕ → Bool
-is_of_member g rank = rank / 2 ^ 56 == 3 && file_of rank == g
+is_of_member g rank = class_of_rank rank == MEMBER_CLASS && file_of rank == g
 
 -- symbol i of file f, and file f, ask for a name whose first offer is of the member g
 unfoldable pub pulls_by : List File → (f g i : ℕ) → Bool

@@ -1,35 +1,22 @@
--- Which members each file pulls, as one list for each file.
-use Rattle.std.specs.Prelude.{◌≡◌, ℕ, ◌<◌, ◌^◌, ◌/◌, ◌==◌, not, true, if◌then◌else◌, List, [], ◌∷◌, ◌++◌, length, map, flat_map, slice_index_or, slice_set, Contains, Vec}
-use Rattle.std.specs.Global.{Global}
+-- Which members each file pulls, by number.
+use Rattle.std.specs.Prelude.{ℕ, ◌==◌, ◌&&◌, not, if◌then◌else◌, Option, Some, None, List, [], ◌∷◌, length, map, flat_map, option_to_list}
 use Rattle.std.specs.List.{range_with_len}
-use Rattle.lk_tables.specs.Binding.{no_rank, file_of}
-use Rattle.lk_tables.specs.Files.{File, file_at}
-use Rattle.file_live.specs.Live.{is_of_member}
-use Rattle.file_live.specs.Early.{Ask}
+use Rattle.lk_tables.specs.Files.{File, file_at, symbol_at, symbol_name}
+use Rattle.lk_tables.specs.Ranks.{class_of_rank, file_of}
+use Rattle.file_live.specs.declared.claims.TheConstants.{MEMBER_CLASS}
+use Rattle.file_live.specs.Live.{asks, early}
 
-abbrev pub lists_of : List (Vec ℕ Global) → List (List ℕ)
-lists_of vecs = map (λ v. v.items) vecs
+-- the member that symbol i of file f pulls, and those that file f does
+unfoldable pub pulled : List File → (f i : ℕ) → Option ℕ
+pulled files f i =
+    let first = early files (symbol_name (file_at files f) i) in
+    if asks (symbol_at (file_at files f) i) && class_of_rank first == MEMBER_CLASS then Some (file_of first) else None
 
--- where the rank is a member's, the file pulls this member
-abbrev pub with_pull : List (List ℕ) → (from rank : ℕ) → List (List ℕ)
-with_pull lists from rank = if rank / 2 ^ 56 == 3
-    then slice_set lists from (slice_index_or lists from [] ++ file_of rank ∷ []) else lists
+unfoldable pub pulled_in : List File → ℕ → List ℕ
+pulled_in files f = flat_map (λ i. option_to_list (pulled files f i)) (range_with_len 0 (length (file_at files f).head.symbols))
 
-abbrev pub no_ask : Ask
-no_ask = record { name = []; file = 0 }
-
--- one of the first k asking symbols is of file f, and the first offer of its name is of member g
-pub record IsPull (asks : List Ask) (ranks : List ℕ) (k f g : ℕ) : Type 0 where
-  pub ask : ℕ
-  pub early : ask < k
-  pub file : (slice_index_or asks ask no_ask).file ≡ f
-  pub member : is_of_member g (slice_index_or ranks ask no_rank) ≡ true
-
--- The lists have the members that the first k asking symbols pull, and no others
-pub record ArePulls (asks : List Ask) (ranks : List ℕ) (files k : ℕ) (lists : List (List ℕ)) : Type 0 where
-  pub wide : length lists ≡ files
-  pub told : (f g : ℕ) → Contains (slice_index_or lists f []) g → IsPull asks ranks k f g
-  pub each : (f g : ℕ) → IsPull asks ranks k f g → Contains (slice_index_or lists f []) g
+unfoldable pub ends : List File → List (List ℕ)
+ends files = map (pulled_in files) (range_with_len 0 (length files))
 
 -- the objects of the command
 abbrev pub command_at : List File → ℕ → List ℕ

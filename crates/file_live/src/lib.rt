@@ -2,17 +2,16 @@
 //! asks for.
 //!
 //! An undefined symbol asks for its name. The first offer of each name is found over all files, and it is of an object of the
-//! command wherever one offers the name: workers claim the words of the names, as they do where names are bound, with all
-//! members behind all objects. A symbol whose name a member is the first to offer pulls that member. From the objects on
+//! command if one offers the name: workers claim the numbers of the names, as they do where names are bound, with all
+//! members after all objects. A symbol whose name a member is the first to offer pulls that member. From the objects on
 //! these pulls are followed, each file's once.
 #![tactic(auto)]
 
-mod early;
-mod firsts;
-mod parts;
+mod claims;
+mod live_files;
 mod pulls;
 mod search;
 #[cfg(test)]
 mod tests;
 
-pub use parts::live;
+pub use live_files::live;

@@ -1,50 +1,58 @@
-//! Which members each file pulls.
+//! Which members the symbols of a file pull.
 
-ghost use Rattle.std.specs.Prelude.{◌≡◌, ◌<◌, length, replicate, [], All, IfOk, OnOk};
-ghost use Rattle.file_live.specs.Early.{asks_view};
-ghost use Rattle.file_live.specs.Pulls.{lists_of, with_pull, ArePulls};
+ghost use Rattle.std.specs.Prelude.{◌≡◌, ◌<◌, ◌^◌, length, slice_index_or};
+ghost use Rattle.claim_core.specs.Events.{none_of, after};
+ghost use Rattle.lk_tables.specs.FileView.{file_views};
+ghost use Rattle.lk_tables.specs.Files.{file_at, symbol_total};
+ghost use Rattle.lk_tables.specs.NameNumbers.{NumbersNames, heads_alone};
+ghost use Rattle.lk_tables.specs.Ranks.{no_rank};
+ghost use Rattle.file_live.specs.Claims.{claims};
+ghost use Rattle.file_live.specs.Live as spec;
+ghost use Rattle.file_live.specs.Pulls.{pulled};
 
-use crate::early::{Asked, MEMBER_CLASS};
-use std::alloc::{AllocError, Global};
-use sym_resolve::{CLASS_RANKS, FILE_RANKS};
+use crate::claims::MEMBER_CLASS;
+use lk_base::FileNo;
+use lk_base::abi::{STB_GLOBAL, STB_GNU_UNIQUE};
+use lk_tables::{File, NO_RANK, NameNumbers, Place, Symbol, class_of_rank, file_of};
 
-/// For each file the members that it pulls, by the first rank of each name that is asked for.
-pub fn pulls_of(
-    alloc: Global,
-    files: usize,
-    asks: &[Asked],
-    ranks: &[u64],
-) -> Result<Vec<Vec<u32>>, AllocError>
-    requires even { length ranks.now ≡ length asks.now }
-    requires within { All (λ a. a.file < files) (asks_view asks.now) }
-    ensures { IfOk result (λ pulls. ArePulls (asks_view asks.now) ranks.now files (length asks.now) (lists_of pulls.items)) }
+/// The member that a symbol pulls: it asks for its name, and the least claim on the name's number is of that member.
+pub fn pulled_by(
+    files: &[File],
+    f: usize,
+    i: usize,
+    names: &NameNumbers,
+    row: &[u64],
+) -> Option<FileNo>
+    requires file { f < length files.now }
+    requires symbol { i < length (file_at (file_views files.now) f).head.symbols }
+    requires names { NumbersNames (heads_alone (file_views files.now)) names.now }
+    requires row { row.now ≡ after (none_of (symbol_total (file_views files.now))) (claims (file_views files.now)) }
+    ensures { result ≡ pulled (file_views files.now) f i }
 {
-    let mut pulls = no_lists(alloc, files)?;
-    for k in 0..asks.len() {
-        add_pull(&mut pulls, asks[k].file as usize, ranks[k])?;
+    if !is_asking(&files[f].symbol(i)) {
+        return None;
     }
-    Ok(pulls)
+    let rank = rank_at(row, names.number(f, i));
+    if class_of_rank(rank) != MEMBER_CLASS {
+        return None;
+    }
+    Some(file_of(rank))
 }
 
-// So many empty lists.
-fn no_lists(alloc: Global, count: usize) -> Result<Vec<Vec<u32>>, AllocError>
-    ensures { IfOk result (λ lists. lists_of lists.items ≡ replicate count []) }
+/// The rank that a row has for a word.
+fn rank_at(row: &[u64], word: u32) -> u64
+    ensures { result ≡ slice_index_or row.now word no_rank }
 {
-    let mut lists = Vec::with_capacity(alloc, count)?;
-    for _ in 0..count {
-        lists.push(Vec::new(alloc))?;
+    match row.get(word as usize) {
+        Some(rank) => *rank,
+        None => NO_RANK,
     }
-    Ok(lists)
 }
 
-// Where the rank is a member's, a file pulls this member.
-fn add_pull(pulls: &mut Vec<Vec<u32>>, from: usize, rank: u64) -> Result<(), AllocError>
-    requires { from < length pulls.old.items }
-    ensures { OnOk result (lists_of pulls.new.items ≡ with_pull (lists_of pulls.old.items) from rank) }
+/// Whether a symbol asks for its name: it is not defined, and not weak.
+fn is_asking(symbol: &Symbol) -> bool
+    ensures { result ≡ spec.asks symbol.now }
 {
-    if rank / CLASS_RANKS != MEMBER_CLASS {
-        return Ok(());
-    }
-    pulls[from].push((rank % CLASS_RANKS / FILE_RANKS) as u32)?;
-    Ok(())
+    symbol.place == Place::Undef
+        && (symbol.binding == STB_GLOBAL || symbol.binding == STB_GNU_UNIQUE)
 }

@@ -1,19 +1,22 @@
 -- The output sections of a layout stand one after the other.
 use Rattle.std.proofs.Common.{◌≡◌, ℕ, ◌+◌, ◌-◌, ◌≤◌, List, [], ◌∷◌, ◌++◌, Bool, true, false, refl, All, append_assoc, append-nil, arith}
-use Rattle.layout.specs.declared.names.Class.{Class}
-use Rattle.layout.specs.declared.names.Class.TheVariants.{R, Rx, RwBits, RwNobits}
+use Rattle.lk_base.specs.declared.abi.TheConstants.{PAGE}
+use Rattle.lk_tables.specs.declared.classes.Class.{Class}
+use Rattle.lk_tables.specs.declared.classes.Class.TheVariants.{R, Rx, RwBits, RwNobits}
 use Rattle.layout.specs.Parts.{IsSized, Part}
 use Rattle.layout.specs.declared.order.Row.{Row}
 use Rattle.layout.specs.declared.placing.Bounds.{Bounds}
 use Rattle.layout.specs.Order.{IsFit}
-use Rattle.layout.specs.Walk.{Section, after, cut, end_along, greatest, is_empty, past, section_in, section_of, sections_along, start_of, up}
+use Rattle.layout.specs.Walk.{Section, after, cut, end_along, greatest, is_empty, past, section_in, section_of, sections_along, start_of}
 use Rattle.layout.specs.Layout.{AreApart, AreFit, Orders, bounds_of, laid_of, layout_of, orders_of, sections_of, with_got}
-use Rattle.layout.proofs.Cursors.{greatest_some, past_least, up_least, up_multiple}
+use Rattle.layout.proofs.Cursors.{greatest_some, past_least}
 use Rattle.layout.proofs.Runs.{EachRun, each_cut}
 use Rattle.layout.proofs.Chain.{AreBounds, bounds_are}
 use Rattle.layout.proofs.Rows.{fit_orders, sized_whole}
+use Rattle.lk_base.proofs.Multiples.{up_least, up_multiple}
+use Rattle.lk_base.specs.Arithmetic.{up}
 
--- one output section before those behind it
+-- one output section before those after it
 step : (b : Bool) (n : ℕ) (members : List Part) (class : Class) (cursor from : ℕ) (o : List Row) (later : List Section)
     → is_empty o ≡ b → from ≤ cursor → All (IsFit n) o → ((f : ℕ) → f ≤ after cursor o → AreApart f later)
     → AreApart from (section_in members class cursor o ++ later)
@@ -26,7 +29,7 @@ step false n members class cursor from o later e le all k =
     let ends : up cursor (greatest o) + (past (up cursor (greatest o)) o - up cursor (greatest o)) ≤ past (up cursor (greatest o)) o = omega arith in
     rw e (here, up_multiple cursor (greatest o), k _ (rw e ends))
 
--- the output sections of a class before those of the classes behind it
+-- the output sections of a class before those of the classes after it
 along : (n : ℕ) (members : List Part) (class : Class) (cursor from : ℕ) (os : List (List Row)) (later : List Section)
     → from ≤ cursor → EachRun (IsFit n) os → ((f : ℕ) → f ≤ end_along cursor os → AreApart f later)
     → AreApart from (sections_along members class cursor os ++ later)
@@ -34,13 +37,13 @@ along n members class cursor from [] later le all k = k from le
 along n members class cursor from (o ∷ os) later le all k =
     rw (append_assoc (section_in members class cursor o) (sections_along members class (after cursor o) os) later)
     (step (is_empty o) n members class cursor from o _ refl le all.0
-    (λ f behind. along n members class (after cursor o) f os later behind all.1 k))
+    (λ f follows. along n members class (after cursor o) f os later follows all.1 k))
 
 pub apart_all : (members : List Part) (o : Orders) (b : Bounds) (n : ℕ) → AreFit n o → AreBounds o b → AreApart b.headers_end (sections_of members o b)
 unfolding sections_of
 apart_all members o b n fit is =
-    let rx : b.r_end ≤ up b.r_end 4096 = up_least b.r_end 4096 (omega arith) in
-    let rounded : b.rx_end ≤ up b.rx_end 4096 = up_least b.rx_end 4096 (omega arith) in
+    let rx : b.r_end ≤ up b.r_end PAGE = up_least b.r_end PAGE (omega arith) in
+    let rounded : b.rx_end ≤ up b.rx_end PAGE = up_least b.rx_end PAGE (omega arith) in
     let chain : AreApart b.headers_end (sections_along members R b.headers_end (cut o.r)
     ++ (sections_along members Rx b.rx_start (cut o.rx)
     ++ (sections_along members RwBits b.rw_start (cut o.rw_bits)

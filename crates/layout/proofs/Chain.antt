@@ -1,21 +1,23 @@
 -- The bounds of a layout, from what each step of the walk gives.
 use Rattle.std.proofs.Common.{◌≡◌, ℕ, ◌+◌, ◌*◌, not, ◌&&◌, if◌then◌else◌, List, refl}
+use Rattle.lk_base.specs.declared.abi.TheConstants.{EHDR_SIZE, IMAGE_BASE, PAGE, PHDR_SIZE}
 use Rattle.layout.specs.declared.placing.Bounds.{Bounds}
 use Rattle.layout.specs.Parts.{Part}
-use Rattle.layout.specs.Walk.{Section, cut, end_along, is_empty, up}
+use Rattle.layout.specs.Walk.{Section, cut, end_along, is_empty}
 use Rattle.layout.specs.Layout.{Orders, bounds_of, bits_end_of, count_of, file_end_of, has_rw, has_rx, headers_end_of, headers_of, image_end_of, laid_of, last_end, nobits_end_of, r_end_of, rw_start_of, rx_end_of, rx_start_of, sections_of, starts_of}
 use Rattle.std.specs.Prelude.{length}
+use Rattle.lk_base.specs.Arithmetic.{up}
 
 -- each bound from those before it
 pub record AreBounds (o : Orders) (b : Bounds) : Type 0 where
   pub rx_is : b.has_rx ≡ not (is_empty o.rx)
   pub rw_is : b.has_rw ≡ not (is_empty o.rw_bits && is_empty o.rw_nobits)
   pub headers : b.headers ≡ 2 + count_of b.has_rx + count_of b.has_rw
-  pub headers_end : b.headers_end ≡ 0x10000 + (64 + 56 * b.headers)
+  pub headers_end : b.headers_end ≡ IMAGE_BASE + (EHDR_SIZE + PHDR_SIZE * b.headers)
   pub r_end : b.r_end ≡ end_along b.headers_end (cut o.r)
-  pub rx_start : b.rx_start ≡ up b.r_end 4096
+  pub rx_start : b.rx_start ≡ up b.r_end PAGE
   pub rx_end : b.rx_end ≡ end_along b.rx_start (cut o.rx)
-  pub rw_start : b.rw_start ≡ up b.rx_end 4096
+  pub rw_start : b.rw_start ≡ up b.rx_end PAGE
   pub bits_end : b.bits_end ≡ end_along b.rw_start (cut o.rw_bits)
   pub nobits_end : b.nobits_end ≡ end_along b.bits_end (cut o.rw_nobits)
   pub file_end : b.file_end ≡ last_end o b.r_end b.rx_end b.bits_end

@@ -1,24 +1,14 @@
 -- How far the cursor moves: over a member, an output section and a class.
-use Rattle.std.proofs.Common.{◌≡◌, ℕ, ◌+◌, ◌-◌, ◌*◌, ◌/◌, ◌%◌, ◌^◌, ◌<◌, ◌≤◌, ◌==◌, Bool, true, false, if◌then◌else◌, max, List, [], ◌∷◌, length, refl, All, arith}
-use native.Mathlib.Nat.{mul-mod_left}
+use Rattle.std.proofs.Common.{◌≡◌, ℕ, ◌+◌, ◌*◌, ◌^◌, ◌<◌, ◌≤◌, ◌==◌, Bool, true, false, if◌then◌else◌, max, List, [], ◌∷◌, length, refl, All, arith}
 use Rattle.std.specs.List.{fold}
 use Rattle.std.proofs.lemmas.List.Elements.{All-head, All-tail}
+use Rattle.lk_base.specs.declared.abi.TheConstants.{ALIGN_MAX, NOBITS_MAX}
 use Rattle.layout.specs.declared.order.Row.{Row}
 use Rattle.layout.specs.Order.{IsFit}
-use Rattle.layout.specs.Walk.{after, beside, cut, end_along, greatest, is_empty, past, start_of, up}
+use Rattle.layout.specs.Walk.{after, beside, cut, end_along, greatest, is_empty, past, start_of}
+use Rattle.lk_base.proofs.Multiples.{up_below, up_least}
 use Rattle.layout.proofs.Runs.{EachRun}
-
-pub up_least : (x a : ℕ) → 1 ≤ a → x ≤ up x a
-unfolding up
-up_least x a some = omega arith
-
-pub up_below : (x a : ℕ) → 1 ≤ a → up x a < x + a
-unfolding up
-up_below x a some = omega arith
-
-pub up_multiple : (x a : ℕ) → up x a % a ≡ 0
-unfolding up
-up_multiple x a = mul-mod_left ((x + (a - 1)) / a) a
+use Rattle.lk_base.specs.Arithmetic.{up}
 
 greatest_from : (g : ℕ) (rows : List Row) → 1 ≤ g → 1 ≤ fold (λ found row. max found row.align) g rows
 greatest_from g [] some = some
@@ -28,13 +18,13 @@ pub greatest_some : (rows : List Row) → 1 ≤ greatest rows
 unfolding greatest
 greatest_some rows = greatest_from 1 rows (omega arith)
 
-greatest_to : (n g : ℕ) (rows : List Row) → g ≤ 2 ^ 20 → All (IsFit n) rows → fold (λ found row. max found row.align) g rows ≤ 2 ^ 20
+greatest_to : (n g : ℕ) (rows : List Row) → g ≤ ALIGN_MAX → All (IsFit n) rows → fold (λ found row. max found row.align) g rows ≤ ALIGN_MAX
 greatest_to n g [] most all = most
 greatest_to n g (row ∷ rows) most all =
-    let one : row.align ≤ 2 ^ 20 = (All-head (IsFit n) row rows all).aligned in
+    let one : row.align ≤ ALIGN_MAX = (All-head (IsFit n) row rows all).aligned in
     greatest_to n (max g row.align) rows (omega arith) (All-tail (IsFit n) row rows all)
 
-pub greatest_most : (n : ℕ) (rows : List Row) → All (IsFit n) rows → greatest rows ≤ 2 ^ 20
+pub greatest_most : (n : ℕ) (rows : List Row) → All (IsFit n) rows → greatest rows ≤ ALIGN_MAX
 unfolding greatest
 greatest_most n rows all = greatest_to n 1 rows (omega arith) all
 
@@ -46,14 +36,14 @@ past_least n c (row ∷ rows) all =
     let more : up c row.align + row.size ≤ past (up c row.align + row.size) rows = past_least n (up c row.align + row.size) rows (All-tail (IsFit n) row rows all) in
     omega arith
 
-pub past_most : (n c : ℕ) (rows : List Row) → All (IsFit n) rows → past c rows ≤ c + length rows * (2 ^ 32 + 2 ^ 20)
+pub past_most : (n c : ℕ) (rows : List Row) → All (IsFit n) rows → past c rows ≤ c + length rows * (NOBITS_MAX + ALIGN_MAX)
 past_most n c [] all = omega arith
 past_most n c (row ∷ rows) all =
     let fit : IsFit n row = All-head (IsFit n) row rows all in
     let one : up c row.align < c + row.align = up_below c row.align fit.some in
-    let aligned : row.align ≤ 2 ^ 20 = fit.aligned in
-    let sized : row.size ≤ 2 ^ 32 = fit.sized in
-    let more : past (up c row.align + row.size) rows ≤ (up c row.align + row.size) + length rows * (2 ^ 32 + 2 ^ 20) =
+    let aligned : row.align ≤ ALIGN_MAX = fit.aligned in
+    let sized : row.size ≤ NOBITS_MAX = fit.sized in
+    let more : past (up c row.align + row.size) rows ≤ (up c row.align + row.size) + length rows * (NOBITS_MAX + ALIGN_MAX) =
     past_most n (up c row.align + row.size) rows (All-tail (IsFit n) row rows all) in
     omega arith
 
@@ -66,9 +56,9 @@ after_by false n c rows all some =
     let one : 1 ≤ length rows = some refl in
     let from : c ≤ up c (greatest rows) = up_least c (greatest rows) (greatest_some rows) in
     let to : up c (greatest rows) < c + greatest rows = up_below c (greatest rows) (greatest_some rows) in
-    let most : greatest rows ≤ 2 ^ 20 = greatest_most n rows all in
+    let most : greatest rows ≤ ALIGN_MAX = greatest_most n rows all in
     let least : up c (greatest rows) ≤ past (up c (greatest rows)) rows = past_least n (up c (greatest rows)) rows all in
-    let bound : past (up c (greatest rows)) rows ≤ up c (greatest rows) + length rows * (2 ^ 32 + 2 ^ 20) = past_most n (up c (greatest rows)) rows all in
+    let bound : past (up c (greatest rows)) rows ≤ up c (greatest rows) + length rows * (NOBITS_MAX + ALIGN_MAX) = past_most n (up c (greatest rows)) rows all in
     (omega arith, omega arith)
 
 some_row : (rows : List Row) → is_empty rows ≡ false → 1 ≤ length rows

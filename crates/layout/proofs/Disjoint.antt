@@ -7,14 +7,13 @@ use Rattle.std.proofs.lemmas.Grind.{get_or-set_at}
 use Rattle.std.proofs.lemmas.List.{length-set}
 use Rattle.std.proofs.lemmas.List.Elements.{All-head, All-tail, All-append}
 use Rattle.std.proofs.lemmas.Option.{slice_get_within}
-use Rattle.layout.specs.declared.names.Class.{Class}
-use Rattle.layout.specs.declared.names.Class.TheVariants.{R, Rx, RwBits, RwNobits}
+use Rattle.lk_tables.specs.declared.classes.Class.{Class}
+use Rattle.lk_tables.specs.declared.classes.Class.TheVariants.{R, Rx, RwBits, RwNobits}
 use Rattle.layout.specs.declared.order.Row.{Row}
 use Rattle.layout.specs.declared.placing.Bounds.{Bounds}
-use Rattle.layout.specs.Names.{is_in}
 use Rattle.layout.specs.Order.{IsFit}
-use Rattle.layout.specs.Parts.{IsSized, Part}
-use Rattle.layout.specs.Walk.{Stand, after, all_put, cut, end_along, is_empty, past, stands, stands_along, stands_in, stands_still, start_of, up}
+use Rattle.layout.specs.Parts.{IsSized, Part, is_of}
+use Rattle.layout.specs.Walk.{Stand, after, all_put, cut, end_along, is_empty, past, stands, stands_along, stands_in, stands_still, start_of}
 use Rattle.layout.specs.Layout.{AreFit, Orders, bounds_of, laid_of, layout_of, orders_of, starts_of, with_got}
 use Rattle.layout.specs.Spots.{AreDisjoint, AreRising, IsSpot, bytes_end, class_end, class_start}
 use Rattle.layout.proofs.Chain.{AreBounds, bounds_are}
@@ -25,8 +24,9 @@ use Rattle.layout.proofs.Rising.{rising}
 use Rattle.layout.proofs.Rows.{count_whole, fit_orders, sized_whole}
 use Rattle.layout.proofs.Runs.{EachRun, each_cut}
 use Rattle.layout.proofs.Stands.{IsNear, Says, any_class, empty_first, is_stand, put_others, says_along, says_in, says_stands}
+use Rattle.lk_base.specs.Arithmetic.{up}
 
--- of the two parts, where the one's address comes first, it ends before the other begins
+-- of the two parts, where the one's address comes first, it ends before the other starts
 record Before (i j : ℕ) (p q : Part) (s t : Stand) : Type 0 where
   first : s.number ≡ i → t.number ≡ j → s.address + p.size ≤ t.address
   second : s.number ≡ j → t.number ≡ i → s.address + q.size ≤ t.address
@@ -41,9 +41,9 @@ record Begins (i j : ℕ) (e : ℕ) (t : Stand) : Type 0 where
   second : t.number ≡ j → e ≤ t.address
 
 cross : (i j e : ℕ) (p q : Part) (s t : Stand) → Ends i j p q e s → Begins i j e t → Before i j p q s t
-cross i j e p q s t ends begins = record {
-  first = λ a b. let x : s.address + p.size ≤ e = ends.first a in let y : e ≤ t.address = begins.second b in omega arith;
-  second = λ a b. let x : s.address + q.size ≤ e = ends.second a in let y : e ≤ t.address = begins.first b in omega arith;
+cross i j e p q s t ends firsts = record {
+  first = λ a b. let x : s.address + p.size ≤ e = ends.first a in let y : e ≤ t.address = firsts.second b in omega arith;
+  second = λ a b. let x : s.address + q.size ≤ e = ends.second a in let y : e ≤ t.address = firsts.first b in omega arith;
 }
 
 abbrev InOrder : ℕ → ℕ → Part → Part → List Stand → Type 0
@@ -52,11 +52,11 @@ InOrder i j p q (s ∷ ss) = All (Before i j p q s) ss × InOrder i j p q ss
 
 order_append : (i j e : ℕ) (p q : Part) (ss ts : List Stand) → InOrder i j p q ss → InOrder i j p q ts → All (Ends i j p q e) ss → All (Begins i j e) ts
     → InOrder i j p q (ss ++ ts)
-order_append i j e p q [] ts left right ends begins = right
-order_append i j e p q (s ∷ ss) ts left right ends begins = (
+order_append i j e p q [] ts left right ends firsts = right
+order_append i j e p q (s ∷ ss) ts left right ends firsts = (
   All-append (Before i j p q s) ss ts left.0
-      (λ k d lt. cross i j e p q s (get_or ts k d) (All-head (Ends i j p q e) s ss ends) (begins k d lt)),
-  order_append i j e p q ss ts left.1 right (All-tail (Ends i j p q e) s ss ends) begins,
+      (λ k d lt. cross i j e p q s (get_or ts k d) (All-head (Ends i j p q e) s ss ends) (firsts k d lt)),
+  order_append i j e p q ss ts left.1 right (All-tail (Ends i j p q e) s ss ends) firsts,
 )
 
 -- what is said of both numbers
@@ -81,7 +81,7 @@ order_stands n i j c p q (row ∷ rows) fit one other =
     let fits : All (IsFit n) rows = All-tail (IsFit n) row rows fit in
     let ones : All (Matches i p) rows = All-tail (Matches i p) row rows one in
     let others : All (Matches j q) rows = All-tail (Matches j q) row rows other in
-    let begins : All (Begins i j e) (stands e rows) =
+    let firsts : All (Begins i j e) (stands e rows) =
     both_begin i j e (past e rows) p q (stands e rows)
     (says_stands n i e (past e rows) e p rows (omega arith) (omega arith) fits ones)
     (says_stands n j e (past e rows) e q rows (omega arith) (omega arith) fits others) in
@@ -89,7 +89,7 @@ order_stands n i j c p q (row ∷ rows) fit one other =
       first = λ a. let size : row.size ≡ p.size = (All-head (Matches i p) row rows one).size a in omega arith;
       second = λ b. let size : row.size ≡ q.size = (All-head (Matches j q) row rows other).size b in omega arith;
     } in
-    ((λ k d lt. cross i j e p q _ (get_or (stands e rows) k d) ends (begins k d lt)), order_stands n i j e p q rows fits ones others)
+    ((λ k d lt. cross i j e p q _ (get_or (stands e rows) k d) ends (firsts k d lt)), order_stands n i j e p q rows fits ones others)
 
 -- an empty one has none of them
 order_still : (i j c : ℕ) (p q : Part) (rows : List Row) → 0 < p.size → 0 < q.size → is_empty rows ≡ true → All (Matches i p) rows → All (Matches j q) rows
@@ -210,7 +210,7 @@ abbrev Apart : Part → Part → (x y : ℕ) → Type 0
 Apart p q x y = (x + p.size ≤ y) ⊎ (y + q.size ≤ x)
 
 same_class : (n i j : ℕ) (p q : Part) (o : Orders) (b : Bounds) → i ≢ j → i < n → j < n → 0 < p.size → 0 < q.size → AreFit n o → HasRows i p o → HasRows j q o
-    → (class : Class) → is_in class p ≡ true → is_in class q ≡ true → Apart p q (get_or (starts_of n o b) i 0) (get_or (starts_of n o b) j 0)
+    → (class : Class) → is_of class p ≡ true → is_of class q ≡ true → Apart p q (get_or (starts_of n o b) i 0) (get_or (starts_of n o b) j 0)
 same_class n i j p q o b apart i_lt j_lt some_p some_q fit one other R hp hq =
     rw (kept_r n i p o b one hp, kept_r n j q o b other hq)
     (in_class n i j b.headers_end p q o.r (replicate n 0) apart (rw (count_zeros n) i_lt) (rw (count_zeros n) j_lt) some_p some_q fit.r one.match_r other.match_r
@@ -236,11 +236,11 @@ gap f l s g m t x y p q one other some le =
     omega arith
 
 abbrev Stood : Part → Bounds → ℕ → Type 0
-Stood part b start = (class : Class) → is_in class part ≡ true → IsSpot (class_start class b) (class_end class b) (bytes_end class b) part start
+Stood part b start = (class : Class) → is_of class part ≡ true → IsSpot (class_start class b) (class_end class b) (bytes_end class b) part start
 
 two_classes : (b : Bounds) (p q : Part) (x y : ℕ) → AreRising b → 0 < p.size → 0 < q.size → Stood p b x → Stood q b y
-    → ((class : Class) → is_in class p ≡ true → is_in class q ≡ true → Apart p q x y)
-    → (one other : Class) → is_in one p ≡ true → is_in other q ≡ true → Apart p q x y
+    → ((class : Class) → is_of class p ≡ true → is_of class q ≡ true → Apart p q x y)
+    → (one other : Class) → is_of one p ≡ true → is_of other q ≡ true → Apart p q x y
 two_classes b p q x y up some_p some_q sp sq same R R hp hq = same R hp hq
 two_classes b p q x y up some_p some_q sp sq same R Rx hp hq = inl (gap _ _ _ _ _ _ x y p q (sp R hp) (sq Rx hq) some_p (omega arith))
 two_classes b p q x y up some_p some_q sp sq same R RwBits hp hq = inl (gap _ _ _ _ _ _ x y p q (sp R hp) (sq RwBits hq) some_p (omega arith))

@@ -5,23 +5,24 @@ use Rattle.std.proofs.lemmas.Bool.Decides.{nat_tests}
 use Rattle.std.proofs.lemmas.List.{length-replicate}
 use Rattle.std.proofs.lemmas.List.Elements.{All-nil, All-head, All-tail, All-cons, All-append}
 use Rattle.std.proofs.lemmas.Option.{slice_get_within}
-use Rattle.layout.specs.declared.names.Class.{Class}
-use Rattle.layout.specs.declared.names.Class.TheVariants.{R, Rx, RwBits, RwNobits}
+use Rattle.lk_tables.specs.declared.classes.Class.{Class}
+use Rattle.lk_tables.specs.declared.classes.Class.TheVariants.{R, Rx, RwBits, RwNobits}
 use Rattle.layout.specs.declared.order.Row.{Row}
 use Rattle.layout.specs.declared.placing.Bounds.{Bounds}
-use Rattle.layout.specs.Names.{is_in}
 use Rattle.layout.specs.Order.{IsFit}
-use Rattle.layout.specs.Parts.{IsSized, Part}
-use Rattle.layout.specs.Walk.{after, all_put, cut, end_along, greatest, is_empty, past, section_in, section_of, sections_along, stands_along, start_of, up}
+use Rattle.layout.specs.Parts.{IsSized, Part, is_of}
+use Rattle.layout.specs.Walk.{after, all_put, cut, end_along, greatest, is_empty, past, section_in, section_of, sections_along, stands_along, start_of}
 use Rattle.layout.specs.Layout.{AreFit, Orders, bounds_of, got, laid_of, layout_of, orders_of, sections_of, starts_of, with_got}
 use Rattle.layout.specs.Spots.{AreRising, HaveSpots, IsSpot, IsWithinClass, bytes_end, class_end, class_start}
 use Rattle.layout.proofs.Chain.{AreBounds, bounds_are}
-use Rattle.layout.proofs.Cursors.{after_least, end_least, greatest_some, past_least, up_least}
+use Rattle.layout.proofs.Cursors.{after_least, end_least, greatest_some, past_least}
 use Rattle.layout.proofs.Numbered.{Matches, has_order, is_row, match_order, only_bits, only_r, only_rx}
 use Rattle.layout.proofs.Rising.{rising}
 use Rattle.layout.proofs.Rows.{count_whole, fit_orders, sized_whole}
 use Rattle.layout.proofs.Runs.{EachRun, each_cut}
 use Rattle.layout.proofs.Stands.{IsNear, any_class, empty_first, put_length, put_others, put_sets, says_along, some_bytes}
+use Rattle.lk_base.proofs.Multiples.{up_least}
+use Rattle.lk_base.specs.Arithmetic.{up}
 
 -- the last class that is not empty: each that is not ends no later
 rx_counts : (p q : Bool) (r x w : ℕ) → q ≡ false → x ≤ w → x ≤ (if not p then w else if not q then x else r)
@@ -66,10 +67,10 @@ pub record HasRows (i : ℕ) (part : Part) (o : Orders) : Type 0 where
   pub match_rx : All (Matches i part) o.rx
   pub match_bits : All (Matches i part) o.rw_bits
   pub match_nobits : All (Matches i part) o.rw_nobits
-  pub has_r : list_any (is_row i) o.r ≡ is_in R part
-  pub has_rx : list_any (is_row i) o.rx ≡ is_in Rx part
-  pub has_bits : list_any (is_row i) o.rw_bits ≡ is_in RwBits part
-  pub has_nobits : list_any (is_row i) o.rw_nobits ≡ is_in RwNobits part
+  pub has_r : list_any (is_row i) o.r ≡ is_of R part
+  pub has_rx : list_any (is_row i) o.rx ≡ is_of Rx part
+  pub has_bits : list_any (is_row i) o.rw_bits ≡ is_of RwBits part
+  pub has_nobits : list_any (is_row i) o.rw_nobits ≡ is_of RwNobits part
 
 pub rows_has : (i : ℕ) (part : Part) (parts : List Part) → slice_get parts i ≡ Some part → HasRows i part (orders_of parts)
 unfolding orders_of
@@ -84,7 +85,7 @@ rows_has i part parts at = record {
   has_nobits = has_order RwNobits i parts part at;
 }
 
--- the starts behind each class, and that the other classes leave that of a part as its own puts it
+-- the starts after each class, and that the other classes leave that of a part as its own puts it
 abbrev pub put_r : ℕ → Orders → Bounds → List ℕ
 put_r n o b = all_put (stands_along b.headers_end (cut o.r)) (replicate n 0)
 
@@ -97,20 +98,20 @@ put_bits n o b = all_put (stands_along b.rw_start (cut o.rw_bits)) (put_rx n o b
 abbrev pub put_nobits : ℕ → Orders → Bounds → List ℕ
 put_nobits n o b = all_put (stands_along b.bits_end (cut o.rw_nobits)) (put_bits n o b)
 
-pub kept_r : (n i : ℕ) (part : Part) (o : Orders) (b : Bounds) → HasRows i part o → is_in R part ≡ true → get_or (starts_of n o b) i 0 ≡ get_or (put_r n o b) i 0
+pub kept_r : (n i : ℕ) (part : Part) (o : Orders) (b : Bounds) → HasRows i part o → is_of R part ≡ true → get_or (starts_of n o b) i 0 ≡ get_or (put_r n o b) i 0
 unfolding starts_of
 kept_r n i part o b has here =
     let out = only_r part here in
     spot_out i b.bits_end o.rw_nobits (put_bits n o b) (has.has_nobits ∙ out.2) ∙ spot_out i b.rw_start o.rw_bits (put_rx n o b) (has.has_bits ∙ out.1)
     ∙ spot_out i b.rx_start o.rx (put_r n o b) (has.has_rx ∙ out.0)
 
-pub kept_rx : (n i : ℕ) (part : Part) (o : Orders) (b : Bounds) → HasRows i part o → is_in Rx part ≡ true → get_or (starts_of n o b) i 0 ≡ get_or (put_rx n o b) i 0
+pub kept_rx : (n i : ℕ) (part : Part) (o : Orders) (b : Bounds) → HasRows i part o → is_of Rx part ≡ true → get_or (starts_of n o b) i 0 ≡ get_or (put_rx n o b) i 0
 unfolding starts_of
 kept_rx n i part o b has here =
     let out = only_rx part here in
     spot_out i b.bits_end o.rw_nobits (put_bits n o b) (has.has_nobits ∙ out.2) ∙ spot_out i b.rw_start o.rw_bits (put_rx n o b) (has.has_bits ∙ out.1)
 
-pub kept_bits : (n i : ℕ) (part : Part) (o : Orders) (b : Bounds) → HasRows i part o → is_in RwBits part ≡ true → get_or (starts_of n o b) i 0 ≡ get_or (put_bits n o b) i 0
+pub kept_bits : (n i : ℕ) (part : Part) (o : Orders) (b : Bounds) → HasRows i part o → is_of RwBits part ≡ true → get_or (starts_of n o b) i 0 ≡ get_or (put_bits n o b) i 0
 unfolding starts_of
 kept_bits n i part o b has here = spot_out i b.bits_end o.rw_nobits (put_bits n o b) (has.has_nobits ∙ (only_bits part here).2)
 
@@ -118,7 +119,7 @@ pub kept_nobits : (n i : ℕ) (o : Orders) (b : Bounds) → get_or (starts_of n 
 unfolding starts_of
 kept_nobits n i o b = refl
 
--- there are n of them behind each class
+-- there are n of them after each class
 pub count_zeros : (n : ℕ) → length {A = ℕ} (replicate n 0) ≡ n
 count_zeros n = rw (length-replicate {A = ℕ}) refl
 
@@ -140,7 +141,7 @@ count_starts parts =
     count_nobits (length (with_got parts)) (orders_of (with_got parts)) (bounds_of (orders_of (with_got parts))) ∙ count_whole parts
 
 pub spot_of : (n i : ℕ) (part : Part) (o : Orders) (b : Bounds) → i < n → AreFit n o → AreBounds o b → AreRising b → HasRows i part o
-    → (class : Class) → is_in class part ≡ true
+    → (class : Class) → is_of class part ≡ true
     → IsSpot (class_start class b) (class_end class b) (bytes_end class b) part (get_or (starts_of n o b) i 0)
 spot_of n i part o b lt fit is up has R here =
     subst (IsSpot b.headers_end b.r_end b.file_end part) (sym (kept_r n i part o b has here))
@@ -162,10 +163,10 @@ spot_of n i part o b lt fit is up has RwNobits here =
     (has.has_nobits ∙ here)
     (λ some. rw is.image_end (nobits_counts (is_empty o.rw_nobits) b.file_end b.nobits_end some)))
 
-get_front : (parts behind : List Part) (i : ℕ) (part : Part) → slice_get parts i ≡ Some part → slice_get (parts ++ behind) i ≡ Some part
-get_front [] behind i part at = cc
-get_front (p ∷ parts) behind zero part at = at
-get_front (p ∷ parts) behind (suc i) part at = get_front parts behind i part at
+get_front : (parts follows : List Part) (i : ℕ) (part : Part) → slice_get parts i ≡ Some part → slice_get (parts ++ follows) i ≡ Some part
+get_front [] follows i part at = cc
+get_front (p ∷ parts) follows zero part at = at
+get_front (p ∷ parts) follows (suc i) part at = get_front parts follows i part at
 
 pub get_whole : (parts : List Part) (i : ℕ) (part : Part) → slice_get parts i ≡ Some part → slice_get (with_got parts) i ≡ Some part
 unfolding with_got
@@ -193,10 +194,10 @@ later_some row rows none some = rw none at some
 
 more : (b : Bool) (c at : ℕ) (row : Row) (rows : List Row) → (row.size == 0) ≡ b → c ≤ at → at + row.size ≤ past (at + row.size) rows
     → is_empty (row ∷ rows) ≡ false → (is_empty rows ≡ false → at + row.size < past (at + row.size) rows) → c < past (at + row.size) rows
-more true c at row rows e here behind some later =
+more true c at row rows e here follows some later =
     let further : at + row.size < past (at + row.size) rows = later (later_some row rows e some) in
     omega arith
-more false c at row rows e here behind some later =
+more false c at row rows e here follows some later =
     let size : 0 < row.size = grind (arith, nat_tests) in
     omega arith
 
@@ -204,8 +205,8 @@ past_more : (n c : ℕ) (rows : List Row) → All (IsFit n) rows → is_empty ro
 past_more n c [] fit some = absurd (no_row some)
 past_more n c (row ∷ rows) fit some =
     let here : c ≤ up c row.align = up_least c row.align (All-head (IsFit n) row rows fit).some in
-    let behind : up c row.align + row.size ≤ past (up c row.align + row.size) rows = past_least n (up c row.align + row.size) rows (All-tail (IsFit n) row rows fit) in
-    more (row.size == 0) c (up c row.align) row rows refl here behind some (λ later. past_more n (up c row.align + row.size) rows (All-tail (IsFit n) row rows fit) later)
+    let follows : up c row.align + row.size ≤ past (up c row.align + row.size) rows = past_least n (up c row.align + row.size) rows (All-tail (IsFit n) row rows fit) in
+    more (row.size == 0) c (up c row.align) row rows refl here follows some (λ later. past_more n (up c row.align + row.size) rows (All-tail (IsFit n) row rows fit) later)
 
 within_step : (b : Bool) (n : ℕ) (bounds : Bounds) (parts : List Part) (class : Class) (c : ℕ) (o : List Row) → is_empty o ≡ b → class_start class bounds ≤ c
     → (if b then c else past (up c (greatest o)) o) ≤ class_end class bounds → class_end class bounds ≤ bytes_end class bounds → All (IsFit n) o

@@ -2,8 +2,8 @@
 use Rattle.std.proofs.Common.{◌≡◌, ℕ, ◌+◌, List, [], ◌∷◌, ◌++◌, Bool, true, false, not, cond, ◌||◌, if◌then◌else◌, refl, ap, Bor}
 use Rattle.std.specs.List.{list_any, position_or_len}
 use Rattle.std.specs.Str.{bytes_eq}
-use Rattle.layout.specs.Names.{texts}
 use Rattle.layout.specs.Order.{with_name, group_of}
+use Rattle.lk_tables.specs.OutputNames.{texts}
 
 -- a key is among the keys where its text is among their texts
 pub among : (key : Bor (List ℕ)) (keys : List (Bor (List ℕ))) → list_any (λ k. bytes_eq key.now k.now) keys ≡ list_any (bytes_eq key.now) (texts keys)
@@ -21,7 +21,7 @@ noted key keys = rw (among key keys) (by (list_any (bytes_eq key.now) (texts key
     by true = refl
     by false = texts-append keys key
 
-step_of : (b : Bool) (m n : ℕ) → m ≡ n → cond (not b) (1 + m) 0 ≡ cond (not b) (1 + n) 0
+pub step_of : (b : Bool) (m n : ℕ) → m ≡ n → cond (not b) (1 + m) 0 ≡ cond (not b) (1 + n) 0
 step_of true m n e = refl
 step_of false m n e = ap (λ k. 1 + k) e
 

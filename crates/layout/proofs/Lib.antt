@@ -7,11 +7,11 @@ pub mod Disjoint
 pub mod Inside
 mod Known
 mod Numbered
+mod Outputs
 pub mod Passed
 pub mod Rising
 mod Rows
 mod Runs
 mod Seen
 pub mod Segments
-mod Stable
-mod Stands
+pub mod Stands

@@ -3,13 +3,13 @@ use Rattle.std.proofs.Common.{◌≡◌, ℕ, suc, ◌+◌, ◌-◌, ◌<◌, �
 use Rattle.std.specs.List.{list_any, slice_get}
 use Rattle.std.proofs.lemmas.Bool.{cases_order, eq-eqb, ne_eqb}
 use Rattle.std.proofs.lemmas.List.Elements.{All-nil, All-cons}
-use Rattle.layout.specs.declared.names.Class.{Class}
+use Rattle.lk_tables.specs.declared.classes.Class.{Class}
 use Rattle.layout.specs.declared.order.Row.{Row}
-use Rattle.layout.specs.declared.names.Class.TheVariants.{R, Rx, RwBits, RwNobits}
-use Rattle.layout.specs.Names.{executes, is_in, is_nobits, writes}
-use Rattle.layout.specs.Order.{key_of, known_behind, order_of, own_row, row_of, rows_from, rows_of}
-use Rattle.layout.specs.Parts.{Part}
-use Rattle.layout.proofs.Stable.{all_stable, any_stable}
+use Rattle.lk_tables.specs.declared.classes.Class.TheVariants.{R, Rx, RwBits, RwNobits}
+use Rattle.layout.specs.Order.{key_of, order_of, outputs_of, own_row, row_of, rows_from, rows_of}
+use Rattle.layout.specs.Parts.{Part, is_of}
+use Rattle.lk_base.proofs.StableElements.{all_stable, any_stable}
+use Rattle.lk_tables.specs.Classes.{is_in, is_nobits, may_execute, may_write}
 
 -- whether a row is that of part i
 abbrev pub is_row : ℕ → Row → Bool
@@ -53,13 +53,13 @@ match_from : (class : Class) (known : List (List ℕ)) (k i : ℕ) (ms : List Pa
 unfolding own_row
 match_from class known k i [] part at = All-nil (Matches i part)
 match_from class known k i (m ∷ ms) part at =
-    match_next (is_in class m) i part (row_of class known k m) _ (match_one class known k i m part ms at)
-    (match_from class (known_behind class known m) (k + 1) i ms part (later_is k i m part ms at))
+    match_next (is_of class m) i part (row_of class known k m) _ (match_one class known k i m part ms at)
+    (match_from class known (k + 1) i ms part (later_is k i m part ms at))
 
 pub match_order : (class : Class) (i : ℕ) (parts : List Part) (part : Part) → slice_get parts i ≡ Some part → All (Matches i part) (order_of class parts)
 match_order class i parts part at =
     let e : i - 0 ≡ i = omega arith in
-    all_stable (Matches i part) key_of (rows_of class parts) (match_from class [] 0 i parts part (λ _. rw e at))
+    all_stable (Matches i part) key_of (rows_of class parts) (match_from class (outputs_of class parts) 0 i parts part (λ _. rw e at))
 
 -- numbers before the first are those of no row
 none_next : (b : Bool) (i : ℕ) (row : Row) (rows : List Row) → is_row i row ≡ false → list_any (is_row i) rows ≡ false
@@ -79,8 +79,8 @@ none_from : (class : Class) (known : List (List ℕ)) (k i : ℕ) (ms : List Par
 unfolding own_row
 none_from class known k i [] below = refl
 none_from class known k i (m ∷ ms) below =
-    none_next (is_in class m) i (row_of class known k m) _ (is_other class known k i m (λ same. absurd (omega arith)))
-    (none_from class (known_behind class known m) (k + 1) i ms (omega arith))
+    none_next (is_of class m) i (row_of class known k m) _ (is_other class known k i m (λ same. absurd (omega arith)))
+    (none_from class known (k + 1) i ms (omega arith))
 
 same_next : (b : Bool) (i : ℕ) (row : Row) (rows : List Row) → is_row i row ≡ true → list_any (is_row i) rows ≡ false
     → list_any (is_row i) ((if b then row ∷ [] else []) ++ rows) ≡ b
@@ -93,30 +93,30 @@ other_next true c i row rows one rest = rw (one, rest) refl
 other_next false c i row rows one rest = rest
 
 has_from : (class : Class) (known : List (List ℕ)) (k i : ℕ) (ms : List Part) (part : Part) → k ≤ i → slice_get ms (i - k) ≡ Some part
-    → list_any (is_row i) (rows_from class known k ms) ≡ is_in class part
+    → list_any (is_row i) (rows_from class known k ms) ≡ is_of class part
 unfolding own_row
 has_from class known k i [] part le at = cc
 has_from class known k i (m ∷ ms) part le at =
     elim (cases_order k i) [
       | inl same ↦
-          same_next (is_in class m) i (row_of class known k m) _ (is_same class known k i m same)
-          (none_from class (known_behind class known m) (k + 1) i ms (omega arith))
-          ∙ ap (is_in class) (first_same k i m part ms (λ _. at) same)
+          same_next (is_of class m) i (row_of class known k m) _ (is_same class known k i m same)
+          (none_from class known (k + 1) i ms (omega arith))
+          ∙ ap (is_of class) (first_same k i m part ms (λ _. at) same)
       | inr other ↦ elim other [
         | inl below ↦
-            other_next (is_in class m) (is_in class part) i (row_of class known k m) _
+            other_next (is_of class m) (is_of class part) i (row_of class known k m) _
             (is_other class known k i m (λ same. absurd (omega arith)))
-            (has_from class (known_behind class known m) (k + 1) i ms part (omega arith)
+            (has_from class known (k + 1) i ms part (omega arith)
             (later_is k i m part ms (λ _. at) (omega arith)))
         | inr above ↦ absurd (omega arith)
       ]
     ]
 
 pub has_order : (class : Class) (i : ℕ) (parts : List Part) (part : Part) → slice_get parts i ≡ Some part
-    → list_any (is_row i) (order_of class parts) ≡ is_in class part
+    → list_any (is_row i) (order_of class parts) ≡ is_of class part
 has_order class i parts part at =
     let e : i - 0 ≡ i = omega arith in
-    any_stable (is_row i) key_of (rows_of class parts) ∙ has_from class [] 0 i parts part (omega arith) (rw e at)
+    any_stable (is_row i) key_of (rows_of class parts) ∙ has_from class (outputs_of class parts) 0 i parts part (omega arith) (rw e at)
 
 -- the classes of a part: one of the four
 one_class_r : (w x n : Bool) → (not w && not x) ≡ true → ((not w && x) ≡ false) × ((w && not n) ≡ false) × ((w && n) ≡ false)
@@ -139,18 +139,18 @@ one_class_nobits false x n is = cc
 one_class_nobits true x true is = (refl, refl, refl)
 one_class_nobits true x false is = cc
 
-pub only_r : (part : Part) → is_in R part ≡ true → (is_in Rx part ≡ false) × (is_in RwBits part ≡ false) × (is_in RwNobits part ≡ false)
+pub only_r : (part : Part) → is_of R part ≡ true → (is_of Rx part ≡ false) × (is_of RwBits part ≡ false) × (is_of RwNobits part ≡ false)
 unfolding is_in
-only_r part is = one_class_r (writes part) (executes part) (is_nobits part) is
+only_r part is = one_class_r (may_write part.flags) (may_execute part.flags) (is_nobits part.sh_type) is
 
-pub only_rx : (part : Part) → is_in Rx part ≡ true → (is_in R part ≡ false) × (is_in RwBits part ≡ false) × (is_in RwNobits part ≡ false)
+pub only_rx : (part : Part) → is_of Rx part ≡ true → (is_of R part ≡ false) × (is_of RwBits part ≡ false) × (is_of RwNobits part ≡ false)
 unfolding is_in
-only_rx part is = one_class_rx (writes part) (executes part) (is_nobits part) is
+only_rx part is = one_class_rx (may_write part.flags) (may_execute part.flags) (is_nobits part.sh_type) is
 
-pub only_bits : (part : Part) → is_in RwBits part ≡ true → (is_in R part ≡ false) × (is_in Rx part ≡ false) × (is_in RwNobits part ≡ false)
+pub only_bits : (part : Part) → is_of RwBits part ≡ true → (is_of R part ≡ false) × (is_of Rx part ≡ false) × (is_of RwNobits part ≡ false)
 unfolding is_in
-only_bits part is = one_class_bits (writes part) (executes part) (is_nobits part) is
+only_bits part is = one_class_bits (may_write part.flags) (may_execute part.flags) (is_nobits part.sh_type) is
 
-pub only_nobits : (part : Part) → is_in RwNobits part ≡ true → (is_in R part ≡ false) × (is_in Rx part ≡ false) × (is_in RwBits part ≡ false)
+pub only_nobits : (part : Part) → is_of RwNobits part ≡ true → (is_of R part ≡ false) × (is_of Rx part ≡ false) × (is_of RwBits part ≡ false)
 unfolding is_in
-only_nobits part is = one_class_nobits (writes part) (executes part) (is_nobits part) is
+only_nobits part is = one_class_nobits (may_write part.flags) (may_execute part.flags) (is_nobits part.sh_type) is

@@ -1,15 +1,18 @@
 -- The bounds of a layout rise, and the file and the image end within them.
 use Rattle.std.proofs.Common.{◌≡◌, ℕ, ◌+◌, ◌*◌, ◌^◌, ◌<◌, ◌≤◌, Bool, true, false, not, if◌then◌else◌, length, List, All, arith}
+use Rattle.lk_base.specs.declared.abi.TheConstants.{EHDR_SIZE, IMAGE_BASE, PAGE, PHDR_SIZE}
 use Rattle.layout.specs.declared.placing.Bounds.{Bounds}
 use Rattle.layout.specs.Order.{IsFit}
 use Rattle.layout.specs.Parts.{IsSized, Part}
-use Rattle.layout.specs.Walk.{cut, end_along, is_empty, up}
+use Rattle.layout.specs.Walk.{cut, end_along, is_empty}
 use Rattle.layout.specs.Layout.{AreFit, Orders, bounds_of, count_of, laid_of, last_end, layout_of, orders_of, with_got}
 use Rattle.layout.specs.Spots.{AreRising}
 use Rattle.layout.proofs.Chain.{AreBounds, bounds_are}
-use Rattle.layout.proofs.Cursors.{end_least, end_most, up_below, up_least}
+use Rattle.layout.proofs.Cursors.{end_least, end_most}
 use Rattle.layout.proofs.Rows.{count_whole, fit_orders, sized_whole}
 use Rattle.layout.proofs.Runs.{each_cut}
+use Rattle.lk_base.proofs.Multiples.{up_below, up_least}
+use Rattle.lk_base.specs.Arithmetic.{up}
 
 -- the last of three ends that rise, where some may not count
 last_between : (p q : Bool) (r x w : ℕ) → r ≤ x → x ≤ w
@@ -31,21 +34,21 @@ rising n o b few fit is =
     let rx_count : count_of b.has_rx ≤ 1 = count_most b.has_rx in
     let rw_count : count_of b.has_rw ≤ 1 = count_most b.has_rw in
     let headers : b.headers ≡ 2 + count_of b.has_rx + count_of b.has_rw = is.headers in
-    let begin : b.headers_end ≡ 0x10000 + (64 + 56 * b.headers) = is.headers_end in
+    let first_is : b.headers_end ≡ IMAGE_BASE + (EHDR_SIZE + PHDR_SIZE * b.headers) = is.headers_end in
     let r_is : b.r_end ≡ end_along b.headers_end (cut o.r) = is.r_end in
     let r : b.headers_end ≤ end_along b.headers_end (cut o.r) = end_least n b.headers_end (cut o.r) (each_cut (IsFit n) o.r fit.r) in
     let r_most : end_along b.headers_end (cut o.r) ≤ b.headers_end + length o.r * (2 ^ 32 + 2 ^ 21) = end_most n b.headers_end o.r (each_cut (IsFit n) o.r fit.r) in
     let r_few : length o.r ≤ n = fit.few_r in
-    let rx_start_is : b.rx_start ≡ up b.r_end 4096 = is.rx_start in
-    let rx_start : b.r_end ≤ up b.r_end 4096 = up_least b.r_end 4096 (omega arith) in
-    let rx_start_most : up b.r_end 4096 < b.r_end + 4096 = up_below b.r_end 4096 (omega arith) in
+    let rx_start_is : b.rx_start ≡ up b.r_end PAGE = is.rx_start in
+    let rx_start : b.r_end ≤ up b.r_end PAGE = up_least b.r_end PAGE (omega arith) in
+    let rx_start_most : up b.r_end PAGE < b.r_end + PAGE = up_below b.r_end PAGE (omega arith) in
     let rx_is : b.rx_end ≡ end_along b.rx_start (cut o.rx) = is.rx_end in
     let rx : b.rx_start ≤ end_along b.rx_start (cut o.rx) = end_least n b.rx_start (cut o.rx) (each_cut (IsFit n) o.rx fit.rx) in
     let rx_most : end_along b.rx_start (cut o.rx) ≤ b.rx_start + length o.rx * (2 ^ 32 + 2 ^ 21) = end_most n b.rx_start o.rx (each_cut (IsFit n) o.rx fit.rx) in
     let rx_few : length o.rx ≤ n = fit.few_rx in
-    let rw_start_is : b.rw_start ≡ up b.rx_end 4096 = is.rw_start in
-    let rw_start : b.rx_end ≤ up b.rx_end 4096 = up_least b.rx_end 4096 (omega arith) in
-    let rw_start_most : up b.rx_end 4096 < b.rx_end + 4096 = up_below b.rx_end 4096 (omega arith) in
+    let rw_start_is : b.rw_start ≡ up b.rx_end PAGE = is.rw_start in
+    let rw_start : b.rx_end ≤ up b.rx_end PAGE = up_least b.rx_end PAGE (omega arith) in
+    let rw_start_most : up b.rx_end PAGE < b.rx_end + PAGE = up_below b.rx_end PAGE (omega arith) in
     let bits_is : b.bits_end ≡ end_along b.rw_start (cut o.rw_bits) = is.bits_end in
     let bits : b.rw_start ≤ end_along b.rw_start (cut o.rw_bits) = end_least n b.rw_start (cut o.rw_bits) (each_cut (IsFit n) o.rw_bits fit.rw_bits) in
     let bits_most : end_along b.rw_start (cut o.rw_bits) ≤ b.rw_start + length o.rw_bits * (2 ^ 32 + 2 ^ 21) = end_most n b.rw_start o.rw_bits (each_cut (IsFit n) o.rw_bits fit.rw_bits) in
@@ -59,7 +62,7 @@ rising n o b few fit is =
     let file_most : b.file_end ≤ b.bits_end = rw file_is file.1 in
     let image = image_between (is_empty o.rw_nobits) b.file_end b.nobits_end (omega arith) in
     record {
-      begins = omega arith;
+      first = omega arith;
       r = omega arith;
       rx_rounded = omega arith;
       rx = omega arith;

@@ -2,15 +2,14 @@
 use Rattle.std.proofs.Common.{◌≡◌, ℕ, ◌+◌, ◌<◌, ◌≤◌, List, [], ◌∷◌, ◌++◌, length, Bool, true, false, if◌then◌else◌, All, arith, get_or, suc, length-append}
 use Rattle.std.proofs.lemmas.List.{length-map}
 use Rattle.std.proofs.lemmas.List.Elements.{All-nil, All-head, All-tail, All-cons, All-append}
-use Rattle.layout.specs.declared.names.Class.{Class}
-use Rattle.layout.specs.declared.names.Member.{Member}
-use Rattle.layout.specs.Parts.{IsSized, Part, part_of, parts_of}
+use Rattle.lk_tables.specs.declared.classes.Class.{Class}
+use Rattle.layout.specs.declared.members.Member.{Member}
+use Rattle.layout.specs.Parts.{IsSized, Part, is_of, part_of, parts_of}
 use Rattle.layout.specs.declared.order.Row.{Row}
-use Rattle.layout.specs.declared.names.Class.TheVariants.{R, Rx, RwBits, RwNobits}
+use Rattle.lk_tables.specs.declared.classes.Class.TheVariants.{R, Rx, RwBits, RwNobits}
 use Rattle.layout.specs.Layout.{AreFit, got, orders_of, with_got}
-use Rattle.layout.specs.Names.{is_in}
-use Rattle.layout.specs.Order.{IsFit, key_of, known_behind, order_of, own_row, row_of, rows_from, rows_of}
-use Rattle.layout.proofs.Stable.{all_stable, length_stable}
+use Rattle.layout.specs.Order.{IsFit, key_of, order_of, outputs_of, own_row, row_of, rows_from, rows_of}
+use Rattle.lk_base.proofs.StableElements.{all_stable, length_stable}
 
 -- a member's row in front of rows that fit, or not
 fit_next : (b : Bool) (n : ℕ) (row : Row) (rows : List Row) → IsFit n row → All (IsFit n) rows → All (IsFit n) ((if b then row ∷ [] else []) ++ rows)
@@ -25,9 +24,9 @@ pub all_fit : (class : Class) (known : List (List ℕ)) (n i : ℕ) (ms : List P
 unfolding own_row
 all_fit class known n i [] room sized = All-nil (IsFit n)
 all_fit class known n i (m ∷ ms) room sized =
-    fit_next (is_in class m) n (row_of class known i m) _
+    fit_next (is_of class m) n (row_of class known i m) _
     (row_fit class known n i m (omega arith) (All-head IsSized m ms sized))
-    (all_fit class (known_behind class known m) n (i + 1) ms (omega arith) (All-tail IsSized m ms sized))
+    (all_fit class known n (i + 1) ms (omega arith) (All-tail IsSized m ms sized))
 
 one_more : (b : Bool) (n : ℕ) (row : Row) (rows : List Row) → length rows ≤ n → length ((if b then row ∷ [] else []) ++ rows) ≤ n + 1
 one_more true n row rows le = omega arith
@@ -37,15 +36,15 @@ pub few_rows : (class : Class) (known : List (List ℕ)) (i : ℕ) (ms : List Pa
 unfolding own_row
 few_rows class known i [] = omega arith
 few_rows class known i (m ∷ ms) =
-    let more : length ((if is_in class m then row_of class known i m ∷ [] else []) ++ rows_from class (known_behind class known m) (i + 1) ms) ≤ length ms + 1 =
-    one_more (is_in class m) (length ms) (row_of class known i m) _ (few_rows class (known_behind class known m) (i + 1) ms) in
+    let more : length ((if is_of class m then row_of class known i m ∷ [] else []) ++ rows_from class known (i + 1) ms) ≤ length ms + 1 =
+    one_more (is_of class m) (length ms) (row_of class known i m) _ (few_rows class known (i + 1) ms) in
     omega (arith, more)
 
 pub fit_parts : (class : Class) (n : ℕ) (parts : List Part) → length parts ≤ n → All IsSized parts → All (IsFit n) (order_of class parts)
-fit_parts class n parts room sized = all_stable (IsFit n) key_of (rows_of class parts) (all_fit class [] n 0 parts (omega arith) sized)
+fit_parts class n parts room sized = all_stable (IsFit n) key_of (rows_of class parts) (all_fit class (outputs_of class parts) n 0 parts (omega arith) sized)
 
 pub few_parts : (class : Class) (parts : List Part) → length (order_of class parts) ≤ length parts
-few_parts class parts = omega (arith, length_stable key_of (rows_of class parts), few_rows class [] 0 parts)
+few_parts class parts = omega (arith, length_stable key_of (rows_of class parts), few_rows class (outputs_of class parts) 0 parts)
 
 -- the same of members, as many as their parts
 pub count_parts : (members : List Member) → length (parts_of members) ≡ length members
@@ -57,7 +56,7 @@ fit_order class n members room sized = fit_parts class n (parts_of members) (ome
 pub few_order : (class : Class) (members : List Member) → length (order_of class (parts_of members)) ≤ length members
 few_order class members = omega (arith, few_parts class (parts_of members), count_parts members)
 
--- the linker's part behind them
+-- the linker's part after them
 got_sized : IsSized got
 got_sized = record { some = omega arith; aligned = omega arith; sized = omega arith }
 

@@ -1,6 +1,6 @@
 -- What holds of the layout of parts holds of each layout that is seen as it.
 use Rattle.std.proofs.Common.{◌≡◌, ◌^◌, ◌≤◌, List, length, All, arith, subst, sym}
-use Rattle.layout.specs.declared.names.Member.{Member}
+use Rattle.layout.specs.declared.members.Member.{Member}
 use Rattle.layout.specs.declared.placing.Layout.{Layout}
 use Rattle.layout.specs.Layout.{AreApart, LaidOut, layout_of, view_of}
 use Rattle.layout.specs.Parts.{IsSized, Part, parts_of}

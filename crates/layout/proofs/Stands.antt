@@ -1,5 +1,5 @@
 -- Addresses put at the numbers of parts: that of a part is what its row says.
-use Rattle.std.proofs.Common.{◌≡◌, ℕ, ◌+◌, ◌%◌, ◌^◌, ◌<◌, ◌≤◌, ◌==◌, ◌&&◌, ◌||◌, Bool, true, false, if◌then◌else◌, List, [], ◌∷◌, length, get_or, set, refl, ap, sym, subst, ◌∙◌, All, arith, inl, inr}
+use Rattle.std.proofs.Common.{◌≡◌, ℕ, ◌+◌, ◌%◌, ◌<◌, ◌≤◌, ◌==◌, ◌&&◌, ◌||◌, Bool, true, false, if◌then◌else◌, List, [], ◌∷◌, length, get_or, set, refl, ap, sym, subst, ◌∙◌, All, arith, inl, inr}
 use Rattle.std.specs.List.{list_any, list_all}
 use Rattle.std.proofs.lemmas.Bool.{cases_Bool, cases_order, ne_eqb}
 use Rattle.std.proofs.lemmas.Bool.Decides.{nat_tests}
@@ -7,13 +7,16 @@ use Rattle.std.proofs.lemmas.Grind.{get_or-set_at}
 use Rattle.std.proofs.lemmas.List.{get_or-set_other, length-set}
 use Rattle.std.proofs.lemmas.List.Elements.{All-nil, All-head, All-tail, All-cons, All-append}
 use Rattle.std.proofs.lemmas.List.Folds.{list_any-append}
+use Rattle.lk_base.specs.declared.abi.TheConstants.{ALIGN_MAX}
 use Rattle.layout.specs.declared.order.Row.{Row}
 use Rattle.layout.specs.Order.{IsFit}
 use Rattle.layout.specs.Parts.{Part}
-use Rattle.layout.specs.Walk.{Stand, after, all_put, cut, end_along, greatest, is_empty, past, stands, stands_along, stands_in, stands_still, start_of, up}
-use Rattle.layout.proofs.Cursors.{after_least, end_least, greatest_most, greatest_some, past_least, up_below, up_least, up_multiple}
+use Rattle.layout.specs.Walk.{Stand, after, all_put, cut, end_along, greatest, is_empty, past, stands, stands_along, stands_in, stands_still, start_of}
+use Rattle.layout.proofs.Cursors.{after_least, end_least, greatest_most, greatest_some, past_least}
 use Rattle.layout.proofs.Numbered.{Matches, is_row}
 use Rattle.layout.proofs.Runs.{EachRun, any_cut, any_run}
+use Rattle.lk_base.proofs.Multiples.{up_below, up_least, up_multiple}
+use Rattle.lk_base.specs.Arithmetic.{up}
 
 abbrev pub is_stand : ℕ → Stand → Bool
 is_stand i s = s.number == i
@@ -100,7 +103,7 @@ any_class i c rows = any_along i c (cut rows) ∙ any_cut (is_row i) rows
 -- where a part of a class from first to last may stand
 pub record IsNear (first last : ℕ) (part : Part) (start : ℕ) : Type 0 where
   pub from : first ≤ start
-  pub near : start < last + 2 ^ 20
+  pub near : start < last + ALIGN_MAX
   pub to : 0 < part.size → start + part.size ≤ last
   pub aligned : 0 < part.size → start % part.align ≡ 0
 
@@ -118,7 +121,7 @@ pub says_stands : (n i first last c : ℕ) (part : Part) (rows : List Row) → f
 says_stands n i first last c part [] from to fit match = All-nil (Says i (IsNear first last part))
 says_stands n i first last c part (row ∷ rows) from to fit match =
     let here : c ≤ up c row.align = up_least c row.align (All-head (IsFit n) row rows fit).some in
-    let behind : up c row.align + row.size ≤ past (up c row.align + row.size) rows = past_least n (up c row.align + row.size) rows (All-tail (IsFit n) row rows fit) in
+    let follows : up c row.align + row.size ≤ past (up c row.align + row.size) rows = past_least n (up c row.align + row.size) rows (All-tail (IsFit n) row rows fit) in
     let is : Matches i part row = All-head (Matches i part) row rows match in
     All-cons (Says i (IsNear first last part)) _ _
     (record { says = λ same. near_row first last (up c row.align) part row (omega arith) (omega arith) (up_multiple c row.align) (is.size same) (is.align same) })
@@ -133,7 +136,7 @@ empty_first row rows e = by (row.size == 0) (list_all (λ row. row.size == 0) ro
     by true b is e = (grind (arith, nat_tests), e)
     by false b is e = cc
 
-near_empty : (first last at : ℕ) (part : Part) (row : Row) → first ≤ at → at < last + 2 ^ 20 → row.size ≡ 0 → row.size ≡ part.size → IsNear first last part at
+near_empty : (first last at : ℕ) (part : Part) (row : Row) → first ≤ at → at < last + ALIGN_MAX → row.size ≡ 0 → row.size ≡ part.size → IsNear first last part at
 near_empty first last at part row from near none size = record {
   from = from;
   near = near;
@@ -141,7 +144,7 @@ near_empty first last at part row from near none size = record {
   aligned = λ some. absurd (omega arith);
 }
 
-says_still : (i first last start : ℕ) (part : Part) (rows : List Row) → first ≤ start → start < last + 2 ^ 20 → is_empty rows ≡ true → All (Matches i part) rows
+says_still : (i first last start : ℕ) (part : Part) (rows : List Row) → first ≤ start → start < last + ALIGN_MAX → is_empty rows ≡ true → All (Matches i part) rows
     → All (Says i (IsNear first last part)) (stands_still start rows)
 says_still i first last start part [] from near empty match = All-nil (Says i (IsNear first last part))
 says_still i first last start part (row ∷ rows) from near empty match =
@@ -159,7 +162,7 @@ unfolding start_of
 says_by true n i first last c part rows empty from to fit match =
     let here : c ≤ up c (greatest rows) = up_least c (greatest rows) (greatest_some rows) in
     let near : up c (greatest rows) < c + greatest rows = up_below c (greatest rows) (greatest_some rows) in
-    let most : greatest rows ≤ 2 ^ 20 = greatest_most n rows fit in
+    let most : greatest rows ≤ ALIGN_MAX = greatest_most n rows fit in
     says_still i first last (up c (greatest rows)) part rows (omega arith) (omega arith) empty match
 says_by false n i first last c part rows empty from to fit match =
     let here : c ≤ up c (greatest rows) = up_least c (greatest rows) (greatest_some rows) in

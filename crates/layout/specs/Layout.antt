@@ -1,27 +1,29 @@
--- The layout of a link, one function of its parts: the classes one after the other, each from the cursor behind the one
+-- The layout of a link, one function of its parts: the classes one after the other, each from the cursor after the one
 -- before, and the limits.
 use Rattle.std.specs.Prelude.{◌≡◌, ℕ, ◌+◌, ◌-◌, ◌*◌, ◌%◌, ◌<◌, ◌≤◌, nat_lt, nat_le, Bool, not, ◌&&◌, if◌then◌else◌, List, [], ◌∷◌, ◌++◌, length, codes, All, replicate}
+use Rattle.lk_base.specs.declared.abi.TheConstants.{EHDR_SIZE, IMAGE_BASE, PAGE, PHDR_SIZE, SHF_ALLOC, SHF_WRITE, SHT_PROGBITS}
 use Rattle.lk_base.specs.declared.defects.Defect.{Defect}
 use Rattle.lk_base.specs.declared.defects.LinkStop.{LinkStop}
 use Rattle.lk_base.specs.declared.defects.LinkStop.TheVariants.{Defect as StopsAt, Memory}
-use Rattle.lk_base.specs.declared.kinds.DefectKind.{DefectKind}
-use Rattle.lk_base.specs.declared.kinds.DefectKind.TheVariants.{F08, F23}
+use Rattle.lk_base.specs.declared.kinds.TheConstants.{TOO_BIG}
+use Rattle.lk_base.specs.Defects.{count_defect, linkwide}
 use Rattle.lk_base.specs.declared.limits.Limits.{Limits}
-use Rattle.lk_base.specs.declared.numbers.TheConstants.{NO_FILE}
-use Rattle.layout.specs.declared.names.Class.TheVariants.{R, Rx, RwBits, RwNobits}
+use Rattle.lk_tables.specs.declared.classes.Class.TheVariants.{R, Rx, RwBits, RwNobits}
+use Rattle.layout.specs.declared.members.TheConstants.{NO_SECTION}
 use Rattle.layout.specs.declared.order.Row.{Row}
 use Rattle.layout.specs.declared.placing.Bounds.{Bounds}
 use Rattle.layout.specs.declared.placing.Layout.{Layout}
 use Rattle.layout.specs.declared.placing.Ordered.{Ordered}
 use Rattle.layout.specs.Order.{IsFit, order_of}
 use Rattle.layout.specs.Parts.{Part}
-use Rattle.layout.specs.Walk.{Section, all_put, cut, end_along, is_empty, sections_along, stands_along, up, views}
+use Rattle.layout.specs.Walk.{Section, all_put, cut, end_along, is_empty, sections_along, stands_along, views}
+use Rattle.lk_base.specs.Arithmetic.{up}
 
--- the linker's own part: an empty global offset table, PROGBITS, WRITE and ALLOC, of alignment 8
+-- the linker's own part: an empty global offset table of alignment 8 (psABI, "Global Offset Table")
 abbrev pub got : Part
-got = record { name = codes ".got"; sh_type = 1; flags = 3; size = 0; align = 8 }
+got = record { section = NO_SECTION; name = codes ".got"; sh_type = SHT_PROGBITS; flags = SHF_WRITE + SHF_ALLOC; size = 0; align = 8 }
 
--- all parts: those given, in command order, and behind them the linker's
+-- all parts: those given, in command order, and after them the linker's
 unfoldable pub with_got : List Part → List Part
 with_got parts = parts ++ got ∷ []
 
@@ -58,7 +60,7 @@ pub record AreFit (n : ℕ) (o : Orders) : Type 0 where
 abbrev pub count_of : Bool → ℕ
 count_of test = if test then 1 else 0
 
--- a class that is executed, or written, has a segment where one of its parts has a byte
+-- a class that is executed, or written, has a segment if one of its parts has a byte
 unfoldable pub has_rx : Orders → Bool
 has_rx o = not (is_empty o.rx)
 
@@ -69,23 +71,23 @@ has_rw o = not (is_empty o.rw_bits && is_empty o.rw_nobits)
 unfoldable pub headers_of : Orders → ℕ
 headers_of o = 2 + count_of (has_rx o) + count_of (has_rw o)
 
--- the image begins at 0x10000 with the file header, 64 bytes, and 56 for each program header
+-- the image starts with the file header and the program headers (gABI, "ELF Header", "Program Header")
 unfoldable pub headers_end_of : Orders → ℕ
-headers_end_of o = 0x10000 + (64 + 56 * headers_of o)
+headers_end_of o = IMAGE_BASE + (EHDR_SIZE + PHDR_SIZE * headers_of o)
 
--- the chain of the classes: the cursor is rounded before RX, and once more behind it (where the thread-local classes
+-- the chain of the classes: the cursor is rounded before RX, and once more after it (where the thread-local classes
 -- will stand)
 unfoldable pub r_end_of : Orders → ℕ
 r_end_of o = end_along (headers_end_of o) (cut o.r)
 
 unfoldable pub rx_start_of : Orders → ℕ
-rx_start_of o = up (r_end_of o) 4096
+rx_start_of o = up (r_end_of o) PAGE
 
 unfoldable pub rx_end_of : Orders → ℕ
 rx_end_of o = end_along (rx_start_of o) (cut o.rx)
 
 unfoldable pub rw_start_of : Orders → ℕ
-rw_start_of o = up (rx_end_of o) 4096
+rw_start_of o = up (rx_end_of o) PAGE
 
 unfoldable pub bits_end_of : Orders → ℕ
 bits_end_of o = end_along (rw_start_of o) (cut o.rw_bits)
@@ -155,7 +157,7 @@ laid_of parts o = record {
 unfoldable pub layout_of : List Part → LaidOut
 layout_of parts = laid_of (with_got parts) (orders_of (with_got parts))
 
--- output sections one after the other from an address on: each begins at a multiple of its alignment, and not below the
+-- output sections one after the other from an address on: each starts at a multiple of its alignment, and not below the
 -- end of the one before
 abbrev pub AreApart : ℕ → List Section → Type 0
 AreApart from [] = Unit {0}
@@ -164,21 +166,18 @@ AreApart from (s ∷ ss) = (from ≤ s.address) × (s.address % s.align ≡ 0) �
 -- the limits: on the count of the output sections, and on the image's size
 pub record IsWithin (limits : Limits) (laid : LaidOut) : Type 0 where
   pub outputs : length laid.outputs ≤ limits.outputs
-  pub image : laid.bounds.image_end - 0x10000 < limits.image
+  pub image : laid.bounds.image_end - IMAGE_BASE < limits.image
 
-abbrev pub defect_of : DefectKind → ℕ → Defect
-defect_of kind place = record { kind = kind; file = NO_FILE; section = 0; place = place; symbol = 0; other = 0 }
-
--- the first limit that is passed, where one is: output sections above their limit, or an image not below its
-abbrev pub limit_passed : Limits → (outputs image : ℕ) → List Defect
-limit_passed limits outputs image = if nat_lt limits.outputs outputs then defect_of F08 outputs ∷ []
-    else if nat_le limits.image image then defect_of F23 image ∷ []
+-- the first limit that is passed, if one is: output sections above their limit, or an image not below its
+abbrev pub limit_passed : Limits → (outputs size : ℕ) → List Defect
+limit_passed limits outputs size = if nat_lt limits.outputs outputs then count_defect outputs ∷ []
+    else if nat_le limits.image size then linkwide TOO_BIG size 0 ∷ []
     else []
 
 unfoldable pub limit_defects : Limits → LaidOut → List Defect
-limit_defects limits laid = limit_passed limits (length laid.outputs) (laid.bounds.image_end - 0x10000)
+limit_defects limits laid = limit_passed limits (length laid.outputs) (laid.bounds.image_end - IMAGE_BASE)
 
--- why there is no layout: a limit that the layout of these parts passes, or want of memory
+-- why there is no layout: a limit that the layout of these parts passes, or memory ran out
 abbrev pub Stops : Limits → LaidOut → LinkStop → Type 0
 Stops limits laid Memory = Unit {0}
 Stops limits laid (StopsAt defect) = limit_defects limits laid ≡ defect ∷ []

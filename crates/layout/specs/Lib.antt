@@ -1,5 +1,4 @@
 pub mod Parts
-pub mod Names
 pub mod Order
 pub mod Walk
 pub mod Layout

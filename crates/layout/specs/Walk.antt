@@ -1,12 +1,14 @@
 -- The walk: where the output sections of a class and their members stand, from a cursor on.
-use Rattle.std.specs.Prelude.{ℕ, ◌+◌, ◌-◌, ◌*◌, ◌/◌, Bool, ◌==◌, Option, Some, None, if◌then◌else◌, max, List, [], ◌∷◌, ◌++◌, slice_set, slice_get, bit_and, bit_or, map}
+use Rattle.std.specs.Prelude.{ℕ, ◌+◌, ◌-◌, Bool, ◌==◌, Option, Some, None, if◌then◌else◌, max, List, [], ◌∷◌, ◌++◌, slice_set, slice_get, bit_and, bit_or, map}
 use Rattle.std.specs.List.{list_all, fold}
-use Rattle.layout.specs.declared.names.Class.{Class}
-use Rattle.layout.specs.declared.names.Class.TheVariants.{R, Rx, RwBits, RwNobits}
+use Rattle.lk_base.specs.declared.abi.TheConstants.{SHF_ALLOC, SHF_EXECINSTR, SHF_TLS, SHF_WRITE, SHT_NOBITS, SHT_PROGBITS}
+use Rattle.lk_base.specs.Arithmetic.{up}
+use Rattle.lk_tables.specs.declared.classes.Class.{Class}
+use Rattle.lk_tables.specs.declared.classes.Class.TheVariants.{R, Rx, RwBits, RwNobits}
 use Rattle.layout.specs.declared.order.Row.{Row}
 use Rattle.layout.specs.declared.walk.Output.{Output}
-use Rattle.layout.specs.Names.{output_name}
 use Rattle.layout.specs.Parts.{Part}
+use Rattle.lk_tables.specs.OutputNames.{output_name}
 
 -- the output sections of a class, its members being in their order: each run of one group
 abbrev pub beside : Row → List (List Row) → List (List Row)
@@ -19,19 +21,6 @@ unfoldable pub cut : List Row → List (List Row)
 cut [] = []
 cut (row ∷ rows) = beside row (cut rows)
 
--- how many rows from the first on are of this group, and the length of the first run
-abbrev pub same_len : ℕ → List Row → ℕ
-same_len group [] = 0
-same_len group (row ∷ rows) = if row.group == group then 1 + same_len group rows else 0
-
-abbrev pub run_len : List Row → ℕ
-run_len [] = 0
-run_len (row ∷ rows) = 1 + same_len row.group rows
-
--- the least multiple of an alignment that is not below x
-unfoldable pub up : ℕ → ℕ → ℕ
-up x align = (x + (align - 1)) / align * align
-
 -- the greatest alignment of these members, and 1 of none
 unfoldable pub greatest : List Row → ℕ
 greatest rows = fold (λ found row. max found row.align) 1 rows
@@ -42,7 +31,7 @@ is_empty rows = list_all (λ row. row.size == 0) rows
 
 -- the flags of the members together, of WRITE, ALLOC, EXECINSTR and TLS
 unfoldable pub flags_of : List Row → ℕ
-flags_of rows = bit_and (fold (λ flags row. bit_or flags row.flags) 0 rows) 0x407
+flags_of rows = bit_and (fold (λ flags row. bit_or flags row.flags) 0 rows) (SHF_WRITE + SHF_ALLOC + SHF_EXECINSTR + SHF_TLS)
 
 -- the name is that to which the first member's goes
 abbrev pub name_of_part : Option Part → List ℕ
@@ -53,13 +42,13 @@ abbrev pub first_name : List Part → List Row → List ℕ
 first_name parts [] = []
 first_name parts (row ∷ rows) = name_of_part (slice_get parts row.number)
 
--- NOBITS in a class without bits, else the first member's type, where NOBITS counts as PROGBITS
+-- NOBITS in a class without bits, else the first member's type; NOBITS counts as PROGBITS
 abbrev pub bits_type : List Row → ℕ
-bits_type [] = 1
-bits_type (row ∷ rows) = if row.sh_type == 8 then 1 else row.sh_type
+bits_type [] = SHT_PROGBITS
+bits_type (row ∷ rows) = if row.sh_type == SHT_NOBITS then SHT_PROGBITS else row.sh_type
 
 abbrev pub first_type : Class → List Row → ℕ
-first_type RwNobits rows = 8
+first_type RwNobits rows = SHT_NOBITS
 first_type R rows = bits_type rows
 first_type Rx rows = bits_type rows
 first_type RwBits rows = bits_type rows
@@ -125,7 +114,7 @@ abbrev pub stands_still : ℕ → List Row → List Stand
 stands_still start [] = []
 stands_still start (row ∷ rows) = record { number = row.number; address = start } ∷ stands_still start rows
 
--- an output section begins at a multiple of its greatest alignment; an empty one does not move the cursor
+-- an output section starts at a multiple of its greatest alignment; an empty one does not move the cursor
 unfoldable pub start_of : ℕ → List Row → ℕ
 start_of cursor rows = up cursor (greatest rows)
 
@@ -140,7 +129,7 @@ unfoldable pub section_in : List Part → Class → ℕ → List Row → List Se
 section_in parts class cursor rows =
     if is_empty rows then [] else section_of parts class rows (start_of cursor rows) (after cursor rows) ∷ []
 
--- the output sections of a class one after the other: those that are not empty, all members, and the cursor behind
+-- the output sections of a class one after the other: those that are not empty, all members, and the cursor after
 abbrev pub sections_along : List Part → Class → ℕ → List (List Row) → List Section
 sections_along parts class cursor [] = []
 sections_along parts class cursor (o ∷ os) =

@@ -3,11 +3,11 @@
 //! "Program Header").
 #![tactic(auto)]
 
-mod names;
+mod members;
 mod order;
 mod placing;
 mod walk;
 
-pub use names::{Class, Member, is_in, output_name, priority_of, rank_of};
+pub use members::{Member, NO_SECTION};
 pub use placing::{Bounds, Layout, place};
 pub use walk::Output;

@@ -1,13 +1,14 @@
 //! The order in which the members of a class stand.
 
 ghost use Rattle.std.specs.Prelude.{◌≡◌, ℕ, ◌+◌, ◌<◌, ◌≤◌, ◌∷◌, [], ◌++◌, ◌^◌, All, length, IfOk, OnOk, replicate};
-ghost use Rattle.layout.specs.Names.{texts, output_name};
-ghost use Rattle.layout.specs.Order.{IsFit, group_of, key_of, known_behind, order_of, own_row, rows_of, with_name};
+ghost use Rattle.layout.specs.Order.{IsFit, group_of, key_of, known_after, order_of, own_row, rows_of, with_name};
 ghost use Rattle.layout.specs.Parts.{IsSized, part_of, parts_of};
 ghost use Rattle.lk_base.specs.Order.{stable_order};
+ghost use Rattle.lk_tables.specs.OutputNames.{output_name, texts};
 
-use crate::names::{Class, Member, is_in, output_name, priority_of, rank_of};
+use crate::members::Member;
 use indexmap::IndexSet;
+use lk_tables::{Class, is_in, output_name, output_rank, priority_of};
 use std::alloc::{AllocError, Global};
 
 /// A member of an output section, with what decides its place.
@@ -31,7 +32,20 @@ pub struct Row {
     pub align: u64,
 }
 
-// The number of a name among those known, where a new one becomes the last.
+/// The members of a class in their order.
+pub fn find_order(alloc: Global, members: &[Member], class: Class) -> Result<Vec<Row>, AllocError>
+    requires few { length members.now < 2 ^ 32 }
+    requires sized { All IsSized (parts_of members.now) }
+    ensures order { IfOk result (λ rows. rows.items ≡ order_of class (parts_of members.now)) }
+    ensures fit { IfOk result (λ rows. All (IsFit (length members.now)) rows.items) }
+    ensures few { IfOk result (λ rows. length rows.items ≤ length members.now) }
+{
+    let mut rows = rows_in(alloc, members, class)?;
+    sort_rows(&mut rows)?;
+    Ok(rows)
+}
+
+// The number of a name among those known; a new one becomes the last.
 fn note_name<'a>(known: &mut IndexSet<&'a [u8]>, name: &'a [u8]) -> Result<usize, AllocError>
     ensures number { IfOk result (λ group. group ≡ group_of (texts known.old.keys) name.now) }
     ensures names { OnOk result (texts known.new.keys ≡ with_name (texts known.old.keys) name.now) }
@@ -42,8 +56,8 @@ fn note_name<'a>(known: &mut IndexSet<&'a [u8]>, name: &'a [u8]) -> Result<usize
     Ok(group)
 }
 
-// One member behind those before it, where it is of the class.
-#[tactic(auto, unfolding(crate::specs::Order::own_row, crate::specs::Order::known_behind, crate::specs::Order::row_of))]
+// One member after those before it, if it is of the class.
+#[tactic(auto, unfolding(crate::specs::Order::own_row, crate::specs::Order::known_after, crate::specs::Order::row_of))]
 fn push_row<'a>(
     rows: &mut Vec<Row>,
     known: &mut IndexSet<&'a [u8]>,
@@ -53,10 +67,10 @@ fn push_row<'a>(
 ) -> Result<(), AllocError>
     requires few { length known.old.keys ≤ number }
     ensures rows { OnOk result (rows.new.items ≡ rows.old.items ++ own_row class (texts known.old.keys) number (part_of member.now)) }
-    ensures names { OnOk result (texts known.new.keys ≡ known_behind class (texts known.old.keys) (part_of member.now)) }
+    ensures names { OnOk result (texts known.new.keys ≡ known_after class (texts known.old.keys) (part_of member.now)) }
     ensures more { OnOk result (length known.new.keys ≤ length known.old.keys + 1) }
 {
-    if !is_in(class, member) {
+    if !is_in(class, member.sh_type, member.flags) {
         return Ok(());
     }
     let name = output_name(member.name);
@@ -64,7 +78,7 @@ fn push_row<'a>(
     rows.push(Row {
         number,
         group,
-        rank: rank_of(class, name),
+        rank: output_rank(class, name),
         priority: priority_of(member.name),
         sh_type: member.sh_type,
         flags: member.flags,
@@ -102,17 +116,4 @@ fn sort_rows(rows: &mut Vec<Row>) -> Result<(), AllocError>
 {
     rows.sort_by_key(|row| key_of(row))?;
     Ok(())
-}
-
-/// The members of a class in their order.
-pub fn find_order(alloc: Global, members: &[Member], class: Class) -> Result<Vec<Row>, AllocError>
-    requires few { length members.now < 2 ^ 32 }
-    requires sized { All IsSized (parts_of members.now) }
-    ensures order { IfOk result (λ rows. rows.items ≡ order_of class (parts_of members.now)) }
-    ensures fit { IfOk result (λ rows. All (IsFit (length members.now)) rows.items) }
-    ensures few { IfOk result (λ rows. length rows.items ≤ length members.now) }
-{
-    let mut rows = rows_in(alloc, members, class)?;
-    sort_rows(&mut rows)?;
-    Ok(rows)
 }

@@ -4,15 +4,18 @@ ghost use Rattle.std.specs.Prelude.{◌≡◌, ℕ, ◌+◌, ◌*◌, ◌<◌, �
 ghost use Rattle.layout.specs.Parts.{IsSized, parts_of};
 ghost use Rattle.layout.specs.Walk.{is_empty, views};
 ghost use Rattle.layout.specs.Spots.{AreDisjoint, AreRising, HaveSegments, HaveSpots, IsWithinClass};
-ghost use Rattle.layout.specs.Layout.{AreApart, AreFit, IsWithin, Stops, count_of, defect_of, laid_of, last_end, layout_of, limit_defects, limit_passed, orders_in, orders_of, view_of, with_got};
+ghost use Rattle.layout.specs.Layout.{AreApart, AreFit, IsWithin, Stops, count_of, laid_of, last_end, layout_of, limit_defects, orders_in, orders_of, view_of, with_got};
 
-use crate::names::{Class, Member};
+use crate::members::{Member, NO_SECTION};
 use crate::order::{Row, find_order};
-use crate::walk::{Output, is_empty, up, walk_class};
-use lk_base::{Defect, DefectKind, Limits, LinkStop, NO_FILE};
+use crate::walk::{Output, is_empty, walk_class};
+use lk_base::abi::{EHDR_SIZE, IMAGE_BASE, PAGE, PHDR_SIZE, SHF_ALLOC, SHF_WRITE, SHT_PROGBITS};
+use lk_base::kinds::TOO_BIG;
+use lk_base::{Defect, Limits, LinkStop, count_defect, up};
+use lk_tables::Class;
 use std::alloc::{AllocError, Global};
 
-/// Where the segments begin and end (System V gABI, "Program Header").
+/// Where the segments start and end (System V gABI, "Program Header").
 #[derive(Clone, Copy, Debug, PartialEq, Eq)]
 pub struct Bounds {
     /// Whether a member that is executed has a byte, so that there is a segment for them.
@@ -21,19 +24,19 @@ pub struct Bounds {
     pub has_rw: bool,
     /// How many program headers there are: that of the first segment, those of the two above, that of the stack.
     pub headers: u64,
-    /// The address behind the file header and the program headers, which stand at 0x10000.
+    /// The end of the file header and the program headers, which stand at `IMAGE_BASE`.
     pub headers_end: u64,
-    /// The cursor behind the class R.
+    /// The cursor after the class R.
     pub r_end: u64,
-    /// The cursor before RX, at a multiple of 4096.
+    /// The cursor before RX, at a multiple of `PAGE`.
     pub rx_start: u64,
-    /// The cursor behind RX.
+    /// The cursor after RX.
     pub rx_end: u64,
-    /// The cursor before RW bits, at a multiple of 4096.
+    /// The cursor before RW bits, at a multiple of `PAGE`.
     pub rw_start: u64,
-    /// The cursor behind RW bits, where RW nobits begins.
+    /// The cursor after RW bits, where RW nobits starts.
     pub bits_end: u64,
-    /// The cursor behind RW nobits.
+    /// The cursor after RW nobits.
     pub nobits_end: u64,
     /// The greatest end of an output section that is not empty and has bytes in the file, or of the headers.
     pub file_end: u64,
@@ -41,7 +44,46 @@ pub struct Bounds {
     pub image_end: u64,
 }
 
-/// The members of each class in their order.
+/// Where everything stands.
+#[derive(Drop)]
+pub struct Layout<'a> {
+    /// The first address of each member, by its number, and after them that of the linker's `.got`.
+    pub starts: Vec<u64>,
+    /// The output sections that are not empty, in order.
+    pub outputs: Vec<Output<'a>>,
+    /// The program headers and the segments.
+    pub bounds: Bounds,
+}
+
+/// Lays out a link: the members, given in command order, and after them the linker's own, an empty `.got`. Refuses
+/// a layout of more output sections than the limit, or else of an image that is not below its limit.
+pub fn place<'a>(
+    alloc: Global,
+    members: &[Member<'a>],
+    limits: &Limits,
+) -> Result<Layout<'a>, LinkStop>
+    requires few { length members.now ≤ 2 ^ 28 }
+    requires sized { All IsSized (parts_of members.now) }
+    ensures found { IfOk result (λ layout. view_of layout ≡ layout_of (parts_of members.now)) }
+    ensures passes { IfOk result (λ _. limit_defects limits.now (layout_of (parts_of members.now)) ≡ []) }
+    ensures within { IfOk result (λ _. IsWithin limits.now (layout_of (parts_of members.now))) }
+    ensures counted { IfOk result (λ layout. length layout.starts.items ≡ length members.now + 1) }
+    ensures apart { IfOk result (λ layout. AreApart layout.bounds.headers_end (views layout.outputs.items)) }
+    ensures rising { IfOk result (λ layout. AreRising layout.bounds) }
+    ensures segments { IfOk result (λ layout. HaveSegments layout.bounds) }
+    ensures spots { IfOk result (λ layout. HaveSpots (parts_of members.now) layout.starts.items layout.bounds) }
+    ensures disjoint { IfOk result (λ layout. AreDisjoint (parts_of members.now) layout.starts.items) }
+    ensures inside { IfOk result (λ layout. All (IsWithinClass layout.bounds) (views layout.outputs.items)) }
+    ensures stops { IfErr result (λ stop. Stops limits.now (layout_of (parts_of members.now)) stop) }
+{
+    let layout = lay_out(alloc, members)?;
+    match check_limits(&layout, limits) {
+        Ok(()) => Ok(layout),
+        Err(defect) => Err(LinkStop::Defect(defect)),
+    }
+}
+
+// The members of each class in their order.
 #[derive(Drop)]
 struct Ordered {
     r: Vec<Row>,
@@ -50,18 +92,7 @@ struct Ordered {
     rw_nobits: Vec<Row>,
 }
 
-/// Where everything stands.
-#[derive(Drop)]
-pub struct Layout<'a> {
-    /// The first address of each member, by its number, and behind them that of the linker's `.got`.
-    pub starts: Vec<u64>,
-    /// The output sections that are not empty, in order.
-    pub outputs: Vec<Output<'a>>,
-    /// The program headers and the segments.
-    pub bounds: Bounds,
-}
-
-// The members, and behind them the linker's own: an empty global offset table.
+// The members, and after them the linker's own: an empty global offset table.
 fn with_got<'a>(alloc: Global, members: &[Member<'a>]) -> Result<Vec<Member<'a>>, AllocError>
     ensures whole { IfOk result (λ all. parts_of all.items ≡ with_got (parts_of members.now)) }
     ensures one_more { IfOk result (λ all. length all.items ≡ length members.now + 1) }
@@ -69,9 +100,10 @@ fn with_got<'a>(alloc: Global, members: &[Member<'a>]) -> Result<Vec<Member<'a>>
     let mut all = Vec::new(alloc);
     all.extend_from_slice(members)?;
     all.push(Member {
+        section: NO_SECTION,
         name: b".got",
-        sh_type: 1,
-        flags: 3,
+        sh_type: SHT_PROGBITS,
+        flags: SHF_WRITE | SHF_ALLOC,
         size: 0,
         align: 8,
     })?;
@@ -140,7 +172,7 @@ fn walk<'a>(alloc: Global, members: &[Member<'a>], o: &Ordered) -> Result<Layout
     let has_rx = !is_empty(&o.rx);
     let has_rw = have_bytes(&o.rw_bits, &o.rw_nobits);
     let headers = 2 + count_of(has_rx) + count_of(has_rw);
-    let headers_end = 0x10000 + (64 + 56 * headers);
+    let headers_end = IMAGE_BASE + (EHDR_SIZE + PHDR_SIZE * headers);
     let mut outputs = Vec::new(alloc);
     let mut starts = vec![in alloc; 0u64; members.len()]?;
     let r_end = walk_class(
@@ -151,7 +183,7 @@ fn walk<'a>(alloc: Global, members: &[Member<'a>], o: &Ordered) -> Result<Layout
         &mut outputs,
         &mut starts,
     )?;
-    let rx_start = up(r_end, 4096);
+    let rx_start = up(r_end, PAGE);
     let rx_end = walk_class(
         rx_start,
         members,
@@ -160,7 +192,7 @@ fn walk<'a>(alloc: Global, members: &[Member<'a>], o: &Ordered) -> Result<Layout
         &mut outputs,
         &mut starts,
     )?;
-    let rw_start = up(rx_end, 4096);
+    let rw_start = up(rx_end, PAGE);
     let bits_end = walk_class(
         rw_start,
         members,
@@ -198,19 +230,6 @@ fn walk<'a>(alloc: Global, members: &[Member<'a>], o: &Ordered) -> Result<Layout
     })
 }
 
-fn defect_of(kind: DefectKind, place: u64) -> Defect
-    ensures { result ≡ defect_of kind place }
-{
-    Defect {
-        kind,
-        file: NO_FILE,
-        section: 0,
-        place,
-        symbol: 0,
-        other: 0,
-    }
-}
-
 // Refuses a layout that passes a limit.
 #[tactic(auto, unfolding(crate::specs::Layout::limit_defects, crate::specs::Layout::view_of))]
 fn check_limits(layout: &Layout, limits: &Limits) -> Result<(), Defect>
@@ -218,16 +237,16 @@ fn check_limits(layout: &Layout, limits: &Limits) -> Result<(), Defect>
 {
     let count = layout.outputs.len() as u64;
     if limits.outputs < count {
-        return Err(defect_of(DefectKind::F08, count));
+        return Err(count_defect(count));
     }
-    let size = layout.bounds.image_end.saturating_sub(0x10000);
+    let size = layout.bounds.image_end.saturating_sub(IMAGE_BASE);
     if limits.image <= size {
-        return Err(defect_of(DefectKind::F23, size));
+        return Err(Defect::linkwide(TOO_BIG, size, 0));
     }
     Ok(())
 }
 
-// The layout of the members, given in command order, and of the linker's own behind them.
+// The layout of the members, given in command order, and of the linker's own after them.
 #[tactic(auto, unfolding(crate::specs::Layout::layout_of))]
 fn lay_out<'a>(alloc: Global, members: &[Member<'a>]) -> Result<Layout<'a>, AllocError>
     requires few { length members.now ≤ 2 ^ 28 }
@@ -240,59 +259,10 @@ fn lay_out<'a>(alloc: Global, members: &[Member<'a>]) -> Result<Layout<'a>, Allo
     walk(alloc, &all, &o)
 }
 
-/// Lays out a link: the members, given in command order, and behind them the linker's own, an empty `.got`. Refuses
-/// a layout of more output sections than the limit, or else of an image that is not below its limit.
-pub fn place<'a>(
-    alloc: Global,
-    members: &[Member<'a>],
-    limits: &Limits,
-) -> Result<Layout<'a>, LinkStop>
-    requires few { length members.now ≤ 2 ^ 28 }
-    requires sized { All IsSized (parts_of members.now) }
-    ensures found { IfOk result (λ layout. view_of layout ≡ layout_of (parts_of members.now)) }
-    ensures passes { IfOk result (λ _. limit_defects limits.now (layout_of (parts_of members.now)) ≡ []) }
-    ensures within { IfOk result (λ _. IsWithin limits.now (layout_of (parts_of members.now))) }
-    ensures counted { IfOk result (λ layout. length layout.starts.items ≡ length members.now + 1) }
-    ensures apart { IfOk result (λ layout. AreApart layout.bounds.headers_end (views layout.outputs.items)) }
-    ensures rising { IfOk result (λ layout. AreRising layout.bounds) }
-    ensures segments { IfOk result (λ layout. HaveSegments layout.bounds) }
-    ensures spots { IfOk result (λ layout. HaveSpots (parts_of members.now) layout.starts.items layout.bounds) }
-    ensures disjoint { IfOk result (λ layout. AreDisjoint (parts_of members.now) layout.starts.items) }
-    ensures inside { IfOk result (λ layout. All (IsWithinClass layout.bounds) (views layout.outputs.items)) }
-    ensures stops { IfErr result (λ stop. Stops limits.now (layout_of (parts_of members.now)) stop) }
-{
-    let layout = lay_out(alloc, members)?;
-    match check_limits(&layout, limits) {
-        Ok(()) => Ok(layout),
-        Err(defect) => Err(LinkStop::Defect(defect)),
-    }
-}
-
 #[cfg(test)]
 mod tests {
     use super::*;
-    use crate::names::output_name;
     use std::test::Fail;
-
-    const NAMES: [(&[u8], &[u8]); 10] = [
-        (b".text.hot", b".text"),
-        (b".text.", b".text."),
-        (b".textual", b".textual"),
-        (b".data.rel.ro.local", b".data.rel.ro"),
-        (b".data.rel.ro", b".data.rel.ro"),
-        (b".data.rel", b".data"),
-        (b".rodata.str1.1", b".rodata"),
-        (b".init_array.5", b".init_array"),
-        (b"COMMON", b".bss"),
-        (b".comment", b".comment"),
-    ];
-
-    #[test]
-    fn names_of_output_sections(rt: HostRuntime) {
-        for (name, output) in NAMES.iter() {
-            assert_eq!(rt; output_name(*name), *output);
-        }
-    }
 
     fn member(
         name: &'static [u8],
@@ -302,6 +272,7 @@ mod tests {
         align: u64,
     ) -> Member<'static> {
         Member {
+            section: 0,
             name,
             sh_type,
             flags,
@@ -444,7 +415,7 @@ mod tests {
         match laid_out(rt.alloc(), &members) {
             Ok(_) => assert!(rt; false, "a layout past the limit"),
             Err(stop) => {
-                let defect = defect_of(DefectKind::F23, 2147491840);
+                let defect = Defect::linkwide(TOO_BIG, 2147491840, 0);
                 assert_eq!(rt; stop, LinkStop::Defect(defect));
             }
         }
@@ -458,12 +429,12 @@ mod tests {
         let layout = laid_within(rt.alloc(), &members, &limits)?;
         assert_eq!(rt; layout.outputs.len(), 2);
         limits.outputs = 1;
-        // The count comes first, where the image is too large as well.
+        // The count comes first, even if the image is too large as well.
         limits.image = 1;
         match laid_within(rt.alloc(), &members, &limits) {
             Ok(_) => assert!(rt; false, "a layout past the limit"),
             Err(stop) => {
-                let defect = defect_of(DefectKind::F08, 2);
+                let defect = count_defect(2);
                 assert_eq!(rt; stop, LinkStop::Defect(defect));
             }
         }

@@ -1,12 +1,18 @@
 //! The walk: where the output sections of a class and their members stand, from a cursor on.
 
-ghost use Rattle.std.specs.Prelude.{◌≡◌, ℕ, ◌+◌, ◌*◌, ◌%◌, ◌<◌, ◌≤◌, ◌∷◌, [], ◌++◌, ◌^◌, All, length, IfOk, OnOk};
+ghost use Rattle.std.specs.Prelude.{◌≡◌, ℕ, ◌+◌, ◌*◌, ◌%◌, ◌<◌, ◌≤◌, ◌∷◌, [], ◌++◌, ◌^◌, All, drop, length, take, ◌==◌, IfOk, OnOk};
+ghost use Rattle.std.specs.List.{prefix_len};
 ghost use Rattle.layout.specs.Order.{IsFit};
 ghost use Rattle.layout.specs.Parts.{parts_of};
-ghost use Rattle.layout.specs.Walk.{after, all_put, cut, end_along, first_name, first_type, flags_of, greatest, is_empty, past, same_len, run_len, section_in, section_of, sections_along, stands, stands_along, stands_in, stands_still, start_of, up, view, views};
+ghost use Rattle.layout.specs.Walk.{after, all_put, cut, end_along, first_name, first_type, flags_of, greatest, is_empty, past, section_in, section_of, sections_along, stands, stands_along, stands_in, stands_still, start_of, view, views};
+ghost use Rattle.lk_base.specs.Arithmetic.{up};
+ghost use Rattle.lk_base.specs.declared.abi.TheConstants.{ALIGN_MAX, NOBITS_MAX};
 
-use crate::names::{Class, Member, output_name};
+use crate::members::Member;
 use crate::order::Row;
+use lk_base::abi::{SHF_ALLOC, SHF_EXECINSTR, SHF_TLS, SHF_WRITE, SHT_NOBITS, SHT_PROGBITS};
+use lk_base::up;
+use lk_tables::{Class, output_name};
 use std::alloc::{AllocError, Global};
 
 /// An output section that is not empty, as its header tells it.
@@ -16,7 +22,7 @@ pub struct Output<'a> {
     pub name: &'a [u8],
     /// Its class.
     pub class: Class,
-    /// Its type: 8 (NOBITS) in a class without bits, else that of its first member.
+    /// Its type: NOBITS in a class without bits, else that of its first member.
     pub sh_type: u32,
     /// The flags of its members together, of those that an output section keeps.
     pub flags: u64,
@@ -28,32 +34,32 @@ pub struct Output<'a> {
     pub align: u64,
 }
 
-/// The least multiple of an alignment that is not below `x`.
-#[tactic(auto, unfolding(crate::specs::Walk::up))]
-pub fn up(x: u64, align: u64) -> u64
-    requires some { 1 ≤ align }
-    requires room { x + align < 2 ^ 64 }
-    ensures value { result ≡ up x align }
-    ensures least { x ≤ result }
-    ensures bound { result < x + align }
-    ensures multiple { result % align ≡ 0 }
+/// The output sections of a class, whose members are given in order: puts the starts of all members into `starts`, those
+/// output sections that are not empty after `outputs`, and gives the cursor after them.
+pub fn walk_class<'a>(
+    cursor: u64,
+    members: &[Member<'a>],
+    class: Class,
+    rows: &[Row],
+    outputs: &mut Vec<Output<'a>>,
+    starts: &mut Vec<u64>,
+) -> Result<u64, AllocError>
+    requires fit { All (IsFit (length starts.old.items)) rows.now }
+    requires room { cursor + length rows.now * 2 ^ 33 < 2 ^ 64 }
+    ensures end { IfOk result (λ end. end ≡ end_along cursor (cut rows.now)) }
+    ensures outputs { OnOk result (views outputs.new.items ≡ views outputs.old.items ++ sections_along (parts_of members.now) class cursor (cut rows.now)) }
+    ensures starts { OnOk result (starts.new.items ≡ all_put (stands_along cursor (cut rows.now)) starts.old.items) }
+    ensures bound { IfOk result (λ end. end ≤ cursor + length rows.now * 2 ^ 33) }
+    ensures len { OnOk result (length starts.new.items ≡ length starts.old.items) }
 {
-    (x + (align - 1)) / align * align
-}
-
-// The greatest alignment of these members.
-#[tactic(auto, unfolding(crate::specs::Walk::greatest))]
-fn greatest_alignment(rows: &[Row]) -> u64
-    requires { All (λ row. row.align ≤ 2 ^ 20) rows.now }
-    ensures value { result ≡ greatest rows.now }
-    ensures some { 1 ≤ result }
-    ensures bound { result ≤ 2 ^ 20 }
-{
-    let mut found: u64 = 1;
-    for row in rows {
-        found = found.max(row.align);
+    let mut rest = rows;
+    let mut at = cursor;
+    while !rest.is_empty() {
+        let (section, later) = rest.split_at(run_len(rest));
+        at = walk_section(at, members, class, section, outputs, starts)?;
+        rest = later;
     }
-    found
+    Ok(at)
 }
 
 /// Whether no member has a byte.
@@ -62,6 +68,21 @@ pub fn is_empty(rows: &[Row]) -> bool
     ensures { result ≡ is_empty rows.now }
 {
     rows.iter().all(|row| row.size == 0)
+}
+
+// The greatest alignment of these members.
+#[tactic(auto, unfolding(crate::specs::Walk::greatest))]
+fn greatest_alignment(rows: &[Row]) -> u64
+    requires { All (λ row. row.align ≤ ALIGN_MAX) rows.now }
+    ensures value { result ≡ greatest rows.now }
+    ensures some { 1 ≤ result }
+    ensures bound { result ≤ ALIGN_MAX }
+{
+    let mut found: u64 = 1;
+    for row in rows {
+        found = found.max(row.align);
+    }
+    found
 }
 
 // The flags of members together, of those that an output section keeps.
@@ -73,7 +94,7 @@ fn flags_of(rows: &[Row]) -> u64
     for row in rows {
         flags |= row.flags;
     }
-    flags & 0x407
+    flags & (SHF_WRITE | SHF_ALLOC | SHF_EXECINSTR | SHF_TLS)
 }
 
 fn first_name<'a>(members: &[Member<'a>], rows: &[Row]) -> &'a [u8]
@@ -92,25 +113,25 @@ fn first_type(class: Class, rows: &[Row]) -> u32
     ensures { result ≡ first_type class rows.now }
 {
     if class == Class::RwNobits {
-        return 8;
+        return SHT_NOBITS;
     }
     let Some(row) = rows.first() else {
-        return 1;
+        return SHT_PROGBITS;
     };
-    if row.sh_type == 8 {
-        return 1;
+    if row.sh_type == SHT_NOBITS {
+        return SHT_PROGBITS;
     }
     row.sh_type
 }
 
-// Puts the members of an output section that is not empty behind one another, and gives their end.
+// Puts the members of an output section that is not empty one after another, and gives their end.
 fn walk_members(start: u64, rows: &[Row], starts: &mut Vec<u64>) -> u64
     requires fit { All (IsFit (length starts.old.items)) rows.now }
-    requires room { start + length rows.now * (2 ^ 32 + 2 ^ 20) < 2 ^ 64 }
+    requires room { start + length rows.now * (NOBITS_MAX + ALIGN_MAX) < 2 ^ 64 }
     ensures end { result ≡ past start rows.now }
     ensures starts { starts.new.items ≡ all_put (stands start rows.now) starts.old.items }
     ensures least { start ≤ result }
-    ensures bound { result ≤ start + length rows.now * (2 ^ 32 + 2 ^ 20) }
+    ensures bound { result ≤ start + length rows.now * (NOBITS_MAX + ALIGN_MAX) }
     ensures len { length starts.new.items ≡ length starts.old.items }
 {
     let mut cursor = start;
@@ -142,7 +163,7 @@ fn describe<'a>(
     start: u64,
     end: u64,
 ) -> Output<'a>
-    requires aligned { All (λ row. row.align ≤ 2 ^ 20) rows.now }
+    requires aligned { All (λ row. row.align ≤ ALIGN_MAX) rows.now }
     requires rising { start ≤ end }
     ensures { view result ≡ section_of (parts_of members.now) class rows.now start end }
 {
@@ -157,7 +178,7 @@ fn describe<'a>(
     }
 }
 
-// One output section: gives the cursor behind it.
+// One output section: gives the cursor after it.
 #[tactic(auto, unfolding(crate::specs::Walk::after, crate::specs::Walk::section_in, crate::specs::Walk::stands_in, crate::specs::Walk::start_of))]
 fn walk_section<'a>(
     cursor: u64,
@@ -188,7 +209,7 @@ fn walk_section<'a>(
 
 // How many rows from the first on are of this group.
 fn same_len(group: u32, rows: &[Row]) -> usize
-    ensures value { result ≡ same_len group rows.now }
+    ensures value { result ≡ prefix_len (λ row. row.group == group) rows.now }
     ensures within { result ≤ length rows.now }
 {
     for (i, row) in rows.iter().enumerate() {
@@ -202,7 +223,7 @@ fn same_len(group: u32, rows: &[Row]) -> usize
 // How many rows make the first output section.
 fn run_len(rows: &[Row]) -> usize
     requires { 0 < length rows.now }
-    ensures value { result ≡ run_len rows.now }
+    ensures value { cut rows.now ≡ take result rows.now ∷ cut (drop result rows.now) }
     ensures some { 0 < result }
     ensures within { result ≤ length rows.now }
 {
@@ -210,32 +231,4 @@ fn run_len(rows: &[Row]) -> usize
         return 0;
     };
     1 + same_len(first.group, rest)
-}
-
-/// The output sections of a class, whose members are given in order: puts the starts of all members into `starts`, those
-/// output sections that are not empty behind `outputs`, and gives the cursor behind them.
-pub fn walk_class<'a>(
-    cursor: u64,
-    members: &[Member<'a>],
-    class: Class,
-    rows: &[Row],
-    outputs: &mut Vec<Output<'a>>,
-    starts: &mut Vec<u64>,
-) -> Result<u64, AllocError>
-    requires fit { All (IsFit (length starts.old.items)) rows.now }
-    requires room { cursor + length rows.now * 2 ^ 33 < 2 ^ 64 }
-    ensures end { IfOk result (λ end. end ≡ end_along cursor (cut rows.now)) }
-    ensures outputs { OnOk result (views outputs.new.items ≡ views outputs.old.items ++ sections_along (parts_of members.now) class cursor (cut rows.now)) }
-    ensures starts { OnOk result (starts.new.items ≡ all_put (stands_along cursor (cut rows.now)) starts.old.items) }
-    ensures bound { IfOk result (λ end. end ≤ cursor + length rows.now * 2 ^ 33) }
-    ensures len { OnOk result (length starts.new.items ≡ length starts.old.items) }
-{
-    let mut rest = rows;
-    let mut at = cursor;
-    while !rest.is_empty() {
-        let (section, later) = rest.split_at(run_len(rest));
-        at = walk_section(at, members, class, section, outputs, starts)?;
-        rest = later;
-    }
-    Ok(at)
 }

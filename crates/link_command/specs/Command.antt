@@ -1,11 +1,13 @@
 -- What a command asks for, as a function of its words.
-use Rattle.std.specs.Prelude.{◌==◌, ◌&&◌, ℕ, Bool, not, List, [], Option, Some, None, if◌then◌else◌, codes, length, map, option_and_then, option_map, string_bytes, String, unwrap_or}
+use Rattle.std.specs.Prelude.{◌≡◌, true, ◌==◌, ◌&&◌, ℕ, Bool, not, List, [], Option, Some, None, if◌then◌else◌, codes, length, map, option_and_then, option_map, string_bytes, String, unwrap_or}
 use Rattle.std.specs.Option.{option_map_or}
 use Rattle.std.specs.Global.{Global}
 use Rattle.std.specs.Str.{bytes_eq}
 use Rattle.std.specs.Str.Parse.{digits_value, without_leading_plus}
 use Rattle.clap.specs.Words.{Row, all_of, first_of, one_of}
 use Rattle.link_command.specs.declared.command.Command.{Command}
+use Rattle.link_command.specs.declared.command.Wanted.{Wanted}
+use Rattle.link_command.specs.declared.command.Wanted.TheVariants.{Files}
 use Rattle.link_command.specs.Grammar.{taken}
 
 -- what a command asks for: the names of the executable and of the map, the entry symbol, the number of
@@ -22,6 +24,10 @@ pub record Asked : Type 0 where
 abbrev pub texts_of : List (String Global) → List (List ℕ)
 texts_of words = map (λ word. string_bytes word) words
 
+-- the names of what is linked
+abbrev pub names_of : Wanted → List (List ℕ)
+names_of (Files names) = texts_of names.items
+
 abbrev pub asks : Command → Asked
 asks command = record {
   output = string_bytes command.output;
@@ -29,7 +35,7 @@ asks command = record {
   entry = string_bytes command.entry;
   threads = command.threads;
   strip = command.strip;
-  inputs = texts_of command.inputs.items;
+  inputs = names_of command.inputs;
 }
 
 -- the text of an option
@@ -66,6 +72,11 @@ read_from rows = record {
 -- there is an input and an entry, and symbols are left out: a link with a symbol table is not there yet
 abbrev pub is_linkable : Asked → Bool
 is_linkable asked = asked.strip && (not (length asked.entry == 0) && not (length asked.inputs == 0))
+
+-- what an accepted command asks for can be linked: symbols are left out, and there is no map
+pub record IsLinkable (asked : Asked) : Type 0 where
+  pub stripped : asked.strip ≡ true
+  pub unmapped : asked.map ≡ None
 
 abbrev pub tested : Asked → Option Asked
 tested asked = if is_linkable asked then Some asked else None

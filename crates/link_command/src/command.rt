@@ -1,7 +1,7 @@
 //! An accepted command.
 
 ghost use Rattle.std.specs.Prelude.{◌≡◌, ◌<◌, ◌≤◌, IfOk, IfSome, length, option_map};
-ghost use Rattle.link_command.specs.Command.{asked_of, asks, is_linkable, read_from, texts_of};
+ghost use Rattle.link_command.specs.Command.{IsLinkable, asked_of, asks, is_linkable, names_of, read_from, texts_of};
 ghost use Rattle.link_command.specs.Grammar.{HasThreads, rows_in};
 
 use crate::matching::matches_of;
@@ -9,21 +9,39 @@ use crate::values::{inputs_of, owned_text, strip_of, threads_of};
 use clap::ArgMatches;
 use std::alloc::{AllocError, Global};
 
+/// What a command links.
+#[derive(Drop)]
+pub enum Wanted {
+    /// The files of these names, in the order of the command.
+    Files(Vec<String>),
+}
+
+impl Wanted {
+    /// The names of the inputs, in the order of the command.
+    pub fn names(&self) -> &[String]
+        ensures { texts_of result.now ≡ names_of self.now }
+    {
+        match self {
+            Wanted::Files(names) => names.as_slice(),
+        }
+    }
+}
+
 /// An accepted command.
 #[derive(Drop)]
 pub struct Command {
     /// The name of the executable.
     pub output: String,
-    /// The name of the map file, where one is asked.
+    /// The name of the map file, if one is asked for.
     pub map: Option<String>,
-    /// The name of the symbol at which the executable begins.
+    /// The name of the symbol at which the executable starts.
     pub entry: String,
     /// The number of workers.
     pub threads: u32,
     /// Whether symbols are left out.
     pub strip: bool,
-    /// The names of the inputs, in the order of the command.
-    pub inputs: Vec<String>,
+    /// What is linked.
+    pub inputs: Wanted,
 }
 
 /// What the matches of a command ask for.
@@ -41,7 +59,7 @@ fn read_from(alloc: Global, matches: &ArgMatches) -> Result<Command, AllocError>
         entry,
         threads: threads_of(matches),
         strip: strip_of(matches),
-        inputs,
+        inputs: Wanted::Files(inputs),
     })
 }
 
@@ -49,7 +67,7 @@ fn read_from(alloc: Global, matches: &ArgMatches) -> Result<Command, AllocError>
 fn is_linkable(command: &Command) -> bool
     ensures { result ≡ is_linkable (asks command.now) }
 {
-    command.strip && !command.entry.is_empty() && !command.inputs.is_empty()
+    command.strip && !command.entry.is_empty() && !command.inputs.names().is_empty()
 }
 
 /// The command of these words, the program's name first. `None` refuses them.
@@ -57,7 +75,8 @@ fn is_linkable(command: &Command) -> bool
 pub fn command_of(alloc: Global, words: &[String]) -> Result<Option<Command>, AllocError>
     ensures exact { IfOk result (λ command. option_map asks command ≡ asked_of (texts_of words.now)) }
     ensures threads { IfOk result (λ command. IfSome command (λ c. (1 ≤ c.threads) × (c.threads ≤ 64))) }
-    ensures inputs { IfOk result (λ command. IfSome command (λ c. 0 < length c.inputs.items)) }
+    ensures inputs { IfOk result (λ command. IfSome command (λ c. 0 < length (names_of c.inputs))) }
+    ensures linkable { IfOk result (λ command. IfSome command (λ c. IsLinkable (asks c))) }
 {
     let Some(matches) = matches_of(alloc, words)? else {
         return Ok(None);

@@ -87,7 +87,7 @@ fn answer_to(alloc: Global, words: &[String]) -> Result<String, AllocError> {
         return "refused".to_string(alloc);
     };
     let mut answer = format!(in alloc; "{}|{}|{}", command.output, command.entry, command.threads)?;
-    for input in &command.inputs {
+    for input in command.inputs.names() {
         answer.push('|')?;
         answer.push_str(input.as_str())?;
     }

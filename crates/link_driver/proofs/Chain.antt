@@ -5,11 +5,12 @@ use Rattle.lk_base.specs.declared.defects.LinkStop.{LinkStop}
 use Rattle.lk_base.specs.declared.defects.LinkStop.TheVariants as stops
 use Rattle.lk_base.specs.declared.limits.Limits.{Limits}
 use Rattle.lk_base.specs.Firsts.{BeginsWith, StopsAt}
-use Rattle.elf_out.specs.Executable.{laid_out, places}
+use Rattle.elf_out.specs.Executable.{addresses, laid_out}
 use Rattle.layout.specs.Layout.{limit_defects}
 use Rattle.lk_tables.specs.Binding.{Bindings, first_phase, binding_defects, flag_defects, duplicate_defects, entry_defects}
 use Rattle.lk_tables.specs.Files.{File}
-use Rattle.link_driver.specs.Link.{bound_names, defects_in, later_phases, none_gone, opening_defects, reading_defects}
+use Rattle.link_driver.specs.Link.{bound_names, defects_in, later_phases, none_gone}
+use Rattle.link_driver.specs.Defects.{opening_defects, reading_defects}
 use Rattle.link_driver.specs.Sources.{Source, files_in}
 use Rattle.reloc_apply.specs.Relocated.{relocation_defects}
 use Rattle.reloc_apply.specs.Undefined.{undefined_defects}
@@ -64,17 +65,17 @@ module _ (limits : Limits) (entry : List ℕ) (ss : List Source) where
           subst P (sym left) (stopped (flag_defects files ∷ duplicate_defects files (none_gone files) ∷ entry_defects files (none_gone files) entry ∷ []) _ stop at)
 
       module _ (bound : binding_defects files (none_gone files) entry ≡ []) (b : Bindings) (names : b ≡ bound_names files entry) where
-        then_left : defects_in limits entry ss ≡ first_phase (undefined_defects files b ∷ limit_defects limits (laid_out files b) ∷ relocation_defects files b (places files b) ∷ [])
+        then_left : defects_in limits entry ss ≡ first_phase (undefined_defects files b ∷ limit_defects limits (laid_out files b) ∷ relocation_defects files b (addresses files b) ∷ [])
         then_left = left
             ∙ passed (flag_defects files ∷ duplicate_defects files (none_gone files) ∷ entry_defects files (none_gone files) entry ∷ []) _ bound
-            ∙ ap (λ n. first_phase (undefined_defects files n ∷ limit_defects limits (laid_out files n) ∷ relocation_defects files n (places files n) ∷ [])) (sym names)
+            ∙ ap (λ n. first_phase (undefined_defects files n ∷ limit_defects limits (laid_out files n) ∷ relocation_defects files n (addresses files n) ∷ [])) (sym names)
 
         pub at_undefined : (d : Defect) → BeginsWith (undefined_defects files b) d → BeginsWith (defects_in limits entry ss) d
         at_undefined d begins = let P : List Defect → Type 0 = λ ds. BeginsWith ds d in
             subst P (sym then_left) (ended (undefined_defects files b ∷ []) _ d (one d (undefined_defects files b) begins))
 
         module _ (defined : undefined_defects files b ≡ []) where
-          last_two : defects_in limits entry ss ≡ first_phase (limit_defects limits (laid_out files b) ∷ relocation_defects files b (places files b) ∷ [])
+          last_two : defects_in limits entry ss ≡ first_phase (limit_defects limits (laid_out files b) ∷ relocation_defects files b (addresses files b) ∷ [])
           last_two = then_left ∙ passed (undefined_defects files b ∷ []) _ (one_none (undefined_defects files b) defined)
 
           pub at_layout : (stop : LinkStop) → StopsAt stop (limit_defects limits (laid_out files b)) → StopsAt stop (defects_in limits entry ss)
@@ -82,15 +83,15 @@ module _ (limits : Limits) (entry : List ℕ) (ss : List Source) where
               subst P (sym last_two) (stopped (limit_defects limits (laid_out files b) ∷ []) _ stop (one_stop stop (limit_defects limits (laid_out files b)) at))
 
           module _ (laid : limit_defects limits (laid_out files b) ≡ []) where
-            last_one : defects_in limits entry ss ≡ first_phase (relocation_defects files b (places files b) ∷ [])
+            last_one : defects_in limits entry ss ≡ first_phase (relocation_defects files b (addresses files b) ∷ [])
             last_one = last_two ∙ passed (limit_defects limits (laid_out files b) ∷ []) _ (one_none (limit_defects limits (laid_out files b)) laid)
 
-            pub at_relocations : (stop : LinkStop) → StopsAt stop (relocation_defects files b (places files b)) → StopsAt stop (defects_in limits entry ss)
+            pub at_relocations : (stop : LinkStop) → StopsAt stop (relocation_defects files b (addresses files b)) → StopsAt stop (defects_in limits entry ss)
             at_relocations stop at = let P : List Defect → Type 0 = λ ds. StopsAt stop ds in
-                subst P (sym last_one) (one_stop stop (relocation_defects files b (places files b)) at)
+                subst P (sym last_one) (one_stop stop (relocation_defects files b (addresses files b)) at)
 
-            pub no_defects : relocation_defects files b (places files b) ≡ [] → defects_in limits entry ss ≡ []
-            no_defects done = last_one ∙ one_none (relocation_defects files b (places files b)) done
+            pub no_defects : relocation_defects files b (addresses files b) ≡ [] → defects_in limits entry ss ≡ []
+            no_defects done = last_one ∙ one_none (relocation_defects files b (addresses files b)) done
 
 -- two phases of which the first has no defect
 pub second_phase : (r o : List Defect) (d : Defect) → r ≡ [] → BeginsWith o d → BeginsWith (first_phase (r ∷ o ∷ [])) d

@@ -13,18 +13,17 @@ use Rattle.lk_base.specs.declared.defects.LinkStop.{LinkStop}
 use Rattle.lk_base.specs.declared.defects.LinkStop.TheVariants as link_stop
 use Rattle.lk_base.specs.Firsts.{StopsAt}
 use Rattle.lk_base.specs.Limits.{standard}
-use Rattle.link_driver.specs.Link.{link}
 use Rattle.link_driver.specs.Phases.{IsLinked, Links}
-use Rattle.link_driver.specs.Sources.{sources}
+use Rattle.link_driver.specs.Sources.{Source, sources}
 use Rattle.link_driver.specs.declared.linking.Linked.{Linked}
 use Rattle.link_driver.specs.declared.driving.Ending.{Ending}
 use Rattle.link_driver.specs.declared.driving.Ending.TheVariants.{Done, Memory, Refused, Unreported, Defective, Unread, Unwritten}
 use Rattle.link_command.specs.Command.{Asked}
-use Rattle.link_driver.specs.Link.{Link, defects_of, link, link_with, line_of_defect, cannot_read}
+use Rattle.link_driver.specs.Link.{Link, defects_in, defects_of, executable_in, link, link_with, line_in, line_of_defect, cannot_read}
 use Rattle.link_driver.specs.Ends.{IsUntouched, IsUnread, none_failed, one_failed, Ends, finds_defect, cannot_read_input, lacks_memory, IsTold, told_whole, told_cut}
 use Rattle.link_driver.specs.Endings.{status_of, told_line, TellsDefect, TellsUnread, IsWithin, TellsStop, TellsLoadStop, AreLoaded}
 
--- memory was wanting before anything was begun
+-- memory ran out before anything was begun
 pub lacking : (asked : Option Asked) (before after : Store) (say : Output) → IsUntouched before after → IsUnread asked before after → Ends asked before after say say 4 []
 lacking asked before after say untouched unread =
     lacks_memory (record { status_is = refl; unread = unread; untouched = untouched; quiet = refl; line_is = refl })
@@ -109,23 +108,31 @@ load_within names before after (stop.Absent index) cause = cause.0.within
 load_within names before after (stop.Failed index) cause = cause.within
 load_within names before after stop.Memory cause = tt
 
+-- the line of a defect, by the files of the link
+pub line_is : (asked : Asked) (inputs : List (List ℕ)) (ss : List Source) (defect : Defect) (line : List ℕ) → ss ≡ sources standard inputs →
+    line ≡ line_in asked inputs ss defect → line ≡ line_of_defect asked inputs defect
+unfolding line_of_defect
+line_is asked inputs ss defect line are is = is ∙ ap (λ l. line_in asked inputs l defect) are
+
 -- the inputs were not linked
-pub not_linked : (asked : Asked) (before now : Store) (say : Output) (inputs : List (List ℕ)) (stop : LinkStop) (ending : Ending)
-    → AreLoaded asked before now inputs → StopsAt stop (defects_of standard asked.entry inputs) → TellsStop asked inputs stop ending
+pub not_linked : (asked : Asked) (before now : Store) (say : Output) (inputs : List (List ℕ)) (ss : List Source) (stop : LinkStop) (ending : Ending)
+    → AreLoaded asked before now inputs → ss ≡ sources standard inputs → StopsAt stop (defects_in standard asked.entry ss) → TellsStop asked inputs stop ending
     → Ends (Some asked) before now say say (status_of ending) (told_line ending)
-not_linked asked before now say inputs (link_stop.Defect defect) ending loaded found telling =
-    found_defect asked before now say inputs defect found.0 ending loaded found.1 telling
-not_linked asked before now say inputs link_stop.Memory ending loaded found telling =
+not_linked asked before now say inputs ss (link_stop.Defect defect) ending loaded are found telling =
+    found_defect asked before now say inputs defect found.0 ending loaded (ap (defects_in standard asked.entry) (sym are) ∙ found.1) telling
+not_linked asked before now say inputs ss link_stop.Memory ending loaded are found telling =
     rw telling (lacking (Some asked) before now say loaded.untouched (none_failed loaded.unread))
 
 -- what a link without a defect gives is what Link is
-pub is_linked : (asked : Asked) (inputs : List (List ℕ)) (linked : Linked) → Links standard asked.entry (sources standard inputs) linked → IsLinked asked inputs linked
+pub is_linked : (asked : Asked) (inputs : List (List ℕ)) (ss : List Source) (linked : Linked) → ss ≡ sources standard inputs → Links standard asked ss linked →
+    IsLinked asked inputs linked
 unfolding link
-is_linked asked inputs linked links =
-    let gives : link (Some asked) inputs ≡ link_with asked inputs [] = ap (link_with asked inputs) links.sound in
+is_linked asked inputs ss linked are links =
+    let none : defects_of standard asked.entry inputs ≡ [] = ap (defects_in standard asked.entry) (sym are) ∙ links.sound in
+    let gives : link (Some asked) inputs ≡ link_with asked inputs [] = ap (link_with asked inputs) none in
     record {
       status = ap (λ (l : Link). l.status) gives;
-      executable = links.gives.executable ∙ sym (ap (λ (l : Link). l.executable) gives);
+      executable = links.gives.executable ∙ ap (executable_in asked.entry) are ∙ sym (ap (λ (l : Link). l.executable) gives);
       map = links.gives.map ∙ sym (ap (λ (l : Link). l.map) gives);
       report = links.gives.report ∙ sym (ap (λ (l : Link). l.say) gives);
     }

@@ -10,7 +10,7 @@ use Rattle.lk_base.specs.declared.defects.LinkStop.{LinkStop}
 use Rattle.lk_base.specs.declared.defects.LinkStop.TheVariants as stops
 use Rattle.link_driver.specs.declared.driving.Ending.{Ending}
 use Rattle.link_driver.specs.declared.driving.Ending.TheVariants.{Done, Memory, Refused, Unreported, Defective, Unread, Unwritten}
-use Rattle.link_driver.specs.declared.driving.Lines.{Lines}
+use Rattle.link_driver.specs.declared.diagnostics.Lines.{Lines}
 use Rattle.link_driver.specs.declared.linking.Linked.{Linked}
 use Rattle.link_command.specs.Command.{Asked}
 use Rattle.link_driver.specs.Link.{bad_command, cannot_read, cannot_report, cannot_write, line_of_defect}
@@ -35,13 +35,13 @@ told_line (Defective line) = line.items
 told_line (Unread line) = line.items
 told_line (Unwritten line) = line.items
 
--- a defect is told with this line, or memory is wanting
+-- a defect is told with this line, or memory ran out
 abbrev pub TellsDefect : List ℕ → Ending → Type 0
 TellsDefect line Memory = Unit {0}
 TellsDefect line (Defective told) = told.items ≡ line
 TellsDefect line _ = ⊥
 
--- an input that could not be read is told with this line, or memory is wanting
+-- an input that could not be read is told with this line, or memory ran out
 abbrev pub TellsUnread : List ℕ → Ending → Type 0
 TellsUnread line Memory = Unit {0}
 TellsUnread line (Unread told) = told.items ≡ line

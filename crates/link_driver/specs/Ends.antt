@@ -136,7 +136,7 @@ module _ (wanted : Option Asked) (before after : Store) (say say' : Output) (sta
     pub said : say'.written ≡ told_said (take size (link wanted inputs).say) say.written
     pub line_is : line ≡ cannot_report
 
-  -- 4: want of memory; nothing begun, nothing said, no line; an input may have been found unreadable before
+  -- 4: out of memory; nothing begun, nothing said, no line; an input may have been found unreadable before
   pub record LacksMemory : Type 0 where
     pub status_is : status ≡ 4
     pub unread : IsUnread wanted before after

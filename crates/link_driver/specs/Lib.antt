@@ -1,10 +1,12 @@
 pub mod Contents
+pub mod Counts
+pub mod Defects
 pub mod Ends
 pub mod Endings
 pub mod Link
 pub mod Phases
 pub mod Promises
-pub mod Shares
+pub mod Reading
 pub mod Sources
 pub mod Stops
 pub mod Tables

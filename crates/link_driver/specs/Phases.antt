@@ -11,24 +11,24 @@ use Rattle.link_driver.specs.Link.{bound_names, defects_in, executable_in, link,
 use Rattle.link_driver.specs.Sources.{Source, files_in, heads_in, live_in}
 
 -- what a link without a defect gives
-pub record Gives (entry : List ℕ) (ss : List Source) (linked : Linked) : Type 0 where
-  pub executable : linked.exe.items ≡ executable_in entry ss
+pub record Gives (asked : Asked) (ss : List Source) (linked : Linked) : Type 0 where
+  pub executable : linked.exe.items ≡ executable_in asked.entry ss
   pub map : linked.map.items ≡ []
   pub report : linked.report.items ≡ []
 
 -- a link without a defect gives Link. Of Link's own words it is said, as laws: the files that take part are the least set with
--- the command's objects and all that they pull; each name is bound to the least offer of it, where there is one, and bound COMMON
+-- the command's objects and all that they pull; each name is bound to the least offer of it, if there is one, and bound COMMON
 -- symbols get the greatest room asked for
-pub record Links (limits : Limits) (entry : List ℕ) (ss : List Source) (linked : Linked) : Type 0 where
-  pub sound : defects_in limits entry ss ≡ []
+pub record Links (limits : Limits) (asked : Asked) (ss : List Source) (linked : Linked) : Type 0 where
+  pub sound : defects_in limits asked.entry ss ≡ []
   pub taking_part : IsLive (heads_in ss) (live_in ss)
-  pub bound : IsLawful (files_in ss) (none_gone (files_in ss)) entry (bound_names (files_in ss) entry)
-  pub gives : Gives entry ss linked
+  pub bound : IsLawful (files_in ss) (none_gone (files_in ss)) asked.entry (bound_names (files_in ss) asked.entry)
+  pub gives : Gives asked ss linked
 
--- Link where there is no defect, the first defect where there is one, or want of memory
-abbrev pub AfterLink : Limits → (entry : List ℕ) → List Source → Result Linked LinkStop → Type 0
-AfterLink limits entry ss (Ok linked) = Links limits entry ss linked
-AfterLink limits entry ss (Err stop) = StopsAt stop (defects_in limits entry ss)
+-- Link if there is no defect, the first defect if there is one, or out of memory
+abbrev pub AfterLink : Limits → Asked → List Source → Result Linked LinkStop → Type 0
+AfterLink limits asked ss (Ok linked) = Links limits asked ss linked
+AfterLink limits asked ss (Err stop) = StopsAt stop (defects_in limits asked.entry ss)
 
 -- what a link without a defect gives is what Link is
 pub record IsLinked (asked : Asked) (inputs : List (List ℕ)) (linked : Linked) : Type 0 where

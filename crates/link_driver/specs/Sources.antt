@@ -107,7 +107,7 @@ opened_files ss live = map (opened ss live) (range_with_len 0 (length ss))
 abbrev pub files_in : List Source → List File
 files_in ss = opened_files ss (live_in ss)
 
--- the name of a file as lines show it: a member's behind its archive's, as `lib.a(m.o)`
+-- the name of a file as lines show it: a member's after its archive's, as `lib.a(m.o)`
 abbrev pub labelled : (name : List ℕ) → List ℕ → Option Span → List ℕ
 labelled name b None = name
 labelled name b (Some label) = name ++ (codes "(" ++ (text_of b label ++ codes ")"))

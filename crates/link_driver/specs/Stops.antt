@@ -4,7 +4,7 @@ use Rattle.lk_base.specs.declared.defects.ReadFault.{ReadFault}
 use Rattle.lk_base.specs.declared.defects.ReadFault.TheVariants as faults
 use Rattle.lk_base.specs.declared.defects.LinkStop.{LinkStop}
 use Rattle.lk_base.specs.declared.defects.LinkStop.TheVariants as stops
-use Rattle.link_driver.specs.Link.{defect_in}
+use Rattle.link_driver.specs.Defects.{defect_in}
 
 abbrev pub stop_for : ℕ → ReadFault → LinkStop
 stop_for file (faults.Bad flaw) = stops.Defect (defect_in file flaw)

@@ -1,63 +1,53 @@
 //! The second phase of a link: the body of each file that takes part is read, by the workers.
 
-ghost use Rattle.std.specs.Prelude.{◌≡◌, if◌then◌else◌, ℕ, ◌+◌, ◌<◌, ◌≤◌, ◌^◌, length, map, flat_map, is_some, IfOk, IfSome, OnOk, [], true, false};
+ghost use Rattle.std.specs.Prelude.{◌≡◌, ℕ, ◌<◌, ◌≤◌, ◌^◌, length, map, is_some, IfOk, IfSome, Ok, [], true, if◌then◌else◌};
 ghost use Rattle.std.specs.List.{range_with_len};
+ghost use Rattle.lk_base.specs.declared.abi.TheConstants.{FILE_MAX};
 ghost use Rattle.lk_base.specs.Firsts.{Goes};
-ghost use Rattle.lk_tables.specs.FileView.{file_view};
-ghost use Rattle.lk_tables.specs.Heads.{HeadOf, head_view};
-ghost use Rattle.lk_tables.specs.Inside.{IsBodyInside};
-ghost use Rattle.lk_tables.specs.Objects.{object_view, parts_of};
+ghost use Rattle.lk_base.specs.Limits.{IsWithinStandard};
+ghost use Rattle.lk_tables.specs.Files.{symbol_total};
+ghost use Rattle.lk_tables.specs.FileView.{file_view, file_views};
+ghost use Rattle.lk_tables.specs.Gathering.{IsBodyOf};
+ghost use Rattle.lk_tables.specs.Heads.{head_of, head_view};
+ghost use Rattle.lk_tables.specs.TablesView.{files_of, heads_of};
+ghost use Rattle.work_split.specs.Shares.{IsShare};
 ghost use Rattle.link_driver.specs.Contents.{sources_of};
-ghost use Rattle.link_driver.specs.Link.{body_defects, body_defects_at};
-ghost use Rattle.link_driver.specs.Shares.{AreShares, IsBodyAt, IsBodyOf, IsShare};
-ghost use Rattle.link_driver.specs.Sources.{has_body, headed, opened, source_at, with_body};
-ghost use Rattle.link_driver.specs.Tables.{IsHeaded};
+ghost use Rattle.link_driver.specs.Defects.{body_defects, body_defects_at, opening_defects};
+ghost use Rattle.link_driver.specs.Reading.{IsBodyAt};
+ghost use Rattle.link_driver.specs.Sources.{files_in, has_body, headed, heads_in, live_in, source_at};
+ghost use Rattle.link_driver.specs.Reading.{IsHeaded};
 
 use crate::heads::stop_for;
-use crate::shares::{join, nothing_else};
+use crate::sections::count_sections;
 use crate::sources::Source;
 use elf_read::read_body;
-use lk_base::{FileNo, LinkStop};
-use lk_tables::{File, Object};
+use lk_base::{FileNo, Limits, LinkStop, check_count};
+use lk_tables::{File, Heads, Object, Tables};
 use std::alloc::{AllocError, Global};
 use std::ops::Range;
 use std::thread::Threads;
-use work_split::{Gate, over_pieces, pieces};
+use work_split::{Gate, over_shares, pieces_by_weight};
 
-/// The body of a file whose head is read.
-#[tactic(auto, unfolding(crate::specs::Link::body_defects))]
-fn read_one(alloc: Global, file: &File, number: FileNo) -> Result<Object, LinkStop>
-    requires head { HeadOf file.now.bytes.now (head_view file.now.head) }
-    requires short { length file.now.bytes.now ≤ 2147483647 }
-    ensures goes { Goes result (body_defects file.now.bytes.now number) }
-    ensures object { IfOk result (λ object. object_view object ≡ parts_of file.now.bytes.now) }
-    ensures inside { IfOk result (λ object. IsBodyInside file.now.bytes.now (head_view file.now.head) (object_view object)) }
-{
-    match read_body(alloc, file.bytes, &file.head) {
-        Ok(object) => Ok(object),
-        Err(fault) => Err(stop_for(number, &fault)),
-    }
-}
-
-/// The body of a file where it is wanted.
+/// The body of a file if it is wanted.
+#[tactic(auto, unfolding(crate::specs::Defects::body_defects))]
 fn read_wanted(
     alloc: Global,
     file: &File,
     number: FileNo,
     wanted: bool,
 ) -> Result<Option<Object>, LinkStop>
-    requires head { wanted ≡ true → HeadOf file.now.bytes.now (head_view file.now.head) }
-    requires short { wanted ≡ true → length file.now.bytes.now ≤ 2147483647 }
-    ensures goes { Goes result (if wanted then body_defects file.now.bytes.now number else []) }
+    requires head { wanted ≡ true → head_of (file_view file.now).bytes ≡ Ok (file_view file.now).head }
+    requires short { wanted ≡ true → length (file_view file.now).bytes ≤ FILE_MAX }
+    ensures goes { Goes result (if wanted then body_defects (file_view file.now).bytes number else []) }
     ensures wanted { IfOk result (λ body. is_some body ≡ wanted) }
     ensures body { IfOk result (λ body. IfSome body (IsBodyOf (file_view file.now))) }
 {
     if !wanted {
         return Ok(None);
     }
-    match read_one(alloc, file, number) {
+    match read_body(alloc, file.bytes(), file.head()) {
         Ok(object) => Ok(Some(object)),
-        Err(stop) => Err(stop),
+        Err(fault) => Err(stop_for(number, &fault)),
     }
 }
 
@@ -78,9 +68,9 @@ fn read_piece(
     files: &[File],
     piece: Range<usize>,
 ) -> Result<Vec<Option<Object>>, LinkStop>
-    requires files { map file_view files.now ≡ map (headed (sources_of sources.now)) (range_with_len 0 (length sources.now)) }
+    requires files { file_views files.now ≡ map (headed (sources_of sources.now)) (range_with_len 0 (length sources.now)) }
     requires live { length live.now ≡ length sources.now }
-    requires heads { (f : ℕ) → f < length sources.now → (source_at (sources_of sources.now) f).archive ≡ false → IsHeaded (source_at (sources_of sources.now) f).bytes }
+    requires heads { (f : ℕ) → f < length sources.now → has_body (sources_of sources.now) live.now f ≡ true → IsHeaded (source_at (sources_of sources.now) f).bytes }
     requires few { length sources.now < 2 ^ 24 }
     requires ordered { piece.start ≤ piece.end }
     requires within { piece.end ≤ length sources.now }
@@ -98,8 +88,25 @@ fn read_piece(
     Ok(bodies)
 }
 
-/// What each worker reads.
-fn shares_of<R: Threads + Sync, G: Gate>(
+/// What the bodies weigh, by which the work is cut: their files' bytes.
+fn weights_of(alloc: Global, sources: &[Source], live: &[bool]) -> Result<Vec<u64>, AllocError>
+    requires { length live.now ≡ length sources.now }
+    ensures { IfOk result (λ weights. length weights.items ≡ length sources.now) }
+{
+    let mut weights = Vec::with_capacity(alloc, sources.len())?;
+    for at in 0..sources.len() {
+        let weight = if has_body(sources, live, at) {
+            sources[at].bytes.len() as u64
+        } else {
+            0
+        };
+        weights.push(weight)?;
+    }
+    Ok(weights)
+}
+
+/// Reads the body of each file that takes part.
+fn read_each<R: Threads + Sync, G: Gate>(
     rt: &R,
     alloc: Global,
     sources: &[Source],
@@ -107,27 +114,26 @@ fn shares_of<R: Threads + Sync, G: Gate>(
     files: &[File],
     workers: u32,
     gate: &G,
-) -> Result<Vec<Result<Vec<Option<Object>>, LinkStop>>, AllocError>
-    requires files { map file_view files.now ≡ map (headed (sources_of sources.now)) (range_with_len 0 (length sources.now)) }
+) -> Result<Vec<Option<Object>>, LinkStop>
+    requires files { file_views files.now ≡ map (headed (sources_of sources.now)) (range_with_len 0 (length sources.now)) }
     requires live { length live.now ≡ length sources.now }
-    requires heads { (f : ℕ) → f < length sources.now → (source_at (sources_of sources.now) f).archive ≡ false → IsHeaded (source_at (sources_of sources.now) f).bytes }
+    requires heads { (f : ℕ) → f < length sources.now → has_body (sources_of sources.now) live.now f ≡ true → IsHeaded (source_at (sources_of sources.now) f).bytes }
     requires few { length sources.now < 2 ^ 24 }
     requires some { 1 ≤ workers }
     requires most { workers ≤ 64 }
-    ensures { IfOk result (λ shares. AreShares (body_defects_at (sources_of sources.now) live.now) (IsBodyAt (sources_of sources.now) live.now) 0 (length sources.now) shares.items) }
+    ensures { IsShare (body_defects_at (sources_of sources.now) live.now) (IsBodyAt (sources_of sources.now) live.now) 0 (length sources.now) result }
 {
-    let cuts = pieces(alloc, sources.len(), workers)?;
-    let given = nothing_else(alloc, cuts.len())?;
-    over_pieces(
+    let weights = weights_of(alloc, sources, live)?;
+    let cuts = pieces_by_weight(alloc, weights.as_slice(), workers)?;
+    over_shares(
         rt,
         alloc,
         gate,
         cuts.as_slice(),
-        given,
-        |_worker: u32, piece: Range<usize>, _given: ()| -> Result<Vec<Option<Object>>, LinkStop>
-            requires files { map file_view files.now ≡ map (headed (sources_of sources.now)) (range_with_len 0 (length sources.now)) }
+        |piece: Range<usize>| -> Result<Vec<Option<Object>>, LinkStop>
+            requires files { file_views files.now ≡ map (headed (sources_of sources.now)) (range_with_len 0 (length sources.now)) }
             requires live { length live.now ≡ length sources.now }
-            requires heads { (f : ℕ) → f < length sources.now → (source_at (sources_of sources.now) f).archive ≡ false → IsHeaded (source_at (sources_of sources.now) f).bytes }
+            requires heads { (f : ℕ) → f < length sources.now → has_body (sources_of sources.now) live.now f ≡ true → IsHeaded (source_at (sources_of sources.now) f).bytes }
             requires few { length sources.now < 2 ^ 24 }
             requires ordered { piece.start ≤ piece.end }
             requires within { piece.end ≤ length sources.now }
@@ -136,76 +142,35 @@ fn shares_of<R: Threads + Sync, G: Gate>(
     )
 }
 
-/// Puts a body into its file: from then on it takes part in the link.
-fn put_body(file: &mut File, body: Option<Object>)
-    requires head { IfSome body (λ _. HeadOf file.old.bytes.now (head_view file.old.head)) }
-    requires short { IfSome body (λ _. length file.old.bytes.now ≤ 2147483647) }
-    requires body { IfSome body (IsBodyOf (file_view file.old)) }
-    ensures { file_view file.new ≡ (if is_some body then with_body (file_view file.old) else file_view file.old) }
-{
-    if let Some(object) = body {
-        file.object = Some(object);
-    }
-}
-
-/// Reads the body of each file that takes part.
-fn open_each<R: Threads + Sync, G: Gate>(
+/// Reads the body of each file that takes part, and counts the sections. It answers the same whatever the number of workers.
+#[tactic(auto, unfolding(crate::specs::Defects::opening_defects))]
+pub fn read_bodies<'a, R: Threads + Sync, G: Gate>(
     rt: &R,
     alloc: Global,
+    limits: &Limits,
     sources: &[Source],
+    heads: Heads<'a>,
     live: &[bool],
-    files: &mut [File],
     workers: u32,
     gate: &G,
-) -> Result<(), LinkStop>
-    requires files { map file_view files.old ≡ map (headed (sources_of sources.now)) (range_with_len 0 (length sources.now)) }
-    requires live { length live.now ≡ length sources.now }
-    requires heads { (f : ℕ) → f < length sources.now → (source_at (sources_of sources.now) f).archive ≡ false → IsHeaded (source_at (sources_of sources.now) f).bytes }
-    requires few { length sources.now < 2 ^ 24 }
+) -> Result<Tables<'a>, LinkStop>
+    requires limits { IsWithinStandard limits.now }
+    requires heads_are { heads_of heads ≡ heads_in (sources_of sources.now) }
+    requires live { live.now ≡ live_in (sources_of sources.now) }
+    requires headed { (f : ℕ) → f < length sources.now → has_body (sources_of sources.now) live.now f ≡ true → IsHeaded (source_at (sources_of sources.now) f).bytes }
+    requires symbols { symbol_total (heads_of heads) < 2 ^ 31 }
     requires some { 1 ≤ workers }
     requires most { workers ≤ 64 }
-    ensures goes { Goes result (flat_map (body_defects_at (sources_of sources.now) live.now) (range_with_len 0 (length sources.now))) }
-    ensures files { OnOk result (map file_view files.new ≡ map (opened (sources_of sources.now) live.now) (range_with_len 0 (length sources.now))) }
+    ensures goes { Goes result (opening_defects limits.now (sources_of sources.now)) }
+    ensures tables { IfOk result (λ tables. files_of tables ≡ files_in (sources_of sources.now)) }
 {
-    let shares = shares_of(rt, alloc, sources, live, files, workers, gate)?;
-    let bodies = match join(alloc, shares) {
-        Ok(bodies) => bodies,
+    let objects = match read_each(rt, alloc, sources, live, heads.files(), workers, gate) {
+        Ok(objects) => objects,
         Err(stop) => return Err(stop),
     };
-    let mut at = 0;
-    for body in bodies {
-        put_body(&mut files[at], body);
-        at += 1;
+    let count = count_sections(heads.files(), objects.as_slice());
+    if let Err(defect) = check_count(limits.sections, count) {
+        return Err(LinkStop::Defect(defect));
     }
-    Ok(())
-}
-
-/// Reads the body of each file that takes part. It answers the same whatever the number of workers.
-pub fn open_live<R: Threads + Sync, G: Gate>(
-    rt: &R,
-    alloc: Global,
-    sources: &[Source],
-    live: &[bool],
-    files: &mut Vec<File>,
-    workers: u32,
-    gate: &G,
-) -> Result<(), LinkStop>
-    requires files { map file_view files.old.items ≡ map (headed (sources_of sources.now)) (range_with_len 0 (length sources.now)) }
-    requires live { length live.now ≡ length sources.now }
-    requires heads { (f : ℕ) → f < length sources.now → (source_at (sources_of sources.now) f).archive ≡ false → IsHeaded (source_at (sources_of sources.now) f).bytes }
-    requires few { length sources.now < 2 ^ 24 }
-    requires some { 1 ≤ workers }
-    requires most { workers ≤ 64 }
-    ensures goes { Goes result (flat_map (body_defects_at (sources_of sources.now) live.now) (range_with_len 0 (length sources.now))) }
-    ensures files { OnOk result (map file_view files.new.items ≡ map (opened (sources_of sources.now) live.now) (range_with_len 0 (length sources.now))) }
-{
-    open_each(
-        rt,
-        alloc,
-        sources,
-        live,
-        files.as_mut_slice(),
-        workers,
-        gate,
-    )
+    Ok(Tables::of(alloc, heads, objects)?)
 }

@@ -5,23 +5,24 @@ ghost use Rattle.lk_depot.specs.Faults.{HasCause, Rises};
 ghost use Rattle.lk_depot.specs.Files.{told_put};
 ghost use Rattle.lk_depot.specs.Loading.{name_at};
 ghost use Rattle.lk_depot.specs.Store.{Store};
-ghost use Rattle.link_command.specs.Command.{asked_of, asks, texts_of};
-ghost use Rattle.link_driver.specs.Contents.{contents_of, source_view, sources_of};
-ghost use Rattle.link_driver.specs.Link.{about, link, cannot_write, cannot_read, defect_name, line_in, line_of_defect, shown_in};
-ghost use Rattle.link_driver.specs.Sources.{input_at, shown_file, shown_source, source_at};
+ghost use Rattle.lk_base.specs.Limits.{standard};
+ghost use Rattle.link_command.specs.Command.{IsLinkable, asked_of, asks, texts_of};
+ghost use Rattle.link_driver.specs.Contents.{input_contents, sources_of};
+ghost use Rattle.link_driver.specs.Link.{cannot_read, line_of_defect};
+ghost use Rattle.link_driver.specs.Sources as spec;
 ghost use Rattle.link_driver.specs.Phases.{IsLinked};
 ghost use Rattle.link_driver.specs.Ends.{Accepts, IsCut, IsTold, Ends, EndsSo};
 ghost use Rattle.link_driver.specs.Promises.{Promises};
 ghost use Rattle.link_driver.specs.Endings.{status_of, told_line, TellsDefect, TellsUnread, TellsStop, TellsLoadStop, IsWithin, AfterReport, map_line, AreLines, AreLoaded, IsReady};
 
+use crate::diagnostics::{Lines, line_about, line_for, lines_for};
 use crate::finding::find_sources;
-use crate::linking::{Linked, link};
+use crate::inputs::{Inputs, inputs_of};
+use crate::linking::{Linked, link_sources};
 use crate::sources::Source;
-use crate::symbol_names::symbol_name;
 use link_command::{Command, command_of};
-use lk_base::{Defect, DefectKind, FileNo, Limits, LinkStop, line_of, push_escaped};
+use lk_base::{Defect, Limits, LinkStop};
 use lk_depot::{Depot, Failed, FileKind, LoadAllStop, Sink, load_all, put_all, say_all};
-use lk_tables::text_of;
 use std::alloc::{AllocError, Global};
 use std::thread::Threads;
 use work_split::Gate;
@@ -59,43 +60,6 @@ fn write_file<D: Depot>(
     put_all(depot, name, bytes)
 }
 
-/// `text`, a name and a newline.
-fn line_about(alloc: Global, text: &[u8], name: &str) -> Result<Vec<u8>, AllocError>
-    ensures { IfOk result (λ line. line.items ≡ about text.now name.now) }
-{
-    let mut line = Vec::from_slice(alloc, text)?;
-    push_escaped(&mut line, name.as_bytes())?;
-    line.push(b'\n')?;
-    Ok(line)
-}
-
-/// The lines for files that may fail, made before the first is begun.
-#[derive(Drop)]
-struct Lines {
-    output: Vec<u8>,
-    map: Vec<u8>,
-}
-
-/// The line for the map, empty where none is asked.
-#[tactic(auto, unfolding(crate::specs::Link::cannot_write))]
-fn line_for_map(alloc: Global, command: &Command) -> Result<Vec<u8>, AllocError>
-    ensures { IfOk result (λ line. line.items ≡ map_line (asks command.now).map) }
-{
-    let Some(map) = &command.map else {
-        return Ok(Vec::new(alloc));
-    };
-    line_about(alloc, b"rvld: cannot write ", map.as_str())
-}
-
-#[tactic(auto, unfolding(crate::specs::Link::cannot_write))]
-fn lines_for(alloc: Global, command: &Command) -> Result<Lines, AllocError>
-    ensures { IfOk result (λ lines. AreLines (asks command.now) lines) }
-{
-    let output = line_about(alloc, b"rvld: cannot write ", command.output.as_str())?;
-    let map = line_for_map(alloc, command)?;
-    Ok(Lines { output, map })
-}
-
 /// Says the report.
 fn report<S: Sink>(say: &mut S, text: &[u8]) -> Ending
     ensures said { AfterReport text.now (S.output say.old) (S.output say.new) result }
@@ -113,151 +77,49 @@ fn blame_input(alloc: Global, command: &Command, index: usize) -> Ending
     requires { index < length (asks command.now).inputs }
     ensures { TellsUnread (cannot_read (name_at (asks command.now).inputs index)) result }
 {
-    let name = command.inputs[index].as_str();
+    let name = command.inputs.names()[index].as_str();
     let Ok(line) = line_about(alloc, b"rvld: cannot read ", name) else {
         return Ending::Memory;
     };
     Ending::Unread { line }
 }
 
-/// The name of an input, empty where there is none of this number.
-fn file_name(command: &Command, file: u64) -> &[u8]
-    ensures { result.now ≡ slice_index_or (asks command.now).inputs file [] }
-{
-    let Some(name) = command.inputs.get(file as usize) else {
-        return &[];
-    };
-    name.as_str().as_bytes()
-}
-
-/// The bytes of an input, none where there is none of this number.
-fn input_bytes(inputs: &[Vec<u8>], input: usize) -> &[u8]
-    ensures { result.now ≡ input_at (contents_of inputs.now) input }
-{
-    let Some(bytes) = inputs.get(input) else {
-        return &[];
-    };
-    bytes.as_slice()
-}
-
-/// The name of a file as lines show it.
-#[tactic(auto, unfolding(crate::specs::Sources::shown_source))]
-fn shown_source(
+/// The first defect, by the files of the link.
+fn report_defect(
     alloc: Global,
     command: &Command,
-    inputs: &[Vec<u8>],
-    source: &Source,
-) -> Result<Vec<u8>, AllocError>
-    ensures { IfOk result (λ name. name.items ≡ shown_source (asks command.now).inputs (contents_of inputs.now) (source_view source.now)) }
-{
-    let mut name = Vec::from_slice(alloc, file_name(command, source.input as u64))?;
-    if let Some(label) = &source.label {
-        name.push(b'(')?;
-        name.extend_from_slice(text_of(input_bytes(inputs, source.input), label))?;
-        name.push(b')')?;
-    }
-    Ok(name)
-}
-
-/// The name of a file by its number, none where there is no such file.
-fn shown_file(
-    alloc: Global,
-    command: &Command,
-    inputs: &[Vec<u8>],
-    sources: &[Source],
-    file: u64,
-) -> Result<Vec<u8>, AllocError>
-    ensures { IfOk result (λ name. name.items ≡ shown_file (asks command.now).inputs (contents_of inputs.now) (sources_of sources.now) file) }
-{
-    let Some(source) = sources.get(file as usize) else {
-        return Ok(Vec::new(alloc));
-    };
-    shown_source(alloc, command, inputs, source)
-}
-
-/// The bytes of a file, none where there is none of this number.
-fn file_bytes<'a>(sources: &[Source<'a>], file: FileNo) -> &'a [u8]
-    ensures { result.now ≡ (source_at (sources_of sources.now) file).bytes }
-{
-    let Some(source) = sources.get(file as usize) else {
-        return &[];
-    };
-    source.bytes
-}
-
-/// The name of a defect's symbol.
-fn symbol_of<'a>(
-    alloc: Global,
-    sources: &[Source<'a>],
-    defect: &Defect,
-) -> Result<&'a [u8], AllocError>
-    ensures { IfOk result (λ name. name.now ≡ shown_in (source_at (sources_of sources.now) defect.now.file).bytes defect.now.symbol) }
-{
-    symbol_name(alloc, file_bytes(sources, defect.file), defect.symbol)
-}
-
-/// The name that the line of a defect shows.
-fn name_for<'a>(
-    alloc: Global,
-    command: &'a Command,
-    sources: &[Source<'a>],
-    defect: &Defect,
-) -> Result<&'a [u8], AllocError>
-    ensures { IfOk result (λ name. name.now ≡ defect_name (asks command.now) (sources_of sources.now) defect.now) }
-{
-    match defect.kind {
-        DefectKind::F20 => symbol_of(alloc, sources, defect),
-        DefectKind::F21 => Ok(command.entry.as_str().as_bytes()),
-        DefectKind::F22 => symbol_of(alloc, sources, defect),
-        DefectKind::F24 => symbol_of(alloc, sources, defect),
-        DefectKind::F25 => symbol_of(alloc, sources, defect),
-        DefectKind::F26 => symbol_of(alloc, sources, defect),
-        _ => Ok(&[]),
-    }
-}
-
-/// The line of a defect.
-fn line_for(
-    alloc: Global,
-    command: &Command,
-    inputs: &[Vec<u8>],
+    inputs: &Inputs,
     sources: &[Source],
     defect: &Defect,
-) -> Result<Vec<u8>, AllocError>
-    ensures { IfOk result (λ line. line.items ≡ line_in (asks command.now) (contents_of inputs.now) (sources_of sources.now) defect.now) }
+) -> Ending
+    requires { sources_of sources.now ≡ spec.sources standard (input_contents inputs.now) }
+    ensures { TellsDefect (line_of_defect (asks command.now) (input_contents inputs.now) defect.now) result }
 {
-    let file = shown_file(alloc, command, inputs, sources, defect.file as u64)?;
-    let other = shown_file(alloc, command, inputs, sources, defect.other)?;
-    let name = name_for(alloc, command, sources, defect)?;
-    line_of(alloc, defect, file.as_slice(), name, other.as_slice())
-}
-
-/// The first defect. Its file has the number that it has among the files of the link, which are found once more for it.
-#[tactic(auto, unfolding(crate::specs::Link::line_of_defect))]
-fn tell_defect(alloc: Global, command: &Command, inputs: &[Vec<u8>], defect: &Defect) -> Ending
-    ensures { TellsDefect (line_of_defect (asks command.now) (contents_of inputs.now) defect.now) result }
-{
-    let Ok(sources) = find_sources(alloc, &Limits::standard(), inputs) else {
-        return Ending::Memory;
-    };
-    let Ok(line) = line_for(alloc, command, inputs, sources.as_slice(), defect) else {
+    let Ok(line) = line_for(alloc, command, inputs, sources, defect) else {
         return Ending::Memory;
     };
     Ending::Defective { line }
 }
 
 /// Why there is no link.
-fn tell_stop(alloc: Global, command: &Command, inputs: &[Vec<u8>], stop: &LinkStop) -> Ending
-    ensures { TellsStop (asks command.now) (contents_of inputs.now) stop.now result }
+fn report_stop(
+    alloc: Global,
+    command: &Command,
+    inputs: &Inputs,
+    sources: &[Source],
+    stop: &LinkStop,
+) -> Ending
+    requires { sources_of sources.now ≡ spec.sources standard (input_contents inputs.now) }
+    ensures { TellsStop (asks command.now) (input_contents inputs.now) stop.now result }
 {
     match stop {
-        LinkStop::Defect(defect) => tell_defect(alloc, command, inputs, defect),
+        LinkStop::Defect(defect) => report_defect(alloc, command, inputs, sources, defect),
         LinkStop::Memory => Ending::Memory,
     }
 }
 
 /// Why the inputs were not loaded.
-fn tell_load_stop(alloc: Global, command: &Command, stop: &LoadAllStop) -> Ending
+fn report_load_stop(alloc: Global, command: &Command, stop: &LoadAllStop) -> Ending
     requires { IsWithin (asks command.now).inputs stop.now }
     ensures { TellsLoadStop (asks command.now) stop.now result }
 {
@@ -303,23 +165,27 @@ fn link_inputs<R: Threads + Sync, D: Depot, S: Sink, G: Gate>(
     rt: &R,
     alloc: Global,
     command: &Command,
-    inputs: &[Vec<u8>],
+    inputs: &Inputs,
     depot: &mut D,
     say: &mut S,
     gate: &G,
 ) -> Ending
     requires some { 1 ≤ command.now.threads }
     requires most { command.now.threads ≤ 64 }
-    ensures ends { (before : Store) → AreLoaded (asks command.now) before (D.store depot.old) (contents_of inputs.now)
+    requires linkable { IsLinkable (asks command.now) }
+    ensures ends { (before : Store) → AreLoaded (asks command.now) before (D.store depot.old) (input_contents inputs.now)
         → Ends (Some (asks command.now)) before (D.store depot.new) (S.output say.old) (S.output say.new) (status_of result) (told_line result) }
     ensures faults { (D.store depot.old).faults ≤ (D.store depot.new).faults }
     ensures begun { (D.store depot.old).begun ≤ (D.store depot.new).begun }
     ensures say_faults { (S.output say.old).faults ≤ (S.output say.new).faults }
 {
     let limits = Limits::standard();
-    let linked = match link(rt, alloc, command, inputs, &limits, gate) {
+    let Ok(sources) = find_sources(alloc, &limits, inputs) else {
+        return Ending::Memory;
+    };
+    let linked = match link_sources(rt, alloc, command, sources.as_slice(), &limits, gate) {
         Ok(linked) => linked,
-        Err(stop) => return tell_stop(alloc, command, inputs, &stop),
+        Err(stop) => return report_stop(alloc, command, inputs, sources.as_slice(), &stop),
     };
     let Ok(lines) = lines_for(alloc, command) else {
         return Ending::Memory;
@@ -338,16 +204,20 @@ fn carry_out<R: Threads + Sync, D: Depot, S: Sink, G: Gate>(
 ) -> Ending
     requires some { 1 ≤ command.now.threads }
     requires most { command.now.threads ≤ 64 }
+    requires linkable { IsLinkable (asks command.now) }
     ensures ends { Ends (Some (asks command.now)) (D.store depot.old) (D.store depot.new) (S.output say.old) (S.output say.new) (status_of result) (told_line result) }
     ensures faults { (D.store depot.old).faults ≤ (D.store depot.new).faults }
     ensures begun { (D.store depot.old).begun ≤ (D.store depot.new).begun }
     ensures say_faults { (S.output say.old).faults ≤ (S.output say.new).faults }
 {
-    let inputs = match load_all(alloc, depot, command.inputs.as_slice()) {
-        Ok(inputs) => inputs,
-        Err(stop) => return tell_load_stop(alloc, command, &stop),
+    let contents = match load_all(alloc, depot, command.inputs.names()) {
+        Ok(contents) => contents,
+        Err(stop) => return report_load_stop(alloc, command, &stop),
     };
-    link_inputs(rt, alloc, command, inputs.as_slice(), depot, say, gate)
+    let Ok(inputs) = inputs_of(alloc, command.inputs.names(), contents) else {
+        return Ending::Memory;
+    };
+    link_inputs(rt, alloc, command, &inputs, depot, say, gate)
 }
 
 /// Reads the command and carries it out.
@@ -426,7 +296,7 @@ fn tell<E: Sink>(err: &mut E, line: &[u8])
 /// file is begun, and given back at the end.
 ///
 /// The answer is the exit status: 0 linked; 1 the inputs have a defect, whose line is told; 2 the command is refused; 3 an input
-/// could not be read, or a file or the report could not be written; 4 memory was wanting. `rt` starts the workers: as many as the
+/// could not be read, or a file or the report could not be written; 4 out of memory. `rt` starts the workers: as many as the
 /// command asks for share the files and claim names, and where these are two or more, names are sorted by as many threads as there
 /// are processors. `gate` is called by each worker before and after its piece, where there are two pieces or more. No answer depends on
 /// either.

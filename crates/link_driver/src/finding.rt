@@ -1,10 +1,12 @@
 //! The files of a link: the inputs, and the members of those that are archives.
 
-ghost use Rattle.std.specs.Prelude.{◌≡◌, ℕ, ◌≤◌, ◌^◌, ◌++◌, length, map, flat_map, IfOk, OnOk, MatchOption, [], ◌∷◌};
+ghost use Rattle.std.specs.Prelude.{◌≡◌, ℕ, ◌<◌, ◌≤◌, ◌^◌, ◌++◌, length, map, flat_map, IfOk, OnOk, MatchOption, [], ◌∷◌};
 ghost use Rattle.lk_base.specs.Limits.{IsWithinStandard};
-ghost use Rattle.link_driver.specs.Contents.{contents_of, sources_of};
+ghost use Rattle.lk_base.specs.declared.abi.TheConstants.{FILE_MAX};
+ghost use Rattle.link_driver.specs.Contents.{input_contents, sources_of};
 ghost use Rattle.link_driver.specs.Sources.{input_at, input_sources, is_archive, is_elf, member_source, sources, whole_source};
 
+use crate::inputs::Inputs;
 use crate::sources::Source;
 use ar_read::{Member, members};
 use lk_base::{Flaw, Limits, ReadFault, check_file_size};
@@ -34,7 +36,7 @@ fn push_member<'a>(
     bytes: &'a [u8],
     member: &Member,
 ) -> Result<(), AllocError>
-    requires { length bytes.now ≤ 2147483647 }
+    requires { length bytes.now ≤ FILE_MAX }
     ensures { OnOk result (sources_of list.new.items ≡ sources_of list.old.items ++ member_source input bytes.now member.now) }
 {
     let body = text_of(bytes, &member.body);
@@ -59,7 +61,7 @@ fn push_members<'a>(
     bytes: &'a [u8],
     members: &[Member],
 ) -> Result<(), AllocError>
-    requires { length bytes.now ≤ 2147483647 }
+    requires { length bytes.now ≤ FILE_MAX }
     ensures { OnOk result (sources_of list.new.items ≡ sources_of list.old.items ++ flat_map (member_source input bytes.now) members.now) }
 {
     for member in members {
@@ -76,7 +78,7 @@ fn push_whole<'a>(
     archive: bool,
     flaw: Option<Flaw>,
 ) -> Result<(), AllocError>
-    requires { MatchOption flaw (length bytes.now ≤ 2147483647) (λ _. Unit {0}) }
+    requires { MatchOption flaw (length bytes.now ≤ FILE_MAX) (λ _. Unit {0}) }
     ensures { OnOk result (sources_of list.new.items ≡ sources_of list.old.items ++ whole_source input bytes.now archive flaw ∷ []) }
 {
     list.push(Source {
@@ -118,20 +120,28 @@ fn push_input<'a>(
     }
 }
 
+/// The bytes of an input.
+fn bytes_at(inputs: &Inputs, input: usize) -> &[u8]
+    requires { input < length (input_contents inputs.now) }
+    ensures { result.now ≡ input_at (input_contents inputs.now) input }
+{
+    inputs.files[input].1.as_slice()
+}
+
 /// The files of a link by number: the inputs in the order of the command, each archive followed by those of its members that
 /// are ELF files.
 #[tactic(auto, unfolding(crate::specs::Sources::sources))]
 pub fn find_sources<'a>(
     alloc: Global,
     limits: &Limits,
-    inputs: &'a [Vec<u8>],
+    inputs: &'a Inputs,
 ) -> Result<Vec<Source<'a>>, AllocError>
     requires { IsWithinStandard limits.now }
-    ensures { IfOk result (λ list. sources_of list.items ≡ sources limits.now (contents_of inputs.now)) }
+    ensures { IfOk result (λ list. sources_of list.items ≡ sources limits.now (input_contents inputs.now)) }
 {
     let mut list = Vec::new(alloc);
-    for input in 0..inputs.len() {
-        push_input(alloc, limits, &mut list, input, inputs[input].as_slice())?;
+    for input in 0..inputs.files.len() {
+        push_input(alloc, limits, &mut list, input, bytes_at(inputs, input))?;
     }
     Ok(list)
 }

@@ -1,30 +1,27 @@
 //! The first phase of a link: the head of each file is read, by the workers.
 
-ghost use Rattle.std.specs.Prelude.{◌≡◌, ℕ, ◌+◌, ◌*◌, ◌<◌, ◌≤◌, ◌^◌, ◌++◌, All, min, length, map, flat_map, Ok, Err, IfOk};
+ghost use Rattle.std.specs.Prelude.{◌≡◌, ℕ, ◌<◌, ◌≤◌, ◌^◌, ◌+◌, All, length, flat_map, map, IfOk};
 ghost use Rattle.std.specs.List.{range_with_len};
-ghost use Rattle.lk_base.specs.declared.defects.Defect.{Defect as DefectOf};
-ghost use Rattle.lk_base.specs.declared.defects.ReadFault.TheVariants as faults;
-ghost use Rattle.lk_base.specs.declared.defects.LinkStop.TheVariants as stops;
-ghost use Rattle.lk_base.specs.Firsts.{Goes, Passes};
+ghost use Rattle.lk_base.specs.Firsts.{Goes};
 ghost use Rattle.lk_base.specs.Limits.{IsWithinStandard};
-ghost use Rattle.lk_tables.specs.FileView.{file_view};
-ghost use Rattle.lk_tables.specs.Files.{no_head, symbol_total};
-ghost use Rattle.lk_tables.specs.Heads.{head_view};
+ghost use Rattle.lk_tables.specs.Files.{symbol_total};
+ghost use Rattle.lk_tables.specs.FileView.{file_view, file_views};
+ghost use Rattle.lk_tables.specs.TablesView.{heads_of};
+ghost use Rattle.work_split.specs.Shares.{EachFrom, IsShare};
 ghost use Rattle.link_driver.specs.Contents.{source_view, sources_of};
-ghost use Rattle.link_driver.specs.Link.{defect_in, head_defects, head_defects_at, count_defects, reading_defects};
-ghost use Rattle.link_driver.specs.Shares.{AreShares, HasFewSymbols, IsHeadOf, IsShare};
-ghost use Rattle.link_driver.specs.Sources.{head_in, headed, heads_in};
+ghost use Rattle.link_driver.specs.Defects.{defect_in, head_defects, head_defects_at, reading_defects};
+ghost use Rattle.link_driver.specs.Reading.{HasFewSymbols, IsHeadAt, IsHeadOf};
+ghost use Rattle.link_driver.specs.Sources.{headed, heads_in};
 ghost use Rattle.link_driver.specs.Stops.{stop_for};
 
-use crate::shares::{join, nothing_else};
 use crate::sources::Source;
 use elf_read::read_head;
-use lk_base::{Defect, DefectKind, FileNo, Flaw, Limits, LinkStop, NO_FILE, ReadFault};
-use lk_tables::{File, Head};
+use lk_base::{Defect, FileNo, Flaw, Limits, LinkStop, ReadFault, check_count};
+use lk_tables::{File, Head, Heads};
 use std::alloc::{AllocError, Global};
 use std::ops::Range;
 use std::thread::Threads;
-use work_split::{Gate, over_pieces, pieces};
+use work_split::{Gate, over_shares, pieces_by_weight};
 
 /// A flaw of a file as a defect of the link.
 pub fn defect_in(file: FileNo, flaw: &Flaw) -> Defect
@@ -50,151 +47,127 @@ pub fn stop_for(file: FileNo, fault: &ReadFault) -> LinkStop
     }
 }
 
-/// The head of one file; that of an archive by itself is empty.
-#[tactic(auto, unfolding(crate::specs::Link::head_defects))]
-fn read_one(alloc: Global, source: &Source, file: FileNo) -> Result<Head, LinkStop>
+/// The head of one file; an archive by itself has none.
+#[tactic(auto, unfolding(crate::specs::Defects::head_defects))]
+fn read_one(alloc: Global, source: &Source, file: FileNo) -> Result<Option<Head>, LinkStop>
     ensures goes { Goes result (head_defects (source_view source.now) file) }
-    ensures head { IfOk result (λ head. head_view head ≡ head_in (source_view source.now)) }
-    ensures few { IfOk result (λ head. length head.symbols.items < 2 ^ 27) }
+    ensures head { IfOk result (IsHeadOf (source_view source.now)) }
 {
     if let Some(flaw) = &source.flaw {
         return Err(LinkStop::Defect(defect_in(file, flaw)));
     }
     if source.archive {
-        return Ok(no_head(alloc));
+        return Ok(None);
     }
     match read_head(alloc, source.bytes) {
-        Ok(head) => Ok(head),
+        Ok(head) => Ok(Some(head)),
         Err(fault) => Err(stop_for(file, &fault)),
     }
 }
 
-/// The head of an archive by itself.
-fn no_head(alloc: Global) -> Head
-    ensures { head_view result ≡ no_head }
-{
-    Head {
-        flags: 0,
-        sections: Vec::new(alloc),
-        symtab: 0,
-        symbols: Vec::new(alloc),
-    }
-}
-
 /// Reads the heads of the files of one piece, in order.
-fn read_piece<'a>(
+fn read_piece(
     alloc: Global,
-    sources: &[Source<'a>],
+    sources: &[Source],
     piece: Range<usize>,
-) -> Result<Vec<File<'a>>, LinkStop>
+) -> Result<Vec<Option<Head>>, LinkStop>
     requires ordered { piece.start ≤ piece.end }
     requires within { piece.end ≤ length sources.now }
     requires few { piece.end < 2 ^ 24 }
-    ensures { IsShare (head_defects_at (sources_of sources.now)) (IsHeadOf (sources_of sources.now)) piece.start piece.end result }
+    ensures { IsShare (head_defects_at (sources_of sources.now)) (IsHeadAt (sources_of sources.now)) piece.start piece.end result }
 {
-    let mut files = Vec::with_capacity(alloc, piece.end - piece.start)?;
+    let mut heads = Vec::with_capacity(alloc, piece.end - piece.start)?;
     for at in piece.start..piece.end {
-        let source = &sources[at];
-        let head = match read_one(alloc, source, at as u32) {
+        let head = match read_one(alloc, &sources[at], at as u32) {
             Ok(head) => head,
             Err(stop) => return Err(stop),
         };
-        files.push(File {
-            bytes: source.bytes,
-            member: source.member,
-            head,
-            object: None,
-        })?;
+        heads.push(head)?;
     }
-    Ok(files)
+    Ok(heads)
 }
 
-/// What each worker reads of the first `count` files.
-fn shares_of<'a, R: Threads + Sync, G: Gate>(
+/// What the heads of the first `count` files weigh, by which the work is cut: their bytes.
+fn weights_of(alloc: Global, sources: &[Source], count: usize) -> Result<Vec<u64>, AllocError>
+    requires { count ≤ length sources.now }
+    ensures { IfOk result (λ weights. length weights.items ≡ count) }
+{
+    let mut weights = Vec::with_capacity(alloc, count)?;
+    for at in 0..count {
+        weights.push(sources[at].bytes.len() as u64)?;
+    }
+    Ok(weights)
+}
+
+/// Reads the heads of the first `count` files.
+fn read_first<R: Threads + Sync, G: Gate>(
     rt: &R,
     alloc: Global,
-    sources: &[Source<'a>],
+    sources: &[Source],
     count: usize,
     workers: u32,
     gate: &G,
-) -> Result<Vec<Result<Vec<File<'a>>, LinkStop>>, AllocError>
+) -> Result<Vec<Option<Head>>, LinkStop>
     requires count { count ≤ length sources.now }
     requires few { count < 2 ^ 24 }
     requires some { 1 ≤ workers }
     requires most { workers ≤ 64 }
-    ensures { IfOk result (λ shares. AreShares (head_defects_at (sources_of sources.now)) (IsHeadOf (sources_of sources.now)) 0 count shares.items) }
+    ensures { IsShare (head_defects_at (sources_of sources.now)) (IsHeadAt (sources_of sources.now)) 0 count result }
 {
-    let cuts = pieces(alloc, count, workers)?;
-    let given = nothing_else(alloc, cuts.len())?;
-    over_pieces(
+    let weights = weights_of(alloc, sources, count)?;
+    let cuts = pieces_by_weight(alloc, weights.as_slice(), workers)?;
+    over_shares(
         rt,
         alloc,
         gate,
         cuts.as_slice(),
-        given,
-        |_worker: u32, piece: Range<usize>, _given: ()| -> Result<Vec<File>, LinkStop>
+        |piece: Range<usize>| -> Result<Vec<Option<Head>>, LinkStop>
             requires ordered { piece.start ≤ piece.end }
             requires within { piece.end ≤ length sources.now }
             requires few { piece.end < 2 ^ 24 }
-            ensures { IsShare (head_defects_at (sources_of sources.entry.now)) (IsHeadOf (sources_of sources.entry.now)) piece.start piece.end result }
+            ensures { IsShare (head_defects_at (sources_of sources.entry.now)) (IsHeadAt (sources_of sources.entry.now)) piece.start piece.end result }
         { read_piece(alloc, sources, piece) },
     )
 }
 
-/// Reads the heads of the first `count` files.
-fn read_first<'a, R: Threads + Sync, G: Gate>(
-    rt: &R,
+/// The first files of a link with their heads.
+fn gather<'a>(
     alloc: Global,
     sources: &[Source<'a>],
-    count: usize,
-    workers: u32,
-    gate: &G,
-) -> Result<Vec<File<'a>>, LinkStop>
-    requires count { count ≤ length sources.now }
-    requires few { count < 2 ^ 24 }
-    requires some { 1 ≤ workers }
-    requires most { workers ≤ 64 }
-    ensures goes { Goes result (flat_map (head_defects_at (sources_of sources.now)) (range_with_len 0 count)) }
-    ensures files { IfOk result (λ files. map file_view files.items ≡ map (headed (sources_of sources.now)) (range_with_len 0 count)) }
-    ensures few { IfOk result (λ files. All HasFewSymbols files.items) }
+    list: Vec<Option<Head>>,
+) -> Result<Heads<'a>, AllocError>
+    requires count { length list.items ≤ length sources.now }
+    requires few { length list.items < 2 ^ 24 }
+    requires each { EachFrom (IsHeadAt (sources_of sources.now)) 0 (length list.items) list.items }
+    ensures heads { IfOk result (λ heads. heads_of heads ≡ map (headed (sources_of sources.now)) (range_with_len 0 (length list.items))) }
+    ensures few { IfOk result (λ heads. All HasFewSymbols (heads_of heads)) }
 {
-    let shares = shares_of(rt, alloc, sources, count, workers, gate)?;
-    join(alloc, shares)
+    let mut heads = Heads::empty(alloc);
+    let mut at = 0;
+    for head in list {
+        let source = &sources[at];
+        heads.add(source.bytes, head, source.member)?;
+        at += 1;
+    }
+    Ok(heads)
 }
 
 /// How many symbols these files have.
 fn count_symbols(files: &[File]) -> u64
     requires count { length files.now < 2 ^ 24 }
-    requires few { All HasFewSymbols files.now }
-    ensures { result ≡ symbol_total (map file_view files.now) }
+    requires few { All HasFewSymbols (file_views files.now) }
+    ensures { result ≡ symbol_total (file_views files.now) }
 {
     let mut total = 0;
     for index in 0..files.len() {
-        total += files[index].head.symbols.len() as u64;
+        total += files[index].symbols().len() as u64;
     }
     total
 }
 
-/// Refuses a count that is above its limit.
-pub fn check_count(limit: u64, count: u64) -> Result<(), Defect>
-    ensures { Passes result (count_defects limit count) }
-{
-    if limit < count {
-        return Err(Defect {
-            kind: DefectKind::F08,
-            file: NO_FILE,
-            section: 0,
-            place: count,
-            symbol: 0,
-            other: 0,
-        });
-    }
-    Ok(())
-}
-
-/// Reads the head of each file. A link of more files than the limit has them as its defect, where none of the first, up to
+/// Reads the head of each file. A link of more files than the limit has them as its defect, if none of the first, up to
 /// the limit, has one. It answers the same whatever the number of workers.
-#[tactic(auto, unfolding(crate::specs::Link::reading_defects, crate::specs::Sources::heads_in))]
+#[tactic(auto, unfolding(crate::specs::Defects::reading_defects, crate::specs::Sources::heads_in))]
 pub fn read_heads<'a, R: Threads + Sync, G: Gate>(
     rt: &R,
     alloc: Global,
@@ -202,25 +175,26 @@ pub fn read_heads<'a, R: Threads + Sync, G: Gate>(
     sources: &[Source<'a>],
     workers: u32,
     gate: &G,
-) -> Result<Vec<File<'a>>, LinkStop>
+) -> Result<Heads<'a>, LinkStop>
     requires limits { IsWithinStandard limits.now }
     requires some { 1 ≤ workers }
     requires most { workers ≤ 64 }
     ensures goes { Goes result (reading_defects limits.now (sources_of sources.now)) }
-    ensures files { IfOk result (λ files. map file_view files.items ≡ heads_in (sources_of sources.now)) }
-    ensures few { IfOk result (λ files. length sources.now ≤ limits.now.files) }
-    ensures symbols { IfOk result (λ files. symbol_total (map file_view files.items) ≤ limits.now.symbols) }
+    ensures heads { IfOk result (λ heads. heads_of heads ≡ heads_in (sources_of sources.now)) }
+    ensures few { IfOk result (λ heads. length sources.now ≤ limits.now.files) }
+    ensures symbols { IfOk result (λ heads. symbol_total (heads_of heads) ≤ limits.now.symbols) }
 {
     let count = (sources.len() as u64).min(limits.files);
-    let files = match read_first(rt, alloc, sources, count as usize, workers, gate) {
-        Ok(files) => files,
+    let list = match read_first(rt, alloc, sources, count as usize, workers, gate) {
+        Ok(list) => list,
         Err(stop) => return Err(stop),
     };
     if let Err(defect) = check_count(limits.files, sources.len() as u64) {
         return Err(LinkStop::Defect(defect));
     }
-    if let Err(defect) = check_count(limits.symbols, count_symbols(files.as_slice())) {
+    let heads = gather(alloc, sources, list)?;
+    if let Err(defect) = check_count(limits.symbols, count_symbols(heads.files())) {
         return Err(LinkStop::Defect(defect));
     }
-    Ok(files)
+    Ok(heads)
 }

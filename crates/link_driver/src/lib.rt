@@ -2,25 +2,27 @@
 //!
 //! `run` is the top call. Its contract says that, whatever the words, the bytes of the inputs, the number of workers and the
 //! order of their steps, the files, the line and the status are those of one definition, `link` in specs/Link.antt; any other
-//! end is want of memory, or follows a failed call of the store of files or of an output, and leaves no more than the first
+//! end is out of memory, or follows a failed call of the store of files or of an output, and leaves no more than the first
 //! bytes of a file.
 //!
-//! `linking` runs the phases: `finding` finds the files in the inputs (`sources`), `heads` and `bodies` read them by all workers, whose
-//! shares `shares` joins, names are bound, what goes into the executable is laid out and written. `driving` reads the command, loads,
-//! links and writes, and says how it ended.
+//! `linking` runs the phases: `finding` finds the files in the inputs (`sources`), `heads` and `bodies` read them by all workers,
+//! names are bound, and what goes into the executable is laid out and written. `driving` reads the command, loads, links and
+//! writes, and says how it ended, by the lines of `diagnostics`.
 #![tactic(auto)]
 
 mod bodies;
+mod diagnostics;
 mod driving;
 mod finding;
 mod heads;
+mod inputs;
 mod linking;
 mod sections;
-mod shares;
 mod sources;
 mod symbol_names;
 
 pub use driving::run;
-pub use link_command::Command;
+pub use inputs::Inputs;
+pub use link_command::{Command, Wanted};
 pub use linking::{Linked, link};
 pub use work_split::{Gate, OpenGate};

@@ -1,18 +1,13 @@
 //! How many sections a link has.
 
-ghost use Rattle.std.specs.Prelude.{◌≡◌, ◌+◌, ◌*◌, ◌<◌, ◌≤◌, ◌^◌, length, map, count_by};
-ghost use Rattle.lk_tables.specs.Bodies.{is_common};
-ghost use Rattle.lk_tables.specs.FileView.{file_view};
-ghost use Rattle.lk_tables.specs.Files.{section_count, section_total};
+ghost use Rattle.std.specs.Prelude.{◌≡◌, ℕ, ◌<◌, ◌≤◌, ◌^◌, count_by, is_some, length, slice_index_or, if◌then◌else◌, true, None};
+ghost use Rattle.lk_tables.specs.Symbols.{is_common};
+ghost use Rattle.lk_tables.specs.Files.{file_at, section_total};
+ghost use Rattle.lk_tables.specs.FileView.{file_view, file_views};
+ghost use Rattle.lk_tables.specs.Gathering.{with_objects};
+ghost use Rattle.link_driver.specs.Counts.{count_of};
 
-use lk_tables::{File, Place, Symbol};
-
-/// Whether a symbol is COMMON.
-fn is_common(symbol: &Symbol) -> bool
-    ensures { result ≡ is_common symbol.now.place }
-{
-    matches!(symbol.place, Place::Common)
-}
+use lk_tables::{File, Object, Symbol, is_common};
 
 /// How many symbols are COMMON.
 fn count_commons(symbols: &[Symbol]) -> usize
@@ -22,25 +17,27 @@ fn count_commons(symbols: &[Symbol]) -> usize
     symbols.iter().filter(|symbol| is_common(symbol)).count()
 }
 
-/// How many sections a file has, with its COMMON symbols; none where it takes no part.
-fn count_file(file: &File) -> u64
-    ensures value { result ≡ section_count (file_view file.now) }
-    ensures few { result < 2 ^ 28 }
+/// How many section numbers a file has if it takes part: its sections, and its COMMON symbols.
+fn count_file(file: &File, live: bool) -> u64
+    requires { live ≡ true → count_of (file_view file.now) < 2 ^ 28 }
+    ensures { result ≡ (if live then count_of (file_view file.now) else 0) }
 {
-    if !file.is_live() {
+    if !live {
         return 0;
     }
-    file.head.sections.len() as u64 + count_commons(file.head.symbols.as_slice()) as u64
+    file.sections().len() as u64 + count_commons(file.symbols()) as u64
 }
 
-/// How many sections the live files have, with their COMMON symbols.
-pub fn count_sections(files: &[File]) -> u64
-    requires { length files.now < 2 ^ 24 }
-    ensures { result ≡ section_total (map file_view files.now) }
+/// How many section numbers the files have that take part, which are those with a body.
+pub fn count_sections(files: &[File], objects: &[Option<Object>]) -> u64
+    requires each { length objects.now ≡ length files.now }
+    requires count { length files.now < 2 ^ 24 }
+    requires few { (f : ℕ) → f < length files.now → is_some (slice_index_or objects.now f None) ≡ true → count_of (file_at (file_views files.now) f) < 2 ^ 28 }
+    ensures { result ≡ section_total (with_objects (file_views files.now) objects.now) }
 {
     let mut total = 0;
-    for index in 0..files.len() {
-        total += count_file(&files[index]);
+    for f in 0..files.len() {
+        total += count_file(&files[f], objects[f].is_some());
     }
     total
 }

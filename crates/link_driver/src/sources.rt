@@ -2,6 +2,7 @@
 
 ghost use Rattle.std.specs.Prelude.{◌≤◌, length, MatchOption};
 ghost use Rattle.std.proofs.Props.{props};
+ghost use Rattle.lk_base.specs.declared.abi.TheConstants.{FILE_MAX};
 
 use lk_base::Flaw;
 use lk_tables::Span;
@@ -22,5 +23,5 @@ pub struct Source<'a> {
     /// What is wrong with it before its head is looked at.
     pub flaw: Option<Flaw>,
 
-    ghost short: { MatchOption flaw (length bytes.now ≤ 2147483647) (λ _. Unit {0}) } by { Prim.hlevel props },
+    ghost short: { MatchOption flaw (length bytes.now ≤ FILE_MAX) (λ _. Unit {0}) } by { Prim.hlevel props },
 }

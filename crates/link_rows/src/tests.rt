@@ -604,8 +604,9 @@ const SHARED: Link = Link {
     ..FIRST_LINK
 };
 
-/// The passes that two workers share in a link of two files: heads, the claims for members, bodies, and the claims for names.
-const SHARED_PASSES: u64 = 4;
+/// The passes that two workers share in a link of two files: heads, the claims for members, bodies, the list of offers, the claims for names,
+/// the ranks and the addresses of symbols.
+const SHARED_PASSES: u64 = 7;
 
 /// Whether a link of two files is as ever where one of its two workers is held in each pass, and the other was in time.
 fn is_held<R: Threads + Sync>(rt: &R, alloc: Global, held: u32) -> Result<bool, AllocError> {

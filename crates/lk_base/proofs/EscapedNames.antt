@@ -49,7 +49,7 @@ nonempty b rest = by_kind (is_plain b)
     by_kind true e = omega (arith, ap (length {A = ℕ}) e)
     by_kind false e = omega (arith, ap (length {A = ℕ}) e)
 
--- the first byte is told, and the bytes behind it
+-- the first byte is known, and so are the bytes after it
 first_told : (a b : ℕ) (xs ys : List ℕ) → a < 256 → b < 256 → escaped_byte a ++ xs ≡ escaped_byte b ++ ys → (a ≡ b) × (xs ≡ ys)
 first_told a b xs ys a_byte b_byte = by_kinds (is_plain a) refl (is_plain b) refl
   where

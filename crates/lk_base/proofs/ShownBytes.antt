@@ -6,6 +6,7 @@ use Rattle.std.proofs.lemmas.List.Elements.{All-from_get_or, All-head, All-tail}
 use Rattle.std.proofs.lemmas.List.Folds.{list_all-append}
 use Rattle.std.proofs.lemmas.List.Sums.{AllPass-from_list_all}
 use Rattle.std.proofs.Math.Nat.{div-lt_iff_lt-mul, mod-lt}
+use Rattle.lk_base.specs.Kinds.{names_other_file}
 use Rattle.lk_base.specs.Lines.{IsOneLine, defect_line, escaped, escaped_byte, hex_digit, is_plain, is_shown, line_text, shown_file, shown_other, title_of}
 use Rattle.lk_base.specs.declared.defects.Defect.{Defect}
 use Rattle.lk_base.specs.declared.numbers.TheConstants.{NO_FILE}
@@ -106,13 +107,13 @@ shown-shown_file number file bytes = by_number (number == NO_FILE)
     by_number false = shown-escaped file bytes
 
 shown-shown_other : (d : Defect) (other : List ℕ) → All (λ b. b < 256) other → AreShown (shown_other d other)
-shown-shown_other d other bytes = by_kind d.kind
+shown-shown_other d other bytes = by_name (names_other_file d.kind)
   where
-    by_kind : (kind : DefectKind) → AreShown (shown_other (record d { kind = kind }) other)
-    by_kind F20 = shown-escaped other bytes
-    by_kind _ = shown-decimal d.other
+    by_name : (t : Bool) → AreShown (if t then escaped other else decimal d.other)
+    by_name true = shown-escaped other bytes
+    by_name false = shown-decimal d.other
 
--- one more field behind a line, after its label
+-- one more field at a line's end, after its label
 shown_more : (line label field : List ℕ) → AreShown line → AreShown label → AreShown field → AreShown (line ++ label ++ field)
 shown_more line label field shown label_shown field_shown =
     shown-append (line ++ label) field (shown-append line label shown label_shown) field_shown

@@ -100,7 +100,7 @@ cons_tail x y xs ys e = cc
 cons_nil : {X : Type 0} {A : Type 0} (x : X) (xs : List X) → x ∷ xs ≡ [] → A
 cons_nil x xs e = cc
 
--- the same front taken off leaves the same that ties with z
+-- the same prefix taken off leaves the same that ties with z
 tail_like : {X : Type 0} (b c : Bool) (x y : X) (f g : List X) → b ≡ c → cond b (x ∷ f) f ≡ cond c (y ∷ g) g → f ≡ g
 tail_like true true x y f g same e = cons_tail x y f g e
 tail_like true false x y f g same e = cc

@@ -8,12 +8,12 @@ use Rattle.lk_base.specs.declared.defects.LinkStop.TheVariants as stops
 abbrev pub BeginsWith : List Defect → Defect → Type 0
 BeginsWith defects first = (later : List Defect) × (defects ≡ first ∷ later)
 
--- the first of the list, or none where it is empty
+-- the first of the list, or none if it is empty
 abbrev pub IsFirst : List Defect → Option Defect → Type 0
 IsFirst defects None = defects ≡ []
 IsFirst defects (Some first) = BeginsWith defects first
 
--- a step that goes on exactly where the list is empty, and else stops at its first
+-- a step that goes on exactly if the list is empty, and else stops at its first
 abbrev pub Passes : {X : Type 0} → Result X Defect → List Defect → Type 0
 Passes (Ok value) defects = defects ≡ []
 Passes (Err first) defects = BeginsWith defects first

@@ -1,5 +1,5 @@
 -- How a defect's kind is shown.
-use Rattle.std.specs.Prelude.{ℕ, List, codes}
+use Rattle.std.specs.Prelude.{ℕ, Bool, true, false, List, codes}
 use Rattle.lk_base.specs.declared.kinds.DefectKind.{DefectKind}
 use Rattle.lk_base.specs.declared.kinds.DefectKind.TheVariants.{F01, F02, F03, F04, F05, F06, F07, F08, F09, F10, F11, F12, F13, F14, F15, F16, F17, F18, F19, F20, F21, F22, F23, F24, F25, F26, F27}
 
@@ -62,3 +62,22 @@ word_of F24 = codes "Range"
 word_of F25 = codes "Odd"
 word_of F26 = codes "NoPartner"
 word_of F27 = codes "NopsShort"
+
+-- the line shows the name of the defect's symbol
+abbrev pub names_symbol : DefectKind → Bool
+names_symbol F20 = true
+names_symbol F22 = true
+names_symbol F24 = true
+names_symbol F25 = true
+names_symbol F26 = true
+names_symbol _ = false
+
+-- the line shows the entry symbol's name
+abbrev pub names_entry : DefectKind → Bool
+names_entry F21 = true
+names_entry _ = false
+
+-- the line shows the name of another file
+abbrev pub names_other_file : DefectKind → Bool
+names_other_file F20 = true
+names_other_file _ = false

@@ -1,6 +1,11 @@
+pub mod Arithmetic
+pub mod Defects
 pub mod Fields
 pub mod Firsts
+pub mod Formats
 pub mod Kinds
 pub mod Limits
 pub mod Lines
 pub mod Order
+pub mod Reaches
+pub mod RelocKinds

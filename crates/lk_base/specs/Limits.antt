@@ -1,13 +1,14 @@
 -- How much one link may read and make: the project's own bounds, under which offsets and numbers fit their fields.
 use Rattle.std.specs.Prelude.{ℕ, ◌-◌, ◌^◌, ◌≤◌}
 use Rattle.lk_base.specs.declared.defects.Flaw.{Flaw}
-use Rattle.lk_base.specs.declared.kinds.DefectKind.TheVariants.{F08}
+use Rattle.lk_base.specs.declared.abi.TheConstants.{FILE_MAX}
+use Rattle.lk_base.specs.declared.kinds.TheConstants.{LIMIT}
 use Rattle.lk_base.specs.declared.limits.Limits.{Limits}
 
 -- the limits of each link that the command runs
 abbrev pub standard : Limits
 standard = record {
-  file = 2 ^ 31 - 1;
+  file = FILE_MAX;
   files = 2 ^ 24 - 1;
   symbols = 2 ^ 31 - 1;
   sections = 2 ^ 28;
@@ -28,4 +29,4 @@ pub record IsWithinStandard (limits : Limits) : Type 0 where
 
 -- the flaw of a file of too many bytes: its place is their number
 abbrev pub oversize : ℕ → Flaw
-oversize len = record { kind = F08; section = 0; place = len; other = 0 }
+oversize len = record { kind = LIMIT; section = 0; place = len; other = 0 }

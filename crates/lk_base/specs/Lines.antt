@@ -2,10 +2,9 @@
 use Rattle.std.specs.Prelude.{◌≡◌, ℕ, ◌<◌, All, ◌/◌, ◌%◌, ◌==◌, ◌&&◌, Bool, not, if◌then◌else◌, nat_le, List, [], ◌∷◌, ◌++◌, codes, slice_index}
 use Rattle.std.specs.Fmt.{decimal}
 use Rattle.std.specs.List.{AllPass, flat_map}
-use Rattle.lk_base.specs.Kinds.{code_of, word_of}
+use Rattle.lk_base.specs.Kinds.{code_of, names_other_file, word_of}
 use Rattle.lk_base.specs.declared.defects.Defect.{Defect}
 use Rattle.lk_base.specs.declared.kinds.DefectKind.{DefectKind}
-use Rattle.lk_base.specs.declared.kinds.DefectKind.TheVariants.{F20}
 use Rattle.lk_base.specs.declared.numbers.TheConstants.{NO_FILE}
 
 -- a byte that stands for itself: 0x21 to 0x7e, but not the percent sign
@@ -25,25 +24,21 @@ escaped_byte byte =
 abbrev pub escaped : List ℕ → List ℕ
 escaped name = flat_map escaped_byte name
 
--- the name can be told from what is shown: no other name of bytes is shown so
+-- the name is known from what is shown: no other name of bytes is shown so
 pub record IsTold (name : List ℕ) : Type 0 where
   pub alone : (other : List ℕ) → All (λ b. b < 256) other → escaped other ≡ escaped name → other ≡ name
 
--- how a line begins
+-- how a line starts
 abbrev pub title_of : DefectKind → List ℕ
 title_of kind = codes "rvld: " ++ code_of kind ++ codes " " ++ word_of kind
 
--- the file's name, or a dash where there is no file
+-- the file's name, or a dash if there is no file
 abbrev pub shown_file : ℕ → List ℕ → List ℕ
 shown_file number file = if number == NO_FILE then codes "-" else escaped file
 
 -- the other file's name for a duplicate, and a number for each other kind
 abbrev pub shown_other : Defect → List ℕ → List ℕ
-shown_other defect other = other_by defect.kind
-  where
-    other_by : DefectKind → List ℕ
-    other_by F20 = escaped other
-    other_by _ = decimal defect.other
+shown_other defect other = if names_other_file defect.kind then escaped other else decimal defect.other
 
 -- the line without its newline
 abbrev pub line_text : Defect → List ℕ → List ℕ → List ℕ → List ℕ

@@ -1,7 +1,7 @@
 -- The stable order of a list by a number: equal ones stay as they stood.
 use Rattle.std.specs.Prelude.{ℕ, nat_lt, if◌then◌else◌, List, [], ◌∷◌}
 
--- in front of the first that is not less
+-- before the first that is not less
 abbrev pub put_in : {X : Type 0} → (X → ℕ) → X → List X → List X
 put_in key x [] = x ∷ []
 put_in key x (y ∷ ys) = if nat_lt (key y) (key x) then y ∷ put_in key x ys else x ∷ (y ∷ ys)

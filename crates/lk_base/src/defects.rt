@@ -1,12 +1,13 @@
 //! Defects, and why a reader or a link stops.
 
 ghost use Rattle.std.specs.Prelude.{◌≡◌};
+ghost use Rattle.lk_base.specs.Defects.{linkwide};
 
 use crate::kinds::DefectKind;
-use crate::numbers::{FileNo, SymNo};
+use crate::numbers::{FileNo, NO_FILE, SymNo};
 use std::alloc::{AllocError, AllocFailed};
 
-/// A defect of a link, as its line tells it. What a kind does not name is 0, and a defect of no file has `NO_FILE`.
+/// A defect of a link, as its line reports it. What a kind does not name is 0, and a defect of no file has `NO_FILE`.
 #[derive(Clone, Copy, Debug, PartialEq, Eq)]
 pub struct Defect {
     pub kind: DefectKind,
@@ -18,6 +19,22 @@ pub struct Defect {
     pub symbol: SymNo,
     /// One more number, as the kind has it.
     pub other: u64,
+}
+
+impl Defect {
+    /// A defect of no file.
+    pub fn linkwide(kind: DefectKind, place: u64, other: u64) -> Defect
+        ensures { result ≡ linkwide kind place other }
+    {
+        Defect {
+            kind,
+            file: NO_FILE,
+            section: 0,
+            place,
+            symbol: 0,
+            other,
+        }
+    }
 }
 
 /// A defect as the reader of one file knows it: the file, and so the symbol's name, is the caller's to add.

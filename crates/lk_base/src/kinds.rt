@@ -1,12 +1,12 @@
 //! The kinds of defects.
 
 ghost use Rattle.std.specs.Prelude.{◌≡◌};
-ghost use Rattle.lk_base.specs.Kinds.{code_of, word_of};
+ghost use Rattle.lk_base.specs.Kinds.{code_of, names_entry, names_other_file, names_symbol, word_of};
 
 /// What is wrong with an input, or with the inputs together. A line shows the variant's name and the word below.
 #[derive(Clone, Copy, Debug, PartialEq, Eq)]
 pub enum DefectKind {
-    /// NotObject: the file does not begin as an ELF file does.
+    /// NotObject: the file does not start as an ELF file does.
     F01,
     /// BadHeader: the file header is cut off, or is not that of a relocatable RV64 object.
     F02,
@@ -57,11 +57,67 @@ pub enum DefectKind {
     F24,
     /// Odd: a value that has to be even is odd.
     F25,
-    /// NoPartner: the low part of an address whose high part is not where its label says.
+    /// NoPartner: the lower part of a distance whose upper part does not stand at its label.
     F26,
     /// NopsShort: an alignment needs more bytes than its padding has, or an odd number of them.
     F27,
 }
+
+// Each kind by its word: all other code says these.
+
+pub const NOT_OBJECT: DefectKind = DefectKind::F01;
+
+pub const BAD_HEADER: DefectKind = DefectKind::F02;
+
+pub const OUTSIDE: DefectKind = DefectKind::F03;
+
+pub const BAD_SECTION: DefectKind = DefectKind::F04;
+
+pub const COMPRESSED: DefectKind = DefectKind::F05;
+
+pub const BAD_ARCHIVE: DefectKind = DefectKind::F06;
+
+pub const THIN: DefectKind = DefectKind::F07;
+
+pub const LIMIT: DefectKind = DefectKind::F08;
+
+pub const BAD_SYMBOL: DefectKind = DefectKind::F09;
+
+pub const BAD_NAME: DefectKind = DefectKind::F10;
+
+pub const BAD_RELOC: DefectKind = DefectKind::F11;
+
+pub const RELOC_KIND: DefectKind = DefectKind::F12;
+
+pub const BAD_GROUP: DefectKind = DefectKind::F13;
+
+pub const BAD_ULEB: DefectKind = DefectKind::F14;
+
+pub const BAD_ALIGNMENT: DefectKind = DefectKind::F15;
+
+pub const FLAGS_CLASH: DefectKind = DefectKind::F16;
+
+pub const IFUNC: DefectKind = DefectKind::F17;
+
+pub const BSD_NAME: DefectKind = DefectKind::F18;
+
+pub const BAD_FRAME: DefectKind = DefectKind::F19;
+
+pub const DUPLICATE: DefectKind = DefectKind::F20;
+
+pub const NO_ENTRY: DefectKind = DefectKind::F21;
+
+pub const UNDEFINED: DefectKind = DefectKind::F22;
+
+pub const TOO_BIG: DefectKind = DefectKind::F23;
+
+pub const RANGE: DefectKind = DefectKind::F24;
+
+pub const ODD: DefectKind = DefectKind::F25;
+
+pub const NO_PARTNER: DefectKind = DefectKind::F26;
+
+pub const NOPS_SHORT: DefectKind = DefectKind::F27;
 
 impl DefectKind {
     /// The variant's name, as a line shows it.
@@ -132,5 +188,29 @@ impl DefectKind {
             DefectKind::F26 => "NoPartner",
             DefectKind::F27 => "NopsShort",
         }
+    }
+
+    /// Whether the line of a defect of this kind shows the name of the defect's symbol.
+    pub fn names_symbol(self) -> bool
+        ensures { result ≡ names_symbol self }
+    {
+        matches!(
+            self,
+            DefectKind::F20 | DefectKind::F22 | DefectKind::F24 | DefectKind::F25 | DefectKind::F26
+        )
+    }
+
+    /// Whether the line of a defect of this kind shows the entry symbol's name.
+    pub fn names_entry(self) -> bool
+        ensures { result ≡ names_entry self }
+    {
+        matches!(self, DefectKind::F21)
+    }
+
+    /// Whether the line of a defect of this kind shows the name of another file.
+    pub fn names_other_file(self) -> bool
+        ensures { result ≡ names_other_file self }
+    {
+        matches!(self, DefectKind::F20)
     }
 }

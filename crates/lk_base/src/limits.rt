@@ -1,10 +1,13 @@
 //! How much one link may read and make.
 
 ghost use Rattle.std.specs.Prelude.{◌≡◌, ◌<◌, ◌≤◌, MatchResult};
+ghost use Rattle.lk_base.specs.Defects.{count_defect, count_defects};
+ghost use Rattle.lk_base.specs.Firsts.{Passes};
 ghost use Rattle.lk_base.specs.Limits.{oversize, standard};
 
-use crate::defects::Flaw;
-use crate::kinds::DefectKind;
+use crate::abi::FILE_MAX;
+use crate::defects::{Defect, Flaw};
+use crate::kinds::LIMIT;
 
 /// The numbers up to which a link goes. A link of the command has the standard ones; smaller ones are for tests.
 #[derive(Clone, Copy, Debug, PartialEq, Eq)]
@@ -31,7 +34,7 @@ impl Limits {
         ensures { result ≡ standard }
     {
         Limits {
-            file: 0x7fff_ffff,
+            file: FILE_MAX,
             files: 0xff_ffff,
             symbols: 0x7fff_ffff,
             sections: 0x1000_0000,
@@ -48,11 +51,28 @@ pub fn check_file_size(len: u64, limits: &Limits) -> Result<(), Flaw>
 {
     if len > limits.file {
         return Err(Flaw {
-            kind: DefectKind::F08,
+            kind: LIMIT,
             section: 0,
             place: len,
             other: 0,
         });
+    }
+    Ok(())
+}
+
+/// The defect of a link that has too many of something.
+pub fn count_defect(count: u64) -> Defect
+    ensures { result ≡ count_defect count }
+{
+    Defect::linkwide(LIMIT, count, 0)
+}
+
+/// Refuses a count that is above its limit. Takes no memory.
+pub fn check_count(limit: u64, count: u64) -> Result<(), Defect>
+    ensures { Passes result (count_defects limit count) }
+{
+    if limit < count {
+        return Err(count_defect(count));
     }
     Ok(())
 }
@@ -66,7 +86,7 @@ mod tests {
         let limits = Limits::standard();
         assert_eq!(rt; check_file_size(2147483647, &limits), Ok(()));
         let flaw = Flaw {
-            kind: DefectKind::F08,
+            kind: LIMIT,
             section: 0,
             place: 2147483648,
             other: 0,

@@ -27,7 +27,7 @@ fn push_escaped_byte(line: &mut Vec<u8>, byte: u8) -> Result<(), AllocError>
     line.extend_from_slice(&[b'%', hex_digit(byte / 16), hex_digit(byte % 16)])
 }
 
-// The name behind the line, or of it what found room.
+// The line with the name at its end, or with what of it found room.
 fn push_each_escaped(line: &mut Vec<u8>, name: &[u8]) -> Result<(), AllocError>
     ensures ok { OnOk result (line.new.items ≡ line.old.items ++ escaped name.now) }
     ensures err { OnErr result (take (length line.old.items) line.new.items ≡ line.old.items) }
@@ -38,7 +38,7 @@ fn push_each_escaped(line: &mut Vec<u8>, name: &[u8]) -> Result<(), AllocError>
     Ok(())
 }
 
-/// Puts a name behind a line, in the form in which every line and every map shows names.
+/// Puts a name at a line's end, in the form in which every line and every map shows names.
 pub fn push_escaped(line: &mut Vec<u8>, name: &[u8]) -> Result<(), AllocError>
     ensures ok { OnOk result (line.new.items ≡ line.old.items ++ escaped name.now) }
     ensures err { OnErr result (line.new.items ≡ line.old.items) }
@@ -92,14 +92,14 @@ fn push_other(
 ) -> Result<(), AllocError>
     ensures { OnOk result (line.new.items ≡ line.old.items ++ codes " other=" ++ shown_other defect.now other.now) }
 {
-    if defect.kind == DefectKind::F20 {
+    if defect.kind.names_other_file() {
         line.extend_from_slice(b" other=")?;
         return push_escaped(line, other);
     }
     push_number(alloc, line, " other=", defect.other)
 }
 
-/// The line that tells a defect. `file` is the name of the defect's file (of a member with its archive's, as
+/// The line that reports a defect. `file` is the name of the defect's file (of a member with its archive's, as
 /// `lib.a(m.o)`), `name` the name that the kind speaks of, and `other` the name of the other file of a duplicate. All
 /// three are given as they are, and escaped here; what the line does not show is not read.
 pub fn line_of(
@@ -128,6 +128,7 @@ pub fn line_of(
 #[cfg(test)]
 mod tests {
     use super::*;
+    use crate::kinds::{BAD_ARCHIVE, DUPLICATE, RANGE, TOO_BIG};
     use std::test::Fail;
 
     #[derive(Drop)]
@@ -154,28 +155,28 @@ mod tests {
     fn lines_of_defects(rt: HostRuntime) -> Result<(), Fail> {
         let rows = [
             Row {
-                defect: defect(DefectKind::F20, 0, 0, 1, 1),
+                defect: defect(DUPLICATE, 0, 0, 1, 1),
                 file: b"p.o",
                 name: b"x",
                 other: b"q.o",
                 line: b"rvld: F20 Duplicate file=p.o section=0 place=1 name=x other=q.o\n",
             },
             Row {
-                defect: defect(DefectKind::F23, NO_FILE, 0, 2147491840, 0),
+                defect: defect(TOO_BIG, NO_FILE, 0, 2147491840, 0),
                 file: b"a.o",
                 name: b"",
                 other: b"b.o",
                 line: b"rvld: F23 TooBig file=- section=0 place=2147491840 name= other=0\n",
             },
             Row {
-                defect: defect(DefectKind::F06, 3, 0, 8, 0),
+                defect: defect(BAD_ARCHIVE, 3, 0, 8, 0),
                 file: b"lib.a",
                 name: b"",
                 other: b"",
                 line: b"rvld: F06 BadArchive file=lib.a section=0 place=8 name= other=0\n",
             },
             Row {
-                defect: defect(DefectKind::F24, 5, 12, 0, 0xffff_ffff_ffff_ffff),
+                defect: defect(RANGE, 5, 12, 0, 0xffff_ffff_ffff_ffff),
                 file: b"lib.a(two.o)",
                 name: b"100% \x00\xff\x7f~!",
                 other: b"",

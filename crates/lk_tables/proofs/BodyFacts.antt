@@ -3,12 +3,13 @@ use Rattle.std.proofs.Common.{◌≡◌, ◌≢◌, ℕ, ◌+◌, ◌/◌, ◌==
 use Rattle.std.specs.Prelude.{Ok}
 use Rattle.std.proofs.lemmas.Bool.{cond-true, eq-eqb}
 use Rattle.std.proofs.lemmas.List.FromFn.{length-map-range_with_len, get_or-map-range_with_len}
+use Rattle.lk_base.specs.declared.abi.TheConstants.{SHT_NULL, SHT_NOBITS, SYM_SIZE}
 use Rattle.lk_tables.specs.declared.entries.SectionHeader.{SectionHeader}
 use Rattle.lk_tables.specs.declared.heads.Section.{Section}
 use Rattle.lk_tables.specs.declared.heads.Symbol.{Symbol}
 use Rattle.lk_tables.specs.declared.spans.Span.{Span}
 use Rattle.lk_tables.specs.Checks.{passes}
-use Rattle.lk_tables.specs.FileHeader.{header, e_shnum, header_checks}
+use Rattle.lk_tables.specs.FileHeader.{header, section_count, header_checks}
 use Rattle.lk_tables.specs.Heads.{HeadView, HeadOf, head_checks, fields_of, sections_of, symbols_of, all_section_checks, all_symbol_checks}
 use Rattle.lk_tables.specs.Sections.{section_of, with_name, is_null}
 use Rattle.lk_tables.specs.Symbols.{symtab_of, symbol_of, symbol_count}
@@ -38,8 +39,8 @@ unfolding section_of
 is_header b k = either_name (is_null k (header b k).sh_type) (header b k) _ _
 
 -- the bytes of a section that has some lie in the file
-pub section_inside : (b : List ℕ) (k : ℕ) → passes (all_section_checks b) ≡ Ok tt → 0 < k → k < e_shnum b →
-    (section_of b k).sh_type ≢ 0 → (section_of b k).sh_type ≢ 8 → (section_of b k).offset + (section_of b k).size ≤ length b
+pub section_inside : (b : List ℕ) (k : ℕ) → passes (all_section_checks b) ≡ Ok tt → 0 < k → k < section_count b →
+    (section_of b k).sh_type ≢ SHT_NULL → (section_of b k).sh_type ≢ SHT_NOBITS → (section_of b k).offset + (section_of b k).size ≤ length b
 section_inside b k e low high live bits =
     let h = is_header b k in
     let s = sound_at b k e low high (λ z. live (h.sh_type ∙ z)) in
@@ -74,4 +75,4 @@ symtab_is b head is = ap (λ (h : HeadView). h.symtab) is.fields
 -- without a symbol table there are no symbols
 pub no_symbols : (b : List ℕ) → symtab_of b ≡ 0 → symbol_count b ≡ 0
 unfolding symbol_count
-no_symbols b e = cond-true (symtab_of b == 0) 0 ((header b (symtab_of b)).size / 24) (eq-eqb (symtab_of b) 0 e)
+no_symbols b e = cond-true (symtab_of b == 0) 0 ((header b (symtab_of b)).size / SYM_SIZE) (eq-eqb (symtab_of b) 0 e)

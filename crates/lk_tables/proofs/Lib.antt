@@ -1,8 +1,15 @@
 pub mod BodyFacts
-pub mod BodyLists
+pub mod ByNumber
+pub mod FewSections
+pub mod Finding
+pub mod FirstNumbers
 pub mod HeadFacts
-pub mod Overlaps
+pub mod Owners
 pub mod Passing
+pub mod Putting
 pub mod Ranges
 pub mod SoundHead
 pub mod SoundBody
+pub mod Widths
+pub mod LiveFiles
+pub mod SoundFiles

@@ -61,7 +61,7 @@ from_none f i n le =
     let e : n - i ≡ 0 = omega arith in
     ap (λ k. flat_map f (range_with_len i k)) e
 
--- a loop's step, its exit with a flaw and its end, where what is left of the checks passes as all do
+-- a loop's step, its exit with a flaw and its end, if what is left of the checks passes as all do
 pub step_passes : {A : Type 0} (f : ℕ → List Check) (i n : ℕ) (u x : A) (whole : Result (Unit {0}) Flaw) → i < n → passes (from_on f i n) ≡ whole → checked (f i) u ≡ Ok x → passes (from_on f (i + 1) n) ≡ whole
 step_passes f i n u x whole lt so_far ok =
     sym (ap passes (from_more f i n lt) ∙ checked_append (f i) (from_on f (i + 1) n) tt
@@ -82,7 +82,7 @@ step_items cs g i x old new before push ok =
     ∙ ap (λ y. map g (range_with_len 0 i) ++ (y ∷ [])) (checked_value cs (g i) x ok)
     ∙ sym (map-range_with_len_more g 0 i i (omega arith))
 
--- where a callee's fault is handed on
+-- if a callee's fault is handed on
 pub fails_as : {X Y : Type 0} (e : ReadFault) (r : Result X Flaw) (s : Result Y Flaw) → ((f : Flaw) → r ≡ Err f → s ≡ Err f) → Fails e r → Fails e s
 fails_as Memory r s k h = tt
 fails_as (Bad f) r s k h = k f h
@@ -91,7 +91,7 @@ after_passed : {A : Type 0} (r : Result (Unit {0}) Flaw) (s : Result A Flaw) (x 
 after_passed (Ok u) s x e = (refl, e)
 after_passed (Err f) s x e = cc
 
--- parts in a row pass where each passes
+-- parts in a row pass if each passes
 pub both_pass : {A : Type 0} (cs ds : List Check) (v x : A) → checked (cs ++ ds) v ≡ Ok x → (passes cs ≡ Ok tt) × (checked ds v ≡ Ok x)
 both_pass cs ds v x e = after_passed (passes cs) (checked ds v) x (sym (checked_append cs ds v) ∙ e)
 

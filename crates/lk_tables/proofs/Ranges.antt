@@ -1,19 +1,12 @@
--- Ranges of numbers, and the first number of one that passes a test.
-use Rattle.std.proofs.Common.{◌≡◌, ℕ, zero, suc, ◌+◌, ◌<◌, ◌≤◌, Bool, true, false, cond, [], ◌∷◌, ◌++◌, refl, ap, ◌∙◌, arith, Option, Some, None, subst}
+-- The first number of a range that passes a test.
+use Rattle.std.proofs.Common.{◌≡◌, ℕ, zero, suc, ◌+◌, ◌<◌, ◌≤◌, Bool, true, false, cond, [], ◌∷◌, refl, ap, ◌∙◌, arith, Option, Some, None, subst}
 use Rattle.std.specs.Prelude.{find}
 use Rattle.std.specs.Option.{option_or}
 use Rattle.std.specs.List.{range_with_len}
 use Rattle.std.proofs.lemmas.List.Folds.{find-append}
+use Rattle.lk_base.proofs.Loops.{range_more}
 
-range_suc : (a n j : ℕ) → a + n ≡ j → range_with_len a (suc n) ≡ range_with_len a n ++ (j ∷ [])
-range_suc a zero j e = let same : a ≡ j = omega arith in ap (λ k. k ∷ []) same
-range_suc a (suc n) j e = ap (λ xs. a ∷ xs) (range_suc (a + 1) n j (omega arith))
-
--- one number more
-pub range_more : (n : ℕ) → range_with_len 0 (n + 1) ≡ range_with_len 0 n ++ (n ∷ [])
-range_more n = let e : n + 1 ≡ suc n = omega arith in ap (range_with_len 0) e ∙ range_suc 0 n n (omega arith)
-
--- the first below i + 1 is the first below i, else i where it passes
+-- the first below i + 1 is the first below i, else i if it passes
 pub find_more : (p : ℕ → Bool) (i : ℕ) → find p (range_with_len 0 (i + 1)) ≡ option_or (find p (range_with_len 0 i)) (cond (p i) (Some i) None)
 find_more p i = ap (find p) (range_more i) ∙ find-append p (range_with_len 0 i) (i ∷ [])
 

@@ -1,56 +1,60 @@
 -- What holds of the lists of a body in which no check is broken.
-use Rattle.std.proofs.Common.{◌≡◌, ◌≢◌, ℕ, ◌+◌, ◌^◌, ◌<◌, ◌≤◌, zero, suc, true, false, not, ◌&&◌, ◌||◌, ◌==◌, nat_lt, length, get_or, List, [], ◌∷◌, ◌++◌, map, refl, sym, ap, ◌∙◌, arith, Option, Some, None, subst, inl, inr}
-use Rattle.std.specs.Prelude.{Ok, unwrap_or, is_some, if◌then◌else◌, pos, bit_and}
+use Rattle.std.proofs.Common.{◌≡◌, ◌≢◌, ℕ, ◌+◌, ◌<◌, ◌≤◌, zero, suc, Bool, true, false, not, ◌&&◌, ◌||◌, ◌==◌, nat_lt, length, get_or, List, [], ◌∷◌, ◌++◌, map, refl, sym, ap, ◌∙◌, arith, Option, Some, None, subst, inl, inr}
+use Rattle.std.specs.Prelude.{Ok, unwrap_or, if◌then◌else◌, pos, bit_and}
 use Rattle.std.specs.Int.{is_power_of_two}
 use Rattle.std.specs.List.{All, AllByRecursion, range_with_len}
 use Rattle.std.specs.List.Sorted.{IsNonDecreasingBy}
 use Rattle.std.specs.Ordering.{int_eq}
-use Rattle.std.proofs.lemmas.Bool.{cond_both, cond-true, cond-false, cases_Bool, cases_eq, and_parts, or_parts, eqb-true, eq-eqb, ne_eqb, ltb-true, ltb-false}
+use Rattle.std.proofs.lemmas.Bool.{cond_both, cond-true, cond-false, cases_Bool, cases_eq, and_parts, or_parts, eqb-true, ne_eqb, ltb-true, ltb-false}
 use Rattle.std.proofs.lemmas.Bool.Decides.{nat_tests, Decides-int_eq}
 use Rattle.std.proofs.lemmas.List.Elements.{All-from_recursion, recursion_from_All, All-nil}
 use Rattle.std.proofs.lemmas.List.FromFn.{length-map-range_with_len, get_or-map-range_with_len}
-use Rattle.lk_tables.specs.declared.entries.PlacedReloc.{PlacedReloc}
 use Rattle.lk_tables.specs.declared.heads.Place.TheVariants.{Undef, Common}
 use Rattle.lk_tables.specs.declared.heads.Section.{Section}
 use Rattle.lk_tables.specs.declared.heads.Symbol.{Symbol}
 use Rattle.lk_tables.specs.declared.objects.Reloc.{Reloc}
-use Rattle.lk_tables.specs.Bodies.{is_bad_alignment, is_bad_loaded, is_unlinked, plain_checks, relocates, rela_before, is_uneven, is_misdirected, is_bad_rela, rela_checks, group_checks, body_checks, is_common, is_undef, use_checks, all_body_checks, all_use_checks}
-use Rattle.lk_base.specs.declared.kinds.DefectKind.TheVariants.{F04, F08, F15, F17}
+use Rattle.lk_tables.specs.Bodies.{is_bad_alignment, is_bad_loaded, is_unlinked, plain_checks, relocates, rela_of, is_bad_rela, rela_checks, group_checks, body_checks, use_checks, all_body_checks, all_use_checks}
+use Rattle.lk_base.specs.declared.kinds.TheConstants.{BAD_SECTION, LIMIT, BAD_ALIGNMENT, IFUNC}
+use Rattle.lk_base.specs.RelocKinds.{is_among, is_lower}
+use Rattle.lk_base.specs.declared.abi.TheConstants.{ALIGN_MAX, FILE_MAX, NOBITS_MAX, SHF_WRITE, SHF_EXECINSTR, SHF_LINK_ORDER, SHT_NULL, SHT_NOBITS, SHT_RELA, STT_GNU_IFUNC}
 use Rattle.lk_tables.specs.Checks.{Check, passes, NoneBroken, from_on, ◌says◌, flaw_at}
-use Rattle.lk_tables.specs.FileHeader.{e_shnum, ends_past, place_of}
-use Rattle.lk_tables.specs.Heads.{HeadView, HeadOf}
+use Rattle.lk_tables.specs.FileHeader.{section_count, ends_past, place_of}
+use Rattle.lk_tables.specs.Heads.{HeadView, HeadOf, head_of}
 use Rattle.lk_tables.specs.Inside.{IsAlignment, IsLinked, IsRelocWithin, IsCommonWithin, IsBodyInside}
-use Rattle.lk_tables.specs.Objects.{ObjectView, BodyOf, object_checks, parts_of, relocs_from, list_before, lists_before}
+use Rattle.lk_tables.specs.Objects.{ObjectView, BodyOf, object_of, object_checks, parts_of, relocs_in, relocs_for}
 use Rattle.lk_base.specs.Order.{put_in, stable_order}
-use Rattle.lk_tables.specs.Relocations.{width_of, rela_count, reloc, target_of, is_past_target, is_bad_addend, entry_checks, placed_of, offset_of, in_order, overlap_checks, entries_checks, relocs_of}
-use Rattle.lk_tables.specs.Sections.{section_of, is_null, is_written, is_loaded, is_among, loaded_types}
-use Rattle.lk_tables.specs.Symbols.{symtab_of, symbol_of, symbol_count, symbol_place}
+use Rattle.lk_tables.specs.Relocations.{linked_width, rela_count, reloc, target_of, is_past_target, is_bad_addend, entry_checks, in_order, overlap_checks, entries_checks, relocs_of}
+use Rattle.lk_tables.specs.Sections.{section_of, is_null, is_written, written_at, takes_relocs, is_loaded, loaded_types}
+use Rattle.lk_tables.specs.Symbols.{symtab_of, symbol_of, symbol_count, symbol_place, is_common, is_undef}
 use Rattle.lk_tables.proofs.BodyFacts.{symbol_at, length_symbols, section_inside, sections_pass, sections_are, symbols_are}
-use Rattle.lk_tables.proofs.BodyLists.{length_lists}
 use Rattle.lk_tables.proofs.HeadFacts.{section_at}
-use Rattle.lk_tables.proofs.Passing.{each, both_pass, none_from_ok, ok_from_none}
+use Rattle.lk_tables.proofs.Passing.{each, both_pass, none_from_ok, ok_from_none, checked_value}
 use Rattle.lk_tables.proofs.Ranges.{found}
-use Rattle.lk_tables.proofs.SoundHead.{second_false, not_false, written_type, written_live, null_is, head_inside}
+use Rattle.lk_tables.proofs.SoundHead.{second_false, not_false, written_type, written_live, null_is, head_is, head_inside}
 use Rattle.lk_base.proofs.StableOrder.{Rises, rises_order}
+
+first_false : (x y : Bool) → (x && y) ≡ false → y ≡ true → x ≡ false
+first_false true y e is = cc
+first_false false y e is = refl
 
 alignment_of : (a : ℕ) → is_bad_alignment a ≡ false → IsAlignment a
 unfolding is_bad_alignment
 alignment_of a e =
-    let p = or_parts (not (a == 0) && not (is_power_of_two a)) (nat_lt (2 ^ 20) a) e in
+    let p = or_parts (not (a == 0) && not (is_power_of_two a)) (nat_lt (ALIGN_MAX) a) e in
     record {
       power = λ some. not_false _ (second_false (not (a == 0)) (not (is_power_of_two a)) p.0 (ap not (ne_eqb a 0 some)));
-      most = ltb-false (2 ^ 20) a p.1;
+      most = ltb-false (ALIGN_MAX) a p.1;
     }
 
 -- the checks of one section
-body_at : (b : List ℕ) (k : ℕ) → passes (all_body_checks b) ≡ Ok tt → 0 < k → k < e_shnum b → (section_of b k).sh_type ≢ 0 →
+body_at : (b : List ℕ) (k : ℕ) → passes (all_body_checks b) ≡ Ok tt → 0 < k → k < section_count b → (section_of b k).sh_type ≢ SHT_NULL →
     (passes (plain_checks b k (section_of b k)) ≡ Ok tt) × (passes (rela_checks b k) ≡ Ok tt)
 unfolding body_checks
 body_at b k e low high live =
     let s = section_of b k in
     let null : is_null k s.sh_type ≡ false = grind (arith, nat_tests) in
     let lines = plain_checks b k s ++ (rela_checks b k ++ group_checks b k s) in
-    let all = sym (ap passes (cond-false (is_null k s.sh_type) [] lines null)) ∙ each (body_checks b) 0 (e_shnum b) k e (omega arith) high in
+    let all = sym (ap passes (cond-false (is_null k s.sh_type) [] lines null)) ∙ each (body_checks b) 0 (section_count b) k e (omega arith) high in
     let p = both_pass (plain_checks b k s) (rela_checks b k ++ group_checks b k s) (tt {0}) (tt {0}) all in
     (p.0, (both_pass (rela_checks b k) (group_checks b k s) (tt {0}) (tt {0}) p.1).0)
 
@@ -62,34 +66,34 @@ follows_of : (x link count : ℕ) → (not (x == 0) && not (nat_lt link count)) 
 follows_of x link count e some =
     ltb-true link count (not_false _ (second_false (not (x == 0)) (not (nat_lt link count)) e (ap not (ne_eqb x 0 some))))
 
--- a written section that has passed; `inside` where it has bytes in the file
+-- a written section that has passed; `inside` if it has bytes in the file
 linked_from : (b : List ℕ) (k : ℕ) (s : Section) → passes (plain_checks b k s) ≡ Ok tt → is_written b s ≡ true →
-    (s.sh_type ≢ 8 → s.size ≤ 2 ^ 32) → IsLinked (e_shnum b) s
+    (s.sh_type ≢ SHT_NOBITS → s.size ≤ NOBITS_MAX) → IsLinked (section_count b) s
 unfolding plain_checks is_bad_loaded
 linked_from b k s e written inside =
     let lines : NoneBroken (plain_checks b k s) = none_from_ok (plain_checks b k s) (tt {0}) (tt {0}) e in
     let loaded = (written_type b s written).0 in
-    let formed = or_parts (is_bad_loaded (e_shnum b) s) (is_unlinked b s)
-    (second_false (is_loaded s) (is_bad_loaded (e_shnum b) s || is_unlinked b s) lines.1.1.0 loaded) in
-    let twice = not (bit_and s.flags 1 == 0) && not (bit_and s.flags 4 == 0) in
-    let astray = not (bit_and s.flags 0x80 == 0) && not (nat_lt s.link (e_shnum b)) in
+    let formed = or_parts (is_bad_loaded (section_count b) s) (is_unlinked b s)
+    (second_false (is_loaded s) (is_bad_loaded (section_count b) s || is_unlinked b s) lines.1.1.0 loaded) in
+    let twice = not (bit_and s.flags SHF_WRITE == 0) && not (bit_and s.flags SHF_EXECINSTR == 0) in
+    let astray = not (bit_and s.flags SHF_LINK_ORDER == 0) && not (nat_lt s.link (section_count b)) in
     let p = or_parts (not (is_among loaded_types s.sh_type)) (twice || astray) formed.0 in
     let q = or_parts twice astray p.1 in
     let aligned = second_false (is_loaded s) (is_bad_alignment s.align) lines.1.1.1.0 loaded in
-    let sized = second_false (is_loaded s) (s.sh_type == 8 && nat_lt (2 ^ 32) s.size) lines.1.1.1.1.0 loaded in
+    let sized = second_false (is_loaded s) (s.sh_type == SHT_NOBITS && nat_lt (NOBITS_MAX) s.size) lines.1.1.1.1.0 loaded in
     record {
       kind = not_false _ p.0;
       align = alignment_of s.align aligned;
-      size = elim (cases_Bool (s.sh_type == 8)) [
-        | inl empty ↦ ltb-false (2 ^ 32) s.size (second_false (s.sh_type == 8) (nat_lt (2 ^ 32) s.size) sized empty)
+      size = elim (cases_Bool (s.sh_type == SHT_NOBITS)) [
+        | inl empty ↦ ltb-false (NOBITS_MAX) s.size (second_false (s.sh_type == SHT_NOBITS) (nat_lt (NOBITS_MAX) s.size) sized empty)
         | inr bits ↦ inside (λ z. let no : ⊥ = grind (arith, nat_tests) in no)
       ];
-      apart = apart_of (bit_and s.flags 1) (bit_and s.flags 4) q.0;
-      follows = follows_of (bit_and s.flags 0x80) s.link (e_shnum b) q.1;
+      apart = apart_of (bit_and s.flags SHF_WRITE) (bit_and s.flags SHF_EXECINSTR) q.0;
+      follows = follows_of (bit_and s.flags SHF_LINK_ORDER) s.link (section_count b) q.1;
     }
 
-pub linked_at : (b : List ℕ) (head : HeadView) (k : ℕ) → HeadOf b head → length b ≤ 2147483647 → passes (all_body_checks b) ≡ Ok tt →
-    0 < k → k < e_shnum b → is_written b (section_of b k) ≡ true → IsLinked (e_shnum b) (section_of b k)
+pub linked_at : (b : List ℕ) (head : HeadView) (k : ℕ) → HeadOf b head → length b ≤ FILE_MAX → passes (all_body_checks b) ≡ Ok tt →
+    0 < k → k < section_count b → is_written b (section_of b k) ≡ true → IsLinked (section_count b) (section_of b k)
 linked_at b head k is short e low high written =
     let live = written_live b (section_of b k) written in
     linked_from b k (section_of b k) (body_at b k e low high live).0 written
@@ -103,16 +107,16 @@ within_of b n i j counted e written =
     let r = reloc b i j in
     let s = target_of b i in
     let lines : NoneBroken (entry_checks b i j) = none_from_ok (entry_checks b i j) (tt {0}) (tt {0}) e in
-    let p = or_parts (s.sh_type == 8) (ends_past s.size r.offset (unwrap_or (width_of r.kind) 0)) lines.1.1.0 in
+    let p = or_parts (s.sh_type == SHT_NOBITS) (ends_past s.size r.offset (unwrap_or (linked_width r.kind) 0)) lines.1.1.0 in
     record {
       written = written;
       bits = λ z. let no : ⊥ = grind (arith, nat_tests, p.0) in no;
       symbol = grind (arith, nat_tests, lines.0);
       kind = not_false _ lines.1.0;
-      fits = ltb-false s.size (r.offset + unwrap_or (width_of r.kind) 0) p.1;
-      addend = λ z.
+      fits = ltb-false s.size (r.offset + unwrap_or (linked_width r.kind) 0) p.1;
+      addend = λ lower.
           (Decides-int_eq r.addend (pos 0)).0
-          (not_false _ (second_false (r.kind == 24) (not (int_eq r.addend (pos 0))) lines.1.1.1.0 (eq-eqb r.kind 24 z)));
+          (not_false _ (first_false (not (int_eq r.addend (pos 0))) (is_lower r.kind) lines.1.1.1.0 lower));
     }
 
 -- what holds of each of a range holds of each in stable order, and of what is read from each
@@ -153,108 +157,92 @@ never_falls key (x ∷ xs) up (suc i) (suc j) d le lt = never_falls key xs up.1 
 relocs_rise : (b : List ℕ) (i : ℕ) → IsNonDecreasingBy (λ (r : Reloc). r.offset) (relocs_of b i)
 relocs_rise b i =
     never_falls (λ (r : Reloc). r.offset) (relocs_of b i)
-    (rises_map (λ (r : Reloc). r.offset) (λ (p : PlacedReloc). p.reloc) (in_order b i) (rises_order offset_of _))
+    (rises_map (λ (r : Reloc). r.offset) (reloc b i) (in_order b i) (rises_order (λ j. (reloc b i j).offset) (range_with_len 0 (rela_count b i))))
 
-placed_reloc : (b : List ℕ) (i j : ℕ) → (placed_of b i j).reloc ≡ reloc b i j
-unfolding placed_of
-placed_reloc b i j = refl
+all_numbers : (P : ℕ → Type 0) (n a : ℕ) → ((k : ℕ) → a ≤ k → k < a + n → P k) → AllByRecursion P (range_with_len a n)
+all_numbers P zero a each_is = tt
+all_numbers P (suc n) a each_is = (each_is a (omega arith) (omega arith), all_numbers P n (a + 1) (λ k low high. each_is k (omega arith) (omega arith)))
 
-relocs_within : (b : List ℕ) (P : Reloc → Type 0) (i : ℕ) → ((j : ℕ) → j < rela_count b i → P (reloc b i j)) → All P (relocs_of b i)
-relocs_within b P i each_is =
-    let Q : PlacedReloc → Type 0 = λ p. P p.reloc in
-    All-from_recursion P (relocs_of b i)
-    (all_map P (λ (p : PlacedReloc). p.reloc) (in_order b i)
-    (all_order Q offset_of _ (all_range Q (placed_of b i) (rela_count b i) (λ j lt. subst P (sym (placed_reloc b i j)) (each_is j lt)))))
+-- what holds of each entry holds of each in order of offset, and of what is read from each
+pub all_in_order : (b : List ℕ) (P : ℕ → Type 0) (i : ℕ) → ((j : ℕ) → j < rela_count b i → P j) → AllByRecursion P (in_order b i)
+all_in_order b P i each_is =
+    all_order P (λ j. (reloc b i j).offset) (range_with_len 0 (rela_count b i)) (all_numbers P (rela_count b i) 0 (λ j low high. each_is j (omega arith)))
+
+pub relocs_within : (b : List ℕ) (P : Reloc → Type 0) (i : ℕ) → ((j : ℕ) → j < rela_count b i → P (reloc b i j)) → All P (relocs_of b i)
+relocs_within b P i each_is = All-from_recursion P (relocs_of b i) (all_map P (reloc b i) (in_order b i) (all_in_order b (λ j. P (reloc b i j)) i each_is))
 
 -- the relocation section r of section k
 record IsRelaOf (b : List ℕ) (k r : ℕ) : Type 0 where
   low : 0 < r
-  typed : (section_of b r).sh_type ≡ 4
+  typed : (section_of b r).sh_type ≡ SHT_RELA
   target : (section_of b r).info ≡ k
-  written : is_written b (section_of b k) ≡ true
+  taken : takes_relocs b k ≡ true
 
-rela_of : (b : List ℕ) (k r : ℕ) → relocates b k r ≡ true → IsRelaOf b k r
+is_rela_of : (b : List ℕ) (k r : ℕ) → relocates b k r ≡ true → IsRelaOf b k r
 unfolding relocates
-rela_of b k r e =
+is_rela_of b k r e =
     let s = section_of b r in
-    let w = is_written b (section_of b k) in
-    let p = and_parts (nat_lt 0 r) (s.sh_type == 4 && (s.info == k && w)) e in
-    let q = and_parts (s.sh_type == 4) (s.info == k && w) p.1 in
-    let t = and_parts (s.info == k) w q.1 in
-    record { low = ltb-true 0 r p.0; typed = eqb-true s.sh_type 4 q.0; target = eqb-true s.info k t.0; written = t.1 }
+    let t = takes_relocs b k in
+    let p = and_parts (nat_lt 0 r) (s.sh_type == SHT_RELA && (s.info == k && t)) e in
+    let q = and_parts (s.sh_type == SHT_RELA) (s.info == k && t) p.1 in
+    let u = and_parts (s.info == k) t q.1 in
+    record { low = ltb-true 0 r p.0; typed = eqb-true s.sh_type SHT_RELA q.0; target = eqb-true s.info k u.0; taken = u.1 }
 
--- a relocation section that has passed relocates no section 0, and its entries have passed
-directed : (b : List ℕ) (i : ℕ) → is_bad_rela b i (section_of b i) ≡ false → (section_of b i).sh_type ≡ 4 → 0 < (section_of b i).info
-unfolding is_bad_rela is_misdirected
-directed b i e typed =
-    let s = section_of b i in
-    let past = nat_lt s.info (e_shnum b) in
-    let wrong = symtab_of b == 0 || (not (s.link == symtab_of b) || (s.info == 0 || not past)) in
-    let second = is_some (rela_before b i s.info) in
-    let p = second_false (s.sh_type == 4) (is_uneven s || (wrong || second)) e (eq-eqb s.sh_type 4 typed) in
-    let q = or_parts (is_uneven s) (wrong || second) p in
-    let t = or_parts wrong second q.1 in
-    let u = or_parts (symtab_of b == 0) (not (s.link == symtab_of b) || (s.info == 0 || not past)) t.0 in
-    let v = or_parts (not (s.link == symtab_of b)) (s.info == 0 || not past) u.1 in
-    let w = or_parts (s.info == 0) (not past) v.1 in
-    grind (arith, nat_tests, w.0)
+-- a section of which the relocations are read is written
+taken_written : (b : List ℕ) (k : ℕ) → takes_relocs b k ≡ true → (0 < k) × (is_written b (section_of b k) ≡ true)
+unfolding takes_relocs written_at
+taken_written b k e =
+    let p = and_parts (nat_lt 0 k) (is_written b (section_of b k)) e in (ltb-true 0 k p.0, p.1)
 
 abbrev header_line : List ℕ → ℕ → List Check
-header_line b r = (is_bad_rela b r (section_of b r) says flaw_at F04 r (place_of b r)) ∷ []
+header_line b r = (is_bad_rela b r (section_of b r) says flaw_at BAD_SECTION r (place_of b r)) ∷ []
 
-record IsRelaSound (b : List ℕ) (k r : ℕ) : Type 0 where
-  directed : 0 < k
-  entries : (j : ℕ) → j < rela_count b r → passes (entry_checks b r j) ≡ Ok tt
-
-rela_sound : (b : List ℕ) (k r : ℕ) → passes (rela_checks b r) ≡ Ok tt → relocates b k r ≡ true → IsRelaSound b k r
+-- the entries of a relocation section that has passed
+entries_pass : (b : List ℕ) (k r : ℕ) → passes (rela_checks b r) ≡ Ok tt → relocates b k r ≡ true → (j : ℕ) → j < rela_count b r → passes (entry_checks b r j) ≡ Ok tt
 unfolding rela_checks entries_checks
-rela_sound b k r e is =
-    let of = rela_of b k r is in
+entries_pass b k r e is j lt =
     let lines = if relocates b (section_of b r).info r then entries_checks b r else [] in
-    let p = both_pass (header_line b r) lines (tt {0}) (tt {0}) e in
-    let bad : NoneBroken (header_line b r) = none_from_ok (header_line b r) (tt {0}) (tt {0}) p.0 in
-    let here : relocates b (section_of b r).info r ≡ true = ap (λ i. relocates b i r) of.target ∙ is in
-    let all = sym (ap passes (cond-true (relocates b (section_of b r).info r) (entries_checks b r) [] here)) ∙ p.1 in
-    let singly = (both_pass (from_on (entry_checks b r) 0 (rela_count b r)) (overlap_checks r [] (in_order b r)) (tt {0}) (tt {0}) all).0 in
-    record {
-      directed = omega (arith, directed b r bad.0 of.typed, of.target);
-      entries = λ j lt. each (entry_checks b r) 0 (rela_count b r) j singly (omega arith) lt;
-    }
+    let here : relocates b (section_of b r).info r ≡ true = ap (λ i. relocates b i r) (is_rela_of b k r is).target ∙ is in
+    let all = sym (ap passes (cond-true (relocates b (section_of b r).info r) (entries_checks b r) [] here))
+    ∙ (both_pass (header_line b r) lines (tt {0}) (tt {0}) e).1 in
+    let singly = (both_pass (from_on (entry_checks b r) 0 (rela_count b r)) (overlap_checks b r [] (in_order b r)) (tt {0}) (tt {0}) all).0 in
+    each (entry_checks b r) 0 (rela_count b r) j singly (omega arith) lt
 
--- the list of section k
+-- the relocations of section k
 record AreWithin (b : List ℕ) (n k : ℕ) (list : List Reloc) : Type 0 where
   each : All (IsRelocWithin b n (section_of b k)) list
   rises : IsNonDecreasingBy (λ (r : Reloc). r.offset) list
   first : k ≡ 0 → list ≡ []
 
 from_rela : (b : List ℕ) (n k : ℕ) (found_is : Option ℕ) → n ≡ symbol_count b → passes (all_body_checks b) ≡ Ok tt →
-    ((r : ℕ) → found_is ≡ Some r → (relocates b k r ≡ true) × (r < e_shnum b)) → AreWithin b n k (relocs_from b found_is)
+    ((r : ℕ) → found_is ≡ Some r → (relocates b k r ≡ true) × (r < section_count b)) → AreWithin b n k (relocs_in b found_is)
 from_rela b n k None counted e is =
     record { each = All-nil (IsRelocWithin b n (section_of b k)); rises = λ i j d le lt. absurd (omega arith); first = λ z. refl }
 from_rela b n k (Some r) counted e is =
     let at = is r refl in
-    let of = rela_of b k r at.0 in
-    let sound = rela_sound b k r (body_at b r e of.low at.1 (λ z. absurd (omega (arith, of.typed)))).1 at.0 in
+    let of = is_rela_of b k r at.0 in
+    let written = taken_written b k of.taken in
+    let checks = (body_at b r e of.low at.1 (λ z. absurd (omega (arith, of.typed)))).1 in
     record {
       each = relocs_within b (IsRelocWithin b n (section_of b k)) r (λ j lt.
           subst (λ (i : ℕ). IsRelocWithin b n (section_of b i) (reloc b r j)) of.target
-          (within_of b n r j counted (sound.entries j lt) (ap (λ i. is_written b (section_of b i)) of.target ∙ of.written)));
+          (within_of b n r j counted (entries_pass b k r checks at.0 j lt) (ap (λ i. is_written b (section_of b i)) of.target ∙ written.1)));
       rises = relocs_rise b r;
-      first = λ z. absurd (omega (arith, sound.directed));
+      first = λ z. absurd (omega (arith, written.0));
     }
 
-list_within : (b : List ℕ) (n k : ℕ) → n ≡ symbol_count b → passes (all_body_checks b) ≡ Ok tt → AreWithin b n k (list_before b (e_shnum b) k)
-unfolding rela_before
-list_within b n k counted e =
-    from_rela b n k (rela_before b (e_shnum b) k) counted e (λ r is.
-    let f = found (relocates b k) (e_shnum b) r is in (f.passes, omega (arith, f.high)))
+relocs_within_section : (b : List ℕ) (n k : ℕ) → n ≡ symbol_count b → passes (all_body_checks b) ≡ Ok tt → AreWithin b n k (relocs_for b k)
+unfolding rela_of
+relocs_within_section b n k counted e =
+    from_rela b n k (rela_of b k) counted e (λ r is.
+    let f = found (relocates b k) (section_count b) r is in (f.passes, omega (arith, f.high)))
 
 -- a COMMON symbol
 abbrev use_lines : List ℕ → ℕ → List Check
 use_lines b k =
-    ((symbol_of b k).sort == 10 && not (is_undef (symbol_of b k).place) says flaw_at F17 (symtab_of b) (symbol_place b k))
-    ∷ (is_common (symbol_of b k).place && is_bad_alignment (symbol_of b k).value says flaw_at F15 (symtab_of b) (symbol_place b k))
-    ∷ (is_common (symbol_of b k).place && nat_lt (2 ^ 32) (symbol_of b k).size says flaw_at F08 (symtab_of b) (symbol_place b k))
+    ((symbol_of b k).sort == STT_GNU_IFUNC && not (is_undef (symbol_of b k).place) says flaw_at IFUNC (symtab_of b) (symbol_place b k))
+    ∷ (is_common (symbol_of b k).place && is_bad_alignment (symbol_of b k).value says flaw_at BAD_ALIGNMENT (symtab_of b) (symbol_place b k))
+    ∷ (is_common (symbol_of b k).place && nat_lt (NOBITS_MAX) (symbol_of b k).size says flaw_at LIMIT (symtab_of b) (symbol_place b k))
     ∷ []
 
 common_lines : (b : List ℕ) (k : ℕ) → k ≢ 0 → passes (use_checks b k) ≡ Ok tt → (symbol_of b k).place ≡ Common → IsCommonWithin (symbol_of b k)
@@ -266,7 +254,7 @@ common_lines b k low e is =
     let common : is_common s.place ≡ true = ap is_common is in
     record {
       align = alignment_of s.value (second_false (is_common s.place) (is_bad_alignment s.value) lines.1.0 common);
-      size = ltb-false (2 ^ 32) s.size (second_false (is_common s.place) (nat_lt (2 ^ 32) s.size) lines.1.1.0 common);
+      size = ltb-false (NOBITS_MAX) s.size (second_false (is_common s.place) (nat_lt (NOBITS_MAX) s.size) lines.1.1.0 common);
     }
 
 common_at : (b : List ℕ) (k : ℕ) → passes (all_use_checks b) ≡ Ok tt → k < symbol_count b → (symbol_of b k).place ≡ Common → IsCommonWithin (symbol_of b k)
@@ -283,43 +271,54 @@ bodies_pass : (b : List ℕ) (object : ObjectView) → BodyOf b object → (pass
 unfolding object_checks
 bodies_pass b object is = both_pass (all_body_checks b) (all_use_checks b) (tt {0}) (tt {0}) (ok_from_none (object_checks b) (tt {0}) is.sound)
 
-relocs_are : (b : List ℕ) (object : ObjectView) → BodyOf b object → object.relocs ≡ lists_before b (e_shnum b)
+relocs_are : (b : List ℕ) (object : ObjectView) → BodyOf b object → object.relocs ≡ map (relocs_for b) (range_with_len 0 (section_count b))
 unfolding parts_of
 relocs_are b object is = ap (λ (o : ObjectView). o.relocs) is.parts
 
-list_at : (b : List ℕ) (lists : List (List Reloc)) (k : ℕ) (d : List Reloc) → lists ≡ lists_before b (e_shnum b) → k < e_shnum b →
-    list_before b (e_shnum b) k ≡ get_or lists k d
-list_at b lists k d is lt =
-    sym (ap (λ xs. get_or xs k d) is ∙ get_or-map-range_with_len (list_before b (e_shnum b)) 0 (e_shnum b) k k d lt (omega arith))
+relocs_at : (b : List ℕ) (object : ObjectView) (k : ℕ) (d : List Reloc) → BodyOf b object → k < section_count b → relocs_for b k ≡ get_or object.relocs k d
+relocs_at b object k d is lt =
+    sym (ap (λ xs. get_or xs k d) (relocs_are b object is) ∙ get_or-map-range_with_len (relocs_for b) 0 (section_count b) k k d lt (omega arith))
 
 -- a sound body
-pub body_inside : (b : List ℕ) (head : HeadView) (object : ObjectView) → HeadOf b head → BodyOf b object → length b ≤ 2147483647 →
+pub body_inside : (b : List ℕ) (head : HeadView) (object : ObjectView) → HeadOf b head → BodyOf b object → length b ≤ FILE_MAX →
     IsBodyInside b head object
 body_inside b head object is of short =
     let passed = bodies_pass b object of in
     let inside = head_inside b head is in
     let counted = inside.counted in
     let listed : length head.symbols ≡ symbol_count b = ap length (symbols_are b head is) ∙ length_symbols b in
-    let lists : length object.relocs ≡ e_shnum b = ap length (relocs_are b object of) ∙ length_lists b (e_shnum b) in
-    let section : (k : ℕ) (d : Section) → k < e_shnum b → section_of b k ≡ get_or head.sections k d =
+    let lists : length object.relocs ≡ section_count b = ap length (relocs_are b object of) ∙ length-map-range_with_len (relocs_for b) 0 (section_count b) in
+    let section : (k : ℕ) (d : Section) → k < section_count b → section_of b k ≡ get_or head.sections k d =
     λ k d lt. sym (section_at b head.sections k d (sections_are b head is) (omega (arith, counted))) in
-    let list : (k : ℕ) (d : List Reloc) → k < e_shnum b → AreWithin b (length head.symbols) k (get_or object.relocs k d) =
-    λ k d lt. subst (AreWithin b (length head.symbols) k) (list_at b object.relocs k d (relocs_are b object of) lt)
-    (list_within b (length head.symbols) k listed passed.0) in
+    let list : (k : ℕ) (d : List Reloc) → k < section_count b → AreWithin b (length head.symbols) k (get_or object.relocs k d) =
+    λ k d lt. subst (AreWithin b (length head.symbols) k) (relocs_at b object k d of lt)
+    (relocs_within_section b (length head.symbols) k listed passed.0) in
     record {
       counted = omega (arith, lists, counted);
       linked = λ k d lt low written.
-          let high : k < e_shnum b = omega (arith, counted) in
+          let high : k < section_count b = omega (arith, counted) in
           let at = section k d high in
           let P : Section → Type 0 = λ s. IsLinked (length head.sections) s in
           subst P at
           (subst (λ n. IsLinked n (section_of b k)) (sym counted) (linked_at b head k is short passed.0 low high (ap (is_written b) at ∙ written)));
       first = λ d. (list 0 d (omega (arith, counted, inside.some))).first refl;
       relocs = λ k d lt s.
-          let high : k < e_shnum b = omega (arith, lists) in
+          let high : k < section_count b = omega (arith, lists) in
           subst (λ (s : Section). All (IsRelocWithin b (length head.symbols) s) (get_or object.relocs k d)) (section k s high) (list k d high).each;
       ordered = λ k d lt. (list k d (omega (arith, lists))).rises;
       commons = λ k d lt common.
           let at = symbol_at b head.symbols k d (symbols_are b head is) lt in
           subst IsCommonWithin (sym at) (common_at b k passed.1 (omega (arith, listed)) (ap (λ (s : Symbol). s.place) (sym at) ∙ common));
     }
+
+-- what is read of the bytes of a file says these
+pub object_is : (b : List ℕ) (object : ObjectView) → object_of b ≡ Ok object → BodyOf b object
+unfolding object_of
+object_is b object e = record {
+  parts = checked_value (object_checks b) (parts_of b) object e;
+  sound = none_from_ok (object_checks b) (parts_of b) object e;
+}
+
+pub object_inside : (b : List ℕ) (head : HeadView) (object : ObjectView) → head_of b ≡ Ok head → object_of b ≡ Ok object → length b ≤ FILE_MAX →
+    IsBodyInside b head object
+object_inside b head object is of short = body_inside b head object (head_is b head is) (object_is b object of) short

@@ -7,20 +7,23 @@ use Rattle.std.proofs.lemmas.Bool.Decides.{nat_tests}
 use Rattle.std.proofs.lemmas.List.Quantifiers.{position-Some}
 use Rattle.std.proofs.lemmas.Grind.{common_steps}
 use Rattle.lk_base.specs.declared.defects.Flaw.{Flaw}
-use Rattle.lk_tables.specs.declared.entries.SymbolEntry.{SymbolEntry}
+use Rattle.lk_base.specs.RelocKinds.{is_among}
+use Rattle.lk_base.specs.declared.abi.TheConstants.{SHDR_SIZE, SHNUM_MAX, SHN_UNDEF, SHN_ABS, SHN_COMMON, SHT_NULL, SHT_SYMTAB, STB_LOCAL, SYM_SIZE}
+use Rattle.lk_tables.specs.declared.heads.Place.{Place}
 use Rattle.lk_tables.specs.declared.heads.Place.TheVariants.{Undef, Absolute, Common, Within}
 use Rattle.lk_tables.specs.declared.heads.Section.{Section}
 use Rattle.lk_tables.specs.declared.heads.Symbol.{Symbol}
 use Rattle.lk_tables.specs.Checks.{◌says◌, passes, NoneBroken}
-use Rattle.lk_tables.specs.FileHeader.{e_shnum, e_shoff, is_strtab, header, header_checks, identity_checks, form_checks, table_checks}
-use Rattle.lk_tables.specs.Heads.{HeadView, HeadOf, head_checks, all_section_checks, all_symbol_checks}
+use Rattle.lk_tables.specs.FileHeader.{section_count, e_shoff, is_strtab, header, header_checks, identity_checks, form_checks, table_checks}
+use Rattle.lk_tables.specs.Heads.{HeadView, HeadOf, head_of, fields_of, head_checks, all_section_checks, all_symbol_checks}
+use Rattle.lk_tables.specs.Indexed.{IsIndexed}
 use Rattle.lk_tables.specs.Inside.{IsNameWithin, IsPlaceWithin, IsNullSymbol, HasLocalsFirst, IsHeadInside}
-use Rattle.lk_tables.specs.Names.{is_zero, text_of, name_len, span, no_name}
-use Rattle.lk_tables.specs.Sections.{section_of, is_null, is_written, is_loaded, is_among, loaded_types, is_bad_symtab, names_from, names_size}
-use Rattle.lk_tables.specs.Symbols.{symtab_of, symbol_of, symbol_count, symbol_checks, entry, binding_of, sort_of, bindings, sorts, place_from, strings_from, strings_size, symbol_name_len, is_indexed, is_strange, is_bad_local, is_misplaced, is_bad_common, is_past_end, is_bad_symbol}
+use Rattle.lk_tables.specs.Names.{is_zero, text_of, name_len}
+use Rattle.lk_tables.specs.Sections.{section_of, is_null, is_written, written_at, is_loaded, loaded_types, is_bad_symtab, names_from, names_size}
+use Rattle.lk_tables.specs.Symbols.{symtab_of, symbol_of, symbol_from, null_symbol, symbol_count, symbol_checks, entry, bindings, sorts, place_from, place_at, strings_from, strings_size, symbol_name_len, is_common, is_strange, is_bad_local, is_misplaced, is_bad_common, is_past_end, is_bad_symbol}
 use Rattle.lk_tables.proofs.BodyFacts.{symbol_at, length_symbols, section_inside, header_passes, sections_pass, sections_are, symbols_are, symtab_is, no_symbols}
 use Rattle.lk_tables.proofs.HeadFacts.{sound_at, has_symtab, readable, section_at, length_sections}
-use Rattle.lk_tables.proofs.Passing.{each, both_pass, none_from_ok, ok_from_none}
+use Rattle.lk_tables.proofs.Passing.{each, both_pass, none_from_ok, ok_from_none, checked_value}
 
 pub second_false : (x y : Bool) → (x && y) ≡ false → x ≡ true → y ≡ false
 second_false true y e is = e
@@ -28,12 +31,12 @@ second_false false y e is = cc
 
 -- the section table
 record IsTable (b : List ℕ) : Type 0 where
-  some : 0 < e_shnum b
-  few : e_shnum b ≤ 65279
-  within : e_shoff b + 64 * e_shnum b ≤ length b
+  some : 0 < section_count b
+  few : section_count b ≤ SHNUM_MAX
+  within : e_shoff b + SHDR_SIZE * section_count b ≤ length b
 
 table_of : (b : List ℕ) → passes (header_checks b) ≡ Ok tt → IsTable b
-unfolding header_checks table_checks
+unfolding header_checks table_checks section_count
 table_of b e =
     let rest = (both_pass (identity_checks b) (form_checks b ++ table_checks b) (tt {0}) (tt {0}) e).1 in
     let last = (both_pass (form_checks b) (table_checks b) (tt {0}) (tt {0}) rest).1 in
@@ -45,7 +48,7 @@ table_of b e =
     }
 
 -- a name that ends in its table ends in the file
-name_ends : (b : List ℕ) (from size at len : ℕ) → name_len b from size at ≡ Some len → from + at + len ≤ length b
+pub name_ends : (b : List ℕ) (from size at len : ℕ) → name_len b from size at ≡ Some len → from + at + len ≤ length b
 unfolding name_len
 name_ends b from size at len e =
     let p = (position-Some is_zero (take (size - at) (drop (from + at) b)) len 0 e).0 in
@@ -60,91 +63,64 @@ name_within b from size at is =
     some_ends (name_len b from size at) (from + at) (length b) is (λ len e. name_ends b from size at len e)
 
 -- the name of a section
-section_named : (b : List ℕ) (k : ℕ) → passes (all_section_checks b) ≡ Ok tt → k < e_shnum b → IsNameWithin (length b) (section_of b k).name
+section_named : (b : List ℕ) (k : ℕ) → passes (all_section_checks b) ≡ Ok tt → k < section_count b → IsNameWithin (length b) (section_of b k).name
 unfolding section_of
 section_named b k e high =
     cond_both (is_null k (header b k).sh_type) _ _ (λ (s : Section). IsNameWithin (length b) s.name)
     (λ null. omega arith)
     (λ live.
-    let p = or_parts (k == 0) ((header b k).sh_type == 0) live in
+    let p = or_parts (k == 0) ((header b k).sh_type == SHT_NULL) live in
     let low : 0 < k = grind (arith, nat_tests, p.0) in
-    let typed : (header b k).sh_type ≢ 0 = λ z. grind (arith, nat_tests, p.1) in
+    let typed : (header b k).sh_type ≢ SHT_NULL = λ z. grind (arith, nat_tests, p.1) in
     name_within b (names_from b) (names_size b) (header b k).name (sound_at b k e low high typed).named)
 
 -- where a symbol stands
-place_cases : (n x : ℕ) (a b c : Bool) → (x == 0) ≡ a → (nat_lt x n || (b || c)) ≡ true →
-    IsPlaceWithin n (if a then Undef else (if b then Absolute else (if c then Common else Within x)))
-place_cases n x true b c z is = tt
-place_cases n x false true c z is = tt
-place_cases n x false false true z is = tt
-place_cases n x false false false z is = (grind (arith, nat_tests), grind (arith, nat_tests))
+place_cases : (n x : ℕ) (p : Place) (a b c d : Bool) → (x == SHN_UNDEF) ≡ a → nat_lt x n ≡ d →
+    (if a then Some Undef else (if b then Some Absolute else (if c then Some Common else (if d then Some (Within x) else None)))) ≡ Some p → IsPlaceWithin n p
+place_cases n x p true b c d z lt e = let P : Place → Type 0 = λ q. IsPlaceWithin n q in let same : Undef ≡ p = cc in subst P same tt
+place_cases n x p false true c d z lt e = let P : Place → Type 0 = λ q. IsPlaceWithin n q in let same : Absolute ≡ p = cc in subst P same tt
+place_cases n x p false false true d z lt e = let P : Place → Type 0 = λ q. IsPlaceWithin n q in let same : Common ≡ p = cc in subst P same tt
+place_cases n x p false false false true z lt e =
+    let P : Place → Type 0 = λ q. IsPlaceWithin n q in
+    let same : Within x ≡ p = cc in
+    subst P same (grind (arith, nat_tests), grind (arith, nat_tests))
+place_cases n x p false false false false z lt e = let no : ⊥ = cc in absurd no
 
-place_within : (n x : ℕ) → (nat_lt x n || (x == 0xfff1 || x == 0xfff2)) ≡ true → IsPlaceWithin n (place_from x)
+place_within : (n x : ℕ) (p : Place) → place_from n x ≡ Some p → IsPlaceWithin n p
 unfolding place_from
-place_within n x is = place_cases n x (x == 0) (x == 0xfff1) (x == 0xfff2) refl is
+place_within n x p e = place_cases n x p (x == SHN_UNDEF) (x == SHN_ABS) (x == SHN_COMMON) (nat_lt x n) refl refl e
 
-section_cases : (x j : ℕ) (a b c : Bool) → (if a then Undef else (if b then Absolute else (if c then Common else Within x))) ≡ Within j →
-    (x ≡ j) × (a ≡ false)
-section_cases x j true b c e = let no : ⊥ = cc in absurd no
-section_cases x j false true c e = let no : ⊥ = cc in absurd no
-section_cases x j false false true e = let no : ⊥ = cc in absurd no
-section_cases x j false false false e = let same : x ≡ j = cc in (same, refl)
+some_within : (n : ℕ) (r : Option Place) → is_some r ≡ true → ((p : Place) → r ≡ Some p → IsPlaceWithin n p) → IsPlaceWithin n (unwrap_or r Undef)
+some_within n None is within = cc
+some_within n (Some p) is within = within p refl
 
-common_cases : (x : ℕ) (a b c : Bool) → (if a then Undef else (if b then Absolute else (if c then Common else Within x))) ≡ Common → c ≡ true
-common_cases x true b c e = let no : ⊥ = cc in absurd no
-common_cases x false true c e = let no : ⊥ = cc in absurd no
-common_cases x false false true e = refl
-common_cases x false false false e = let no : ⊥ = cc in absurd no
+stands_within : (b : List ℕ) (k : ℕ) → is_some (place_at b k) ≡ true → IsPlaceWithin (section_count b) (unwrap_or (place_at b k) Undef)
+unfolding place_at
+stands_within b k is = some_within (section_count b) (place_at b k) is (λ p e. place_within (section_count b) (entry b k).shndx p e)
 
-names_section : (x j : ℕ) → place_from x ≡ Within j → (x ≡ j) × ((x == 0) ≡ false)
-unfolding place_from
-names_section x j e = section_cases x j (x == 0) (x == 0xfff1) (x == 0xfff2) e
-
-names_common : (x : ℕ) → place_from x ≡ Common → (x == 0xfff2) ≡ true
-unfolding place_from
-names_common x e = common_cases x (x == 0) (x == 0xfff1) (x == 0xfff2) e
-
-value_within : (b : List ℕ) (e : SymbolEntry) (j : ℕ) → is_past_end b e ≡ false → 0 < e.shndx → e.shndx < e_shnum b → e.shndx ≡ j →
-    is_written b (section_of b j) ≡ true → e.value ≤ (section_of b j).size
-unfolding is_past_end
-value_within b e j past low high same written =
-    let x = e.shndx in
-    let here : is_written b (section_of b x) ≡ true = ap (λ i. is_written b (section_of b i)) same ∙ written in
-    let some : nat_lt 0 x ≡ true = grind (arith, nat_tests) in
-    let below : nat_lt x (e_shnum b) ≡ true = grind (arith, nat_tests) in
-    let size = (section_of b x).size in
-    let p = second_false (nat_lt 0 x) (nat_lt x (e_shnum b) && (is_written b (section_of b x) && nat_lt size e.value)) past some in
-    let q = second_false (nat_lt x (e_shnum b)) (is_written b (section_of b x) && nat_lt size e.value) p below in
-    let r = second_false (is_written b (section_of b x)) (nat_lt size e.value) q here in
-    let le = ltb-false size e.value r in
-    omega (arith, le, ap (λ i. (section_of b i).size) same)
+value_within : (b : List ℕ) (p : Place) (value j : ℕ) → is_past_end b p value ≡ false → p ≡ Within j → 0 < j → is_written b (section_of b j) ≡ true →
+    value ≤ (section_of b j).size
+unfolding is_past_end written_at
+value_within b p value j past at low written =
+    let here : is_past_end b (Within j) value ≡ false = ap (λ q. is_past_end b q value) (sym at) ∙ past in
+    let some : nat_lt 0 j ≡ true = grind (arith, nat_tests) in
+    let both : (nat_lt 0 j && is_written b (section_of b j)) ≡ true = rw (some, written) refl in
+    ltb-false (section_of b j).size value
+    (second_false (nat_lt 0 j && is_written b (section_of b j)) (nat_lt (section_of b j).size value) here both)
 
 -- one symbol
 pub record IsSymbolInside (b : List ℕ) (k : ℕ) (s : Symbol) : Type 0 where
   pub name : IsNameWithin (length b) s.name
-  pub place : IsPlaceWithin (e_shnum b) s.place
+  pub place : IsPlaceWithin (section_count b) s.place
   pub value : (j : ℕ) → s.place ≡ Within j → is_written b (section_of b j) ≡ true → s.value ≤ (section_of b j).size
   pub among : is_among bindings s.binding ≡ true
-  pub named : s.binding ≢ 0 → 0 < s.name.len
-  pub below : k < (header b (symtab_of b)).info → s.binding ≡ 0
-  pub above : 0 < k → (header b (symtab_of b)).info ≤ k → s.binding ≢ 0
-  pub common : s.place ≡ Common → s.binding ≢ 0
+  pub named : s.binding ≢ STB_LOCAL → 0 < s.name.len
+  pub below : k < (header b (symtab_of b)).info → s.binding ≡ STB_LOCAL
+  pub above : 0 < k → (header b (symtab_of b)).info ≤ k → s.binding ≢ STB_LOCAL
+  pub common : s.place ≡ Common → s.binding ≢ STB_LOCAL
 
-abbrev null_symbol : List ℕ → ℕ → Symbol
-null_symbol b i = record { name = no_name; binding = 0; sort = 0; place = Undef; value = (entry b i).value; size = (entry b i).size }
-
-abbrev live_symbol : List ℕ → ℕ → Symbol
-live_symbol b i = record {
-  name = span (strings_from b + (entry b i).name) (unwrap_or (symbol_name_len b (entry b i).name) 0);
-  binding = binding_of (entry b i);
-  sort = sort_of (entry b i);
-  place = place_from (entry b i).shndx;
-  value = (entry b i).value;
-  size = (entry b i).size;
-}
-
-null_inside : (b : List ℕ) (k : ℕ) → k ≡ 0 → IsSymbolInside b k (null_symbol b k)
-null_inside b k z = record {
+null_inside : (b : List ℕ) (k value size : ℕ) → k ≡ 0 → IsSymbolInside b k (null_symbol value size)
+null_inside b k value size z = record {
   name = omega arith;
   place = tt;
   value = λ j e w. let no : ⊥ = cc in absurd no;
@@ -155,94 +131,92 @@ null_inside b k z = record {
   common = λ e. let no : ⊥ = cc in absurd no;
 }
 
--- what its entry passes
-record IsEntrySound (b : List ℕ) (i len : ℕ) (e : SymbolEntry) : Type 0 where
-  among : is_among bindings (binding_of e) ≡ true
-  indexed : (nat_lt e.shndx (e_shnum b) || (e.shndx == 0xfff1 || e.shndx == 0xfff2)) ≡ true
-  below : i < (header b (symtab_of b)).info → binding_of e ≡ 0
-  above : (header b (symtab_of b)).info ≤ i → binding_of e ≢ 0
-  common : (e.shndx == 0xfff2) ≡ true → binding_of e ≢ 0
-  named : binding_of e ≢ 0 → 0 < len
-  past : is_past_end b e ≡ false
+-- a symbol that can be
+record IsSymbolSound (b : List ℕ) (i : ℕ) (s : Symbol) : Type 0 where
+  among : is_among bindings s.binding ≡ true
+  below : i < (header b (symtab_of b)).info → s.binding ≡ STB_LOCAL
+  above : (header b (symtab_of b)).info ≤ i → s.binding ≢ STB_LOCAL
+  common : is_common s.place ≡ true → s.binding ≢ STB_LOCAL
+  named : s.binding ≢ STB_LOCAL → 0 < s.name.len
+  past : is_past_end b s.place s.value ≡ false
 
 pub not_false : (x : Bool) → not x ≡ false → x ≡ true
 not_false true e = refl
 not_false false e = cc
 
-below_of : (locals i binding : ℕ) → (nat_lt i locals && not (binding == 0)) ≡ false → i < locals → binding ≡ 0
-below_of locals i binding e lt = eqb-true binding 0 (not_false _ (second_false (nat_lt i locals) (not (binding == 0)) e (grind (arith, nat_tests))))
+below_of : (locals i binding : ℕ) → (nat_lt i locals && not (binding == STB_LOCAL)) ≡ false → i < locals → binding ≡ STB_LOCAL
+below_of locals i binding e lt =
+    eqb-true binding STB_LOCAL (not_false _ (second_false (nat_lt i locals) (not (binding == STB_LOCAL)) e (grind (arith, nat_tests))))
 
-above_of : (locals i binding : ℕ) → (not (nat_lt i locals) && binding == 0) ≡ false → locals ≤ i → binding ≢ 0
+above_of : (locals i binding : ℕ) → (not (nat_lt i locals) && binding == STB_LOCAL) ≡ false → locals ≤ i → binding ≢ STB_LOCAL
 above_of locals i binding e le z =
     let at : nat_lt i locals ≡ false = grind (arith, nat_tests) in
-    let other : (binding == 0) ≡ false = second_false (not (nat_lt i locals)) (binding == 0) e (ap not at) in
+    let other : (binding == STB_LOCAL) ≡ false = second_false (not (nat_lt i locals)) (binding == STB_LOCAL) e (ap not at) in
     grind (arith, nat_tests)
 
-common_of : (binding : ℕ) (c : Bool) → (binding == 0 && c) ≡ false → c ≡ true → binding ≢ 0
+common_of : (binding : ℕ) (c : Bool) → (binding == STB_LOCAL && c) ≡ false → c ≡ true → binding ≢ STB_LOCAL
 common_of binding c e is z =
-    let no : c ≡ false = second_false (binding == 0) c e (eq-eqb binding 0 z) in
+    let no : c ≡ false = second_false (binding == STB_LOCAL) c e (eq-eqb binding STB_LOCAL z) in
     let wrong : ⊥ = cc in wrong
 
-named_of : (binding len : ℕ) → (not (binding == 0) && len == 0) ≡ false → binding ≢ 0 → 0 < len
+named_of : (binding len : ℕ) → (not (binding == STB_LOCAL) && len == 0) ≡ false → binding ≢ STB_LOCAL → 0 < len
 named_of binding len e some =
-    let other : (len == 0) ≡ false = second_false (not (binding == 0)) (len == 0) e (ap not (ne_eqb binding 0 some)) in
+    let other : (len == 0) ≡ false = second_false (not (binding == STB_LOCAL)) (len == 0) e (ap not (ne_eqb binding STB_LOCAL some)) in
     grind (arith, nat_tests)
 
-entry_sound : (b : List ℕ) (i len : ℕ) (e : SymbolEntry) → is_bad_symbol b i len e ≡ false → IsEntrySound b i len e
-unfolding is_bad_symbol is_strange is_indexed is_bad_local is_misplaced
-entry_sound b i len e is =
+symbol_sound : (b : List ℕ) (i : ℕ) (s : Symbol) → is_bad_symbol b i s ≡ false → IsSymbolSound b i s
+unfolding is_bad_symbol is_strange is_bad_local is_misplaced
+symbol_sound b i s is =
     let locals = (header b (symtab_of b)).info in
-    let p = or_parts (is_strange (e_shnum b) e) (is_bad_local locals i len e || (is_bad_common e || is_past_end b e)) is in
-    let q = or_parts (is_bad_local locals i len e) (is_bad_common e || is_past_end b e) p.1 in
-    let r = or_parts (is_bad_common e) (is_past_end b e) q.1 in
-    let s = or_parts (not (is_among bindings (binding_of e))) (not (is_among sorts (sort_of e)) || not (is_indexed (e_shnum b) e)) p.0 in
-    let t = or_parts (not (is_among sorts (sort_of e))) (not (is_indexed (e_shnum b) e)) s.1 in
-    let u = or_parts (is_misplaced locals i e) ((binding_of e == 0 && e.shndx == 0xfff2) || (not (binding_of e == 0) && len == 0)) q.0 in
-    let v = or_parts (binding_of e == 0 && e.shndx == 0xfff2) (not (binding_of e == 0) && len == 0) u.1 in
-    let w = or_parts (nat_lt i locals && not (binding_of e == 0)) (not (nat_lt i locals) && binding_of e == 0) u.0 in
+    let local = s.binding == STB_LOCAL in
+    let past = is_past_end b s.place s.value in
+    let p = or_parts (is_strange s) (is_bad_local locals i s || (is_bad_common s || past)) is in
+    let q = or_parts (is_bad_local locals i s) (is_bad_common s || past) p.1 in
+    let t = or_parts (not (is_among bindings s.binding)) (not (is_among sorts s.sort)) p.0 in
+    let u = or_parts (is_misplaced locals i s.binding) ((local && is_common s.place) || (not local && s.name.len == 0)) q.0 in
+    let v = or_parts (local && is_common s.place) (not local && s.name.len == 0) u.1 in
+    let w = or_parts (nat_lt i locals && not local) (not (nat_lt i locals) && local) u.0 in
     record {
-      among = not_false _ s.0;
-      indexed = not_false _ t.1;
-      below = below_of locals i (binding_of e) w.0;
-      above = above_of locals i (binding_of e) w.1;
-      common = common_of (binding_of e) (e.shndx == 0xfff2) v.0;
-      named = named_of (binding_of e) len v.1;
-      past = r.1;
+      among = not_false _ t.0;
+      below = below_of locals i s.binding w.0;
+      above = above_of locals i s.binding w.1;
+      common = common_of s.binding (is_common s.place) v.0;
+      named = named_of s.binding s.name.len v.1;
+      past = (or_parts (is_bad_common s) past q.1).1;
     }
 
-two_lines : (n a c : Bool) (f g : Flaw) → n ≡ false → passes (if n then [] else (not a says f) ∷ (c says g) ∷ []) ≡ Ok tt → (a ≡ true) × (c ≡ false)
-two_lines true a c f g live e = cc
-two_lines false false c f g live e = cc
-two_lines false true true f g live e = cc
-two_lines false true false f g live e = (refl, refl)
+three_lines : (n a c d : Bool) (f g h : Flaw) → n ≡ false →
+    passes (if n then [] else (not a says f) ∷ (not c says g) ∷ (d says h) ∷ []) ≡ Ok tt → (a ≡ true) × (c ≡ true) × (d ≡ false)
+three_lines true a c d f g h live e = cc
+three_lines false false c d f g h live e = cc
+three_lines false true false d f g h live e = cc
+three_lines false true true true f g h live e = cc
+three_lines false true true false f g h live e = (refl, refl, refl)
 
-live_inside : (b : List ℕ) (k : ℕ) → (k == 0) ≡ false → passes (symbol_checks b k) ≡ Ok tt → IsSymbolInside b k (live_symbol b k)
-unfolding symbol_checks
+live_inside : (b : List ℕ) (k : ℕ) → (k == 0) ≡ false → passes (symbol_checks b k) ≡ Ok tt → IsSymbolInside b k (symbol_from b k)
+unfolding symbol_checks symbol_from
 live_inside b k live e =
     let n = symbol_name_len b (entry b k).name in
-    let p = two_lines (k == 0) (is_some n) (is_bad_symbol b k (unwrap_or n 0) (entry b k)) _ _ live e in
-    let s = entry_sound b k (unwrap_or n 0) (entry b k) p.1 in
-    let x = (entry b k).shndx in
+    let p = three_lines (k == 0) (is_some n) (is_some (place_at b k)) (is_bad_symbol b k (symbol_from b k)) _ _ _ live e in
+    let s = symbol_sound b k (symbol_from b k) p.2 in
+    let stands = stands_within b k p.1 in
+    let P : Place → Type 0 = λ q. IsPlaceWithin (section_count b) q in
     record {
       name = name_within b (strings_from b) (strings_size b) (entry b k).name p.0;
-      place = place_within (e_shnum b) x s.indexed;
-      value = λ j is written.
-          let at = names_section x j is in
-          let low : 0 < x = grind (arith, nat_tests, at.1) in
-          let stands = subst (IsPlaceWithin (e_shnum b)) is (place_within (e_shnum b) x s.indexed) in
-          value_within b (entry b k) j s.past low (omega (arith, stands.1, at.0)) at.0 written;
+      place = stands;
+      value = λ j is written. value_within b (symbol_from b k).place (symbol_from b k).value j s.past is (subst P is stands).0 written;
       among = s.among;
       named = s.named;
       below = s.below;
       above = λ low le. s.above le;
-      common = λ is. s.common (names_common x is);
+      common = λ is. s.common (ap is_common is);
     }
 
 pub symbol_inside : (b : List ℕ) (k : ℕ) → passes (all_symbol_checks b) ≡ Ok tt → k < symbol_count b → IsSymbolInside b k (symbol_of b k)
 unfolding symbol_of
 symbol_inside b k e lt =
-    cond_both (k == 0) (null_symbol b k) (live_symbol b k) (λ (s : Symbol). IsSymbolInside b k s)
-    (λ z. null_inside b k (eqb-true k 0 z))
+    cond_both (k == 0) (null_symbol (entry b k).value (entry b k).size) (symbol_from b k) (λ (s : Symbol). IsSymbolInside b k s)
+    (λ z. null_inside b k _ _ (eqb-true k 0 z))
     (λ live. live_inside b k live (each (symbol_checks b) 0 (symbol_count b) k e (omega arith) lt))
 
 pub null_is : (b : List ℕ) → IsNullSymbol (symbol_of b 0)
@@ -253,19 +227,19 @@ null_is b = record { name = refl; binding = refl; sort = refl; place = refl }
 record IsSymtabInside (b : List ℕ) : Type 0 where
   locals : ℕ
   few : locals ≤ symbol_count b
-  entries : 24 * symbol_count b ≤ length b
+  entries : SYM_SIZE * symbol_count b ≤ length b
   is : symbol_count b ≢ 0 → locals ≡ (header b (symtab_of b)).info
 
 last_false : (a c d f g h : Bool) → (a && (c || (d || (f || (not g || h))))) ≡ false → a ≡ true → h ≡ false
 last_false a c d f g true e is = grind arith
 last_false a c d f g false e is = refl
 
-few_locals : (b : List ℕ) (earlier k : ℕ) → is_bad_symtab b earlier (header b k) ≡ false → (header b k).sh_type ≡ 2 → (header b k).info ≤ (header b k).size / 24
+few_locals : (b : List ℕ) (earlier k : ℕ) → is_bad_symtab b earlier (header b k) ≡ false → (header b k).sh_type ≡ SHT_SYMTAB → (header b k).info ≤ (header b k).size / SYM_SIZE
 unfolding is_bad_symtab
 few_locals b earlier k e is =
     let h = header b k in
-    ltb-false _ _ (last_false (h.sh_type == 2) (not (earlier == 0)) (not (h.entsize == 24)) (not (h.size % 24 == 0)) (is_strtab b h.link)
-    (nat_lt (h.size / 24) h.info) e (eq-eqb _ _ is))
+    ltb-false _ _ (last_false (h.sh_type == SHT_SYMTAB) (not (earlier == 0)) (not (h.entsize == SYM_SIZE)) (not (h.size % SYM_SIZE == 0)) (is_strtab b h.link)
+    (nat_lt (h.size / SYM_SIZE) h.info) e (eq-eqb _ _ is))
 
 symtab_inside : (b : List ℕ) → passes (all_section_checks b) ≡ Ok tt → IsSymtabInside b
 symtab_inside b e =
@@ -276,7 +250,7 @@ symtab_inside b e =
       | inr some ↦
           let t = has_symtab b some in
           let r = readable b e some in
-          let live : (header b (symtab_of b)).sh_type ≢ 0 = λ z. absurd (omega (arith, t.is)) in
+          let live : (header b (symtab_of b)).sh_type ≢ SHT_NULL = λ z. absurd (omega (arith, t.is)) in
           let few = few_locals b _ (symtab_of b) (sound_at b (symtab_of b) e t.low t.high live).table t.is in
           record {
             locals = (header b (symtab_of b)).info;
@@ -288,9 +262,9 @@ symtab_inside b e =
 
 -- local symbols stand first, symbol 0 among them
 locals_first : (symbols : List Symbol) (locals : ℕ) → locals ≤ length symbols →
-    ((k : ℕ) (d : Symbol) → k < length symbols → k < locals → (get_or symbols k d).binding ≡ 0) →
-    ((k : ℕ) (d : Symbol) → k < length symbols → 0 < k → locals ≤ k → (get_or symbols k d).binding ≢ 0) →
-    ((d : Symbol) → 0 < length symbols → (get_or symbols 0 d).binding ≡ 0) → HasLocalsFirst symbols
+    ((k : ℕ) (d : Symbol) → k < length symbols → k < locals → (get_or symbols k d).binding ≡ STB_LOCAL) →
+    ((k : ℕ) (d : Symbol) → k < length symbols → 0 < k → locals ≤ k → (get_or symbols k d).binding ≢ STB_LOCAL) →
+    ((d : Symbol) → 0 < length symbols → (get_or symbols 0 d).binding ≡ STB_LOCAL) → HasLocalsFirst symbols
 locals_first symbols locals few low high first =
     record {
       locals = max locals (min 1 (length symbols));
@@ -311,7 +285,7 @@ written_type b s e =
     let q = and_parts (is_among loaded_types s.sh_type) (not (bytes_eq (text_of b s.name) (codes ".eh_frame"))) p.1 in
     (p.0, q.0)
 
-pub written_live : (b : List ℕ) (s : Section) → is_written b s ≡ true → s.sh_type ≢ 0
+pub written_live : (b : List ℕ) (s : Section) → is_written b s ≡ true → s.sh_type ≢ SHT_NULL
 written_live b s e null =
     let typed = (written_type b s e).1 in
     let none : is_among loaded_types s.sh_type ≡ false = ap (is_among loaded_types) null in
@@ -323,7 +297,7 @@ symbols_pass b head is =
     let rest = (both_pass (header_checks b) (all_section_checks b ++ all_symbol_checks b) (tt {0}) (tt {0}) (ok_from_none (head_checks b) (tt {0}) is.sound)).1 in
     (both_pass (all_section_checks b) (all_symbol_checks b) (tt {0}) (tt {0}) rest).1
 
-symtab_low : (b : List ℕ) → 0 < e_shnum b → symtab_of b < e_shnum b
+symtab_low : (b : List ℕ) → 0 < section_count b → symtab_of b < section_count b
 symtab_low b some = elim (cases_eq (symtab_of b) 0) [ inl none ↦ omega (arith, none) | inr other ↦ (has_symtab b other).high ]
 
 -- a sound head
@@ -332,7 +306,7 @@ head_inside b head is =
     let passed = sections_pass b head is in
     let table = table_of b (header_passes b head is) in
     let symtab = symtab_inside b passed in
-    let counted : length head.sections ≡ e_shnum b = ap length (sections_are b head is) ∙ length_sections b in
+    let counted : length head.sections ≡ section_count b = ap length (sections_are b head is) ∙ length_sections b in
     let listed : length head.symbols ≡ symbol_count b = ap length (symbols_are b head is) ∙ length_symbols b in
     let section : (k : ℕ) (d : Section) → k < length head.sections → section_of b k ≡ get_or head.sections k d =
     λ k d lt. sym (section_at b head.sections k d (sections_are b head is) lt) in
@@ -360,7 +334,7 @@ head_inside b head is =
           (λ z. bits (ap (λ (s : Section). s.sh_type) (sym at) ∙ z)));
       places = λ k d lt. subst (λ n. IsPlaceWithin n (get_or head.symbols k d).place) (sym counted) (symbol k d lt).place;
       values = λ k d lt j e stands written.
-          let high = subst (IsPlaceWithin (e_shnum b)) stands (symbol k d lt).place in
+          let high = subst (IsPlaceWithin (section_count b)) stands (symbol k d lt).place in
           let at = section j e (omega (arith, counted, high.1)) in
           let size = (symbol k d lt).value j stands (ap (is_written b) at ∙ written) in
           omega (arith, size, ap (λ (s : Section). s.size) at);
@@ -373,4 +347,25 @@ head_inside b head is =
           (λ k d lt some high. (symbol k d lt).above some (omega (arith, symtab.is (λ z. omega (arith, listed)))))
           (λ d lt. (null d lt).binding);
       commons = λ k d lt. (symbol k d lt).common;
+    }
+
+-- what is read of the bytes of a file says these
+pub head_is : (b : List ℕ) (head : HeadView) → head_of b ≡ Ok head → HeadOf b head
+unfolding head_of
+head_is b head e = record { fields = checked_value (head_checks b) (fields_of b) head e; sound = none_from_ok (head_checks b) (fields_of b) head e }
+
+pub head_of_is : (b : List ℕ) (head : HeadView) → head_of b ≡ Ok head → IsHeadInside b head
+head_of_is b head e = head_inside b head (head_is b head e)
+
+-- and so each index and each offset of it lies where it must
+pub indexed : (b : List ℕ) (head : HeadView) → head_of b ≡ Ok head → IsIndexed b head
+indexed b head e =
+    let inside = head_of_is b head e in
+    record {
+      few = inside.few;
+      entries = inside.entries;
+      contents = inside.contents;
+      places = λ i k lt stands.
+          let P : Place → Type 0 = λ p. IsPlaceWithin (length head.sections) p in
+          subst P (stands (symbol_of b 0)) (inside.places i (symbol_of b 0) lt);
     }

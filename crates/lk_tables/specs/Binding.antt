@@ -1,48 +1,36 @@
 -- Which symbol a name is bound to (System V gABI, "Symbol Table": a defined symbol of binding GLOBAL is taken before a COMMON one,
 -- and that before a WEAK one; ties go to the first file of the command).
-use Rattle.std.specs.Prelude.{ℕ, ◌+◌, ◌*◌, ◌^◌, ◌/◌, ◌%◌, ◌&&◌, ◌==◌, not, nat_lt, bit_and, Bool, false, Option, Some, None, if◌then◌else◌, min, max, List, [], ◌∷◌, ◌++◌, length, map, filter, find, slice_index_or, flat_map}
+use Rattle.std.specs.Prelude.{ℕ, ◌^◌, ◌&&◌, ◌==◌, not, nat_lt, bit_and, Bool, false, Option, Some, None, if◌then◌else◌, min, max, List, [], ◌∷◌, ◌++◌, length, map, filter, find, slice_index_or, flat_map}
 use Rattle.std.specs.List.{range_with_len}
 use Rattle.std.specs.Str.{bytes_eq}
 use Rattle.lk_base.specs.declared.defects.Defect.{Defect}
-use Rattle.lk_base.specs.declared.kinds.DefectKind.TheVariants.{F16, F20, F21}
+use Rattle.lk_base.specs.declared.abi.TheConstants.{EF_RISCV_FLOAT_ABI, STB_LOCAL, STB_WEAK}
+use Rattle.lk_base.specs.declared.kinds.TheConstants.{FLAGS_CLASH, DUPLICATE, NO_ENTRY}
 use Rattle.lk_base.specs.declared.numbers.TheConstants.{NO_FILE}
-use Rattle.lk_tables.specs.declared.binding.BoundCommon.{BoundCommon}
+use Rattle.lk_tables.specs.declared.commons.BoundCommon.{BoundCommon}
 use Rattle.lk_tables.specs.declared.heads.Symbol.{Symbol}
 use Rattle.lk_tables.specs.declared.heads.Place.{Place}
 use Rattle.lk_tables.specs.declared.heads.Place.TheVariants.{Undef, Absolute, Common, Within}
-use Rattle.lk_tables.specs.Bodies.{is_undef, is_common}
-use Rattle.lk_tables.specs.Files.{File, file_at, symbol_at, symbol_name, first_section}
+use Rattle.lk_tables.specs.Symbols.{is_undef, is_common}
+use Rattle.lk_tables.specs.Files.{File, file_at, symbol_at, symbol_name, section_no, common_no, by_symbol, is_visible}
+use Rattle.lk_tables.specs.Ranks.{no_rank, rank_of, file_of, symbol_of_rank}
 
 -- an offer of a name: the symbol that offers it, as a rank; the least rank is taken
 pub record Offer : Type 0 where
   pub name : List ℕ
   pub rank : ℕ
 
--- no rank: nobody offers the name
-abbrev pub no_rank : ℕ
-no_rank = 18446744073709551615
-
--- a symbol that other files see offers its name where it is defined
+-- a symbol that other files see offers its name if it is defined
 abbrev pub is_offer : Symbol → Bool
-is_offer s = not (s.binding == 0) && not (is_undef s.place)
+is_offer s = is_visible s && not (is_undef s.place)
 
--- strong 0, COMMON 1, WEAK (2) 2
+-- strong 0, COMMON 1, WEAK 2
 abbrev pub class_of : Symbol → ℕ
-class_of s = if is_common s.place then 1 else (if s.binding == 2 then 2 else 0)
-
--- the class, then the file, then the symbol
-abbrev pub rank_of : (class file symbol : ℕ) → ℕ
-rank_of class file symbol = class * 2 ^ 56 + file * 2 ^ 32 + symbol
-
-abbrev pub file_of : ℕ → ℕ
-file_of rank = rank / 2 ^ 32 % 2 ^ 24
-
-abbrev pub symbol_of_rank : ℕ → ℕ
-symbol_of_rank rank = rank % 2 ^ 32
+class_of s = if is_common s.place then 1 else (if s.binding == STB_WEAK then 2 else 0)
 
 -- a section that was discarded with its group, by its number
 abbrev pub is_discarded : List File → List Bool → ℕ → Place → Bool
-is_discarded files gone f (Within k) = slice_index_or gone (first_section files f + k) false
+is_discarded files gone f (Within k) = slice_index_or gone (section_no files f k) false
 is_discarded files gone f Undef = false
 is_discarded files gone f Absolute = false
 is_discarded files gone f Common = false
@@ -67,13 +55,13 @@ least_rank name [] = no_rank
 least_rank name (o ∷ os) = if bytes_eq o.name name then min o.rank (least_rank name os) else least_rank name os
 
 -- what a name is bound to: the rank of a symbol, or none
-unfoldable pub bound : List File → List Bool → List ℕ → ℕ
-bound files gone name = least_rank name (offers files gone)
+unfoldable pub bound_rank : List File → List Bool → List ℕ → ℕ
+bound_rank files gone name = least_rank name (offers files gone)
 
 -- what the name of symbol i of file f is bound to; a local symbol stands for itself
 unfoldable pub rank_bound : List File → List Bool → (f i : ℕ) → ℕ
-rank_bound files gone f i = if (symbol_at (file_at files f) i).binding == 0 then no_rank
-    else bound files gone (symbol_name (file_at files f) i)
+rank_bound files gone f i = if (symbol_at (file_at files f) i).binding == STB_LOCAL then no_rank
+    else bound_rank files gone (symbol_name (file_at files f) i)
 
 -- what a COMMON symbol asks for: bytes, and an alignment, 0 being read as 1
 pub record Demand : Type 0 where
@@ -111,6 +99,7 @@ bound_common_at files gone f i =
     then record {
       file = f;
       symbol = i;
+      section = common_no files f i;
       size = greatest_size (symbol_name (file_at files f) i) (demands files);
       align = greatest_align (symbol_name (file_at files f) i) (demands files);
     } ∷ [] else []
@@ -119,23 +108,22 @@ unfoldable pub bound_commons_in : List File → List Bool → ℕ → List Bound
 bound_commons_in files gone f = if (file_at files f).live
     then flat_map (bound_common_at files gone f) (range_with_len 0 (length (file_at files f).head.symbols)) else []
 
--- all names of a link, bound: one list of ranks for each file, one rank for each symbol of a live file; the entry; the COMMON
--- symbols that get room, one list for each file
+-- all names of a link, bound: the discarded sections, by number; for each symbol, by number, the rank that its name is bound to; the
+-- entry's; the COMMON symbols that get room, one list for each file
 pub record Bindings : Type 0 where
   pub discarded : List Bool
-  pub ranks : List (List ℕ)
+  pub ranks : List ℕ
   pub entry : ℕ
   pub commons : List (List BoundCommon)
 
-unfoldable pub ranks_in : List File → List Bool → ℕ → List ℕ
-ranks_in files gone f = if (file_at files f).live
-    then map (rank_bound files gone f) (range_with_len 0 (length (file_at files f).head.symbols)) else []
+unfoldable pub live_rank : List File → List Bool → (f i : ℕ) → ℕ
+live_rank files gone f i = if (file_at files f).live then rank_bound files gone f i else no_rank
 
 unfoldable pub bindings : List File → List Bool → List ℕ → Bindings
 bindings files gone entry = record {
   discarded = gone;
-  ranks = map (ranks_in files gone) (range_with_len 0 (length files));
-  entry = bound files gone entry;
+  ranks = by_symbol files (live_rank files gone);
+  entry = bound_rank files gone entry;
   commons = map (bound_commons_in files gone) (range_with_len 0 (length files));
 }
 
@@ -146,7 +134,7 @@ pub record FloatAbi : Type 0 where
 
 unfoldable pub float_abi_at : List File → ℕ → List FloatAbi
 float_abi_at files f = if (file_at files f).live
-    then record { file = f; abi = bit_and (file_at files f).head.flags 6 } ∷ [] else []
+    then record { file = f; abi = bit_and (file_at files f).head.flags EF_RISCV_FLOAT_ABI } ∷ [] else []
 
 abbrev pub float_abis : List File → List FloatAbi
 float_abis files = flat_map (float_abi_at files) (range_with_len 0 (length files))
@@ -154,7 +142,7 @@ float_abis files = flat_map (float_abi_at files) (range_with_len 0 (length files
 -- a live file whose float ABI is not that of the first
 abbrev pub clash_of : ℕ → FloatAbi → List Defect
 clash_of first own = if own.abi == first then []
-    else record { kind = F16; file = own.file; section = 0; place = own.abi; symbol = 0; other = first } ∷ []
+    else record { kind = FLAGS_CLASH; file = own.file; section = 0; place = own.abi; symbol = 0; other = first } ∷ []
 
 abbrev pub clashes_with_first : List FloatAbi → List Defect
 clashes_with_first [] = []
@@ -163,14 +151,14 @@ clashes_with_first (first ∷ rest) = flat_map (clash_of first.abi) rest
 unfoldable pub flag_defects : List File → List Defect
 flag_defects files = clashes_with_first (float_abis files)
 
--- strong offers of one name: the first, and the next behind it
+-- strong offers of one name: the first, and the next after it
 abbrev pub is_strong : Offer → Bool
 is_strong o = nat_lt o.rank (2 ^ 56)
 
 abbrev pub duplicate_of : Offer → Option Offer → List Defect
 duplicate_of first None = []
 duplicate_of first (Some next) = record {
-  kind = F20;
+  kind = DUPLICATE;
   file = file_of first.rank;
   section = 0;
   place = symbol_of_rank first.rank;
@@ -187,10 +175,10 @@ duplicate_defects files gone = duplicates_of (filter is_strong (offers files gon
 
 -- the entry is bound to nothing
 abbrev pub no_entry : Defect
-no_entry = record { kind = F21; file = NO_FILE; section = 0; place = 0; symbol = 0; other = 0 }
+no_entry = record { kind = NO_ENTRY; file = NO_FILE; section = 0; place = 0; symbol = 0; other = 0 }
 
 unfoldable pub entry_defects : List File → List Bool → List ℕ → List Defect
-entry_defects files gone entry = if bound files gone entry == no_rank then no_entry ∷ [] else []
+entry_defects files gone entry = if bound_rank files gone entry == no_rank then no_entry ∷ [] else []
 
 -- the defects of the first phase that has any
 abbrev pub first_phase : List (List Defect) → List Defect

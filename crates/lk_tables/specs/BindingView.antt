@@ -6,7 +6,7 @@ use Rattle.lk_tables.specs.Binding.{Bindings}
 abbrev pub binding_view : Binding → Bindings
 binding_view b = record {
   discarded = b.discarded.items;
-  ranks = map (λ list. list.items) b.ranks.items;
+  ranks = b.ranks.items;
   entry = b.entry;
   commons = map (λ list. list.items) b.commons.items;
 }

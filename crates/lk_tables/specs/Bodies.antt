@@ -1,78 +1,84 @@
 -- The checks of an object's body, section by section (System V gABI, "Section Header Table", "Section Groups",
 -- "Relocation") and symbol by symbol.
-use Rattle.std.specs.Prelude.{ℕ, ◌^◌, ◌%◌, Bool, true, false, not, ◌&&◌, ◌||◌, ◌==◌, nat_lt, bit_and, Option, is_some, if◌then◌else◌, List, [], ◌∷◌, ◌++◌, find}
-use Rattle.std.specs.List.{range_with_len}
+use Rattle.std.specs.Prelude.{ℕ, ◌%◌, Bool, not, ◌&&◌, ◌||◌, ◌==◌, nat_lt, bit_and, Option, if◌then◌else◌, List, [], ◌∷◌, ◌++◌, find}
+use Rattle.std.specs.List.{list_any, range_with_len}
 use Rattle.std.specs.Int.{is_power_of_two}
-use Rattle.lk_base.specs.declared.kinds.DefectKind.TheVariants.{F04, F05, F08, F15, F17}
+use Rattle.lk_base.specs.RelocKinds.{is_among}
+use Rattle.lk_base.specs.declared.abi.TheConstants.{ALIGN_MAX, NOBITS_MAX, RELA_SIZE, SHF_WRITE, SHF_EXECINSTR, SHF_MERGE, SHF_LINK_ORDER, SHF_TLS, SHF_COMPRESSED, SHT_RELA, SHT_NOTE, SHT_NOBITS, SHT_REL, SHT_INIT_ARRAY, SHT_FINI_ARRAY, SHT_PREINIT_ARRAY, SHT_GROUP, STT_GNU_IFUNC}
+use Rattle.lk_base.specs.declared.kinds.TheConstants.{BAD_SECTION, COMPRESSED, LIMIT, BAD_ALIGNMENT, IFUNC}
 use Rattle.lk_tables.specs.declared.heads.Section.{Section}
-use Rattle.lk_tables.specs.declared.heads.Place.{Place}
-use Rattle.lk_tables.specs.declared.heads.Place.TheVariants.{Undef, Absolute, Common, Within}
 use Rattle.lk_tables.specs.Checks.{Check, ◌says◌, flaw_at, from_on}
-use Rattle.lk_tables.specs.FileHeader.{place_of, e_shnum}
-use Rattle.lk_tables.specs.Sections.{section_of, is_null, is_among, loaded_types, is_loaded, is_written}
-use Rattle.lk_tables.specs.Symbols.{symtab_of, symbol_of, symbol_place, symbol_count}
+use Rattle.lk_tables.specs.FileHeader.{place_of, section_count}
+use Rattle.lk_tables.specs.Sections.{section_of, is_null, loaded_types, is_loaded, is_written, takes_relocs}
+use Rattle.lk_tables.specs.Symbols.{symtab_of, symbol_of, symbol_place, symbol_count, is_common, is_undef}
 use Rattle.lk_tables.specs.Relocations.{entries_checks}
 
--- an alignment that is no power of two, or above 2^20; 0 counts as 1
+-- an alignment that is no power of two, or too great; 0 counts as 1
 unfoldable pub is_bad_alignment : ℕ → Bool
-is_bad_alignment align = (not (align == 0) && not (is_power_of_two align)) || nat_lt (2 ^ 20) align
+is_bad_alignment align = (not (align == 0) && not (is_power_of_two align)) || nat_lt ALIGN_MAX align
 
--- of a loaded section: a type that is not linked, WRITE (1) with EXECINSTR (4), or LINK_ORDER (0x80) to no section
+-- of a loaded section: a type that is not linked, both written to and executed, or in the order of no section
 unfoldable pub is_bad_loaded : (count : ℕ) → Section → Bool
 is_bad_loaded count s =
     not (is_among loaded_types s.sh_type)
-    || ((not (bit_and s.flags 1 == 0) && not (bit_and s.flags 4 == 0))
-    || (not (bit_and s.flags 0x80 == 0) && not (nat_lt s.link count)))
+    || ((not (bit_and s.flags SHF_WRITE == 0) && not (bit_and s.flags SHF_EXECINSTR == 0))
+    || (not (bit_and s.flags SHF_LINK_ORDER == 0) && not (nat_lt s.link count)))
 
--- a written section that is not linked yet: NOTE or an array of functions, MERGE (0x10), TLS (0x400)
+-- a written section of a type or with a flag that is not linked yet
+abbrev pub unlinked_types : List ℕ
+unlinked_types = SHT_NOTE ∷ SHT_INIT_ARRAY ∷ SHT_FINI_ARRAY ∷ SHT_PREINIT_ARRAY ∷ []
+
 unfoldable pub is_unlinked : List ℕ → Section → Bool
 is_unlinked b s =
     is_written b s
-    && (is_among (7 ∷ 14 ∷ 15 ∷ 16 ∷ []) s.sh_type || (not (bit_and s.flags 0x10 == 0) || not (bit_and s.flags 0x400 == 0)))
+    && (is_among unlinked_types s.sh_type || (not (bit_and s.flags SHF_MERGE == 0) || not (bit_and s.flags SHF_TLS == 0)))
 
--- "Section Header Table": COMPRESSED (0x800), REL (9), then what is asked of loaded sections; 8 is NOBITS
+-- "Section Header Table": no section is compressed or has relocations without addends; then what is asked of loaded ones
 unfoldable pub plain_checks : List ℕ → ℕ → Section → List Check
 plain_checks b i s =
-    (not (bit_and s.flags 0x800 == 0) says flaw_at F05 i (place_of b i))
-    ∷ (s.sh_type == 9 says flaw_at F04 i (place_of b i))
-    ∷ (is_loaded s && (is_bad_loaded (e_shnum b) s || is_unlinked b s) says flaw_at F04 i (place_of b i))
-    ∷ (is_loaded s && is_bad_alignment s.align says flaw_at F15 i (place_of b i))
-    ∷ (is_loaded s && (s.sh_type == 8 && nat_lt (2 ^ 32) s.size) says flaw_at F08 i (place_of b i))
+    (not (bit_and s.flags SHF_COMPRESSED == 0) says flaw_at COMPRESSED i (place_of b i))
+    ∷ (s.sh_type == SHT_REL says flaw_at BAD_SECTION i (place_of b i))
+    ∷ (is_loaded s && (is_bad_loaded (section_count b) s || is_unlinked b s) says flaw_at BAD_SECTION i (place_of b i))
+    ∷ (is_loaded s && is_bad_alignment s.align says flaw_at BAD_ALIGNMENT i (place_of b i))
+    ∷ (is_loaded s && (s.sh_type == SHT_NOBITS && nat_lt NOBITS_MAX s.size) says flaw_at LIMIT i (place_of b i))
     ∷ []
 
--- section r is a relocation section (RELA, 4) of the written section k
+-- section r has the relocations of section k
 unfoldable pub relocates : List ℕ → (k r : ℕ) → Bool
-relocates b k r =
-    nat_lt 0 r && ((section_of b r).sh_type == 4 && ((section_of b r).info == k && is_written b (section_of b k)))
+relocates b k r = nat_lt 0 r && ((section_of b r).sh_type == SHT_RELA && ((section_of b r).info == k && takes_relocs b k))
 
--- the first relocation section of section k among those below i
-unfoldable pub rela_before : List ℕ → (i k : ℕ) → Option ℕ
-rela_before b i k = find (relocates b k) (range_with_len 0 i)
+-- the relocation section of section k, if there is one
+unfoldable pub rela_of : List ℕ → (k : ℕ) → Option ℕ
+rela_of b k = find (relocates b k) (range_with_len 0 (section_count b))
+
+-- a section before section i has the relocations of section k
+unfoldable pub is_relocated_before : List ℕ → (i k : ℕ) → Bool
+is_relocated_before b i k = list_any (relocates b k) (range_with_len 0 i)
 
 -- entries of another size than Elf64_Rela's
 unfoldable pub is_uneven : Section → Bool
-is_uneven s = not (s.entsize == 24) || not (s.size % 24 == 0)
+is_uneven s = not (s.entsize == RELA_SIZE) || not (s.size % RELA_SIZE == 0)
 
 -- for another symbol table, or for no section; index 0 names none
 unfoldable pub is_misdirected : (symtab count : ℕ) → Section → Bool
 is_misdirected symtab count s =
     symtab == 0 || (not (s.link == symtab) || (s.info == 0 || not (nat_lt s.info count)))
 
--- a relocation section that cannot be, or a second one for a written section
+-- a relocation section that cannot be, or a second one for a section
 unfoldable pub is_bad_rela : List ℕ → (i : ℕ) → Section → Bool
 is_bad_rela b i s =
-    s.sh_type == 4
-    && (is_uneven s || (is_misdirected (symtab_of b) (e_shnum b) s || is_some (rela_before b i s.info)))
+    s.sh_type == SHT_RELA
+    && (is_uneven s || (is_misdirected (symtab_of b) (section_count b) s || is_relocated_before b i s.info))
 
--- "Relocation": the header, and the entries where the target is written
+-- "Relocation": the header, and the entries if the relocations of the section that it names are read
 unfoldable pub rela_checks : List ℕ → ℕ → List Check
 rela_checks b i =
-    (is_bad_rela b i (section_of b i) says flaw_at F04 i (place_of b i))
+    (is_bad_rela b i (section_of b i) says flaw_at BAD_SECTION i (place_of b i))
     ∷ (if relocates b (section_of b i).info i then entries_checks b i else [])
 
--- "Section Groups": a GROUP section (17) is not linked yet
+-- "Section Groups": a group is not linked yet
 unfoldable pub group_checks : List ℕ → ℕ → Section → List Check
-group_checks b i s = (s.sh_type == 17 says flaw_at F04 i (place_of b i)) ∷ []
+group_checks b i s = (s.sh_type == SHT_GROUP says flaw_at BAD_SECTION i (place_of b i)) ∷ []
 
 -- the checks of section i
 unfoldable pub body_checks : List ℕ → ℕ → List Check
@@ -80,28 +86,17 @@ body_checks b i =
     if is_null i (section_of b i).sh_type then []
     else plain_checks b i (section_of b i) ++ (rela_checks b i ++ group_checks b i (section_of b i))
 
-abbrev pub is_undef : Place → Bool
-is_undef Undef = true
-is_undef Absolute = false
-is_undef Common = false
-is_undef (Within k) = false
-
-abbrev pub is_common : Place → Bool
-is_common Undef = false
-is_common Absolute = false
-is_common Common = true
-is_common (Within k) = false
-
--- the checks of symbol i, after all sections: GNU_IFUNC (10) that is defined here; what a COMMON symbol asks for
+-- the checks of symbol i, after all sections: a function that chooses a function is not defined here; what a COMMON symbol
+-- asks for, of which the value is the alignment
 unfoldable pub use_checks : List ℕ → ℕ → List Check
 use_checks b i = if i == 0 then [] else
-    ((symbol_of b i).sort == 10 && not (is_undef (symbol_of b i).place) says flaw_at F17 (symtab_of b) (symbol_place b i))
-    ∷ (is_common (symbol_of b i).place && is_bad_alignment (symbol_of b i).value says flaw_at F15 (symtab_of b) (symbol_place b i))
-    ∷ (is_common (symbol_of b i).place && nat_lt (2 ^ 32) (symbol_of b i).size says flaw_at F08 (symtab_of b) (symbol_place b i))
+    ((symbol_of b i).sort == STT_GNU_IFUNC && not (is_undef (symbol_of b i).place) says flaw_at IFUNC (symtab_of b) (symbol_place b i))
+    ∷ (is_common (symbol_of b i).place && is_bad_alignment (symbol_of b i).value says flaw_at BAD_ALIGNMENT (symtab_of b) (symbol_place b i))
+    ∷ (is_common (symbol_of b i).place && nat_lt NOBITS_MAX (symbol_of b i).size says flaw_at LIMIT (symtab_of b) (symbol_place b i))
     ∷ []
 
 abbrev pub all_body_checks : List ℕ → List Check
-all_body_checks b = from_on (body_checks b) 0 (e_shnum b)
+all_body_checks b = from_on (body_checks b) 0 (section_count b)
 
 abbrev pub all_use_checks : List ℕ → List Check
 all_use_checks b = from_on (use_checks b) 0 (symbol_count b)

@@ -15,7 +15,7 @@ infix 5 ◌says◌
 abbrev pub ◌says◌ : Bool → Flaw → Check
 broken says flaw = record { broken = broken; flaw = flaw }
 
--- the value where no check is broken, else the flaw of the first that is
+-- the value if no check is broken, else the flaw of the first that is
 abbrev pub checked : {A : Type 0} → List Check → A → Result A Flaw
 checked [] value = Ok value
 checked (c ∷ cs) value = if c.broken then Err c.flaw else checked cs value

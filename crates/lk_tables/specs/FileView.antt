@@ -1,7 +1,6 @@
--- The files of a link as plain lists.
+-- A file of a link as a plain record.
 use Rattle.std.specs.Prelude.{List, Option, Some, None, is_some, map}
 use Rattle.lk_tables.specs.declared.files.File.{File as LentFile}
-use Rattle.lk_tables.specs.declared.files.Tables.{Tables}
 use Rattle.lk_tables.specs.declared.objects.Object.{Object}
 use Rattle.lk_tables.specs.Files.{File, no_object}
 use Rattle.lk_tables.specs.Heads.{head_view}
@@ -20,5 +19,5 @@ file_view file = record {
   object = object_of_file file.object;
 }
 
-abbrev pub files_of : Tables → List File
-files_of tables = map file_view tables.files.items
+abbrev pub file_views : List LentFile → List File
+file_views files = map file_view files

@@ -1,16 +1,16 @@
 -- The files of a link by number: the command's objects in the order of the command, each archive followed by its members.
 -- A place past the end of a table names something that takes no part in the link.
-use Rattle.std.specs.Prelude.{ℕ, ◌+◌, ◌≤◌, ◌&&◌, ◌==◌, nat_lt, pos, Bool, true, false, if◌then◌else◌, List, [], length, map, take, slice_index_or, sum, count_by}
+use Rattle.std.specs.Prelude.{◌≡◌, ℕ, ◌+◌, ◌^◌, ◌<◌, ◌≤◌, ◌&&◌, ◌==◌, not, nat_lt, pos, Bool, true, false, Ok, if◌then◌else◌, List, [], length, map, take, slice_index_or, sum, count_by, flat_map}
+use Rattle.std.specs.List.{range_with_len}
+use Rattle.lk_base.specs.declared.abi.TheConstants.{STB_LOCAL, STT_NOTYPE, STT_SECTION, SHT_NULL, FILE_MAX, R_RISCV_NONE}
 use Rattle.lk_tables.specs.declared.heads.Section.{Section}
 use Rattle.lk_tables.specs.declared.heads.Symbol.{Symbol}
 use Rattle.lk_tables.specs.declared.heads.Place.TheVariants.{Undef}
-use Rattle.lk_tables.specs.Bodies.{is_common}
+use Rattle.lk_tables.specs.Symbols.{is_common}
 use Rattle.lk_tables.specs.declared.objects.Reloc.{Reloc}
-use Rattle.lk_tables.specs.Heads.{HeadView, fields_of}
-use Rattle.lk_tables.specs.Objects.{ObjectView, parts_of}
+use Rattle.lk_tables.specs.Heads.{HeadView, fields_of, head_of}
+use Rattle.lk_tables.specs.Objects.{ObjectView, parts_of, object_of}
 use Rattle.lk_tables.specs.Names.{no_name, text_of}
-use Rattle.lk_tables.specs.Indexed.{IsIndexed}
-use Rattle.lk_tables.specs.Inside.{IsBodyInside}
 use Rattle.lk_tables.specs.Sections.{is_written}
 
 -- a file: whether it takes part in the link, whether it is of an archive, its bytes and what they say
@@ -24,13 +24,13 @@ pub record File : Type 0 where
 -- what stands past the end of a table: a section that is not written, a local symbol that is not defined, a file that
 -- takes no part
 abbrev pub no_section : Section
-no_section = record { name = no_name; sh_type = 0; flags = 0; offset = 0; size = 0; link = 0; info = 0; align = 0; entsize = 0 }
+no_section = record { name = no_name; sh_type = SHT_NULL; flags = 0; offset = 0; size = 0; link = 0; info = 0; align = 0; entsize = 0 }
 
 abbrev pub no_symbol : Symbol
-no_symbol = record { name = no_name; binding = 0; sort = 0; place = Undef; value = 0; size = 0 }
+no_symbol = record { name = no_name; binding = STB_LOCAL; sort = STT_NOTYPE; place = Undef; value = 0; size = 0 }
 
 abbrev pub no_reloc : Reloc
-no_reloc = record { offset = 0; kind = 0; symbol = 0; addend = pos 0 }
+no_reloc = record { offset = 0; kind = R_RISCV_NONE; symbol = 0; addend = pos 0 }
 
 abbrev pub no_head : HeadView
 no_head = record { flags = 0; sections = []; symtab = 0; symbols = [] }
@@ -65,13 +65,28 @@ symbol_name file i = text_of file.bytes (symbol_at file i).name
 abbrev pub writes : File → ℕ → Bool
 writes file k = nat_lt 0 k && is_written file.bytes (section_at file k)
 
--- a SECTION symbol stands for its section: a LOCAL symbol of type SECTION (3)
+-- a SECTION symbol stands for its section: a LOCAL symbol of type SECTION
 abbrev pub is_section_symbol : Symbol → Bool
-is_section_symbol s = s.binding == 0 && s.sort == 3
+is_section_symbol s = s.binding == STB_LOCAL && s.sort == STT_SECTION
+
+-- other files see the symbol
+abbrev pub is_visible : Symbol → Bool
+is_visible s = not (s.binding == STB_LOCAL)
 
 -- how many of the first i symbols are COMMON
 abbrev pub commons_before : File → ℕ → ℕ
 commons_before file i = count_by (λ s. is_common s.place) (take i file.head.symbols)
+
+-- the symbols of all files have numbers, in order of file and symbol
+abbrev pub first_symbol : List File → ℕ → ℕ
+first_symbol files f = sum (map (λ file. length file.head.symbols) (take f files))
+
+abbrev pub symbol_no : List File → (f i : ℕ) → ℕ
+symbol_no files f i = first_symbol files f + i
+
+-- one element for each symbol, by its number
+unfoldable pub by_symbol : {X : Type 0} → List File → (ℕ → ℕ → X) → List X
+by_symbol files give = flat_map (λ f. map (give f) (range_with_len 0 (length (file_at files f).head.symbols))) (range_with_len 0 (length files))
 
 -- the sections of the live files have numbers in the order of the command: after a file's own, one for each of its COMMON
 -- symbols
@@ -87,8 +102,25 @@ section_total files = first_section files (length files)
 abbrev pub symbol_total : List File → ℕ
 symbol_total files = sum (map (λ file. length file.head.symbols) files)
 
--- a live file whose checks have passed: each number in its tables lies where it must
+-- one element for each section, by its number
+unfoldable pub by_section : {X : Type 0} → List File → (ℕ → ℕ → X) → List X
+by_section files give = flat_map (λ f. map (give f) (range_with_len 0 (section_count (file_at files f)))) (range_with_len 0 (length files))
+
+-- the number of section k of file f, and of its COMMON symbol i
+abbrev pub section_no : List File → (f k : ℕ) → ℕ
+section_no files f k = first_section files f + k
+
+abbrev pub common_no : List File → (f i : ℕ) → ℕ
+common_no files f i = first_section files f + length (file_at files f).head.sections + commons_before (file_at files f) i
+
+-- a live file is what its bytes say, and no check of it is broken
 pub record IsSound (file : File) : Type 0 where
-  pub short : length file.bytes ≤ 2147483647
-  pub head : IsIndexed file.bytes file.head
-  pub body : IsBodyInside file.bytes file.head file.object
+  pub short : length file.bytes ≤ FILE_MAX
+  pub head : head_of file.bytes ≡ Ok file.head
+  pub body : object_of file.bytes ≡ Ok file.object
+
+-- so many files, symbols and sections a link has at most
+pub record AreFew (files : List File) : Type 0 where
+  pub file_count : length files < 2 ^ 24
+  pub symbol_count : symbol_total files < 2 ^ 31
+  pub section_count_is : section_total files ≤ 2 ^ 28

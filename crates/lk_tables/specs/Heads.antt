@@ -7,7 +7,7 @@ use Rattle.lk_tables.specs.declared.heads.Section.{Section}
 use Rattle.lk_tables.specs.declared.heads.Symbol.{Symbol}
 use Rattle.lk_tables.specs.declared.heads.Head.{Head}
 use Rattle.lk_tables.specs.Checks.{Check, checked, NoneBroken, from_on}
-use Rattle.lk_tables.specs.FileHeader.{header_checks, e_flags, e_shnum}
+use Rattle.lk_tables.specs.FileHeader.{header_checks, e_flags, section_count}
 use Rattle.lk_tables.specs.Sections.{section_of, section_checks}
 use Rattle.lk_tables.specs.Symbols.{symtab_of, symbol_count, symbol_of, symbol_checks}
 
@@ -22,7 +22,7 @@ abbrev pub head_view : Head → HeadView
 head_view head = record { flags = head.flags; sections = head.sections.items; symtab = head.symtab; symbols = head.symbols.items }
 
 abbrev pub sections_of : List ℕ → List Section
-sections_of b = map (section_of b) (range_with_len 0 (e_shnum b))
+sections_of b = map (section_of b) (range_with_len 0 (section_count b))
 
 abbrev pub symbols_of : List ℕ → List Symbol
 symbols_of b = map (symbol_of b) (range_with_len 0 (symbol_count b))
@@ -33,7 +33,7 @@ fields_of b = record { flags = e_flags b; sections = sections_of b; symtab = sym
 
 -- the checks of the file header, then of each section in order, then of each symbol
 abbrev pub all_section_checks : List ℕ → List Check
-all_section_checks b = from_on (section_checks b) 0 (e_shnum b)
+all_section_checks b = from_on (section_checks b) 0 (section_count b)
 
 abbrev pub all_symbol_checks : List ℕ → List Check
 all_symbol_checks b = from_on (symbol_checks b) 0 (symbol_count b)

@@ -1,6 +1,6 @@
 -- What holds of a head and of a body in which no check is broken, as facts about their lists: each number, offset and
 -- size lies where it must (System V gABI, "Sections", "Symbol Table", "Relocation").
-use Rattle.std.specs.Prelude.{◌≡◌, ◌≢◌, ℕ, ◌+◌, ◌*◌, ◌^◌, pos, ◌<◌, ◌≤◌, true, is_some, unwrap_or, bit_and, List, [], length, slice_index_or}
+use Rattle.std.specs.Prelude.{◌≡◌, ◌≢◌, ℕ, ◌+◌, ◌*◌, ◌^◌, pos, ◌<◌, ◌≤◌, true, is_some, bit_and, List, [], length, slice_index_or}
 use Rattle.std.specs.List.{All}
 use Rattle.std.specs.List.Sorted.{IsNonDecreasingBy}
 use Rattle.lk_tables.specs.declared.heads.Place.{Place}
@@ -10,12 +10,14 @@ use Rattle.lk_tables.specs.declared.heads.Symbol.{Symbol}
 use Rattle.lk_tables.specs.declared.objects.Reloc.{Reloc}
 use Rattle.lk_tables.specs.declared.spans.Span.{Span}
 use Rattle.std.specs.Int.{is_power_of_two}
-use Rattle.lk_tables.specs.FileHeader.{e_shnum}
+use Rattle.lk_base.specs.RelocKinds.{is_among, is_lower}
+use Rattle.lk_base.specs.declared.abi.TheConstants.{ALIGN_MAX, NOBITS_MAX, SHDR_SIZE, SYM_SIZE, SHF_WRITE, SHF_EXECINSTR, SHF_LINK_ORDER, SHT_NOBITS, STB_LOCAL, STT_NOTYPE}
+use Rattle.lk_tables.specs.FileHeader.{section_count}
 use Rattle.lk_tables.specs.Heads.{HeadView}
 use Rattle.lk_tables.specs.Names.{no_name}
 use Rattle.lk_tables.specs.Objects.{ObjectView}
-use Rattle.lk_tables.specs.Relocations.{width_of}
-use Rattle.lk_tables.specs.Sections.{is_among, is_written, loaded_types}
+use Rattle.lk_tables.specs.Relocations.{width_of, end_of}
+use Rattle.lk_tables.specs.Sections.{is_written, loaded_types, contents_of}
 use Rattle.lk_tables.specs.Symbols.{bindings}
 
 -- each element with its number
@@ -45,57 +47,57 @@ IsValueWithin b sections s =
 -- what stands at number 0 of a symbol table
 pub record IsNullSymbol (s : Symbol) : Type 0 where
   pub name : s.name ≡ no_name
-  pub binding : s.binding ≡ 0
-  pub sort : s.sort ≡ 0
+  pub binding : s.binding ≡ STB_LOCAL
+  pub sort : s.sort ≡ STT_NOTYPE
   pub place : s.place ≡ Undef
 
 -- local symbols first: how many they are, symbol 0 among them
 pub record HasLocalsFirst (symbols : List Symbol) : Type 0 where
   pub locals : ℕ
   pub most : locals ≤ length symbols
-  pub below : AllNumbered (λ k s. k < locals → s.binding ≡ 0) symbols
-  pub above : AllNumbered (λ k s. locals ≤ k → s.binding ≢ 0) symbols
+  pub below : AllNumbered (λ k s. k < locals → s.binding ≡ STB_LOCAL) symbols
+  pub above : AllNumbered (λ k s. locals ≤ k → s.binding ≢ STB_LOCAL) symbols
 
 -- a sound head
 pub record IsHeadInside (b : List ℕ) (head : HeadView) : Type 0 where
-  pub counted : length head.sections ≡ e_shnum b
+  pub counted : length head.sections ≡ section_count b
   pub some : 0 < length head.sections
-  pub few : length head.sections ≤ 65279
-  pub table : 64 * length head.sections ≤ length b
+  pub few : length head.sections ≤ 2 ^ 28
+  pub table : SHDR_SIZE * length head.sections ≤ length b
   pub symtab : head.symtab < length head.sections
-  pub entries : 24 * length head.symbols ≤ length b
+  pub entries : SYM_SIZE * length head.symbols ≤ length b
   pub section_names : All (λ s. IsNameWithin (length b) s.name) head.sections
   pub symbol_names : All (λ s. IsNameWithin (length b) s.name) head.symbols
-  pub contents : AllWritten b (λ s. s.sh_type ≢ 8 → s.offset + s.size ≤ length b) head.sections
+  pub contents : AllWritten b (λ s. s.sh_type ≢ SHT_NOBITS → s.offset + s.size ≤ length b) head.sections
   pub places : All (λ s. IsPlaceWithin (length head.sections) s.place) head.symbols
   pub values : All (IsValueWithin b head.sections) head.symbols
   pub among : All (λ s. is_among bindings s.binding ≡ true) head.symbols
-  pub named : All (λ s. s.binding ≢ 0 → 0 < s.name.len) head.symbols
+  pub named : All (λ s. s.binding ≢ STB_LOCAL → 0 < s.name.len) head.symbols
   pub first : (d : Symbol) → 0 < length head.symbols → IsNullSymbol (slice_index_or head.symbols 0 d)
   pub ordered : HasLocalsFirst head.symbols
-  pub commons : All (λ s. s.place ≡ Common → s.binding ≢ 0) head.symbols
+  pub commons : All (λ s. s.place ≡ Common → s.binding ≢ STB_LOCAL) head.symbols
 
--- 0, which counts as 1, or a power of two up to 2^20
+-- 0, which counts as 1, or a power of two that is not too great
 pub record IsAlignment (align : ℕ) : Type 0 where
   pub power : align ≢ 0 → is_power_of_two align ≡ true
-  pub most : align ≤ 2 ^ 20
+  pub most : align ≤ ALIGN_MAX
 
--- a written section of a sound body: 8 is NOBITS, 1 WRITE and 4 EXECINSTR, 0x80 LINK_ORDER
+-- a written section of a sound body
 pub record IsLinked (count : ℕ) (s : Section) : Type 0 where
   pub kind : is_among loaded_types s.sh_type ≡ true
   pub align : IsAlignment s.align
-  pub size : s.size ≤ 2 ^ 32
-  pub apart : bit_and s.flags 1 ≢ 0 → bit_and s.flags 4 ≡ 0
-  pub follows : bit_and s.flags 0x80 ≢ 0 → s.link < count
+  pub size : s.size ≤ NOBITS_MAX
+  pub apart : bit_and s.flags SHF_WRITE ≢ 0 → bit_and s.flags SHF_EXECINSTR ≡ 0
+  pub follows : bit_and s.flags SHF_LINK_ORDER ≢ 0 → s.link < count
 
--- a relocation of section s, which is written and has bytes in the file; 24 is PCREL_LO12_I
+-- a relocation of section s, which is written and has bytes in the file
 pub record IsRelocWithin (b : List ℕ) (symbols : ℕ) (s : Section) (r : Reloc) : Type 0 where
   pub written : is_written b s ≡ true
-  pub bits : s.sh_type ≢ 8
+  pub bits : s.sh_type ≢ SHT_NOBITS
   pub symbol : r.symbol < symbols
-  pub kind : is_some (width_of r.kind) ≡ true
-  pub fits : r.offset + unwrap_or (width_of r.kind) 0 ≤ s.size
-  pub addend : r.kind ≡ 24 → r.addend ≡ pos 0
+  pub kind : is_some (width_of (contents_of b s) r) ≡ true
+  pub fits : end_of (contents_of b s) r ≤ s.size
+  pub addend : is_lower r.kind ≡ true → r.addend ≡ pos 0
 
 -- the relocations of each section by its number
 abbrev pub AreRelocsWithin : List ℕ → HeadView → List (List Reloc) → Type 0
@@ -105,7 +107,7 @@ AreRelocsWithin b head relocs =
 -- a COMMON symbol: its value is its alignment
 pub record IsCommonWithin (s : Symbol) : Type 0 where
   pub align : IsAlignment s.value
-  pub size : s.size ≤ 2 ^ 32
+  pub size : s.size ≤ NOBITS_MAX
 
 -- a sound body
 pub record IsBodyInside (b : List ℕ) (head : HeadView) (object : ObjectView) : Type 0 where

@@ -5,7 +5,7 @@ use Rattle.lk_tables.specs.declared.spans.Span.{Span}
 abbrev pub is_zero : ℕ → Bool
 is_zero byte = byte == 0
 
--- how many bytes the name has that begins at `at` of the string table of `size` bytes at `from`, if it ends there
+-- how many bytes the name has that starts at `at` of the string table of `size` bytes at `from`, if it ends there
 unfoldable pub name_len : List ℕ → (from size at : ℕ) → Option ℕ
 name_len b from size at = position is_zero (take (size - at) (drop (from + at) b))
 

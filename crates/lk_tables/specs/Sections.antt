@@ -1,23 +1,25 @@
 -- The sections of an object and the checks of their headers (System V gABI, "Section Header Table", "Special Sections").
-use Rattle.std.specs.Prelude.{ℕ, ◌+◌, ◌/◌, ◌%◌, Bool, not, ◌&&◌, ◌||◌, ◌==◌, nat_lt, bit_and, Option, is_some, unwrap_or, if◌then◌else◌, List, [], ◌∷◌, length, find, codes}
-use Rattle.std.specs.List.{list_any, range_with_len}
+use Rattle.std.specs.Prelude.{ℕ, ◌+◌, ◌/◌, ◌%◌, Bool, not, ◌&&◌, ◌||◌, ◌==◌, nat_lt, bit_and, Option, is_some, unwrap_or, if◌then◌else◌, List, [], ◌∷◌, length, take, drop, find, codes}
+use Rattle.std.specs.List.{range_with_len}
 use Rattle.std.specs.Str.{bytes_eq}
-use Rattle.lk_base.specs.declared.kinds.DefectKind.TheVariants.{F03, F04, F10}
+use Rattle.lk_base.specs.RelocKinds.{is_among}
+use Rattle.lk_base.specs.declared.abi.TheConstants.{SHT_NULL, SHT_PROGBITS, SHT_SYMTAB, SHT_NOTE, SHT_NOBITS, SHT_INIT_ARRAY, SHT_FINI_ARRAY, SHT_PREINIT_ARRAY, SHT_SYMTAB_SHNDX, SHF_ALLOC, SHF_EXCLUDE, SYM_SIZE}
+use Rattle.lk_base.specs.declared.kinds.TheConstants.{OUTSIDE, BAD_SECTION, BAD_NAME}
 use Rattle.lk_tables.specs.declared.entries.SectionHeader.{SectionHeader}
 use Rattle.lk_tables.specs.declared.heads.Section.{Section}
 use Rattle.lk_tables.specs.declared.spans.Span.{Span}
 use Rattle.lk_tables.specs.Checks.{Check, ◌says◌, flaw_at}
-use Rattle.lk_tables.specs.FileHeader.{header, place_of, e_shstrndx, ends_past, is_strtab}
+use Rattle.lk_tables.specs.FileHeader.{header, place_of, names_index, ends_past, is_strtab}
 use Rattle.lk_tables.specs.Names.{name_len, span, no_name, text_of}
 
 -- the section name string table
 abbrev pub names_from : List ℕ → ℕ
-names_from b = (header b (e_shstrndx b)).offset
+names_from b = (header b (names_index b)).offset
 
 abbrev pub names_size : List ℕ → ℕ
-names_size b = (header b (e_shstrndx b)).size
+names_size b = (header b (names_index b)).size
 
--- how long the name is that begins at `at` of it
+-- how long the name is that starts at `at` of it
 abbrev pub section_name_len : List ℕ → ℕ → Option ℕ
 section_name_len b at = name_len b (names_from b) (names_size b) at
 
@@ -36,7 +38,7 @@ with_name h name = record {
 
 -- section 0 (SHN_UNDEF) and the sections of type NULL have no name and no checks
 abbrev pub is_null : ℕ → ℕ → Bool
-is_null i sh_type = i == 0 || sh_type == 0
+is_null i sh_type = i == 0 || sh_type == SHT_NULL
 
 -- section i
 unfoldable pub section_of : List ℕ → ℕ → Section
@@ -44,13 +46,12 @@ section_of b i =
     if is_null i (header b i).sh_type then with_name (header b i) no_name
     else with_name (header b i) (span (names_from b + (header b i).name) (unwrap_or (section_name_len b (header b i).name) 0))
 
--- the bytes of a section that has bytes in the file (not NOBITS) end past it
+-- the bytes of a section that has bytes in the file end past it
 unfoldable pub is_outside : List ℕ → SectionHeader → Bool
-is_outside b h = not (h.sh_type == 8) && ends_past (length b) h.offset h.size
+is_outside b h = not (h.sh_type == SHT_NOBITS) && ends_past (length b) h.offset h.size
 
--- SYMTAB
 abbrev pub is_symtab : List ℕ → ℕ → Bool
-is_symtab b k = nat_lt 0 k && (header b k).sh_type == 2
+is_symtab b k = nat_lt 0 k && (header b k).sh_type == SHT_SYMTAB
 
 -- the first symbol table among the sections below i, or 0
 unfoldable pub symtab_before : List ℕ → ℕ → ℕ
@@ -60,34 +61,42 @@ symtab_before b i = unwrap_or (find (is_symtab b) (range_with_len 0 i)) 0
 -- symbols than entries
 unfoldable pub is_bad_symtab : List ℕ → (earlier : ℕ) → SectionHeader → Bool
 is_bad_symtab b earlier h =
-    h.sh_type == 2
+    h.sh_type == SHT_SYMTAB
     && (not (earlier == 0)
-    || (not (h.entsize == 24)
-    || (not (h.size % 24 == 0)
+    || (not (h.entsize == SYM_SIZE)
+    || (not (h.size % SYM_SIZE == 0)
     || (not (is_strtab b h.link)
-    || nat_lt (h.size / 24) h.info))))
+    || nat_lt (h.size / SYM_SIZE) h.info))))
 
--- the checks of section i; type 18 is SYMTAB_SHNDX
+-- the checks of section i; SYMTAB_SHNDX is not linked yet
 unfoldable pub section_checks : List ℕ → ℕ → List Check
 section_checks b i = if is_null i (header b i).sh_type then [] else
-    (is_outside b (header b i) says flaw_at F03 i (place_of b i))
-    ∷ (not (is_some (section_name_len b (header b i).name)) says flaw_at F10 i (place_of b i))
-    ∷ (is_bad_symtab b (symtab_before b i) (header b i) says flaw_at F04 i (place_of b i))
-    ∷ ((header b i).sh_type == 18 says flaw_at F04 i (place_of b i))
+    (is_outside b (header b i) says flaw_at OUTSIDE i (place_of b i))
+    ∷ (not (is_some (section_name_len b (header b i).name)) says flaw_at BAD_NAME i (place_of b i))
+    ∷ (is_bad_symtab b (symtab_before b i) (header b i) says flaw_at BAD_SECTION i (place_of b i))
+    ∷ ((header b i).sh_type == SHT_SYMTAB_SHNDX says flaw_at BAD_SECTION i (place_of b i))
     ∷ []
 
--- x is one of a few numbers
-abbrev pub is_among : List ℕ → ℕ → Bool
-is_among ys x = list_any (λ y. y == x) ys
-
--- the types of sections that may be written: PROGBITS, NOTE, NOBITS, INIT_ARRAY, FINI_ARRAY, PREINIT_ARRAY
+-- the types of sections that may be written
 abbrev pub loaded_types : List ℕ
-loaded_types = 1 ∷ 7 ∷ 8 ∷ 14 ∷ 15 ∷ 16 ∷ []
+loaded_types = SHT_PROGBITS ∷ SHT_NOTE ∷ SHT_NOBITS ∷ SHT_INIT_ARRAY ∷ SHT_FINI_ARRAY ∷ SHT_PREINIT_ARRAY ∷ []
 
--- ALLOC (2) without EXCLUDE (0x80000000)
+-- in memory while the program runs
 unfoldable pub is_loaded : Section → Bool
-is_loaded s = not (bit_and s.flags 2 == 0) && bit_and s.flags 0x80000000 == 0
+is_loaded s = not (bit_and s.flags SHF_ALLOC == 0) && bit_and s.flags SHF_EXCLUDE == 0
 
 -- a section whose bytes go into the executable; `.eh_frame` is read past
 unfoldable pub is_written : List ℕ → Section → Bool
 is_written b s = is_loaded s && (is_among loaded_types s.sh_type && not (bytes_eq (text_of b s.name) (codes ".eh_frame")))
+
+-- section k is written; section 0 is none
+unfoldable pub written_at : List ℕ → ℕ → Bool
+written_at b k = nat_lt 0 k && is_written b (section_of b k)
+
+-- the relocations of section k are read
+unfoldable pub takes_relocs : List ℕ → ℕ → Bool
+takes_relocs b k = written_at b k
+
+-- the bytes of a section in the file
+abbrev pub contents_of : List ℕ → Section → List ℕ
+contents_of b s = take s.size (drop s.offset b)

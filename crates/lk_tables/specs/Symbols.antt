@@ -1,27 +1,29 @@
 -- The symbols of an object and the checks of their entries (System V gABI, "Symbol Table").
-use Rattle.std.specs.Prelude.{◌≡◌, ℕ, ◌+◌, ◌*◌, ◌/◌, ◌%◌, ◌<◌, ◌≤◌, Bool, not, ◌&&◌, ◌||◌, ◌==◌, nat_lt, Option, is_some, unwrap_or, if◌then◌else◌, List, [], ◌∷◌, length}
-use Rattle.lk_base.specs.declared.kinds.DefectKind.TheVariants.{F09, F10}
+use Rattle.std.specs.Prelude.{◌≡◌, ℕ, ◌+◌, ◌*◌, ◌/◌, ◌%◌, ◌<◌, ◌≤◌, Bool, true, false, not, ◌&&◌, ◌||◌, ◌==◌, nat_lt, Option, Some, None, is_some, unwrap_or, if◌then◌else◌, List, [], ◌∷◌, length}
+use Rattle.lk_base.specs.RelocKinds.{is_among}
+use Rattle.lk_base.specs.declared.abi.TheConstants.{SHN_UNDEF, SHN_ABS, SHN_COMMON, STB_LOCAL, STB_GLOBAL, STB_WEAK, STB_GNU_UNIQUE, STT_NOTYPE, STT_OBJECT, STT_FUNC, STT_SECTION, STT_FILE, STT_COMMON, STT_TLS, STT_GNU_IFUNC, SYM_SIZE}
+use Rattle.lk_base.specs.declared.kinds.TheConstants.{BAD_SYMBOL, BAD_NAME}
 use Rattle.lk_tables.specs.declared.entries.SymbolEntry.{SymbolEntry}
 use Rattle.lk_tables.specs.declared.heads.Symbol.{Symbol}
 use Rattle.lk_tables.specs.declared.heads.Place.{Place}
 use Rattle.lk_tables.specs.declared.heads.Place.TheVariants.{Undef, Absolute, Common, Within}
 use Rattle.lk_tables.specs.Checks.{Check, ◌says◌, flaw_at}
 use Rattle.lk_tables.specs.Entries.{entry_at}
-use Rattle.lk_tables.specs.FileHeader.{header, e_shnum}
+use Rattle.lk_tables.specs.FileHeader.{header, section_count}
 use Rattle.lk_tables.specs.Names.{name_len, span, no_name}
-use Rattle.lk_tables.specs.Sections.{symtab_before, is_among, is_written, section_of}
+use Rattle.lk_tables.specs.Sections.{symtab_before, written_at, section_of}
 
 -- the symbol table's section, or 0
 abbrev pub symtab_of : List ℕ → ℕ
-symtab_of b = symtab_before b (e_shnum b)
+symtab_of b = symtab_before b (section_count b)
 
 -- how many entries it has
 unfoldable pub symbol_count : List ℕ → ℕ
-symbol_count b = if symtab_of b == 0 then 0 else (header b (symtab_of b)).size / 24
+symbol_count b = if symtab_of b == 0 then 0 else (header b (symtab_of b)).size / SYM_SIZE
 
 -- where entry i stands, and what it says
 abbrev pub symbol_place : List ℕ → ℕ → ℕ
-symbol_place b i = (header b (symtab_of b)).offset + 24 * i
+symbol_place b i = (header b (symtab_of b)).offset + SYM_SIZE * i
 
 abbrev pub entry : List ℕ → ℕ → SymbolEntry
 entry b i = entry_at b (symbol_place b i)
@@ -33,96 +35,107 @@ strings_from b = (header b (header b (symtab_of b)).link).offset
 abbrev pub strings_size : List ℕ → ℕ
 strings_size b = (header b (header b (symtab_of b)).link).size
 
--- how long the name is that begins at `at` of it
+-- how long the name is that starts at `at` of it
 abbrev pub symbol_name_len : List ℕ → ℕ → Option ℕ
 symbol_name_len b at = name_len b (strings_from b) (strings_size b) at
 
--- what is known of the symbol table, where there is one and all sections have passed: it and its names lie in the file
+-- what is known of the symbol table, if there is one and all sections have passed: it and its names lie in the file
 pub record IsReadable (b : List ℕ) : Type 0 where
   pub low : 0 < symtab_of b
-  pub high : symtab_of b < e_shnum b
-  pub link_high : (header b (symtab_of b)).link < e_shnum b
+  pub high : symtab_of b < section_count b
+  pub link_high : (header b (symtab_of b)).link < section_count b
   pub within : (header b (symtab_of b)).offset + (header b (symtab_of b)).size ≤ length b
-  pub count : symbol_count b ≡ (header b (symtab_of b)).size / 24
+  pub count : symbol_count b ≡ (header b (symtab_of b)).size / SYM_SIZE
   pub strings_within : strings_from b + strings_size b ≤ length b
 
--- st_info: the binding in the high four bits, the type in the low
-abbrev pub binding_of : SymbolEntry → ℕ
-binding_of e = e.info / 16
+-- where a symbol of this st_shndx stands in a file of `count` sections; any other index names nothing
+unfoldable pub place_from : (count shndx : ℕ) → Option Place
+place_from count shndx =
+    if shndx == SHN_UNDEF then Some Undef
+    else (if shndx == SHN_ABS then Some Absolute
+    else (if shndx == SHN_COMMON then Some Common
+    else (if nat_lt shndx count then Some (Within shndx)
+    else None)))
 
-abbrev pub sort_of : SymbolEntry → ℕ
-sort_of e = e.info % 16
+-- where symbol i stands
+unfoldable pub place_at : List ℕ → ℕ → Option Place
+place_at b i = place_from (section_count b) (entry b i).shndx
 
--- st_shndx: UNDEF is 0, ABS 0xfff1, COMMON 0xfff2
-unfoldable pub place_from : ℕ → Place
-place_from shndx =
-    if shndx == 0 then Undef
-    else (if shndx == 0xfff1 then Absolute
-    else (if shndx == 0xfff2 then Common
-    else Within shndx))
+-- what entry i says; st_info has the binding in its high four bits, the type in the low
+unfoldable pub symbol_from : List ℕ → ℕ → Symbol
+symbol_from b i = record {
+  name = span (strings_from b + (entry b i).name) (unwrap_or (symbol_name_len b (entry b i).name) 0);
+  binding = (entry b i).info / 16;
+  sort = (entry b i).info % 16;
+  place = unwrap_or (place_at b i) Undef;
+  value = (entry b i).value;
+  size = (entry b i).size;
+}
+
+-- what symbol 0 counts as, whatever its entry says
+abbrev pub null_symbol : (value size : ℕ) → Symbol
+null_symbol value size = record { name = no_name; binding = STB_LOCAL; sort = STT_NOTYPE; place = Undef; value = value; size = size }
 
 -- symbol i
 unfoldable pub symbol_of : List ℕ → ℕ → Symbol
-symbol_of b i =
-    if i == 0 then record { name = no_name; binding = 0; sort = 0; place = Undef; value = (entry b i).value; size = (entry b i).size }
-    else record {
-      name = span (strings_from b + (entry b i).name) (unwrap_or (symbol_name_len b (entry b i).name) 0);
-      binding = binding_of (entry b i);
-      sort = sort_of (entry b i);
-      place = place_from (entry b i).shndx;
-      value = (entry b i).value;
-      size = (entry b i).size;
-    }
+symbol_of b i = if i == 0 then null_symbol (entry b i).value (entry b i).size else symbol_from b i
 
--- LOCAL, GLOBAL, WEAK, GNU_UNIQUE
+abbrev pub is_undef : Place → Bool
+is_undef Undef = true
+is_undef Absolute = false
+is_undef Common = false
+is_undef (Within k) = false
+
+abbrev pub is_common : Place → Bool
+is_common Undef = false
+is_common Absolute = false
+is_common Common = true
+is_common (Within k) = false
+
 abbrev pub bindings : List ℕ
-bindings = 0 ∷ 1 ∷ 2 ∷ 10 ∷ []
+bindings = STB_LOCAL ∷ STB_GLOBAL ∷ STB_WEAK ∷ STB_GNU_UNIQUE ∷ []
 
--- NOTYPE, OBJECT, FUNC, SECTION, FILE, COMMON, TLS, GNU_IFUNC
 abbrev pub sorts : List ℕ
-sorts = 0 ∷ 1 ∷ 2 ∷ 3 ∷ 4 ∷ 5 ∷ 6 ∷ 10 ∷ []
+sorts = STT_NOTYPE ∷ STT_OBJECT ∷ STT_FUNC ∷ STT_SECTION ∷ STT_FILE ∷ STT_COMMON ∷ STT_TLS ∷ STT_GNU_IFUNC ∷ []
 
--- st_shndx names a section of the table, or is ABS or COMMON
-unfoldable pub is_indexed : (count : ℕ) → SymbolEntry → Bool
-is_indexed count e = nat_lt e.shndx count || (e.shndx == 0xfff1 || e.shndx == 0xfff2)
+-- a binding or a type that is not read
+unfoldable pub is_strange : Symbol → Bool
+is_strange s = not (is_among bindings s.binding) || not (is_among sorts s.sort)
 
 -- local symbols, and no others, stand below sh_info
-unfoldable pub is_misplaced : (locals i : ℕ) → SymbolEntry → Bool
-is_misplaced locals i e = (nat_lt i locals && not (binding_of e == 0)) || (not (nat_lt i locals) && binding_of e == 0)
-
--- the symbol's value is past the end of the written section in which it stands
-unfoldable pub is_past_end : List ℕ → SymbolEntry → Bool
-is_past_end b e =
-    nat_lt 0 e.shndx && (nat_lt e.shndx (e_shnum b)
-    && (is_written b (section_of b e.shndx) && nat_lt (section_of b e.shndx).size e.value))
-
--- a binding, a type or an index that is not read
-unfoldable pub is_strange : (count : ℕ) → SymbolEntry → Bool
-is_strange count e =
-    not (is_among bindings (binding_of e)) || (not (is_among sorts (sort_of e)) || not (is_indexed count e))
+unfoldable pub is_misplaced : (locals i binding : ℕ) → Bool
+is_misplaced locals i binding = (nat_lt i locals && not (binding == STB_LOCAL)) || (not (nat_lt i locals) && binding == STB_LOCAL)
 
 -- a local symbol among the others, one that is COMMON, or another symbol among the local ones or without a name
-unfoldable pub is_bad_local : (locals i len : ℕ) → SymbolEntry → Bool
-is_bad_local locals i len e =
-    is_misplaced locals i e
-    || ((binding_of e == 0 && e.shndx == 0xfff2)
-    || (not (binding_of e == 0) && len == 0))
+unfoldable pub is_bad_local : (locals i : ℕ) → Symbol → Bool
+is_bad_local locals i s =
+    is_misplaced locals i s.binding
+    || ((s.binding == STB_LOCAL && is_common s.place)
+    || (not (s.binding == STB_LOCAL) && s.name.len == 0))
 
--- a COMMON symbol of type TLS (6)
-unfoldable pub is_bad_common : SymbolEntry → Bool
-is_bad_common e = e.shndx == 0xfff2 && sort_of e == 6
+-- a COMMON symbol of type TLS
+unfoldable pub is_bad_common : Symbol → Bool
+is_bad_common s = is_common s.place && s.sort == STT_TLS
 
--- a symbol that cannot be
-unfoldable pub is_bad_symbol : List ℕ → (i len : ℕ) → SymbolEntry → Bool
-is_bad_symbol b i len e =
-    is_strange (e_shnum b) e
-    || (is_bad_local (header b (symtab_of b)).info i len e
-    || (is_bad_common e
-    || is_past_end b e))
+-- a value past the end of the written section in which it stands
+unfoldable pub is_past_end : List ℕ → Place → (value : ℕ) → Bool
+is_past_end b Undef value = false
+is_past_end b Absolute value = false
+is_past_end b Common value = false
+is_past_end b (Within k) value = written_at b k && nat_lt (section_of b k).size value
 
--- the checks of symbol i
+-- symbol i cannot be
+unfoldable pub is_bad_symbol : List ℕ → (i : ℕ) → Symbol → Bool
+is_bad_symbol b i s =
+    is_strange s
+    || (is_bad_local (header b (symtab_of b)).info i s
+    || (is_bad_common s
+    || is_past_end b s.place s.value))
+
+-- the checks of symbol i: its name ends, its index names something, and it can be
 unfoldable pub symbol_checks : List ℕ → ℕ → List Check
 symbol_checks b i = if i == 0 then [] else
-    (not (is_some (symbol_name_len b (entry b i).name)) says flaw_at F10 (symtab_of b) (symbol_place b i))
-    ∷ (is_bad_symbol b i (unwrap_or (symbol_name_len b (entry b i).name) 0) (entry b i) says flaw_at F09 (symtab_of b) (symbol_place b i))
+    (not (is_some (symbol_name_len b (entry b i).name)) says flaw_at BAD_NAME (symtab_of b) (symbol_place b i))
+    ∷ (not (is_some (place_at b i)) says flaw_at BAD_SYMBOL (symtab_of b) (symbol_place b i))
+    ∷ (is_bad_symbol b i (symbol_from b i) says flaw_at BAD_SYMBOL (symtab_of b) (symbol_place b i))
     ∷ []

@@ -1,16 +1,13 @@
-//! Entries of an object's tables as they stand in the file (System V gABI, "Section Header Table", "Symbol Table",
-//! "Relocation").
-
-use crate::objects::Reloc;
+//! Entries of an object's tables as they stand in the file (System V gABI, "Section Header Table", "Symbol Table").
 
 /// A section header (`Elf64_Shdr`) without its address, which a relocatable object does not use.
 #[derive(Clone, Copy, Debug, PartialEq, Eq)]
 pub struct SectionHeader {
-    /// Where the name begins in the section name string table, in bytes.
+    /// Where the name starts in the section name string table, in bytes.
     pub name: u32,
-    /// What the section holds, by its number in the gABI.
+    /// What the section holds (`SHT_`).
     pub sh_type: u32,
-    /// WRITE 1, ALLOC 2, EXECINSTR 4 and so on.
+    /// Its flags (`SHF_`).
     pub flags: u64,
     /// File offset of the contents.
     pub offset: u64,
@@ -29,7 +26,7 @@ pub struct SectionHeader {
 /// A symbol (`Elf64_Sym`) without its visibility.
 #[derive(Clone, Copy, Debug, PartialEq, Eq)]
 pub struct SymbolEntry {
-    /// Where the name begins in the symbol string table, in bytes.
+    /// Where the name starts in the symbol string table, in bytes.
     pub name: u32,
     /// Binding in the high four bits, type in the low four.
     pub info: u8,
@@ -39,15 +36,4 @@ pub struct SymbolEntry {
     pub value: u64,
     /// Bytes of what it names.
     pub size: u64,
-}
-
-/// A relocation with the bytes that it changes and its entry's file offset, which a defect names.
-#[derive(Clone, Copy, Debug, PartialEq, Eq)]
-pub struct PlacedReloc {
-    /// The relocation.
-    pub reloc: Reloc,
-    /// The end, in the relocated section, of the bytes that it changes.
-    pub end: u64,
-    /// File offset of the entry.
-    pub place: u64,
 }

@@ -1,21 +1,56 @@
-//! The tables of a link: what one relocatable object says, as plain lists of sections, symbols and relocations, and
-//! the definitions that tell which bytes say it. The readers fill these tables, and each later pass reads them.
+//! The tables of a link: what the relocatable objects say, as plain lists of sections, symbols and relocations, and what their names
+//! are bound to; and the definitions of which bytes say it. The readers fill these tables, and each later pass reads them.
 #![tactic(auto)]
 
+mod addresses;
 mod binding;
+mod binding_parts;
+mod bounds;
+mod classes;
+mod commons;
+pub mod ehdr;
 mod entries;
 mod files;
+mod gathering;
 mod heads;
 mod names;
+mod numbering;
 mod objects;
+mod opening;
+mod output_names;
+mod places;
+mod ranks;
 mod reading;
+mod section_places;
 mod spans;
+mod starts;
+mod tables;
+mod targets;
+mod uppers;
+mod views;
+mod walks;
 
-pub use binding::{Binding, BoundCommon, NO_RANK};
-pub use entries::{PlacedReloc, SectionHeader, SymbolEntry};
-pub use files::{File, Tables};
+pub use addresses::Addresses;
+pub use binding::Binding;
+pub use bounds::{Bound, Target};
+pub use classes::{Class, is_in, output_rank};
+pub use commons::BoundCommon;
+pub use entries::{SectionHeader, SymbolEntry};
+pub use files::File;
 pub use heads::{Head, Place, Section, Symbol};
 pub use names::text_of;
+pub use numbering::NameNumbers;
 pub use objects::{Group, Object, Reloc};
-pub use reading::{NO_SYMBOL, is_section_symbol, is_written};
+pub use output_names::{output_name, priority_of};
+pub use ranks::{NO_RANK, class_of, class_of_rank, file_of, is_offer, rank_of, symbol_of};
+pub use reading::{
+    NO_SYMBOL, is_common, is_loaded, is_loaded_type, is_section_symbol, is_visible, is_written,
+};
+pub use section_places::SectionPlace;
 pub use spans::Span;
+pub use starts::{first_symbols, section_count};
+pub use tables::{Heads, Tables};
+pub use targets::{is_undefined, target_in, target_of};
+pub use uppers::Uppers;
+pub use views::View;
+pub use walks::{RelocTest, first_over_relocs};

@@ -3,14 +3,21 @@
 ghost use Rattle.std.specs.Prelude.{◌≡◌, ◌==◌, ◌&&◌, nat_lt, is_some};
 ghost use Rattle.lk_tables.specs.Files as spec;
 ghost use Rattle.lk_tables.specs.FileView.{file_view};
+ghost use Rattle.lk_tables.specs.Heads.{head_view};
 ghost use Rattle.lk_tables.specs.Sections as read;
+ghost use Rattle.lk_tables.specs.Symbols as symbols;
+ghost use Rattle.lk_base.specs.RelocKinds.{is_among};
 
 use crate::files::File;
-use crate::heads::{Place, Section, Symbol};
+use crate::heads::{Head, Place, Section, Symbol};
 use crate::names::text_of;
 use crate::objects::Reloc;
 use crate::spans::Span;
 use lk_base::NO_FILE;
+use lk_base::abi::{
+    SHF_ALLOC, SHF_EXCLUDE, SHT_FINI_ARRAY, SHT_INIT_ARRAY, SHT_NOBITS, SHT_NOTE, SHT_NULL,
+    SHT_PREINIT_ARRAY, SHT_PROGBITS, STB_LOCAL, STT_NOTYPE, STT_SECTION,
+};
 
 /// No name.
 const NO_NAME: Span = Span {
@@ -22,7 +29,7 @@ const NO_NAME: Span = Span {
 /// A section past the end of the table: it is not written.
 const NO_SECTION: Section = Section {
     name: NO_NAME,
-    sh_type: 0,
+    sh_type: SHT_NULL,
     flags: 0,
     offset: 0,
     size: 0,
@@ -35,14 +42,56 @@ const NO_SECTION: Section = Section {
 /// A symbol past the end of the table: local, and not defined.
 pub const NO_SYMBOL: Symbol = Symbol {
     name: NO_NAME,
-    binding: 0,
-    sort: 0,
+    binding: STB_LOCAL,
+    sort: STT_NOTYPE,
     place: Place::Undef,
     value: 0,
     size: 0,
 };
 
 impl<'a> File<'a> {
+    /// Its bytes, from the first of the object on.
+    pub fn bytes(&self) -> &'a [u8]
+        ensures { result.now ≡ (file_view self.now).bytes }
+    {
+        self.bytes
+    }
+
+    /// Whether it takes part only if it is asked for: an archive, or a member of one.
+    pub fn is_member(&self) -> bool
+        ensures { result ≡ (file_view self.now).member }
+    {
+        self.member
+    }
+
+    /// What is read of every file.
+    pub fn head(&self) -> &Head
+        ensures { head_view result.now ≡ (file_view self.now).head }
+    {
+        &self.head
+    }
+
+    /// The flags of its code (`e_flags`).
+    pub fn flags(&self) -> u32
+        ensures { result ≡ (file_view self.now).head.flags }
+    {
+        self.head.flags
+    }
+
+    /// Its sections, by index.
+    pub fn sections(&self) -> &[Section]
+        ensures { result.now ≡ (file_view self.now).head.sections }
+    {
+        self.head.sections.as_slice()
+    }
+
+    /// Its symbols, by index.
+    pub fn symbols(&self) -> &[Symbol]
+        ensures { result.now ≡ (file_view self.now).head.symbols }
+    {
+        self.head.symbols.as_slice()
+    }
+
     /// Whether the file takes part in the link.
     pub fn is_live(&self) -> bool
         ensures { result ≡ (file_view self.now).live }
@@ -98,12 +147,22 @@ impl<'a> File<'a> {
     }
 }
 
+/// Whether sections of a type may be written.
+pub fn is_loaded_type(sh_type: u32) -> bool
+    ensures { result ≡ is_among read.loaded_types sh_type }
+{
+    matches!(
+        sh_type,
+        SHT_PROGBITS | SHT_NOTE | SHT_NOBITS | SHT_INIT_ARRAY | SHT_FINI_ARRAY | SHT_PREINIT_ARRAY
+    )
+}
+
 /// Whether a section is loaded when the program runs.
 #[tactic(auto, unfolding(crate::specs::Sections::is_loaded))]
-fn is_loaded(section: &Section) -> bool
+pub fn is_loaded(section: &Section) -> bool
     ensures { result ≡ read.is_loaded section.now }
 {
-    section.flags & 2 != 0 && section.flags & 0x8000_0000 == 0
+    section.flags & SHF_ALLOC != 0 && section.flags & SHF_EXCLUDE == 0
 }
 
 /// Whether a section's bytes go into the executable: it is loaded, of a type that is linked, and not `.eh_frame`.
@@ -112,7 +171,15 @@ pub fn is_written(bytes: &[u8], section: &Section) -> bool
     ensures { result ≡ read.is_written bytes.now section.now }
 {
     is_loaded(section)
-        && [1, 7, 8, 14, 15, 16].contains(&section.sh_type)
+        && [
+            SHT_PROGBITS,
+            SHT_NOTE,
+            SHT_NOBITS,
+            SHT_INIT_ARRAY,
+            SHT_FINI_ARRAY,
+            SHT_PREINIT_ARRAY,
+        ]
+        .contains(&section.sh_type)
         && text_of(bytes, &section.name) != b".eh_frame".as_slice()
 }
 
@@ -120,5 +187,19 @@ pub fn is_written(bytes: &[u8], section: &Section) -> bool
 pub fn is_section_symbol(symbol: &Symbol) -> bool
     ensures { result ≡ spec.is_section_symbol symbol.now }
 {
-    symbol.binding == 0 && symbol.sort == 3
+    symbol.binding == STB_LOCAL && symbol.sort == STT_SECTION
+}
+
+/// Whether other files see a symbol.
+pub fn is_visible(symbol: &Symbol) -> bool
+    ensures { result ≡ spec.is_visible symbol.now }
+{
+    symbol.binding != STB_LOCAL
+}
+
+/// Whether a symbol is COMMON: it stands in no section yet, and the link gives it room.
+pub fn is_common(symbol: &Symbol) -> bool
+    ensures { result ≡ symbols.is_common symbol.now.place }
+{
+    symbol.place == Place::Common
 }

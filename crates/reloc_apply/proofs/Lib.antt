@@ -1,10 +1,14 @@
+pub mod Listing
+pub mod LowerValues
 pub mod NoDefects
-pub mod Numbers
+pub mod Offsets
 pub mod Placing
-pub mod Positions
 pub mod Rooms
+pub mod RowSteps
+pub mod Scattering
 pub mod SectionLies
 pub mod Showing
 pub mod Sized
+pub mod Sums
+pub mod Unbound
 pub mod UpperParts
-pub mod Widths

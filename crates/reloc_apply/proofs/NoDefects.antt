@@ -1,4 +1,4 @@
--- Where there is no defect: each part of an empty list is empty, and a field takes its value.
+-- If there is no defect: each part of an empty list is empty, and a field takes its value.
 use Rattle.std.proofs.Common.{◌≡◌, ℕ, zero, suc, ◌<◌, ◌%◌, ◌==◌, Bool, true, false, List, [], ◌∷◌, ◌++◌, length, flat_map, get_or, refl, sym, ap, ◌∙◌, arith, subst, ℤ, Option, Some, None}
 use Rattle.std.specs.Prelude.{if◌then◌else◌, unsigned_abs}
 use Rattle.std.specs.List.{range_with_len}
@@ -9,11 +9,10 @@ use Rattle.lk_base.specs.declared.defects.Defect.{Defect}
 use Rattle.lk_base.specs.declared.defects.Misfit.{Misfit}
 use Rattle.lk_base.specs.declared.defects.Misfit.TheVariants.{Odd, Range}
 use Rattle.lk_tables.specs.declared.objects.Reloc.{Reloc}
+use Rattle.lk_base.specs.Reaches.{Reach, any, from_to, even_from_to, Takes, IsEven, IsWithin, is_within, misfit_of, range_of}
+use Rattle.lk_base.specs.RelocKinds.{kind_of}
 use Rattle.lk_tables.specs.Binding.{Bindings}
 use Rattle.lk_tables.specs.Files.{File}
-use Rattle.rv_code.specs.Kinds.{kind_of}
-use Rattle.rv_code.specs.Reaches.{Reach, any, from_to, even_from_to, Takes, IsEven, IsWithin, is_within, misfit_of, range_of}
-use Rattle.reloc_apply.specs.Parts.{Starts}
 use Rattle.reloc_apply.specs.Relocated.{misfit_defects, reloc_defects, value_defects}
 use Rattle.reloc_apply.specs.Values.{value_of}
 
@@ -64,9 +63,9 @@ second_none true x ys none = let no : ⊥ = cc in absurd no
 second_none false x ys none = none
 
 -- the field of a relocation without a defect takes its value
-pub takes_value : (files : List File) (b : Bindings) (starts : Starts) (f k start : ℕ) (r : Reloc) (v : ℤ) →
-    reloc_defects files b starts f k start r ≡ [] → value_of files b starts f k start r ≡ Some v → Takes (kind_of r.kind).reach v
+pub takes_value : (files : List File) (b : Bindings) (sections : List ℕ) (f k : ℕ) (r : Reloc) (v : ℤ) →
+    reloc_defects files b sections f k r ≡ [] → value_of files b sections f k r ≡ Some v → Takes (kind_of r.kind).reach v
 unfolding reloc_defects
-takes_value files b starts f k start r v none is =
+takes_value files b sections f k r v none is =
     taken (kind_of r.kind).reach v (fits f k r v _
-    (sym (ap (value_defects f k r) is) ∙ second_none _ _ (value_defects f k r (value_of files b starts f k start r)) none))
+    (sym (ap (value_defects f k r) is) ∙ second_none _ _ (value_defects f k r (value_of files b sections f k r)) none))

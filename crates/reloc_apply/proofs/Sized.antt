@@ -1,5 +1,5 @@
 -- The parts of sound files have sizes and alignments as they can be, and are no more than their sections.
-use Rattle.std.proofs.Common.{◌≡◌, ℕ, zero, suc, ◌+◌, ◌^◌, ◌<◌, ◌≤◌, ◌==◌, Bool, true, false, ◌&&◌, List, [], ◌∷◌, ◌++◌, length, map, take, flat_map, get_or, refl, sym, ap, arith, subst}
+use Rattle.std.proofs.Common.{◌≡◌, ℕ, zero, suc, ◌+◌, ◌<◌, ◌≤◌, ◌==◌, Bool, true, false, ◌&&◌, List, [], ◌∷◌, ◌++◌, length, map, take, flat_map, get_or, refl, sym, ap, arith, subst}
 use Rattle.std.specs.Prelude.{if◌then◌else◌, max}
 use Rattle.std.specs.List.{All, range_with_len, sum_by}
 use Rattle.std.specs.Str.{bytes_eq}
@@ -9,21 +9,33 @@ use Rattle.std.proofs.lemmas.List.FromFn.{get_or-map-range_with_len}
 use Rattle.std.proofs.lemmas.List.Sums.{sum-map, sum_by-cons}
 use Rattle.std.proofs.lemmas.Bool.{and_parts, ltb-true}
 use Rattle.layout.specs.Parts.{IsSized}
-use Rattle.lk_tables.specs.declared.binding.BoundCommon.{BoundCommon}
+use Rattle.lk_base.specs.declared.abi.TheConstants.{ALIGN_MAX, NOBITS_MAX}
+use Rattle.lk_tables.specs.declared.commons.BoundCommon.{BoundCommon}
 use Rattle.lk_tables.specs.declared.heads.Place.{Place}
 use Rattle.lk_tables.specs.declared.heads.Place.TheVariants.{Undef, Absolute, Common, Within}
 use Rattle.lk_tables.specs.declared.heads.Symbol.{Symbol}
-use Rattle.lk_tables.specs.Binding.{Demand, bindings, bound_common_at, bound_commons_in, demand_at, demands, demands_in, greatest_align, greatest_size, rank_bound, rank_of}
-use Rattle.lk_tables.specs.Bodies.{is_common}
-use Rattle.lk_tables.specs.Files.{File, IsSound, commons_before, file_at, no_file, no_symbol, section_at, section_count, section_total, symbol_at, symbol_name, writes}
+use Rattle.lk_tables.specs.Binding.{Bindings, Demand, bindings, bound_common_at, bound_commons_in, demand_at, demands, demands_in, greatest_align, greatest_size, rank_bound}
+use Rattle.lk_tables.specs.Ranks.{rank_of}
+use Rattle.lk_tables.specs.Symbols.{is_common}
+use Rattle.lk_tables.specs.Files.{File, IsSound, common_no, commons_before, file_at, no_file, no_symbol, section_at, section_count, section_total, symbol_at, symbol_name, writes}
+use Rattle.lk_tables.specs.declared.tables.Tables.{Tables}
+use Rattle.lk_tables.specs.Addresses.{IsBindingOf}
 use Rattle.lk_tables.specs.Inside.{IsCommonWithin, IsLinked}
-use Rattle.reloc_apply.specs.Parts.{common_part, commons_at, part_at, parts, parts_in, section_part, section_parts}
+use Rattle.lk_tables.specs.TablesView.{files_of}
+use Rattle.lk_tables.specs.Targets.{commons_at}
+use Rattle.lk_tables.specs.Walks.{over_file}
+use Rattle.lk_tables.proofs.SoundFiles.{inside_body, sound_file}
+use Rattle.reloc_apply.specs.Parts.{common_part, part_at, parts, parts_in, section_part}
 
 -- the checks of each live file have passed
 abbrev pub AllSound : List File → Type 0
 AllSound files = (f : ℕ) → (file_at files f).live ≡ true → IsSound (file_at files f)
 
--- each of a list over a range, and of a list that stands where a test passes
+-- each file of a link that takes part in it is
+pub all_sound : (tables : Tables) → AllSound (files_of tables)
+all_sound tables = λ f live. sound_file tables f live
+
+-- each of a list over a range, and of a list that stands if a test passes
 pub each_flat : {X : Type 0} (P : X → Type 0) (f : ℕ → List X) (from n : ℕ) → ((k : ℕ) → k < from + n → All P (f k)) →
     All P (flat_map f (range_with_len from n))
 each_flat P f from zero each = All-nil P
@@ -31,37 +43,40 @@ each_flat P f from (suc n) each =
     All-append P (f from) (flat_map f (range_with_len (from + 1) n)) (each from (omega arith))
     (each_flat P f (from + 1) n (λ k lt. each k (omega (arith, lt))))
 
-pub each_where : {X : Type 0} (P : X → Type 0) (b : Bool) (xs : List X) → (b ≡ true → All P xs) → All P (if b then xs else [])
-each_where P true xs each = each refl
-each_where P false xs each = All-nil P
+pub each_if : {X : Type 0} (P : X → Type 0) (b : Bool) (xs : List X) → (b ≡ true → All P xs) → All P (if b then xs else [])
+each_if P true xs each = each refl
+each_if P false xs each = All-nil P
 
-one_where : {X : Type 0} (P : X → Type 0) (b : Bool) (x : X) → (b ≡ true → P x) → All P (if b then x ∷ [] else [])
-one_where P b x one = each_where P b (x ∷ []) (λ is. All-cons P x [] (one is) (All-nil P))
+pub one_if : {X : Type 0} (P : X → Type 0) (b : Bool) (x : X) → (b ≡ true → P x) → All P (if b then x ∷ [] else [])
+one_if P b x one = each_if P b (x ∷ []) (λ is. All-cons P x [] (one is) (All-nil P))
 
 -- the part of a written section
-sized_section : (file : File) (k : ℕ) → IsSound file → k < length file.head.sections → writes file k ≡ true → IsSized (section_part file k)
+sized_section : (files : List File) (f k : ℕ) → IsSound (file_at files f) → k < length (file_at files f).head.sections →
+    writes (file_at files f) k ≡ true → IsSized (section_part files f k)
 unfolding section_part
-sized_section file k sound lt written =
+sized_section files f k sound lt written =
+    let file = file_at files f in
     let both = and_parts _ _ written in
     let low : 0 < k = ltb-true 0 k both.0 in
-    let linked : IsLinked (length file.head.sections) (section_at file k) = sound.body.linked k _ lt low both.1 in
+    let linked : IsLinked (length file.head.sections) (section_at file k) = (inside_body file sound).linked k _ lt low both.1 in
     record {
       some = omega arith;
       aligned = omega (arith, linked.align.most);
       sized = linked.size;
     }
 
-sized_sections : (file : File) → (file.live ≡ true → IsSound file) → All IsSized (section_parts file)
-sized_sections file sound =
-    each_where IsSized file.live (flat_map (part_at file) (range_with_len 0 (length file.head.sections))) (λ live.
-    each_flat IsSized (part_at file) 0 (length file.head.sections) (λ k lt.
-    one_where IsSized (writes file k) (section_part file k) (λ written. sized_section file k (sound live) (omega (arith, lt)) written)))
+sized_sections : (files : List File) (f : ℕ) → AllSound files → All IsSized (over_file files (part_at files) f)
+unfolding over_file
+sized_sections files f sound =
+    each_if IsSized (file_at files f).live (flat_map (part_at files f) (range_with_len 0 (length (file_at files f).head.sections))) (λ live.
+    each_flat IsSized (part_at files f) 0 (length (file_at files f).head.sections) (λ k lt.
+    one_if IsSized (writes (file_at files f) k) (section_part files f k) (λ written. sized_section files f k (sound f live) (omega (arith, lt)) written)))
 
 -- what a COMMON symbol of a sound file asks for
 pub record IsModest (d : Demand) : Type 0 where
   pub some : 1 ≤ d.align
-  pub aligned : d.align ≤ 2 ^ 20
-  pub sized : d.size ≤ 2 ^ 32
+  pub aligned : d.align ≤ ALIGN_MAX
+  pub sized : d.size ≤ NOBITS_MAX
 
 common_is : (p : Place) → is_common p ≡ true → p ≡ Common
 common_is Undef is = let no : ⊥ = cc in absurd no
@@ -75,15 +90,15 @@ modest_symbol name s within = record { some = omega arith; aligned = omega (arit
 modest_at : (files : List File) (f i : ℕ) → IsSound (file_at files f) → i < length (file_at files f).head.symbols → All IsModest (demand_at files f i)
 unfolding demand_at
 modest_at files f i sound lt =
-    one_where IsModest (is_common (symbol_at (file_at files f) i).place)
+    one_if IsModest (is_common (symbol_at (file_at files f) i).place)
     (record { name = symbol_name (file_at files f) i; size = (symbol_at (file_at files f) i).size; align = max 1 (symbol_at (file_at files f) i).value })
     (λ common. modest_symbol (symbol_name (file_at files f) i) (symbol_at (file_at files f) i)
-    (sound.body.commons i no_symbol lt (common_is (symbol_at (file_at files f) i).place common)))
+    ((inside_body (file_at files f) sound).commons i no_symbol lt (common_is (symbol_at (file_at files f) i).place common)))
 
 modest_in : (files : List File) (f : ℕ) → AllSound files → All IsModest (demands_in files f)
 unfolding demands_in
 modest_in files f sound =
-    each_where IsModest (file_at files f).live (flat_map (demand_at files f) (range_with_len 0 (length (file_at files f).head.symbols))) (λ live.
+    each_if IsModest (file_at files f).live (flat_map (demand_at files f) (range_with_len 0 (length (file_at files f).head.symbols))) (λ live.
     each_flat IsModest (demand_at files f) 0 (length (file_at files f).head.symbols) (λ i lt. modest_at files f i (sound f live) (omega (arith, lt))))
 
 pub modest : (files : List File) → AllSound files → All IsModest (demands files)
@@ -99,19 +114,19 @@ max_above : (b : Bool) (m n least : ℕ) → least ≤ n → least ≤ (if b the
 max_above true m n least above = omega arith
 max_above false m n least above = above
 
-pub size_most : (name : List ℕ) (ds : List Demand) → All IsModest ds → greatest_size name ds ≤ 2 ^ 32
+pub size_most : (name : List ℕ) (ds : List Demand) → All IsModest ds → greatest_size name ds ≤ NOBITS_MAX
 unfolding greatest_size
 size_most name [] all = omega arith
 size_most name (d ∷ ds) all =
     let head : IsModest d = All-head IsModest d ds all in
-    max_by (bytes_eq d.name name) d.size (greatest_size name ds) (2 ^ 32) head.sized (size_most name ds (All-tail IsModest d ds all))
+    max_by (bytes_eq d.name name) d.size (greatest_size name ds) (NOBITS_MAX) head.sized (size_most name ds (All-tail IsModest d ds all))
 
-pub align_most : (name : List ℕ) (ds : List Demand) → All IsModest ds → greatest_align name ds ≤ 2 ^ 20
+pub align_most : (name : List ℕ) (ds : List Demand) → All IsModest ds → greatest_align name ds ≤ ALIGN_MAX
 unfolding greatest_align
 align_most name [] all = omega arith
 align_most name (d ∷ ds) all =
     let head : IsModest d = All-head IsModest d ds all in
-    max_by (bytes_eq d.name name) d.align (greatest_align name ds) (2 ^ 20) head.aligned (align_most name ds (All-tail IsModest d ds all))
+    max_by (bytes_eq d.name name) d.align (greatest_align name ds) (ALIGN_MAX) head.aligned (align_most name ds (All-tail IsModest d ds all))
 
 pub align_least : (name : List ℕ) (ds : List Demand) → 1 ≤ greatest_align name ds
 unfolding greatest_align
@@ -123,9 +138,9 @@ room_at : (files : List File) (gone : List Bool) (f i : ℕ) → AllSound files 
 unfolding bound_common_at common_part
 room_at files gone f i sound =
     let name : List ℕ = symbol_name (file_at files f) i in
-    one_where (λ c. IsSized (common_part c))
+    one_if (λ c. IsSized (common_part c))
     (is_common (symbol_at (file_at files f) i).place && rank_bound files gone f i == rank_of 1 f i)
-    (record { file = f; symbol = i; size = greatest_size name (demands files); align = greatest_align name (demands files) })
+    (record { file = f; symbol = i; section = common_no files f i; size = greatest_size name (demands files); align = greatest_align name (demands files) })
     (λ is. record {
       some = align_least name (demands files);
       aligned = align_most name (demands files) (modest files sound);
@@ -136,7 +151,7 @@ room_in : (files : List File) (gone : List Bool) (f : ℕ) → AllSound files �
 unfolding bound_commons_in
 room_in files gone f sound =
     let P : BoundCommon → Type 0 = λ c. IsSized (common_part c) in
-    each_where P (file_at files f).live
+    each_if P (file_at files f).live
     (flat_map (bound_common_at files gone f) (range_with_len 0 (length (file_at files f).head.symbols)))
     (λ live. each_flat P (bound_common_at files gone f) 0 (length (file_at files f).head.symbols) (λ i lt. room_at files gone f i sound))
 
@@ -149,17 +164,19 @@ commons_are files gone entry f lt = get_or-map-range_with_len (bound_commons_in 
 sized_in : (files : List File) (gone : List Bool) (entry : List ℕ) (f : ℕ) → AllSound files → f < length files →
     All IsSized (parts_in files (bindings files gone entry).commons f)
 sized_in files gone entry f sound lt =
-    let P : List BoundCommon → Type 0 = λ cs. All IsSized (section_parts (file_at files f) ++ map common_part cs) in
+    let P : List BoundCommon → Type 0 = λ cs. All IsSized (over_file files (part_at files) f ++ map common_part cs) in
     subst P (sym (commons_are files gone entry f lt))
-    (All-append IsSized (section_parts (file_at files f)) (map common_part (bound_commons_in files gone f))
-    (sized_sections (file_at files f) (sound f)) (All-map IsSized common_part (bound_commons_in files gone f) (room_in files gone f sound)))
+    (All-append IsSized (over_file files (part_at files) f) (map common_part (bound_commons_in files gone f))
+    (sized_sections files f sound) (All-map IsSized common_part (bound_commons_in files gone f) (room_in files gone f sound)))
 
 -- each part of sound files has a size and an alignment that can be
-pub are_sized : (files : List File) (gone : List Bool) (entry : List ℕ) → AllSound files → All IsSized (parts files (bindings files gone entry).commons)
+pub are_sized : (files : List File) (b : Bindings) → IsBindingOf files b → AllSound files → All IsSized (parts files b.commons)
 unfolding parts
-are_sized files gone entry sound =
-    each_flat IsSized (parts_in files (bindings files gone entry).commons) 0 (length files)
-    (λ f lt. sized_in files gone entry f sound (omega (arith, lt)))
+are_sized files b (gone, entry, is) sound =
+    let P : Bindings → Type 0 = λ n. All IsSized (flat_map (parts_in files n.commons) (range_with_len 0 (length files))) in
+    subst P (sym is)
+    (each_flat IsSized (parts_in files (bindings files gone entry).commons) 0 (length files)
+    (λ f lt. sized_in files gone entry f sound (omega (arith, lt))))
 
 -- the length of a list over a range, where each part of it has a limit
 few_flat : {X A : Type 0} (g : ℕ → List X) (most : A → ℕ) (d : A) (from : ℕ) (xs : List A) →
@@ -212,33 +229,37 @@ few_symbols files gone f =
     subst Q (sym same) (few_at files gone f k)))
 
 few_in : (files : List File) (gone : List Bool) (f : ℕ) →
-    length (section_parts (file_at files f)) + length (bound_commons_in files gone f) ≤ section_count (file_at files f)
-unfolding bound_commons_in
+    length (over_file files (part_at files) f) + length (bound_commons_in files gone f) ≤ section_count (file_at files f)
+unfolding bound_commons_in over_file
 few_in files gone f =
     few_of_both (file_at files f).live
-    (flat_map (part_at (file_at files f)) (range_with_len 0 (length (file_at files f).head.sections)))
+    (flat_map (part_at files f) (range_with_len 0 (length (file_at files f).head.sections)))
     (flat_map (bound_common_at files gone f) (range_with_len 0 (length (file_at files f).head.symbols)))
     (length (file_at files f).head.sections) (commons_before (file_at files f) (length (file_at files f).head.symbols))
-    (few_ones (part_at (file_at files f)) 0 (length (file_at files f).head.sections)
-    (λ k. one_most (writes (file_at files f) k) (section_part (file_at files f) k)))
+    (few_ones (part_at files f) 0 (length (file_at files f).head.sections)
+    (λ k. one_most (writes (file_at files f) k) (section_part files f k)))
     (few_symbols files gone f)
 
 few_file : (files : List File) (gone : List Bool) (entry : List ℕ) (f : ℕ) → f < length files →
     length (parts_in files (bindings files gone entry).commons f) ≤ section_count (file_at files f)
 few_file files gone entry f lt =
-    let both = length-append (section_parts (file_at files f)) (map common_part (commons_at (bindings files gone entry).commons f)) in
+    let both = length-append (over_file files (part_at files) f) (map common_part (commons_at (bindings files gone entry).commons f)) in
     let mapped = length-map (commons_at (bindings files gone entry).commons f) common_part in
     let same = ap length (commons_are files gone entry f lt) in
     omega (arith, both, mapped, same, few_in files gone f)
 
--- the parts are no more than the sections of the live files, with one for each COMMON symbol
-pub few_parts : (files : List File) (gone : List Bool) (entry : List ℕ) →
-    length (parts files (bindings files gone entry).commons) ≤ section_total files
+few_by_sections : (files : List File) (gone : List Bool) (entry : List ℕ) → length (parts files (bindings files gone entry).commons) ≤ section_total files
 unfolding parts
-few_parts files gone entry =
+few_by_sections files gone entry =
     let P : List File → Type 0 = λ fs. length (flat_map (parts_in files (bindings files gone entry).commons) (range_with_len 0 (length files))) ≤ sum_by section_count fs in
     let held : P files = few_flat (parts_in files (bindings files gone entry).commons) section_count no_file 0 files (λ i k is lt.
     let same : i ≡ k = omega (arith, is) in
     let Q : ℕ → Type 0 = λ m. length (parts_in files (bindings files gone entry).commons k) ≤ section_count (get_or files m no_file) in
     subst Q (sym same) (few_file files gone entry k (omega (arith, lt, same)))) in
     omega (arith, sum-map section_count (take (length files) files), subst P (sym (take_all (length files) files (omega arith))) held)
+
+-- the parts are no more than the sections of the live files, with one for each COMMON symbol
+pub few_parts : (files : List File) (b : Bindings) → IsBindingOf files b → length (parts files b.commons) ≤ section_total files
+few_parts files b (gone, entry, is) =
+    let few = few_by_sections files gone entry in
+    omega (arith, few, ap (λ (n : Bindings). length (parts files n.commons)) is)

@@ -10,7 +10,7 @@ pub record Piece : Type 0 where
 abbrev pub piece : ℕ → List ℕ → Piece
 piece at bytes = record { at = at; bytes = bytes }
 
--- the byte at a place: the piece's where it stands there, else the one that stood there before
+-- the byte at a place: the piece's if it stands there, else the one that stood there before
 abbrev pub over : Piece → ℕ → ℕ → ℕ
 over p before place =
     if nat_le p.at place && nat_lt place (p.at + length p.bytes) then slice_index p.bytes (place - p.at) else before
@@ -20,7 +20,7 @@ abbrev pub byte_over : ℕ → List Piece → ℕ → ℕ
 byte_over before [] place = before
 byte_over before (p ∷ ps) place = byte_over (over p before place) ps place
 
--- the byte at a place of a file: 0 where no piece stands
+-- the byte at a place of a file: 0 if no piece stands there
 abbrev pub byte_at : List Piece → ℕ → ℕ
 byte_at pieces place = byte_over 0 pieces place
 

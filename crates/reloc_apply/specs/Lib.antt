@@ -1,13 +1,6 @@
 pub mod Image
-pub mod KnownViews
-pub mod ListedViews
-pub mod Orders
 pub mod PieceView
 pub mod Parts
-pub mod Places
 pub mod Values
 pub mod Relocated
 pub mod Undefined
-pub mod Uppers
-pub mod Views
-pub use Rattle.lk_base.specs.Firsts

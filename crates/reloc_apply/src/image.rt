@@ -12,7 +12,7 @@ pub struct Piece<'a> {
     pub bytes: &'a [u8],
 }
 
-/// Copies what a piece has in the block that begins at the file offset `from`.
+/// Copies what a piece has in the block that starts at the file offset `from`.
 pub fn fill_piece(block: &mut [u8], from: u64, piece: &Piece)
     requires block { from + length block.old < 2 ^ 64 }
     requires piece { Ends piece.now }

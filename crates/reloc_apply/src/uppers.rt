@@ -1,69 +1,87 @@
-//! The upper parts, to which lower parts belong, in lists of their own (RISC-V ELF psABI, "Relocations"): a lower part finds its
-//! own there by bisection, whatever else stands at its label.
+//! The upper parts of a link, listed once, and those of a section found among them.
 
-ghost use Rattle.std.specs.Prelude.{◌≡◌, filter, map, IfOk};
-ghost use Rattle.lk_tables.specs.FileView.{file_view, files_of};
-ghost use Rattle.reloc_apply.specs.Uppers as spec;
+ghost use Rattle.std.specs.Prelude.{◌≡◌, ℕ, ◌++◌, ◌+◌, ◌<◌, ◌^◌, ◌∷◌, [], filter, length, slice_index, slice_index_or, IfOk, OnOk, List};
+ghost use Rattle.lk_base.specs.RelocKinds.{is_upper};
+ghost use Rattle.lk_tables.specs.declared.objects.Reloc.{Reloc};
+ghost use Rattle.lk_tables.specs.TablesView.{files_of};
+ghost use Rattle.lk_tables.specs.Uppers.{AreListed, section_uppers, uppers_at};
+ghost use Rattle.lk_tables.proofs.ByNumber.{section_row};
 
-use lk_tables::{File, Reloc, Tables};
-use rv_code::kinds::{R_RISCV_GOT_HI20, R_RISCV_PCREL_HI20};
+use lk_base::FileNo;
+use lk_base::relocations::is_upper;
+use lk_tables::{Reloc, Tables, Uppers, section_count};
 use std::alloc::{AllocError, Global};
 
-/// The upper parts of a link.
-#[derive(Debug, Drop)]
-pub struct Uppers {
-    /// Those of each section of each file, in stable order of offset; no lists of a file that takes no part.
-    pub lists: Vec<Vec<Vec<Reloc>>>,
+/// The upper parts of each section, by its number.
+pub fn find_uppers(alloc: Global, tables: &Tables) -> Result<Uppers, AllocError>
+    ensures { IfOk result (λ uppers. AreListed (section_uppers (files_of tables.now)) uppers) }
+{
+    tables.is_few();
+    let mut uppers = Uppers {
+        firsts: Vec::with_capacity(alloc, tables.section_count() + 1)?,
+        list: Vec::new(alloc),
+    };
+    uppers.firsts.push(0)?;
+    for file in 0..tables.file_count() as u32 {
+        add_file(&mut uppers, tables, file)?;
+    }
+    Ok(uppers)
 }
 
-/// Whether a relocation is an upper part.
-fn is_upper(reloc: &Reloc) -> bool
-    ensures { result ≡ spec.is_upper reloc.now }
+/// Adds the lists of one file's sections.
+fn add_file(uppers: &mut Uppers, tables: &Tables, file: FileNo) -> Result<(), AllocError>
+    requires { file < length (files_of tables.now) }
+    ensures { OnOk result ((lists : List (List Reloc)) → AreListed lists uppers.old → AreListed (lists ++ section_row (files_of tables.now) (uppers_at (files_of tables.now)) file) uppers.new) }
 {
-    R_RISCV_GOT_HI20 <= reloc.kind && reloc.kind <= R_RISCV_PCREL_HI20
+    tables.is_few();
+    for section in 0..section_count(tables.file(file)) {
+        add_section(uppers, tables.relocs(file, section as u32))?;
+    }
+    Ok(())
 }
 
-/// The upper parts among the relocations of a section.
-fn uppers_among(alloc: Global, relocs: &[Reloc]) -> Result<Vec<Reloc>, AllocError>
-    ensures { IfOk result (λ found. found.items ≡ filter spec.is_upper relocs.now) }
+/// Adds the list of one section.
+fn add_section(uppers: &mut Uppers, relocs: &[Reloc]) -> Result<(), AllocError>
+    ensures { OnOk result ((lists : List (List Reloc)) → AreListed lists uppers.old → AreListed (lists ++ filter (λ r. is_upper r.kind) relocs.now ∷ []) uppers.new) }
 {
-    let mut found = Vec::new(alloc);
+    push_uppers(&mut uppers.list, relocs)?;
+    uppers.firsts.push(uppers.list.len())?;
+    Ok(())
+}
+
+/// Adds the upper parts among the relocations of a section.
+fn push_uppers(list: &mut Vec<Reloc>, relocs: &[Reloc]) -> Result<(), AllocError>
+    ensures { OnOk result (list.new.items ≡ list.old.items ++ filter (λ r. is_upper r.kind) relocs.now) }
+{
     for reloc in relocs {
-        if is_upper(reloc) {
-            found.push(*reloc)?;
+        if is_upper(reloc.kind) {
+            list.push(*reloc)?;
         }
     }
-    Ok(found)
+    Ok(())
 }
 
-/// The upper parts of each section, from the relocations of each.
-fn uppers_by_section(alloc: Global, lists: &[Vec<Reloc>]) -> Result<Vec<Vec<Reloc>>, AllocError>
-    ensures { IfOk result (λ found. map (λ list. list.items) found.items ≡ map (filter spec.is_upper) (map (λ list. list.items) lists.now)) }
+/// The upper parts of the section of a number.
+pub fn uppers_of(uppers: &Uppers, section: usize) -> &[Reloc]
+    requires { section < 2 ^ 32 }
+    ensures { (lists : List (List Reloc)) → AreListed lists uppers.now → section < length lists → result.now ≡ slice_index_or lists section [] }
 {
-    let mut found = Vec::with_capacity(alloc, lists.len())?;
-    for list in lists {
-        found.push(uppers_among(alloc, list.as_slice())?)?;
+    let list = uppers.list.as_slice();
+    let from = first_at(uppers, section).min(list.len());
+    let (_, rest) = list.split_at(from);
+    let count = first_at(uppers, section + 1)
+        .saturating_sub(from)
+        .min(rest.len());
+    let (own, _) = rest.split_at(count);
+    own
+}
+
+/// Where the list of a section's number starts.
+fn first_at(uppers: &Uppers, section: usize) -> usize
+    ensures { result ≡ slice_index uppers.now.firsts.items section }
+{
+    match uppers.firsts.get(section) {
+        Some(first) => *first,
+        None => 0,
     }
-    Ok(found)
-}
-
-/// The upper parts of each section of a file.
-fn uppers_of(alloc: Global, file: &File) -> Result<Vec<Vec<Reloc>>, AllocError>
-    ensures { IfOk result (λ found. map (λ list. list.items) found.items ≡ spec.uppers_of (file_view file.now)) }
-{
-    let Some(object) = &file.object else {
-        return Ok(Vec::new(alloc));
-    };
-    uppers_by_section(alloc, object.relocs.as_slice())
-}
-
-/// The upper parts of each section of each file.
-pub fn find_uppers(alloc: Global, tables: &Tables) -> Result<Uppers, AllocError>
-    ensures { IfOk result (λ found. spec.uppers_view found ≡ spec.uppers_in (files_of tables.now)) }
-{
-    let mut lists = Vec::with_capacity(alloc, tables.files.len())?;
-    for file in &tables.files {
-        lists.push(uppers_of(alloc, file)?)?;
-    }
-    Ok(Uppers { lists })
 }

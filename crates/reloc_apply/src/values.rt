@@ -1,288 +1,212 @@
 //! What a relocation puts into its place (RISC-V ELF psABI, "Relocations").
 
-ghost use Rattle.std.specs.Prelude.{◌≡◌, ℕ, ◌+◌, ◌^◌, ◌<◌, ◌≤◌, length, ◌==◌, ◌||◌, ◌&&◌, not, true, false, ◌≤ℤ◌, ◌+ℤ◌, pos, negsuc, [], IfOk, IfSome, MatchResult, filter, is_some, option_map, find, position, slice_index_or};
+ghost use Rattle.std.specs.Prelude.{◌≡◌, ℕ, ◌+◌, ◌^◌, ◌<◌, ◌≤◌, length, ◌==◌, ◌&&◌, not, true, false, ◌≤ℤ◌, pos, negsuc, IfOk, IfSome, IsTrue, MatchResult, is_some, find, slice_index_or};
 ghost use Rattle.std.specs.List.Sorted.{IsNonDecreasingBy};
-ghost use Rattle.lk_tables.specs.Binding.{no_rank};
-ghost use Rattle.lk_tables.specs.Files as files;
-ghost use Rattle.lk_tables.specs.FileView.{file_view};
-ghost use Rattle.reloc_apply.specs.Parts as parts;
-ghost use Rattle.reloc_apply.specs.Places.{site_view};
+ghost use Rattle.lk_base.specs.Arithmetic.{bits_of};
+ghost use Rattle.lk_base.specs.RelocKinds.{HasValue, is_lower, puts_value};
+ghost use Rattle.lk_tables.specs.Addresses as addresses;
+ghost use Rattle.lk_tables.specs.Files.{file_at, relocs_at};
+ghost use Rattle.lk_tables.specs.Targets.{entry_bound};
+ghost use Rattle.lk_tables.specs.Uppers.{uppers_at};
+ghost use Rattle.lk_tables.specs.Views.{binding_in, files_in, sections_in};
 ghost use Rattle.reloc_apply.specs.Values as spec;
-ghost use Rattle.reloc_apply.specs.KnownViews.{files_in, names_in, starts_in};
-ghost use Rattle.reloc_apply.specs.ListedViews as listed;
-ghost use Rattle.reloc_apply.specs.Uppers.{is_upper, uppers_view};
-ghost use Rattle.reloc_apply.specs.Views as views;
-ghost use Rattle.reloc_apply.specs.Views.{starts_view};
-ghost use Rattle.rv_code.specs.Kinds.{HasValue};
-ghost use Rattle.rv_code.specs.Places.{bits_of};
 
-use crate::commons::{KnownView, number_of};
-use crate::listed::ListedView;
-use crate::parts::commons_at;
-use crate::uppers::Uppers;
-use crate::views::{Starts, View};
-use lk_base::{FileNo, SymNo};
-use lk_tables::{File, NO_RANK, NO_SYMBOL, Place, Reloc, Symbol, is_section_symbol};
-use rv_code::kinds::{
-    R_RISCV_64, R_RISCV_CALL, R_RISCV_CALL_PLT, R_RISCV_JAL, R_RISCV_PCREL_HI20,
-    R_RISCV_PCREL_LO12_I,
-};
+use crate::addresses::number_at;
+use crate::uppers::uppers_of;
+use lk_base::relocations::{Calculation, is_lower, kind_of};
+use lk_base::{FileNo, SymNo, low_bits};
+use lk_tables::{Bound, Reloc, Target, View, target_in};
 
-/// A symbol, by its file and its index there.
-#[derive(Clone, Copy)]
-pub struct Site {
-    pub file: FileNo,
-    pub index: SymNo,
-}
-
-/// A symbol of a file.
-fn symbol_at(view: &KnownView, file: FileNo, index: SymNo) -> Symbol
-    ensures { result ≡ files.symbol_at (files.file_at (files_in view.now) file) index }
-{
-    let Some(file) = view.tables.files.get(file as usize) else {
-        return NO_SYMBOL;
-    };
-    file.symbol(index as usize)
-}
-
-/// A file of a link.
-pub fn file_in<'t, 'a>(view: &KnownView<'t, 'a>, file: FileNo) -> &'t File<'a>
-    requires { file < length (files_in view.now) }
-    ensures { file_view result.now ≡ files.file_at (files_in view.now) file }
-{
-    &view.tables.files[file as usize]
-}
-
-/// The address of a section, where it is written.
-pub fn section_start(starts: &Starts, file: FileNo, section: u32) -> Option<u64>
-    ensures { result ≡ parts.section_start (starts_view starts.now) file section }
-{
-    let Some(list) = starts.sections.get(file as usize) else {
-        return None;
-    };
-    let Some(start) = list.get(section as usize) else {
-        return None;
-    };
-    *start
-}
-
-/// The address of number `n` of the COMMON symbols of a file that get room.
-fn numbered_start(starts: &Starts, file: FileNo, n: usize) -> u64
-    ensures { result ≡ slice_index_or (slice_index_or (starts_view starts.now).commons file []) n 0 }
-{
-    let Some(list) = starts.commons.get(file as usize) else {
-        return 0;
-    };
-    let Some(start) = list.get(n) else {
-        return 0;
-    };
-    *start
-}
-
-/// The place of a COMMON symbol among those of its file that get room.
-fn common_number(view: &KnownView, file: FileNo, index: SymNo) -> Option<usize>
-    ensures { result ≡ position (λ c. c.symbol == index) (parts.commons_at (names_in view.now).commons file) }
-{
-    let commons = commons_at(view.binding, file as usize);
-    number_of(commons, view.in_order, index)
-}
-
-/// The address of a COMMON symbol that gets room, else 0.
-fn common_address(view: &KnownView, file: FileNo, index: SymNo) -> u64
-    ensures { pos result ≡ spec.or_zero (parts.common_start (names_in view.now).commons (starts_in view.now) file index) }
-{
-    let Some(n) = common_number(view, file, index) else {
-        return 0;
-    };
-    numbered_start(view.starts, file, n)
-}
-
-/// Where a symbol stands in its section.
-fn offset_in(symbol: &Symbol) -> u64
-    ensures { result ≡ spec.offset_in symbol.now }
-{
-    if is_section_symbol(symbol) {
-        return 0;
-    }
-    symbol.value
-}
-
-/// The address of a symbol that stands in a section.
-fn address_in(start: Option<u64>, symbol: &Symbol) -> i128
-    ensures value { result ≡ spec.address_in start symbol.now }
-    ensures low { pos 0 ≤ℤ result }
-    ensures high { result ≤ℤ pos (2 ^ 65) }
-{
-    match start {
-        None => symbol.value as i128,
-        Some(start) => start as i128 + offset_in(symbol) as i128,
-    }
-}
-
-/// The address of the symbol that is defined at a site, 0 for none.
-#[tactic(auto, unfolding(crate::specs::Values::address_at))]
-fn address_at(view: &KnownView, site: Option<Site>) -> i128
-    ensures value { result ≡ spec.address_at (files_in view.now) (names_in view.now) (starts_in view.now) (option_map site_view site) }
-    ensures low { pos 0 ≤ℤ result }
-    ensures high { result ≤ℤ pos (2 ^ 65) }
-{
-    let Some(site) = site else {
-        return 0;
-    };
-    let symbol = symbol_at(view, site.file, site.index);
-    match symbol.place {
-        Place::Undef => 0,
-        Place::Absolute => symbol.value as i128,
-        Place::Common => common_address(view, site.file, site.index) as i128,
-        Place::Within(section) => {
-            address_in(section_start(view.starts, site.file, section), &symbol)
-        }
-    }
-}
-
-/// The symbol that a rank tells.
-fn site_of(rank: u64) -> Option<Site>
-    ensures { option_map site_view result ≡ spec.site_of rank }
-{
-    if rank == NO_RANK {
-        return None;
-    }
-    Some(Site {
-        file: (rank / 0x1_0000_0000 % 0x100_0000) as u32,
-        index: (rank % 0x1_0000_0000) as u32,
-    })
-}
-
-/// The rank to which the name of a symbol is bound.
-pub fn rank_at(view: &KnownView, file: FileNo, index: SymNo) -> u64
-    ensures { result ≡ slice_index_or (slice_index_or (names_in view.now).ranks file []) index no_rank }
-{
-    let Some(list) = view.binding.ranks.get(file as usize) else {
-        return NO_RANK;
-    };
-    let Some(rank) = list.get(index as usize) else {
-        return NO_RANK;
-    };
-    *rank
-}
-
-/// What a symbol stands for: a local one for itself, another for what its name is bound to.
-#[tactic(auto, unfolding(crate::specs::Values::site_for))]
-fn site_for(view: &KnownView, file: FileNo, index: SymNo) -> Option<Site>
-    ensures { option_map site_view result ≡ spec.site_for (files_in view.now) (names_in view.now) (starts_in view.now) file index }
-{
-    if symbol_at(view, file, index).binding == 0 {
-        return Some(Site { file, index });
-    }
-    site_of(rank_at(view, file, index))
-}
-
-/// The address of what a symbol stands for.
-fn address_of(view: &KnownView, file: FileNo, index: SymNo) -> i128
-    ensures value { result ≡ spec.address_at (files_in view.now) (names_in view.now) (starts_in view.now) (spec.site_for (files_in view.now) (names_in view.now) (starts_in view.now) file index) }
-    ensures low { pos 0 ≤ℤ result }
-    ensures high { result ≤ℤ pos (2 ^ 65) }
-{
-    address_at(view, site_for(view, file, index))
-}
-
-/// The address at which the executable begins: that of the symbol to which the entry's name is bound.
+/// The address at which the executable starts: that of what the entry's name is bound to.
 pub fn entry_address(view: &View) -> u64
-    ensures { result ≡ bits_of (spec.address_at (views.files_in view.now) (views.names_in view.now) (views.starts_in view.now) (spec.site_of (views.names_in view.now).entry)) }
+    ensures { result ≡ bits_of (pos (addresses.address_of (sections_in view.now) (entry_bound (files_in view.now) (binding_in view.now)))) }
 {
-    let view = &KnownView {
-        tables: view.tables,
-        binding: view.binding,
-        starts: view.starts,
-        in_order: false,
+    low_bits(wide_address(
+        view.addresses.sections.as_slice(),
+        view.binding.entry_bound(view.tables),
+    ))
+}
+
+/// The address of what a name stands for, or its number, in more bits than any sum takes.
+fn wide_address(sections: &[u64], bound: Bound) -> i128
+    ensures { result ≡ pos (addresses.address_of sections.now bound) }
+{
+    match bound {
+        Bound::InSection { section, offset } => {
+            number_at(sections, section as usize) as i128 + offset as i128
+        }
+        Bound::Number(number) => number as i128,
+        Bound::Linker(_) => 0,
+        Bound::Nobody => 0,
+    }
+}
+
+/// The upper part that a lower part belongs to is not there.
+#[derive(Clone, Copy, Debug)]
+pub struct NoPartner;
+
+/// The value of a relocation of a section.
+#[tactic(auto, unfolding(crate::specs::Values::value_of))]
+pub fn value_of(
+    view: &View,
+    file: FileNo,
+    section: u32,
+    reloc: &Reloc,
+) -> Result<Option<i128>, NoPartner>
+    requires file { file < length (files_in view.now) }
+    requires live { (file_at (files_in view.now) file).live ≡ true }
+    requires section { section < length (file_at (files_in view.now) file).head.sections }
+    ensures value { IfOk result (λ v. v ≡ spec.value_of (files_in view.now) (binding_in view.now) (sections_in view.now) file section reloc.now) }
+    ensures kind { IfOk result (λ v. IfSome v (λ x. HasValue reloc.now.kind)) }
+    ensures partner { MatchResult result (λ _. (is_lower reloc.now.kind && not (is_some (spec.partner_of (files_in view.now) (binding_in view.now) (sections_in view.now) file section reloc.now))) ≡ false)
+        (λ _. (is_lower reloc.now.kind && not (is_some (spec.partner_of (files_in view.now) (binding_in view.now) (sections_in view.now) file section reloc.now))) ≡ true) }
+{
+    if !is_lower(reloc.kind) {
+        return Ok(direct_value(view, file, section, reloc));
+    }
+    let Some(partner) = partner_of(view, file, section, reloc) else {
+        return Err(NoPartner);
     };
-    low_bits(address_at(view, site_of(view.binding.entry)))
+    Ok(direct_value(view, file, section, &partner))
 }
 
-/// A value modulo 2^64.
-#[tactic(auto, unfolding(rv_code::specs::Places::bits_of))]
-pub fn low_bits(v: i128) -> u64
-    ensures { result ≡ bits_of v }
+/// The value of a relocation that takes it from its own symbol.
+#[tactic(auto, unfolding(crate::specs::Values::direct_value, lk_base::specs::RelocKinds::has_value))]
+fn direct_value(view: &View, file: FileNo, section: u32, reloc: &Reloc) -> Option<i128>
+    requires file { file < length (files_in view.now) }
+    requires live { (file_at (files_in view.now) file).live ≡ true }
+    ensures value { result ≡ spec.direct_value (files_in view.now) (binding_in view.now) (sections_in view.now) file section reloc.now }
+    ensures kind { IfSome result (λ _. HasValue reloc.now.kind) }
 {
-    v.rem_euclid(1 << 64) as u64
+    computed(
+        kind_of(reloc.kind).calculation,
+        sum_of(view, file, reloc),
+        place_of(view, file, section, reloc),
+    )
 }
 
-/// Whether a kind takes its value from the distance to its symbol.
-fn is_distance(kind: u32) -> bool
-    ensures { result ≡ (kind == 17 || (kind == 18 || (kind == 19 || kind == 23))) }
+/// A calculation, from S + A and P.
+fn computed(calculation: Calculation, sum: i128, place: i128) -> Option<i128>
+    requires some { negsuc (2 ^ 63) ≤ℤ sum }
+    requires most { sum ≤ℤ pos (2 ^ 66) }
+    requires low { pos 0 ≤ℤ place }
+    requires high { place ≤ℤ pos (2 ^ 65) }
+    ensures value { result ≡ spec.computed calculation sum place }
+    ensures puts { IfSome result (λ _. IsTrue (puts_value calculation)) }
 {
-    kind == R_RISCV_JAL
-        || kind == R_RISCV_CALL
-        || kind == R_RISCV_CALL_PLT
-        || kind == R_RISCV_PCREL_HI20
+    match calculation {
+        Calculation::Address => Some(sum),
+        Calculation::Distance => Some(sum - place),
+        _ => None,
+    }
 }
 
-/// The address of a relocation's symbol, and its addend.
-fn sum_of(view: &KnownView, file: FileNo, reloc: &Reloc) -> i128
-    ensures value { result ≡ (spec.address_at (files_in view.now) (names_in view.now) (starts_in view.now) (spec.site_for (files_in view.now) (names_in view.now) (starts_in view.now) file reloc.now.symbol) +ℤ reloc.now.addend) }
+/// S + A: the address of a relocation's symbol, and its addend.
+fn sum_of(view: &View, file: FileNo, reloc: &Reloc) -> i128
+    requires file { file < length (files_in view.now) }
+    requires live { (file_at (files_in view.now) file).live ≡ true }
+    ensures value { result ≡ spec.sum_of (files_in view.now) (binding_in view.now) (sections_in view.now) file reloc.now }
     ensures low { negsuc (2 ^ 63) ≤ℤ result }
     ensures high { result ≤ℤ pos (2 ^ 66) }
 {
-    address_of(view, file, reloc.symbol) + reloc.addend as i128
+    symbol_address(view, file, reloc.symbol) as i128 + reloc.addend as i128
 }
 
-/// The value of a relocation that takes it from its own symbol, at the address of its place.
-#[tactic(auto, unfolding(crate::specs::Values::direct_value, rv_code::specs::Kinds::has_value))]
-fn direct_value(view: &KnownView, file: FileNo, place: i128, reloc: &Reloc) -> Option<i128>
-    requires low { pos 0 ≤ℤ place }
-    requires high { place ≤ℤ pos (2 ^ 65) }
-    ensures value { result ≡ spec.direct_value (files_in view.now) (names_in view.now) (starts_in view.now) file place reloc.now }
-    ensures kind { IfSome result (λ v. HasValue reloc.now.kind) }
+/// The address of what a symbol of a file stands for, or its number.
+fn symbol_address(view: &View, file: FileNo, symbol: SymNo) -> u64
+    requires { file < length (files_in view.now) }
+    ensures { result ≡ addresses.symbol_address (files_in view.now) (binding_in view.now) (sections_in view.now) file symbol }
 {
-    if reloc.kind == R_RISCV_64 {
-        return Some(sum_of(view, file, reloc));
+    if view.tables.file(file).symbols().len() <= symbol as usize {
+        return 0;
     }
-    if !is_distance(reloc.kind) {
-        return None;
-    }
-    Some(sum_of(view, file, reloc) - place)
+    number_at(
+        view.addresses.symbols.as_slice(),
+        view.tables.symbol_no(file as usize, symbol as usize),
+    )
 }
 
-/// The offset of a label in a section, where it stands there.
-fn label_in(place: Place, section: u32, symbol: &Symbol) -> Option<u64>
-    ensures { result ≡ spec.label_by place section symbol.now }
+/// P: the address of a relocation's place.
+fn place_of(view: &View, file: FileNo, section: u32, reloc: &Reloc) -> i128
+    requires { file < length (files_in view.now) }
+    ensures value { result ≡ spec.place_of (files_in view.now) (binding_in view.now) (sections_in view.now) file section reloc.now }
+    ensures low { pos 0 ≤ℤ result }
+    ensures high { result ≤ℤ pos (2 ^ 65) }
 {
-    match place {
-        Place::Within(index) => {
-            if index != section {
-                return None;
-            }
-            Some(offset_in(symbol))
-        }
-        Place::Undef => None,
-        Place::Absolute => None,
-        Place::Common => None,
-    }
+    start_of(view, file, section) as i128 + reloc.offset as i128
 }
 
-/// The offset of the label of a lower part, where it stands in the same section.
-#[tactic(auto, unfolding(crate::specs::Values::label_at))]
-fn label_at(view: &KnownView, site: Option<Site>, file: FileNo, section: u32) -> Option<u64>
-    ensures { result ≡ spec.label_at (files_in view.now) (names_in view.now) (starts_in view.now) (option_map site_view site) file section }
+/// The address of a section.
+pub fn start_of(view: &View, file: FileNo, section: u32) -> u64
+    requires { file < length (files_in view.now) }
+    ensures { result ≡ spec.start_of (files_in view.now) (binding_in view.now) (sections_in view.now) file section }
 {
-    let Some(site) = site else {
+    number_at(
+        view.addresses.sections.as_slice(),
+        view.tables.section_no(file as usize, section as usize),
+    )
+}
+
+/// The partner of a lower part: the first upper part at its label.
+#[tactic(auto, unfolding(crate::specs::Values::partner_of))]
+fn partner_of(view: &View, file: FileNo, section: u32, reloc: &Reloc) -> Option<Reloc>
+    requires file { file < length (files_in view.now) }
+    requires live { (file_at (files_in view.now) file).live ≡ true }
+    requires section { section < length (file_at (files_in view.now) file).head.sections }
+    ensures { result ≡ spec.partner_of (files_in view.now) (binding_in view.now) (sections_in view.now) file section reloc.now }
+{
+    let own = view.tables.section_no(file as usize, section as usize);
+    let Some(offset) = label_in(own, target_in(view.tables, view.binding, file, reloc)) else {
         return None;
     };
-    if site.file != file {
-        return None;
-    }
-    let symbol = symbol_at(view, site.file, site.index);
-    label_in(symbol.place, section, &symbol)
+    find_upper(view, file, section, offset)
 }
 
-/// How many relocations come before an offset, of relocations in order of offset.
-fn count_before(relocs: &[Reloc], offset: u64) -> usize
-    requires { IsNonDecreasingBy (λ (r : Reloc). r.offset) relocs.now }
-    ensures bound { result ≤ length relocs.now }
-    ensures before { (k : ℕ) (d : Reloc) → k < result → (slice_index_or relocs.now k d).offset < offset }
-    ensures next { (d : Reloc) → result < length relocs.now → offset ≤ (slice_index_or relocs.now result d).offset }
+/// The offset of a label, if it stands in the section of this number.
+fn label_in(own: usize, target: Target) -> Option<u64>
+    ensures { result ≡ spec.label_in own target }
 {
-    relocs.partition_point(|reloc| reloc.offset < offset)
+    match target {
+        Target::Section {
+            section,
+            offset,
+            rest: _,
+        } => {
+            if section as usize != own {
+                return None;
+            }
+            Some(offset)
+        }
+        Target::Number(_) => None,
+        Target::Zero => None,
+        Target::Linker(_) => None,
+        Target::Unbound => None,
+    }
+}
+
+/// The first upper part of a section at an offset.
+fn find_upper(view: &View, file: FileNo, section: u32, offset: u64) -> Option<Reloc>
+    requires file { file < length (files_in view.now) }
+    requires live { (file_at (files_in view.now) file).live ≡ true }
+    requires section { section < length (file_at (files_in view.now) file).head.sections }
+    ensures { result ≡ find (spec.is_upper_at offset) (relocs_at (file_at (files_in view.now) file) section) }
+{
+    find_at(uppers_in(view, file, section), offset)
+}
+
+/// The upper parts of a section, which stand in order of offset.
+fn uppers_in<'t>(view: &View<'t, '_>, file: FileNo, section: u32) -> &'t [Reloc]
+    requires file { file < length (files_in view.now) }
+    requires live { (file_at (files_in view.now) file).live ≡ true }
+    requires section { section < length (file_at (files_in view.now) file).head.sections }
+    ensures value { result.now ≡ uppers_at (files_in view.now) file section }
+    ensures ordered { IsNonDecreasingBy (λ (r : Reloc). r.offset) result.now }
+{
+    view.tables.is_few();
+    uppers_of(
+        view.uppers,
+        view.tables.section_no(file as usize, section as usize),
+    )
 }
 
 /// The first relocation at an offset, of relocations in order of offset.
@@ -300,89 +224,12 @@ fn find_at(relocs: &[Reloc], offset: u64) -> Option<Reloc>
     Some(*reloc)
 }
 
-/// The relocations of a section, which stand in order of offset.
-pub fn relocs_at<'t>(view: &KnownView<'t, '_>, file: FileNo, section: u32) -> &'t [Reloc]
-    ensures value { result.now ≡ files.relocs_at (files.file_at (files_in view.now) file) section }
-    ensures ordered { IsNonDecreasingBy (λ (r : Reloc). r.offset) result.now }
+/// How many relocations come before an offset, of relocations in order of offset.
+fn count_before(relocs: &[Reloc], offset: u64) -> usize
+    requires { IsNonDecreasingBy (λ (r : Reloc). r.offset) relocs.now }
+    ensures bound { result ≤ length relocs.now }
+    ensures before { (k : ℕ) (d : Reloc) → k < result → (slice_index_or relocs.now k d).offset < offset }
+    ensures next { (d : Reloc) → result < length relocs.now → offset ≤ (slice_index_or relocs.now result d).offset }
 {
-    let Some(file) = view.tables.files.get(file as usize) else {
-        return &[];
-    };
-    file.relocs(section as usize)
-}
-
-/// A list of upper parts by the numbers of its file and section.
-fn list_at<'t>(uppers: &'t Uppers, file: FileNo, section: u32) -> &'t [Reloc]
-    ensures { result.now ≡ slice_index_or (slice_index_or (uppers_view uppers.now) file []) section [] }
-{
-    let Some(lists) = uppers.lists.get(file as usize) else {
-        return &[];
-    };
-    let Some(list) = lists.get(section as usize) else {
-        return &[];
-    };
-    list.as_slice()
-}
-
-/// The upper parts of a section, which stand in order of offset.
-fn uppers_at<'t>(view: &ListedView<'t, '_>, file: FileNo, section: u32) -> &'t [Reloc]
-    ensures value { result.now ≡ filter is_upper (files.relocs_at (files.file_at (listed.files_in view.now) file) section) }
-    ensures ordered { IsNonDecreasingBy (λ (r : Reloc). r.offset) result.now }
-{
-    list_at(view.uppers, file, section)
-}
-
-/// The first upper part of a section at an offset.
-fn find_upper(view: &ListedView, file: FileNo, section: u32, offset: u64) -> Option<Reloc>
-    ensures { result ≡ find (spec.is_upper_at offset) (files.relocs_at (files.file_at (listed.files_in view.now) file) section) }
-{
-    find_at(uppers_at(view, file, section), offset)
-}
-
-/// The partner of a lower part: the first upper part at its label.
-#[tactic(auto, unfolding(crate::specs::Values::partner_of))]
-fn partner_of(view: &ListedView, file: FileNo, section: u32, reloc: &Reloc) -> Option<Reloc>
-    ensures { result ≡ spec.partner_of (listed.files_in view.now) (listed.names_in view.now) (listed.starts_in view.now) file section reloc.now }
-{
-    let known = &view.known;
-    let Some(offset) = label_at(known, site_for(known, file, reloc.symbol), file, section) else {
-        return None;
-    };
-    find_upper(view, file, section, offset)
-}
-
-/// The address of a relocation's place.
-fn place_of(start: u64, reloc: &Reloc) -> i128
-    ensures value { result ≡ spec.place_of start reloc.now }
-    ensures low { pos 0 ≤ℤ result }
-    ensures high { result ≤ℤ pos (2 ^ 65) }
-{
-    start as i128 + reloc.offset as i128
-}
-
-/// The upper part that a lower part belongs to is not there.
-#[derive(Clone, Copy, Debug)]
-pub struct NoPartner;
-
-/// The value of a relocation of a section that stands at an address.
-#[tactic(auto, unfolding(crate::specs::Values::value_of, rv_code::specs::Kinds::has_value))]
-pub fn value_of(
-    view: &ListedView,
-    file: FileNo,
-    section: u32,
-    start: u64,
-    reloc: &Reloc,
-) -> Result<Option<i128>, NoPartner>
-    ensures value { IfOk result (λ v. v ≡ spec.value_of (listed.files_in view.now) (listed.names_in view.now) (listed.starts_in view.now) file section start reloc.now) }
-    ensures kind { IfOk result (λ v. IfSome v (λ x. HasValue reloc.now.kind)) }
-    ensures partner { MatchResult result (λ _. (reloc.now.kind == 24 && not (is_some (spec.partner_of (listed.files_in view.now) (listed.names_in view.now) (listed.starts_in view.now) file section reloc.now))) ≡ false)
-        (λ _. (reloc.now.kind == 24 && not (is_some (spec.partner_of (listed.files_in view.now) (listed.names_in view.now) (listed.starts_in view.now) file section reloc.now))) ≡ true) }
-{
-    if reloc.kind != R_RISCV_PCREL_LO12_I {
-        return Ok(direct_value(&view.known, file, place_of(start, reloc), reloc));
-    }
-    let Some(partner) = partner_of(view, file, section, reloc) else {
-        return Err(NoPartner);
-    };
-    Ok(direct_value(&view.known, file, place_of(start, &partner), &partner))
+    relocs.partition_point(|reloc| reloc.offset < offset)
 }

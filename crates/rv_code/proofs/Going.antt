@@ -4,11 +4,12 @@ use Rattle.std.proofs.lemmas.Nat.{mod-pow-add}
 use Rattle.std.proofs.lemmas.Int.{ints}
 use Rattle.std.proofs.lemmas.Bool.{cases_lt}
 use Rattle.std.proofs.lemmas.Bool.Decides.{nat_tests}
-use Rattle.lk_base.specs.Fields.{j_format}
-use Rattle.rv_code.specs.Formats.{b_format, cb_format, cj_format, u_format, second_i_format}
-use Rattle.rv_code.specs.Kinds.{kind_of}
-use Rattle.rv_code.specs.Places.{bits_of, number_of, held_in, kept_of, ReadsBack}
-use Rattle.rv_code.specs.Reaches.{Takes, IsEven, IsWithin}
+use Rattle.lk_base.specs.Formats.{j_format, b_format, cb_format, cj_format, u_format, second_i_format}
+use Rattle.lk_base.specs.declared.abi.TheConstants.{R_RISCV_BRANCH, R_RISCV_CALL, R_RISCV_CALL_PLT, R_RISCV_JAL, R_RISCV_RVC_BRANCH, R_RISCV_RVC_JUMP}
+use Rattle.lk_base.specs.RelocKinds.{kind_of}
+use Rattle.lk_base.specs.Arithmetic.{bits_of}
+use Rattle.rv_code.specs.Places.{number_of, held_in, kept_of, ReadsBack}
+use Rattle.lk_base.specs.Reaches.{Takes, IsEven, IsWithin}
 use Rattle.rv_code.specs.Transfers.{signed, Goes}
 use Rattle.rv_code.proofs.WholePlaces.{rounded_bits}
 
@@ -150,7 +151,7 @@ call_goes (negsuc a) within =
 even_held : (held kept n : ℕ) (v : ℤ) → held ≡ kept → kept + bits_of v % 2 ≡ bits_of v % 2 ^ n → IsEven v → held ≡ bits_of v % 2 ^ n
 even_held held kept n v same all even = omega (arith, even_bits v even, same, all)
 
-b_goes : (v : ℤ) (old new : List ℕ) → Takes (kind_of 16).reach v → ReadsBack (kind_of 16).field old v new
+b_goes : (v : ℤ) (old new : List ℕ) → Takes (kind_of R_RISCV_BRANCH).reach v → ReadsBack (kind_of R_RISCV_BRANCH).field old v new
     → signed 13 (held_in b_format (number_of new)) ≡ v
 unfolding kind_of
 b_goes v old new takes back =
@@ -158,7 +159,7 @@ b_goes v old new takes back =
     ap (signed 13) (even_held (held_in b_format (number_of new)) (kept_of b_format (bits_of v)) 13 v back.plain (b_kept (bits_of v)) takes.0)
     ∙ signed_13 v (takes.1.0, high)
 
-j_goes : (v : ℤ) (old new : List ℕ) → Takes (kind_of 17).reach v → ReadsBack (kind_of 17).field old v new
+j_goes : (v : ℤ) (old new : List ℕ) → Takes (kind_of R_RISCV_JAL).reach v → ReadsBack (kind_of R_RISCV_JAL).field old v new
     → signed 21 (held_in j_format (number_of new)) ≡ v
 unfolding kind_of
 j_goes v old new takes back =
@@ -166,7 +167,7 @@ j_goes v old new takes back =
     ap (signed 21) (even_held (held_in j_format (number_of new)) (kept_of j_format (bits_of v)) 21 v back.plain (j_kept (bits_of v)) takes.0)
     ∙ signed_21 v (takes.1.0, high)
 
-cb_goes : (v : ℤ) (old new : List ℕ) → Takes (kind_of 44).reach v → ReadsBack (kind_of 44).field old v new
+cb_goes : (v : ℤ) (old new : List ℕ) → Takes (kind_of R_RISCV_RVC_BRANCH).reach v → ReadsBack (kind_of R_RISCV_RVC_BRANCH).field old v new
     → signed 9 (held_in cb_format (number_of new)) ≡ v
 unfolding kind_of
 cb_goes v old new takes back =
@@ -174,7 +175,7 @@ cb_goes v old new takes back =
     ap (signed 9) (even_held (held_in cb_format (number_of new)) (kept_of cb_format (bits_of v)) 9 v back.plain (cb_kept (bits_of v)) takes.0)
     ∙ signed_9 v (takes.1.0, high)
 
-cj_goes : (v : ℤ) (old new : List ℕ) → Takes (kind_of 45).reach v → ReadsBack (kind_of 45).field old v new
+cj_goes : (v : ℤ) (old new : List ℕ) → Takes (kind_of R_RISCV_RVC_JUMP).reach v → ReadsBack (kind_of R_RISCV_RVC_JUMP).field old v new
     → signed 12 (held_in cj_format (number_of new)) ≡ v
 unfolding kind_of
 cj_goes v old new takes back =
@@ -182,7 +183,7 @@ cj_goes v old new takes back =
     ap (signed 12) (even_held (held_in cj_format (number_of new)) (kept_of cj_format (bits_of v)) 12 v back.plain (cj_kept (bits_of v)) takes.0)
     ∙ signed_12 v (takes.1.0, high)
 
-call_18_goes : (v : ℤ) (old new : List ℕ) → Takes (kind_of 18).reach v → ReadsBack (kind_of 18).field old v new
+call_18_goes : (v : ℤ) (old new : List ℕ) → Takes (kind_of R_RISCV_CALL).reach v → ReadsBack (kind_of R_RISCV_CALL).field old v new
     → signed 32 (held_in u_format (number_of new)) +ℤ signed 12 (held_in second_i_format (number_of new)) ≡ v
 unfolding kind_of
 call_18_goes v old new takes back =
@@ -190,7 +191,7 @@ call_18_goes v old new takes back =
     ∙ ap (λ (l : ℕ). signed 32 (kept_of u_format (bits_of (v +ℤ pos 0x800))) +ℤ signed 12 l) back.plain
     ∙ call_goes v takes
 
-call_19_goes : (v : ℤ) (old new : List ℕ) → Takes (kind_of 19).reach v → ReadsBack (kind_of 19).field old v new
+call_19_goes : (v : ℤ) (old new : List ℕ) → Takes (kind_of R_RISCV_CALL_PLT).reach v → ReadsBack (kind_of R_RISCV_CALL_PLT).field old v new
     → signed 32 (held_in u_format (number_of new)) +ℤ signed 12 (held_in second_i_format (number_of new)) ≡ v
 unfolding kind_of
 call_19_goes v old new takes back =
@@ -202,29 +203,29 @@ pub goes : (number : ℕ) (v : ℤ) (old new : List ℕ) → Takes (kind_of numb
     → ReadsBack (kind_of number).field old v new → Goes number v new
 goes number v old new takes back = record {
   branch = λ e.
-      let t : Takes (kind_of 16).reach v = subst (λ n. Takes (kind_of n).reach v) e takes in
-      let r : ReadsBack (kind_of 16).field old v new = subst (λ n. ReadsBack (kind_of n).field old v new) e back in
+      let t : Takes (kind_of R_RISCV_BRANCH).reach v = subst (λ n. Takes (kind_of n).reach v) e takes in
+      let r : ReadsBack (kind_of R_RISCV_BRANCH).field old v new = subst (λ n. ReadsBack (kind_of n).field old v new) e back in
       b_goes v old new t r;
   jump = λ e.
-      let t : Takes (kind_of 17).reach v = subst (λ n. Takes (kind_of n).reach v) e takes in
-      let r : ReadsBack (kind_of 17).field old v new = subst (λ n. ReadsBack (kind_of n).field old v new) e back in
+      let t : Takes (kind_of R_RISCV_JAL).reach v = subst (λ n. Takes (kind_of n).reach v) e takes in
+      let r : ReadsBack (kind_of R_RISCV_JAL).field old v new = subst (λ n. ReadsBack (kind_of n).field old v new) e back in
       j_goes v old new t r;
   call = λ e. elim e [
     | inl f ↦
-        let t : Takes (kind_of 18).reach v = subst (λ n. Takes (kind_of n).reach v) f takes in
-        let r : ReadsBack (kind_of 18).field old v new = subst (λ n. ReadsBack (kind_of n).field old v new) f back in
+        let t : Takes (kind_of R_RISCV_CALL).reach v = subst (λ n. Takes (kind_of n).reach v) f takes in
+        let r : ReadsBack (kind_of R_RISCV_CALL).field old v new = subst (λ n. ReadsBack (kind_of n).field old v new) f back in
         call_18_goes v old new t r
     | inr f ↦
-        let t : Takes (kind_of 19).reach v = subst (λ n. Takes (kind_of n).reach v) f takes in
-        let r : ReadsBack (kind_of 19).field old v new = subst (λ n. ReadsBack (kind_of n).field old v new) f back in
+        let t : Takes (kind_of R_RISCV_CALL_PLT).reach v = subst (λ n. Takes (kind_of n).reach v) f takes in
+        let r : ReadsBack (kind_of R_RISCV_CALL_PLT).field old v new = subst (λ n. ReadsBack (kind_of n).field old v new) f back in
         call_19_goes v old new t r
   ];
   short_branch = λ e.
-      let t : Takes (kind_of 44).reach v = subst (λ n. Takes (kind_of n).reach v) e takes in
-      let r : ReadsBack (kind_of 44).field old v new = subst (λ n. ReadsBack (kind_of n).field old v new) e back in
+      let t : Takes (kind_of R_RISCV_RVC_BRANCH).reach v = subst (λ n. Takes (kind_of n).reach v) e takes in
+      let r : ReadsBack (kind_of R_RISCV_RVC_BRANCH).field old v new = subst (λ n. ReadsBack (kind_of n).field old v new) e back in
       cb_goes v old new t r;
   short_jump = λ e.
-      let t : Takes (kind_of 45).reach v = subst (λ n. Takes (kind_of n).reach v) e takes in
-      let r : ReadsBack (kind_of 45).field old v new = subst (λ n. ReadsBack (kind_of n).field old v new) e back in
+      let t : Takes (kind_of R_RISCV_RVC_JUMP).reach v = subst (λ n. Takes (kind_of n).reach v) e takes in
+      let r : ReadsBack (kind_of R_RISCV_RVC_JUMP).field old v new = subst (λ n. ReadsBack (kind_of n).field old v new) e back in
       cj_goes v old new t r;
 }

@@ -4,11 +4,13 @@ use Rattle.std.specs.Int.{bit_at}
 use Rattle.std.proofs.Math.Nat.{div-one, mod-eq_of_lt}
 use Rattle.byteorder.specs.Endian.{little_number, little_bytes}
 use Rattle.byteorder.specs.Numbers.{little_from-bytes, length-bytes_low_first}
-use Rattle.lk_base.specs.Fields.{j_format, field_bit}
-use Rattle.rv_code.specs.Formats.{cj_format}
+use Rattle.lk_base.specs.Formats.{j_format, cj_format}
+use Rattle.lk_base.specs.Fields.{field_bit}
 use Rattle.rv_code.specs.Instructions.{IsJal, IsShortJump}
-use Rattle.rv_code.specs.Kinds.{kind_of}
-use Rattle.rv_code.specs.Places.{bits_of, number_of, held_in, HoldsValue}
+use Rattle.lk_base.specs.declared.abi.TheConstants.{R_RISCV_JAL, R_RISCV_RVC_JUMP}
+use Rattle.lk_base.specs.RelocKinds.{kind_of}
+use Rattle.lk_base.specs.Arithmetic.{bits_of}
+use Rattle.rv_code.specs.Places.{number_of, held_in, HoldsValue}
 use Rattle.rv_code.specs.Transfers.{signed, Goes}
 
 -- a number's bytes are that number
@@ -23,7 +25,7 @@ number_back n x place lt is =
     ∙ mod-eq_of_lt lt
 
 pub jal_word : (rd x word : ℕ) (offset : ℤ) (old new : List ℕ) → x < 256 ^ 4 → x ≡ 0x6f + rd * 2 ^ 7 → old ≡ little_bytes 4 x
-    → HoldsValue (kind_of 17).field old offset new → Goes 17 offset new → word ≡ little_number 4 new → IsJal rd offset word
+    → HoldsValue (kind_of R_RISCV_JAL).field old offset new → Goes R_RISCV_JAL offset new → word ≡ little_number 4 new → IsJal rd offset word
 unfolding kind_of
 jal_word rd x word offset old new lt base is holds goes read =
     let size : length old ≡ 4 = ap length is ∙ length-bytes_low_first 0 4 x in
@@ -39,7 +41,7 @@ jal_word rd x word offset old new lt base is holds goes read =
     }
 
 pub short_word : (word : ℕ) (offset : ℤ) (old new : List ℕ) → old ≡ little_bytes 2 0xa001
-    → HoldsValue (kind_of 45).field old offset new → Goes 45 offset new → word ≡ little_number 2 new → IsShortJump offset word
+    → HoldsValue (kind_of R_RISCV_RVC_JUMP).field old offset new → Goes R_RISCV_RVC_JUMP offset new → word ≡ little_number 2 new → IsShortJump offset word
 unfolding kind_of
 short_word word offset old new is holds goes read =
     let size : length old ≡ 2 = ap length is in

@@ -1,14 +1,18 @@
 -- What was put into a field is read from it again, since no two of its runs meet.
-use Rattle.std.proofs.Common.{◌≡◌, ℕ, ◌+◌, ◌-◌, ◌*◌, ◌/◌, ◌%◌, ◌^◌, ◌<◌, ◌≤◌, List, [], ◌∷◌, Bool, true, false, nat_le, nat_lt, ◌==◌, ◌&&◌, ◌||◌, length, arith, inl, inr, sym, ◌∙◌, ap, refl, ℤ, pos, ◌+ℤ◌, IsTrue}
+use Rattle.std.proofs.Common.{◌≡◌, ℕ, ◌+◌, ◌-◌, ◌*◌, ◌/◌, ◌%◌, ◌^◌, ◌<◌, ◌≤◌, List, [], ◌∷◌, Bool, true, false, nat_le, nat_lt, ◌&&◌, ◌||◌, length, arith, inl, inr, sym, ◌∙◌, ap, refl, ℤ, pos, ◌+ℤ◌, IsTrue}
 use Rattle.std.specs.Prelude.{if◌then◌else◌}
 use Rattle.std.specs.Int.{bit_at}
 use Rattle.std.proofs.lemmas.Nat.{pow_pos, mod_below}
 use Rattle.std.proofs.lemmas.Nat.Bits.{same_from_bits_below}
 use Rattle.std.proofs.lemmas.Bool.{cases_lt}
 use Rattle.std.proofs.lemmas.Bool.Decides.{nat_tests}
+use Rattle.lk_base.proofs.TableLines.{each_kind}
 use Rattle.lk_base.specs.Fields.{Run, field_bit}
-use Rattle.rv_code.specs.Kinds.{Kind, kinds, kind_of, has_value, HasValue, line_in, is_in}
-use Rattle.rv_code.specs.Places.{placed_bit, bits_of, number_of, Names, held_in, kept_of, HoldsValue, ReadsBack}
+use Rattle.lk_base.specs.Formats.{field_of}
+use Rattle.lk_base.specs.RelocKinds.{Kind, kind_of, kind_view}
+use Rattle.lk_base.specs.declared.relocations.Kind as code
+use Rattle.rv_code.specs.Places.{placed_bit, number_of, Names, held_in, kept_of, HoldsValue, ReadsBack}
+use Rattle.lk_base.specs.Arithmetic.{bits_of}
 use Rattle.rv_code.proofs.BitRuns.{low_bit, high_bit, inside}
 
 -- no bit is in the run and in one of the others; no two runs have a bit together
@@ -48,26 +52,15 @@ second : (a b : Bool) → IsTrue (a && b) → IsTrue b
 second true b h = h
 second false b h = cc
 
--- every line of the table is sound
-abbrev pub all_sound : List Kind → Bool
-all_sound [] = true
-all_sound (k ∷ ks) = is_sound k && all_sound ks
+-- each kind is sound
+pub sound_kind : (n : ℕ) → IsTrue (is_sound (kind_of n))
+sound_kind n = each_kind is_sound n refl refl
 
-sound_line : (ks : List Kind) (n : ℕ) → IsTrue (all_sound ks) → IsTrue (is_in ks n) → IsTrue (is_sound (line_in ks n))
-sound_line [] n all there = cc
-sound_line (k ∷ ks) n all there =
-    by_test (k.number == n) (first (is_sound k) (all_sound ks) all) (λ h. sound_line ks n (second (is_sound k) (all_sound ks) all) h) there
-  where
-    by_test : (b : Bool) → IsTrue (is_sound k) → (IsTrue (is_in ks n) → IsTrue (is_sound (line_in ks n)))
-        → IsTrue (if b then true else is_in ks n) → IsTrue (is_sound (if b then k else line_in ks n))
-    by_test true here later there = here
-    by_test false here later there = later there
+-- a kind's field, from the kind as the code holds it
+pub same_field : (k : code.Kind) (n : ℕ) → kind_view k ≡ kind_of n → field_of k.format ≡ (kind_of n).field
+same_field k n is = ap (λ (q : Kind). q.field) is
 
-pub sound_kind : (n : ℕ) → HasValue n → IsTrue (is_sound (kind_of n))
-unfolding kind_of has_value
-sound_kind n there = sound_line kinds n refl there
-
--- the value's bit where a run has k, else what `rest` says
+-- the value's bit if a run has k, else what `rest` says
 abbrev pub chosen : List Run → ℕ → (ℕ → ℕ) → ℕ → ℕ
 chosen [] value rest k = rest k
 chosen (r ∷ rs) value rest k =

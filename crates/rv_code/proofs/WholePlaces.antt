@@ -10,8 +10,9 @@ use Rattle.byteorder.specs.Endian.{little_number, little_bytes}
 use Rattle.byteorder.specs.Numbers.{little_from-bytes, length-bytes_low_first}
 use Rattle.byteorder.proofs.Bytes.{pow256}
 use Rattle.lk_base.specs.Fields.{Run, field_bit}
-use Rattle.rv_code.specs.Formats.{Field}
-use Rattle.rv_code.specs.Places.{of_bits, placed_bit, bits_of, number_of, patched, HoldsValue}
+use Rattle.lk_base.specs.Formats.{Field}
+use Rattle.rv_code.specs.Places.{of_bits, placed_bit, number_of, patched, HoldsValue}
+use Rattle.lk_base.specs.Arithmetic.{bits_of}
 use Rattle.rv_code.proofs.BitRuns.{cat_below, low_bit}
 
 -- the runs of the value first, those of the value + 0x800 over them

@@ -1,8 +1,9 @@
 -- Whole instructions (unprivileged manual, "RV32/64G Instruction Set Listings" and "RVC Instruction Set Listings").
 use Rattle.std.specs.Prelude.{◌≡◌, ℕ, ◌+◌, ◌*◌, ◌%◌, ◌^◌, ◌==◌, ℤ, if◌then◌else◌, nat_le}
-use Rattle.lk_base.specs.Fields.{j_format, HoldsField}
-use Rattle.rv_code.specs.Formats.{cj_format}
-use Rattle.rv_code.specs.Places.{bits_of, held_in}
+use Rattle.lk_base.specs.Formats.{j_format, cj_format}
+use Rattle.lk_base.specs.Fields.{HoldsField}
+use Rattle.lk_base.specs.Arithmetic.{bits_of}
+use Rattle.rv_code.specs.Places.{held_in}
 use Rattle.rv_code.specs.Transfers.{signed}
 
 -- jal: opcode 0x6f, the register in bits 11 to 7, and a displacement, by which the processor goes

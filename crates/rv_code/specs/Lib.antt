@@ -1,6 +1,4 @@
-pub mod Formats
 pub mod Instructions
-pub mod Kinds
+pub mod Parts
 pub mod Places
-pub mod Reaches
 pub mod Transfers

@@ -1,16 +1,13 @@
 -- A value in a place. The bytes of a place are one number, the lowest first (unprivileged manual, "Base
 -- Instruction-Length Encoding": parcels are little-endian), so bit k of the place is bit k of that number.
-use Rattle.std.specs.Prelude.{◌≡◌, ℕ, zero, suc, ◌+◌, ◌-◌, ◌*◌, ◌/◌, ◌%◌, ◌^◌, ◌<◌, ◌≤◌, ◌⊎◌, ◌&&◌, if◌then◌else◌, nat_le, ℤ, pos, ◌+ℤ◌, List, [], ◌∷◌, length, unsigned_abs}
-use Rattle.std.specs.Int.{bit_at, int_rem_euclid}
+use Rattle.std.specs.Prelude.{◌≡◌, ℕ, zero, suc, ◌+◌, ◌-◌, ◌*◌, ◌/◌, ◌%◌, ◌^◌, ◌<◌, ◌≤◌, ◌⊎◌, ◌&&◌, if◌then◌else◌, nat_le, ℤ, pos, ◌+ℤ◌, List, [], ◌∷◌, length}
+use Rattle.std.specs.Int.{bit_at}
 use Rattle.byteorder.specs.Endian.{little_number, little_bytes}
+use Rattle.lk_base.specs.Arithmetic.{bits_of}
 use Rattle.lk_base.specs.Fields.{Run, field_bit}
-use Rattle.rv_code.specs.Formats.{Field}
+use Rattle.lk_base.specs.Formats.{Field}
 
--- a value's bits: those of the value modulo 2^64, which is two's complement
-unfoldable pub bits_of : ℤ → ℕ
-bits_of v = unsigned_abs (int_rem_euclid v (pos (2 ^ 64)))
-
--- bit k of a place that was the number `old`: the bit of the value + 0x800 or of the value where a run has k, else
+-- bit k of a place that was the number `old`: the bit of the value + 0x800 or of the value if a run has k, else
 -- the old one
 abbrev pub placed_bit : (rounded plain : List Run) → (old : ℕ) → (v : ℤ) → (k : ℕ) → ℕ
 placed_bit [] plain old v k = field_bit plain old (bits_of v) k

@@ -1,15 +1,15 @@
 //! Whole instructions: jumps and nops.
 
 ghost use Rattle.std.specs.Prelude.{◌≡◌, ◌<◌, ◌%◌, length, slice_index, EachIndex};
+ghost use Rattle.lk_base.specs.Reaches.{Takes};
+ghost use Rattle.lk_base.specs.RelocKinds.{kind_of};
 ghost use Rattle.rv_code.specs.Instructions.{IsJal, IsShortJump, nop_byte};
-ghost use Rattle.rv_code.specs.Kinds.{kind_of};
-ghost use Rattle.rv_code.specs.Reaches.{Takes};
 
-use crate::kinds::{R_RISCV_JAL, R_RISCV_RVC_JUMP};
 use crate::places::patch;
+use lk_base::abi::{R_RISCV_JAL, R_RISCV_RVC_JUMP};
 
-/// `jal`: a jump by an offset that leaves the address behind it in the register `rd`.
-#[tactic(auto, unfolding(crate::specs::Kinds::kind_of, crate::specs::Kinds::has_value))]
+/// `jal`: a jump by an offset, which leaves the address of the next instruction in the register `rd`.
+#[tactic(auto, unfolding(lk_base::specs::RelocKinds::kind_of, lk_base::specs::RelocKinds::has_value))]
 pub fn jal(rd: u32, offset: i64) -> u32
     requires register { rd < 32 }
     requires fits { Takes (kind_of R_RISCV_JAL).reach offset }
@@ -21,7 +21,7 @@ pub fn jal(rd: u32, offset: i64) -> u32
 }
 
 /// `c.j`: a jump by an offset, in two bytes.
-#[tactic(auto, unfolding(crate::specs::Kinds::kind_of, crate::specs::Kinds::has_value))]
+#[tactic(auto, unfolding(lk_base::specs::RelocKinds::kind_of, lk_base::specs::RelocKinds::has_value))]
 pub fn cj(offset: i64) -> u16
     requires { Takes (kind_of R_RISCV_RVC_JUMP).reach offset }
     ensures { IsShortJump offset result }
@@ -41,7 +41,7 @@ fn nop_byte(len: usize, i: usize) -> u8
     if len - i >= 4 { 0x13 } else { 0x01 }
 }
 
-/// Fills a stretch of code with nops: those of four bytes, and one of two where two bytes are left.
+/// Fills a stretch of code with nops: those of four bytes, and one of two if two bytes are left.
 pub fn nops(place: &mut [u8])
     requires { length place.old % 2 ≡ 0 }
     ensures { EachIndex place.new (λ i. slice_index place.new i ≡ nop_byte (length place.old) i) }

@@ -4,15 +4,17 @@ ghost use Rattle.std.specs.Prelude.{◌≡◌, ℕ, ◌≤◌, [], ◌∷◌, le
 ghost use Rattle.std.specs.Int.{bit_at};
 ghost use Rattle.byteorder.specs.Endian.{little_bytes};
 ghost use Rattle.lk_base.specs.Fields.{field_bit};
-ghost use Rattle.rv_code.specs.Formats.{IsPart, field_of, run_of, runs_of};
-ghost use Rattle.rv_code.specs.Kinds.{HasValue, kind_of};
-ghost use Rattle.rv_code.specs.Places.{HoldsValue, ReadsBack, bits_of, patched, placed_bit};
-ghost use Rattle.rv_code.specs.Reaches.{Takes};
+ghost use Rattle.lk_base.specs.Formats.{field_of};
+ghost use Rattle.lk_base.specs.Reaches.{Takes};
+ghost use Rattle.lk_base.specs.RelocKinds.{HasValue, kind_of};
+ghost use Rattle.rv_code.specs.Parts.{IsPart, run_of, runs_of};
+ghost use Rattle.rv_code.specs.Places.{HoldsValue, ReadsBack, patched, placed_bit};
 ghost use Rattle.rv_code.specs.Transfers.{Goes};
 
-use crate::formats::{Format, Part, plain_parts, rounded_parts};
-use crate::table::line_of;
+use crate::parts::{Part, plain_parts, rounded_parts};
 use byteorder::{ByteOrder, LittleEndian};
+use lk_base::low_bits;
+use lk_base::relocations::{Format, kind_of};
 
 /// The word, with the value's bits in one part.
 fn put(word: u64, part: Part, value: u64) -> u64
@@ -38,14 +40,6 @@ fn put_all(word: u64, parts: &[Part], value: u64) -> u64
         done = put(done, parts[left], value);
     }
     done
-}
-
-/// The value modulo 2^64.
-#[tactic(auto, unfolding(crate::specs::Places::bits_of))]
-fn low_bits(v: i128) -> u64
-    ensures { result ≡ bits_of v }
-{
-    v.rem_euclid(1 << 64) as u64
 }
 
 /// The word, with a value in the field of a format.
@@ -77,7 +71,7 @@ pub fn patch(kind: u32, place: &mut [u8], v: i128)
     ensures reads_back { ReadsBack (kind_of kind).field place.old v place.new }
     ensures goes { Goes kind v place.new }
 {
-    let line = line_of(kind);
+    let line = kind_of(kind);
     let old = LittleEndian::read_uint(place, place.len());
     let new = put_value(line.format, old, v);
     write_number(place, new);

@@ -1,22 +1,11 @@
 //! Which values a field takes.
 
 ghost use Rattle.std.specs.Prelude.{◌≡◌, MatchResult, None, Some};
-ghost use Rattle.rv_code.specs.Kinds.{HasValue, kind_of};
-ghost use Rattle.rv_code.specs.Reaches.{Refuses, Takes, misfit_of, reach_of};
+ghost use Rattle.lk_base.specs.RelocKinds.{HasValue, kind_of};
+ghost use Rattle.lk_base.specs.Reaches.{Refuses, Takes, misfit_of, reach_of};
 
-use crate::table::line_of;
 use lk_base::Misfit;
-
-/// Which values a field takes.
-#[derive(Clone, Copy, Debug, PartialEq, Eq)]
-pub enum Rule {
-    /// Every value: the field holds its low bits.
-    Any,
-    /// The values from the first to the second.
-    FromTo(i64, i64),
-    /// The even values from the first to the second.
-    EvenFromTo(i64, i64),
-}
+use lk_base::relocations::{Rule, kind_of};
 
 fn fits_rule(rule: Rule, v: i128) -> Result<(), Misfit>
     ensures value { MatchResult result (λ _. Takes (reach_of rule) v) (λ misfit. Refuses (reach_of rule) v misfit) }
@@ -42,12 +31,12 @@ fn fits_rule(rule: Rule, v: i128) -> Result<(), Misfit>
     }
 }
 
-/// Whether the field of a kind of relocation holds the value: `Odd` where the field has no bit for an odd value,
-/// and `Range` where the value is out of its reach and not odd.
+/// Whether the field of a kind of relocation holds the value: `Odd` if the field has no bit for an odd value, and
+/// `Range` if the value is out of its reach and not odd.
 pub fn fits(kind: u32, v: i128) -> Result<(), Misfit>
     requires { HasValue kind }
     ensures value { MatchResult result (λ _. Takes (kind_of kind).reach v) (λ misfit. Refuses (kind_of kind).reach v misfit) }
     ensures exact { MatchResult result (λ _. misfit_of (kind_of kind).reach v ≡ None) (λ misfit. misfit_of (kind_of kind).reach v ≡ Some misfit) }
 {
-    fits_rule(line_of(kind).rule, v)
+    fits_rule(kind_of(kind).rule, v)
 }

@@ -1,6 +1,8 @@
 //! Fields at their ends, in the words that GNU as makes of the same instructions.
 
-use crate::kinds::{
+use crate::{cj, fits, jal, nops, patch};
+use lk_base::Misfit;
+use lk_base::abi::{
     R_RISCV_32, R_RISCV_32_PCREL, R_RISCV_64, R_RISCV_ADD8, R_RISCV_ADD16, R_RISCV_ADD32,
     R_RISCV_ADD64, R_RISCV_BRANCH, R_RISCV_CALL, R_RISCV_CALL_PLT, R_RISCV_GOT_HI20, R_RISCV_HI20,
     R_RISCV_JAL, R_RISCV_LO12_I, R_RISCV_LO12_S, R_RISCV_PCREL_HI20, R_RISCV_PCREL_LO12_I,
@@ -9,8 +11,7 @@ use crate::kinds::{
     R_RISCV_SUB64, R_RISCV_TLS_GD_HI20, R_RISCV_TLS_GOT_HI20, R_RISCV_TPREL_HI20,
     R_RISCV_TPREL_LO12_I, R_RISCV_TPREL_LO12_S,
 };
-use crate::{cj, fits, has_value, jal, nops, patch, width};
-use lk_base::Misfit;
+use lk_base::relocations::{has_value, kind_of};
 
 #[derive(Drop)]
 struct FitRow {
@@ -41,7 +42,7 @@ fn is_met(row: &PatchRow) -> bool {
     if count > 8 || !has_value(row.kind) {
         return false;
     }
-    if width(row.kind) != count || fits(row.kind, row.v).is_err() {
+    if kind_of(row.kind).width != count as u64 || fits(row.kind, row.v).is_err() {
         return false;
     }
     let mut bytes = [0u8; 8];
@@ -439,7 +440,7 @@ fn words_of_the_assembler(rt: HostRuntime) {
 }
 
 #[test]
-#[tactic(auto, unfolding(crate::specs::Kinds::kind_of))]
+#[tactic(auto, unfolding(lk_base::specs::RelocKinds::kind_of))]
 fn whole_instructions(rt: HostRuntime) {
     assert_eq!(rt; jal(1, 16), 0x0100_00ef);
     assert_eq!(rt; jal(0, -1048576), 0x8000_006f);

@@ -4,20 +4,21 @@ use Rattle.std.specs.Prelude.{flat_map, find}
 use Rattle.std.specs.List.{range_with_len}
 use Rattle.std.specs.Str.{bytes_eq}
 use Rattle.std.proofs.lemmas.List.Elements.{All-nil, All-cons, All-head, All-tail, All-weaker}
-use Rattle.std.proofs.lemmas.Bool.{cond-true, cond-false, cases_Bool, both_ways, and_left, and_right, and_from, lt-ltb, le-ltb, ne_eqb}
+use Rattle.std.proofs.lemmas.Bool.{cond-true, cond-false, cases_Bool, both_ways, and_left, and_right, and_from, lt-ltb, le-ltb, ltb-false, eq-eqb, ne_eqb}
 use Rattle.std.proofs.lemmas.Slice.Eq.{bytes_eq-Decides}
 use Rattle.claim_core.specs.Events.{event}
 use Rattle.lk_base.specs.declared.defects.Defect.{Defect}
-use Rattle.lk_base.specs.declared.kinds.DefectKind.TheVariants.{F20}
-use Rattle.lk_tables.specs.Binding.{Offer, no_rank, least_rank, is_strong, file_of, symbol_of_rank, duplicate_of, duplicates_of}
-use Rattle.sym_resolve.specs.declared.duplicates.Clash.{Clash}
-use Rattle.sym_resolve.specs.Offers.{rank_at}
+use Rattle.lk_base.specs.declared.kinds.TheConstants.{DUPLICATE}
 use Rattle.lk_base.specs.Firsts.{IsFirst}
-use Rattle.sym_resolve.specs.Duplicates.{clash, no_clash, least_clash, defect_of}
+use Rattle.lk_tables.specs.Binding.{Offer, least_rank, is_strong, duplicate_of, duplicates_of}
+use Rattle.lk_tables.specs.Ranks.{no_rank, class_of_rank, file_of, symbol_of_rank}
+use Rattle.sym_resolve.specs.declared.duplicates.Clash.{Clash}
+use Rattle.sym_resolve.specs.Claims.{rank_at}
+use Rattle.sym_resolve.specs.StrongPairs.{clash, no_clash, least_clash, defect_of}
 
 -- the look at one offer, and at all; L has the least rank of each name
 abbrev looked : (List ℕ → ℕ) → Clash → Offer → Clash
-looked L best o = if (nat_lt (L o.name) o.rank && nat_lt o.rank (2 ^ 56)) && nat_lt (L o.name) best.first then clash (L o.name) o.rank else best
+looked L best o = if (nat_lt (L o.name) o.rank && class_of_rank o.rank == 0) && nat_lt (L o.name) best.first then clash (L o.name) o.rank else best
 
 abbrev pub looked_at : (List ℕ → ℕ) → Clash → List Offer → Clash
 looked_at L best [] = best
@@ -29,19 +30,25 @@ looks row W best (o ∷ os) = looks row W (looked (λ t. rank_at row (W t)) best
 
 passed : (L : List ℕ → ℕ) (best : Clash) (o : Offer) → o.rank ≤ L o.name → looked L best o ≡ best
 passed L best o le =
-    cond-false _ (clash (L o.name) o.rank) best (and_left (nat_lt (L o.name) o.rank && nat_lt o.rank (2 ^ 56)) (nat_lt (L o.name) best.first) (and_left (nat_lt (L o.name) o.rank) (nat_lt o.rank (2 ^ 56)) (le-ltb (L o.name) o.rank le)))
+    cond-false _ (clash (L o.name) o.rank) best (and_left (nat_lt (L o.name) o.rank && class_of_rank o.rank == 0) (nat_lt (L o.name) best.first) (and_left (nat_lt (L o.name) o.rank) (class_of_rank o.rank == 0) (le-ltb (L o.name) o.rank le)))
+
+weak_class : (rank : ℕ) → nat_lt rank (2 ^ 56) ≡ false → (class_of_rank rank == 0) ≡ false
+weak_class rank is = let le = ltb-false rank (2 ^ 56) is in ne_eqb (class_of_rank rank) 0 (λ e. omega arith)
+
+strong_class : (rank : ℕ) → rank < 2 ^ 56 → (class_of_rank rank == 0) ≡ true
+strong_class rank lt = eq-eqb (class_of_rank rank) 0 (omega arith)
 
 weak : (L : List ℕ → ℕ) (best : Clash) (o : Offer) → is_strong o ≡ false → looked L best o ≡ best
 weak L best o is =
-    cond-false _ (clash (L o.name) o.rank) best (and_left (nat_lt (L o.name) o.rank && nat_lt o.rank (2 ^ 56)) (nat_lt (L o.name) best.first) (and_right (nat_lt (L o.name) o.rank) (nat_lt o.rank (2 ^ 56)) is))
+    cond-false _ (clash (L o.name) o.rank) best (and_left (nat_lt (L o.name) o.rank && class_of_rank o.rank == 0) (nat_lt (L o.name) best.first) (and_right (nat_lt (L o.name) o.rank) (class_of_rank o.rank == 0) (weak_class o.rank is)))
 
 no_less : (L : List ℕ → ℕ) (best : Clash) (o : Offer) → best.first ≤ L o.name → looked L best o ≡ best
 no_less L best o le =
-    cond-false _ (clash (L o.name) o.rank) best (and_right (nat_lt (L o.name) o.rank && nat_lt o.rank (2 ^ 56)) (nat_lt (L o.name) best.first) (le-ltb (L o.name) best.first le))
+    cond-false _ (clash (L o.name) o.rank) best (and_right (nat_lt (L o.name) o.rank && class_of_rank o.rank == 0) (nat_lt (L o.name) best.first) (le-ltb (L o.name) best.first le))
 
 taken : (L : List ℕ → ℕ) (best : Clash) (o : Offer) → L o.name < o.rank → o.rank < 2 ^ 56 → L o.name < best.first → looked L best o ≡ clash (L o.name) o.rank
 taken L best o a b c =
-    cond-true _ (clash (L o.name) o.rank) best (and_from (nat_lt (L o.name) o.rank && nat_lt o.rank (2 ^ 56)) (nat_lt (L o.name) best.first) (and_from (nat_lt (L o.name) o.rank) (nat_lt o.rank (2 ^ 56)) (lt-ltb (L o.name) o.rank a) (lt-ltb o.rank (2 ^ 56) b)) (lt-ltb (L o.name) best.first c))
+    cond-true _ (clash (L o.name) o.rank) best (and_from (nat_lt (L o.name) o.rank && class_of_rank o.rank == 0) (nat_lt (L o.name) best.first) (and_from (nat_lt (L o.name) o.rank) (class_of_rank o.rank == 0) (lt-ltb (L o.name) o.rank a) (strong_class o.rank b)) (lt-ltb (L o.name) best.first c))
 
 -- offers that are not strong are passed over
 looked_if : (L : List ℕ → ℕ) (best : Clash) (o : Offer) (os kept : List Offer) (b : Bool) → is_strong o ≡ b → ((c : Clash) → looked_at L c os ≡ looked_at L c kept) → looked_at L (looked L best o) os ≡ looked_at L best (if b then o ∷ kept else kept)
@@ -106,13 +113,13 @@ other_least : (text : List ℕ) (o : Offer) (os : List Offer) → bytes_eq o.nam
 unfolding least_rank
 other_least text o os ne = cond-false (bytes_eq o.name text) (min o.rank (least_rank text os)) (least_rank text os) ne
 
--- what L has for the offers behind o
-record IsBehind (L : List ℕ → ℕ) (o q : Offer) : Type 0 where
+-- what L has for the offers after o
+record IsAfter (L : List ℕ → ℕ) (o q : Offer) : Type 0 where
   same : bytes_eq q.name o.name ≡ true → L q.name ≡ o.rank
   other : bytes_eq q.name o.name ≡ false → o.rank < L q.name
 
-behind_le : (L : List ℕ → ℕ) (o q : Offer) → IsBehind L o q → o.rank ≤ L q.name
-behind_le L o q h = ⊎_elim
+after_le : (L : List ℕ → ℕ) (o q : Offer) → IsAfter L o q → o.rank ≤ L q.name
+after_le L o q h = ⊎_elim
     (λ (eq : bytes_eq q.name o.name ≡ true). let e = h.same eq in omega arith)
     (λ (ne : bytes_eq q.name o.name ≡ false). let lt = h.other ne in omega arith)
     (cases_Bool (bytes_eq q.name o.name))
@@ -130,29 +137,29 @@ above_if false c best low also have = have
 
 -- a look at another name leaves or takes a later first
 looked_above : (L : List ℕ → ℕ) (best : Clash) (q : Offer) (low : ℕ) → low < best.first → low < L q.name → low < (looked L best q).first
-looked_above L best q low have also = above_if ((nat_lt (L q.name) q.rank && nat_lt q.rank (2 ^ 56)) && nat_lt (L q.name) best.first) (clash (L q.name) q.rank) best low also have
+looked_above L best q low have also = above_if ((nat_lt (L q.name) q.rank && class_of_rank q.rank == 0) && nat_lt (L q.name) best.first) (clash (L q.name) q.rank) best low also have
 
-found_at : (L : List ℕ → ℕ) (o q p : Offer) (os : List Offer) (best : Clash) (b : Bool) → bytes_eq q.name o.name ≡ b → IsBehind L o q → All (IsBehind L o) os → o.rank < q.rank → q.rank < 2 ^ 56 → o.rank < best.first
+found_at : (L : List ℕ → ℕ) (o q p : Offer) (os : List Offer) (best : Clash) (b : Bool) → bytes_eq q.name o.name ≡ b → IsAfter L o q → All (IsAfter L o) os → o.rank < q.rank → q.rank < 2 ^ 56 → o.rank < best.first
     → ((c : Clash) → o.rank < c.first → find (λ r. bytes_eq r.name o.name) os ≡ Some p → looked_at L c os ≡ clash o.rank p.rank)
     → (if b then Some q else find (λ r. bytes_eq r.name o.name) os) ≡ Some p → looked_at L (looked L best q) os ≡ clash o.rank p.rank
-found_at L o q p os best true is here behind lt strong above later e =
+found_at L o q p os best true is here later_ones lt strong above later e =
     let least : L q.name ≡ o.rank = here.same is in
     let same : q ≡ p = cc in
     let P : Clash → Type 0 = λ c. looked_at L c os ≡ c in
     let took : looked L best q ≡ clash o.rank q.rank = taken L best q (omega arith) strong (omega arith) ∙ ap (λ k. clash k q.rank) least in
-    ap (λ c. looked_at L c os) took ∙ stays L (clash o.rank q.rank) os (All-weaker (IsBehind L o) (λ (r : Offer). o.rank ≤ L r.name) (λ r h. behind_le L o r h) os behind)
+    ap (λ c. looked_at L c os) took ∙ stays L (clash o.rank q.rank) os (All-weaker (IsAfter L o) (λ (r : Offer). o.rank ≤ L r.name) (λ r h. after_le L o r h) os later_ones)
     ∙ ap (λ (r : Offer). clash o.rank r.rank) same
-found_at L o q p os best false is here behind lt strong above later e =
+found_at L o q p os best false is here later_ones lt strong above later e =
     later (looked L best q) (looked_above L best q o.rank above (here.other is)) e
 
 -- the first of a name, with the next
-finds : (L : List ℕ → ℕ) (o p : Offer) (os : List Offer) (best : Clash) (high : ℕ) → high ≤ 2 ^ 56 → RisesFrom (o.rank + 1) os high → All (IsBehind L o) os → o.rank < best.first → find (λ r. bytes_eq r.name o.name) os ≡ Some p → looked_at L best os ≡ clash o.rank p.rank
-finds L o p [] best high most up behind above e = cc
-finds L o p (q ∷ os) best high most up behind above e =
+finds : (L : List ℕ → ℕ) (o p : Offer) (os : List Offer) (best : Clash) (high : ℕ) → high ≤ 2 ^ 56 → RisesFrom (o.rank + 1) os high → All (IsAfter L o) os → o.rank < best.first → find (λ r. bytes_eq r.name o.name) os ≡ Some p → looked_at L best os ≡ clash o.rank p.rank
+finds L o p [] best high most up later_ones above e = cc
+finds L o p (q ∷ os) best high most up later_ones above e =
     let low = up.0 in
     let end = rises_end os (q.rank + 1) high up.1 in
-    found_at L o q p os best (bytes_eq q.name o.name) refl (All-head (IsBehind L o) q os behind) (All-tail (IsBehind L o) q os behind) (omega arith) (omega arith) above
-    (λ c also found. finds L o p os c high most (rises_lower os (o.rank + 1) (q.rank + 1) high (omega arith) up.1) (All-tail (IsBehind L o) q os behind) also found) e
+    found_at L o q p os best (bytes_eq q.name o.name) refl (All-head (IsAfter L o) q os later_ones) (All-tail (IsAfter L o) q os later_ones) (omega arith) (omega arith) above
+    (λ c also found. finds L o p os c high most (rises_lower os (o.rank + 1) (q.rank + 1) high (omega arith) up.1) (All-tail (IsAfter L o) q os later_ones) also found) e
 
 none_if : (o q : Offer) (os : List Offer) (b : Bool) → bytes_eq q.name o.name ≡ b → (find (λ r. bytes_eq r.name o.name) os ≡ None → All (λ r. bytes_eq r.name o.name ≡ false) os) → (if b then Some q else find (λ r. bytes_eq r.name o.name) os) ≡ None → All (λ r. bytes_eq r.name o.name ≡ false) (q ∷ os)
 none_if o q os true is later e = absurd cc
@@ -171,10 +178,10 @@ bytes_eq_back s t ne = ⊎_elim
 abbrev pub Agrees : (List ℕ → ℕ) → List Offer → Type 0
 Agrees L os = All (λ p. L p.name ≡ least_rank p.name os) os
 
-all_behind : (L : List ℕ → ℕ) (o : Offer) (os : List Offer) (high : ℕ) → high ≤ 2 ^ 56 → RisesFrom (o.rank + 1) os high → All (λ p. L p.name ≡ least_rank p.name (o ∷ os)) os → All (IsBehind L o) os
-all_behind L o os high most up agrees =
+all_after : (L : List ℕ → ℕ) (o : Offer) (os : List Offer) (high : ℕ) → high ≤ 2 ^ 56 → RisesFrom (o.rank + 1) os high → All (λ p. L p.name ≡ least_rank p.name (o ∷ os)) os → All (IsAfter L o) os
+all_after L o os high most up agrees =
     let end = rises_end os (o.rank + 1) high up in
-    All-weaker (λ (p : Offer). L p.name ≡ least_rank p.name (o ∷ os)) (IsBehind L o)
+    All-weaker (λ (p : Offer). L p.name ≡ least_rank p.name (o ∷ os)) (IsAfter L o)
     (λ q is. record {
       same = λ eq. let d = bytes_eq-Decides q.name o.name in is ∙ ap (λ t. least_rank t (o ∷ os)) (d.0 eq) ∙ own_least o os high most up;
       other = λ ne. let later = least_above q.name os (o.rank + 1) high (omega arith) up in omega (arith, other_least q.name o os (bytes_eq_back q.name o.name ne));
@@ -184,7 +191,7 @@ all_behind L o os high most up agrees =
 all_later : (L : List ℕ → ℕ) (o : Offer) (os : List Offer) → All (λ p. L p.name ≡ least_rank p.name (o ∷ os)) os → All (λ r. bytes_eq r.name o.name ≡ false) os → Agrees L os
 all_later L o os agrees others = λ k d lt. agrees k d lt ∙ other_least (get_or os k d).name o os (bytes_eq_back (get_or os k d).name o.name (others k d lt))
 
-strong_defect : (o p : Offer) → o.rank < 2 ^ 56 → defect_of (clash o.rank p.rank) ≡ Some (record { kind = F20; file = file_of o.rank; section = 0; place = symbol_of_rank o.rank; symbol = symbol_of_rank o.rank; other = file_of p.rank })
+strong_defect : (o p : Offer) → o.rank < 2 ^ 56 → defect_of (clash o.rank p.rank) ≡ Some (record { kind = DUPLICATE; file = file_of o.rank; section = 0; place = symbol_of_rank o.rank; symbol = symbol_of_rank o.rank; other = file_of p.rank })
 strong_defect o p lt = cond-false (o.rank == no_rank) None _ (ne_eqb o.rank no_rank (λ e. omega arith))
 
 by_find : (L : List ℕ → ℕ) (o : Offer) (os : List Offer) (high : ℕ) (r : Option Offer) → find (λ p. bytes_eq p.name o.name) os ≡ r → high ≤ 2 ^ 56 → RisesFrom (o.rank + 1) os high → All (λ p. L p.name ≡ least_rank p.name (o ∷ os)) os
@@ -193,7 +200,7 @@ by_find L o os high None is most up agrees later = later (all_later L o os agree
 by_find L o os high (Some p) is most up agrees later =
     let end = rises_end os (o.rank + 1) high up in
     let P : Option Defect → Type 0 = IsFirst (duplicate_of o (Some p) ++ duplicates_of os) in
-    subst P (sym (ap defect_of (finds L o p os no_clash high most up (all_behind L o os high most up agrees) (omega arith) is) ∙ strong_defect o p (omega arith))) (duplicates_of os, refl)
+    subst P (sym (ap defect_of (finds L o p os no_clash high most up (all_after L o os high most up agrees) (omega arith) is) ∙ strong_defect o p (omega arith))) (duplicates_of os, refl)
 
 pub first_duplicate : (L : List ℕ → ℕ) (os : List Offer) (a high : ℕ) → high ≤ 2 ^ 56 → RisesFrom a os high → Agrees L os → IsFirst (duplicates_of os) (defect_of (looked_at L no_clash os))
 first_duplicate L [] a high most up agrees = refl

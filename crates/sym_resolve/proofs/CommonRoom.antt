@@ -5,12 +5,12 @@ use Rattle.std.proofs.lemmas.List.Elements.{All-contains}
 use Rattle.std.proofs.lemmas.Bool.{cond-true, cases_lt}
 use Rattle.std.proofs.lemmas.Slice.Eq.{bytes_eq-Decides}
 use Rattle.lk_tables.specs.declared.heads.Symbol.{Symbol}
-use Rattle.lk_tables.specs.Bodies.{is_common}
+use Rattle.lk_tables.specs.Symbols.{is_common}
 use Rattle.lk_tables.specs.Files.{File, file_at, symbol_at, symbol_name}
 use Rattle.lk_tables.specs.Binding.{Demand, demand_at, demands_in, demands, greatest_size, greatest_align}
 use Rattle.sym_resolve.specs.Law.{IsCommonIn, IsMostAsked, size_asked, align_asked}
+use Rattle.name_numbers.proofs.Walks.{all_if}
 use Rattle.sym_resolve.proofs.Walks.{all_symbols, in_symbols}
-use Rattle.sym_resolve.proofs.Meaning.{all_if}
 
 abbrev pub demand : (name : List ℕ) (size align : ℕ) → Demand
 demand name size align = record { name = name; size = size; align = align }
@@ -112,7 +112,7 @@ module _ (files : List File) (asked : Symbol → ℕ) (of : Demand → ℕ) (sta
       let le = most_above of start name (demands files) (demand_by own s) (demand_there files f i c) same in
       omega (arith, agree own s)
 
-  -- where one asks for the start at least, the greatest demand is a COMMON symbol's
+  -- if one asks for the start at least, the greatest demand is a COMMON symbol's
   pub is_most : (name : List ℕ) (f i : ℕ) → IsCommonIn files f i → symbol_name (file_at files f) i ≡ name → start ≤ asked (symbol_at (file_at files f) i) → IsMostAsked files name asked (most_of of start name (demands files))
   is_most name f i c same some = ⊎_elim
       (λ (none : most_of of start name (demands files) ≡ start).

@@ -1,25 +1,27 @@
 -- The ends of a binding: the first defect of the first phase that has one, or the table.
-use Rattle.std.proofs.Common.{◌≡◌, ℕ, zero, suc, ◌+◌, ◌*◌, ◌^◌, ◌<◌, ◌≤◌, ◌&&◌, ◌==◌, ◌⊎◌, not, nat_lt, min, Bool, true, false, if◌then◌else◌, Option, List, [], ◌∷◌, length, map, filter, get_or, Contains, refl, sym, ap, ◌∙◌, subst, inl, inr, ⊎_elim, arith}
+use Rattle.std.proofs.Common.{◌≡◌, ℕ, zero, suc, ◌+◌, ◌*◌, ◌^◌, ◌<◌, ◌≤◌, ◌&&◌, ◌==◌, ◌⊎◌, not, nat_lt, min, Bool, true, false, if◌then◌else◌, Option, List, [], ◌∷◌, length, filter, get_or, Contains, refl, sym, ap, ◌∙◌, subst, inl, inr, ⊎_elim, arith}
 use Rattle.std.specs.Prelude.{flat_map}
 use Rattle.std.specs.List.{range_with_len}
 use Rattle.std.specs.Str.{bytes_eq}
-use Rattle.std.proofs.lemmas.List.FromFn.{get_or-map-range_with_len}
 use Rattle.std.proofs.lemmas.List.Elements.{All-filter, filter-append, filter_passes, Contains-get_or}
-use Rattle.std.proofs.lemmas.Bool.{cond-true, cond-false, cases_lt, ltb-true, ltb-false, eq-eqb, ne_eqb}
+use Rattle.std.proofs.lemmas.Bool.{cond-true, cond-false, cases_lt, ltb-true, ltb-false, eq-eqb, ne_eqb, not-true}
 use Rattle.std.proofs.lemmas.Slice.Eq.{bytes_eq-Decides}
 use Rattle.claim_core.specs.declared.events.Event.{Event}
 use Rattle.claim_core.specs.Events.{none_of, after}
 use Rattle.lk_base.specs.declared.defects.Defect.{Defect}
-use Rattle.lk_tables.specs.Files.{File, file_at, symbol_at, symbol_name, symbol_total}
-use Rattle.lk_tables.specs.Binding.{Offer, no_rank, no_entry, least_rank, is_strong, is_offer, is_discarded, class_of, rank_of, offer_at, offers_in, offers, bound, rank_bound, ranks_in, bindings, duplicates_of, duplicate_defects, entry_defects, first_phase}
-use Rattle.sym_resolve.specs.Symbols.{in_file, over_symbols}
-use Rattle.sym_resolve.specs.Words.{IsName, AreWords}
-use Rattle.sym_resolve.specs.Offers.{claims, rank_at}
-use Rattle.sym_resolve.specs.Duplicates.{no_clash, least_clash, defect_of}
-use Rattle.sym_resolve.specs.Law.{IsBound, EachIsBound}
+use Rattle.lk_base.specs.declared.abi.TheConstants.{STB_LOCAL}
 use Rattle.lk_base.specs.Firsts.{BeginsWith, IsFirst}
-use Rattle.sym_resolve.proofs.Starts.{first_within}
+use Rattle.lk_tables.specs.Files.{File, by_symbol, file_at, symbol_at, symbol_name, symbol_no, symbol_total}
+use Rattle.lk_tables.specs.Binding.{Offer, no_entry, least_rank, is_strong, is_offer, is_discarded, class_of, offer_at, offers_in, offers, bound_rank, rank_bound, live_rank, bindings, duplicates_of, duplicate_defects, entry_defects, first_phase}
+use Rattle.lk_tables.specs.Ranks.{no_rank, rank_of}
+use Rattle.lk_tables.proofs.ByNumber.{read_by_symbol}
+use Rattle.lk_tables.proofs.FirstNumbers.{first_within}
+use Rattle.sym_resolve.specs.Claims.{claims, rank_at}
+use Rattle.sym_resolve.specs.Law.{IsBound, EachIsBound}
+use Rattle.sym_resolve.specs.StrongPairs.{no_clash, least_clash, defect_of}
+use Rattle.sym_resolve.specs.Symbols.{in_file, over_symbols}
 use Rattle.sym_resolve.proofs.Walks.{Splits, through_symbols, live_within}
+use Rattle.name_numbers.proofs.NameWords.{IsName, word_of}
 use Rattle.sym_resolve.proofs.Meaning.{claims_are, offers_named, row_bound}
 use Rattle.sym_resolve.proofs.Clashes.{RisesFrom, rises_lower, rises_higher, rises_range, looks, strong_alone, Agrees, first_duplicate}
 
@@ -69,7 +71,7 @@ strong_rises files gone many few =
     (rises_higher (over_symbols files g) (0 * 2 ^ 32) ((0 + length files) * 2 ^ 32) (2 ^ 56) (omega arith)
     (rises_range (λ f. f * 2 ^ 32) (in_file files g) 0 (length files) (λ f low high. rises_file files gone f few))))
 
--- the least of all is the least of the strong ones, where that is strong
+-- the least of all is the least of the strong ones, if that is strong
 min_strong : (b s : Bool) (rank all strong : ℕ) → nat_lt rank (2 ^ 56) ≡ s → min all (2 ^ 56) ≡ min strong (2 ^ 56) → min (if b then min rank all else all) (2 ^ 56) ≡ min (if s then (if b then min rank strong else strong) else strong) (2 ^ 56)
 min_strong true true rank all strong is e = omega arith
 min_strong true false rank all strong is e = let le = ltb-false rank (2 ^ 56) is in omega arith
@@ -136,8 +138,8 @@ least_offered text (o ∷ os) =
     let d = bytes_eq-Decides o.name text in
     least_next text o os (least_rank text os) (bytes_eq o.name text) d.0 (least_offered text os)
 
-pub bound_law : (files : List File) (gone : List Bool) (name : List ℕ) → IsBound (offers files gone) name (bound files gone name)
-unfolding bound
+pub bound_law : (files : List File) (gone : List Bool) (name : List ℕ) → IsBound (offers files gone) name (bound_rank files gone name)
+unfolding bound_rank
 bound_law files gone name = record {
   offered = least_offered name (offers files gone);
   least = λ o has same. least_below name (offers files gone) o has same;
@@ -145,64 +147,54 @@ bound_law files gone name = record {
 
 -- each rank of the table
 pub each_bound : (files : List File) (gone : List Bool) (entry : List ℕ) → EachIsBound files gone (bindings files gone entry)
-unfolding bindings ranks_in rank_bound
+unfolding bindings live_rank rank_bound
 each_bound files gone entry f i live lt seen =
     let s = symbol_at (file_at files f) i in
     let name = symbol_name (file_at files f) i in
-    let n = length (file_at files f).head.symbols in
-    let row : get_or (map (ranks_in files gone) (range_with_len 0 (length files))) f [] ≡ map (rank_bound files gone f) (range_with_len 0 n) =
-    get_or-map-range_with_len (ranks_in files gone) 0 (length files) f f [] (live_within files f live) (omega arith)
-    ∙ cond-true (file_at files f).live (map (rank_bound files gone f) (range_with_len 0 n)) [] live in
-    let at : get_or (get_or (map (ranks_in files gone) (range_with_len 0 (length files))) f []) i no_rank ≡ bound files gone name =
-    ap (λ l. get_or l i no_rank) row ∙ get_or-map-range_with_len (rank_bound files gone f) 0 n i i no_rank lt (omega arith)
-    ∙ cond-false (s.binding == 0) no_rank (bound files gone name) (ne_eqb s.binding 0 seen) in
+    let at : get_or (by_symbol files (live_rank files gone)) (symbol_no files f i) no_rank ≡ bound_rank files gone name =
+    read_by_symbol files (live_rank files gone) f i no_rank (live_within files f live) lt
+    ∙ cond-true (file_at files f).live (rank_bound files gone f i) no_rank live
+    ∙ cond-false (s.binding == STB_LOCAL) no_rank (bound_rank files gone name) (not-true (s.binding == STB_LOCAL) seen) in
     let P : ℕ → Type 0 = λ k. IsBound (offers files gone) name k in
     subst P (sym at) (bound_law files gone name)
 
-module _ (files : List File) (gone : List Bool) (entry : List ℕ) (word : ℕ → ℕ → ℕ) (own count : ℕ) (w : AreWords files entry word own count)
-    (row : List ℕ) (is : row ≡ after (none_of count) (claims files gone word)) where
-  strong_agrees : Agrees (λ t. rank_at row (w.word_of t)) (filter is_strong (offers files gone))
-  unfolding bound
+module _ (files : List File) (gone : List Bool) (row : List ℕ) (is : row ≡ after (none_of (symbol_total files)) (claims files gone)) where
+  strong_agrees : Agrees (λ t. rank_at row (word_of files t)) (filter is_strong (offers files gone))
+  unfolding bound_rank
   strong_agrees k d lt =
       let os = offers files gone in
       let p = get_or (filter is_strong os) k d in
-      let name = All-filter is_strong (λ (o : Offer). IsName files entry o.name) os (offers_named files gone entry word own count w) k d lt in
+      let name = All-filter is_strong (λ (o : Offer). IsName files o.name) os (offers_named files gone) k d lt in
       let strong = ltb-true p.rank (2 ^ 56) (filter_passes is_strong os k d lt) in
       let most = least_below p.name (filter is_strong os) p (Contains-get_or (filter is_strong os) k d lt) refl in
       let both = strong_least p.name os in
-      row_bound files gone entry word own count w row is p.name name ∙ (let e : least_rank p.name os ≡ least_rank p.name (filter is_strong os) = omega arith in e)
+      row_bound files gone row is p.name name ∙ (let e : least_rank p.name os ≡ least_rank p.name (filter is_strong os) = omega arith in e)
 
-  pub duplicates_first : length files < 2 ^ 24 → symbol_total files < 2 ^ 31 → IsFirst (duplicate_defects files gone) (defect_of (least_clash row no_clash (claims files gone word)))
+  pub duplicates_first : length files < 2 ^ 24 → symbol_total files < 2 ^ 31 → IsFirst (duplicate_defects files gone) (defect_of (least_clash row no_clash (claims files gone)))
   unfolding duplicate_defects
   duplicates_first many few =
       let os = offers files gone in
-      let L : List ℕ → ℕ = λ t. rank_at row (w.word_of t) in
+      let L : List ℕ → ℕ = λ t. rank_at row (word_of files t) in
       let P : Option Defect → Type 0 = IsFirst (duplicates_of (filter is_strong os)) in
-      let seen = ap (least_clash row no_clash) (claims_are files gone entry word own count w) ∙ looks row w.word_of no_clash os ∙ strong_alone L no_clash os in
+      let seen = ap (least_clash row no_clash) (claims_are files gone) ∙ looks row (word_of files) no_clash os ∙ strong_alone L no_clash os in
       subst P (sym (ap defect_of seen)) (first_duplicate L (filter is_strong os) 0 (2 ^ 56) (omega arith) (strong_rises files gone many few) strong_agrees)
 
-  pub duplicate_told : (seen : List ℕ) (es : List Event) (r : Option Defect) → length files < 2 ^ 24 → symbol_total files < 2 ^ 31 → seen ≡ row → es ≡ claims files gone word → r ≡ defect_of (least_clash seen no_clash es) → IsFirst (duplicate_defects files gone) r
-  duplicate_told seen es r many few same also e =
+  pub duplicate_found : (seen : List ℕ) (es : List Event) (r : Option Defect) → length files < 2 ^ 24 → symbol_total files < 2 ^ 31 → seen ≡ row → es ≡ claims files gone → r ≡ defect_of (least_clash seen no_clash es) → IsFirst (duplicate_defects files gone) r
+  duplicate_found seen es r many few same also e =
       let P : Option Defect → Type 0 = IsFirst (duplicate_defects files gone) in
       subst P (sym (e ∙ ap (λ l. defect_of (least_clash l no_clash es)) same ∙ ap (λ l. defect_of (least_clash row no_clash l)) also)) (duplicates_first many few)
 
 -- the phases
-pub second_phase : (a b c : List Defect) (d : Defect) → a ≡ [] → BeginsWith b d → BeginsWith (first_phase (a ∷ b ∷ c ∷ [])) d
-second_phase a b c d none first =
-    (first.0, ap (λ l. first_phase (l ∷ b ∷ c ∷ [])) none ∙ ap (λ l. first_phase (l ∷ c ∷ [])) first.1)
+pub first_passes : (a : List Defect) (later : List (List Defect)) → a ≡ [] → first_phase (a ∷ later) ≡ first_phase later
+first_passes a later none = ap (λ l. first_phase (l ∷ later)) none
 
-pub third_phase : (a b c : List Defect) (d : Defect) → a ≡ [] → b ≡ [] → c ≡ d ∷ [] → BeginsWith (first_phase (a ∷ b ∷ c ∷ [])) d
-third_phase a b c d none also is =
-    ([], ap (λ l. first_phase (l ∷ b ∷ c ∷ [])) none ∙ ap (λ l. first_phase (l ∷ c ∷ [])) also ∙ ap (λ l. first_phase (l ∷ [])) is)
+pub first_stops : (a : List Defect) (later : List (List Defect)) (d : Defect) → BeginsWith a d → BeginsWith (first_phase (a ∷ later)) d
+first_stops a later d first = (first.0, ap (λ l. first_phase (l ∷ later)) first.1)
 
-pub no_phase : (a b c : List Defect) → a ≡ [] → b ≡ [] → c ≡ [] → first_phase (a ∷ b ∷ c ∷ []) ≡ []
-no_phase a b c none also too =
-    ap (λ l. first_phase (l ∷ b ∷ c ∷ [])) none ∙ ap (λ l. first_phase (l ∷ c ∷ [])) also ∙ ap (λ l. first_phase (l ∷ [])) too
-
-pub entry_missing : (files : List File) (gone : List Bool) (entry : List ℕ) (rank : ℕ) → rank ≡ bound files gone entry → rank ≡ no_rank → entry_defects files gone entry ≡ no_entry ∷ []
+pub entry_missing : (files : List File) (gone : List Bool) (entry : List ℕ) (rank : ℕ) → rank ≡ bound_rank files gone entry → rank ≡ no_rank → entry_defects files gone entry ≡ no_entry ∷ []
 unfolding entry_defects
-entry_missing files gone entry rank is none = cond-true (bound files gone entry == no_rank) (no_entry ∷ []) [] (eq-eqb (bound files gone entry) no_rank (sym is ∙ none))
+entry_missing files gone entry rank is none = cond-true (bound_rank files gone entry == no_rank) (no_entry ∷ []) [] (eq-eqb (bound_rank files gone entry) no_rank (sym is ∙ none))
 
-pub entry_there : (files : List File) (gone : List Bool) (entry : List ℕ) (rank : ℕ) → rank ≡ bound files gone entry → (rank ≡ no_rank → ⊥) → entry_defects files gone entry ≡ []
+pub entry_there : (files : List File) (gone : List Bool) (entry : List ℕ) (rank : ℕ) → rank ≡ bound_rank files gone entry → (rank ≡ no_rank → ⊥) → entry_defects files gone entry ≡ []
 unfolding entry_defects
-entry_there files gone entry rank is some = cond-false (bound files gone entry == no_rank) (no_entry ∷ []) [] (ne_eqb (bound files gone entry) no_rank (λ e. some (is ∙ e)))
+entry_there files gone entry rank is some = cond-false (bound_rank files gone entry == no_rank) (no_entry ∷ []) [] (ne_eqb (bound_rank files gone entry) no_rank (λ e. some (is ∙ e)))

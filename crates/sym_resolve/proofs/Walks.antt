@@ -1,25 +1,13 @@
 -- Lists over ranges, and over the symbols of the live files.
-use Rattle.std.proofs.Common.{◌≡◌, ℕ, zero, suc, ◌+◌, ◌<◌, ◌≤◌, Bool, true, false, if◌then◌else◌, List, [], ◌∷◌, ◌++◌, length, All, Contains, refl, sym, ap, ◌∙◌, subst, ⊎_elim, arith}
+use Rattle.std.proofs.Common.{◌≡◌, ℕ, zero, suc, ◌+◌, ◌<◌, ◌≤◌, Bool, true, false, if◌then◌else◌, List, [], ◌++◌, length, All, Contains, refl, sym, ap, ◌∙◌, ⊎_elim, arith}
 use Rattle.std.specs.Prelude.{flat_map}
 use Rattle.std.specs.List.{range_with_len}
-use Rattle.std.proofs.lemmas.List.{flat_map_more, append-nil, get_or_past}
-use Rattle.std.proofs.lemmas.List.Elements.{All-nil, All-append, Contains-append_left, Contains-append_right}
+use Rattle.std.proofs.lemmas.List.{get_or_past}
+use Rattle.std.proofs.lemmas.List.Elements.{All-nil}
 use Rattle.std.proofs.lemmas.Bool.{cases_lt, cond-true}
-use Rattle.std.proofs.Math.Nat.{eq-or-lt_of_le}
-use Rattle.lk_tables.proofs.Ranges.{range_more}
 use Rattle.lk_tables.specs.Files.{File, file_at, no_file}
+use Rattle.name_numbers.proofs.Walks.{all_range, in_range, same_range}
 use Rattle.sym_resolve.specs.Symbols.{in_file, over_symbols}
-
--- what a loop has collected: one number more
-pub walk_more : {X : Type 0} (g : ℕ → List X) (bs old new : List X) (i : ℕ) → old ≡ bs ++ flat_map g (range_with_len 0 i) → new ≡ old ++ g i → new ≡ bs ++ flat_map g (range_with_len 0 (i + 1))
-walk_more g bs old new i before push =
-    push ∙ ap (λ xs. xs ++ g i) before ∙ flat_map_more g bs (range_with_len 0 i) i ∙ ap (λ r. bs ++ flat_map g r) (sym (range_more i))
-
-pub walk_skip : {X : Type 0} (g : ℕ → List X) (bs old : List X) (i : ℕ) → old ≡ bs ++ flat_map g (range_with_len 0 i) → g i ≡ [] → old ≡ bs ++ flat_map g (range_with_len 0 (i + 1))
-walk_skip g bs old i before none = walk_more g bs old old i before (sym (ap (λ xs. old ++ xs) none ∙ append-nil old))
-
-pub walk_push : {X : Type 0} (g : ℕ → List X) (bs old new : List X) (x : X) (i : ℕ) → old ≡ bs ++ flat_map g (range_with_len 0 i) → new ≡ old ++ x ∷ [] → g i ≡ x ∷ [] → new ≡ bs ++ flat_map g (range_with_len 0 (i + 1))
-walk_push g bs old new x i before push one = walk_more g bs old new i before (push ∙ ap (λ xs. old ++ xs) (sym one))
 
 -- what goes through lists piece by piece
 pub record Splits {X Y : Type 0} (h : List X → List Y) : Type 0 where
@@ -30,27 +18,10 @@ pub through_range : {X Y : Type 0} (h : List X → List Y) (s : Splits h) (g : �
 through_range h s g a zero = s.none
 through_range h s g a (suc n) = s.both (g a) (flat_map g (range_with_len (a + 1) n)) ∙ ap (λ xs. h (g a) ++ xs) (through_range h s g (a + 1) n)
 
-pub same_range : {X : Type 0} (g k : ℕ → List X) (a n : ℕ) → ((j : ℕ) → a ≤ j → j < a + n → g j ≡ k j) → flat_map g (range_with_len a n) ≡ flat_map k (range_with_len a n)
-same_range g k a zero each = refl
-same_range g k a (suc n) each =
-    ap (λ xs. xs ++ flat_map g (range_with_len (a + 1) n)) (each a (omega arith) (omega arith))
-    ∙ ap (λ xs. k a ++ xs) (same_range g k (a + 1) n (λ j low high. each j (omega arith) (omega arith)))
-
-pub all_range : {X : Type 0} (P : X → Type 0) (g : ℕ → List X) (a n : ℕ) → ((j : ℕ) → a ≤ j → j < a + n → All P (g j)) → All P (flat_map g (range_with_len a n))
-all_range P g a zero each = All-nil P
-all_range P g a (suc n) each =
-    All-append P (g a) (flat_map g (range_with_len (a + 1) n)) (each a (omega arith) (omega arith))
-    (all_range P g (a + 1) n (λ j low high. each j (omega arith) (omega arith)))
-
-in_later : {X : Type 0} (g : ℕ → List X) (a n j : ℕ) (x : X) → (a + 1 ≤ j → Contains (flat_map g (range_with_len (a + 1) n)) x) → a ≤ j → Contains (g j) x → Contains (flat_map g (range_with_len a (suc n))) x
-in_later g a n j x later low has = ⊎_elim
-    (λ (same : a ≡ j). let P : ℕ → Type 0 = λ k. Contains (g k) x in Contains-append_left (g a) (flat_map g (range_with_len (a + 1) n)) x (subst P (sym same) has))
-    (λ (lt : a < j). Contains-append_right (g a) (flat_map g (range_with_len (a + 1) n)) x (later (omega arith)))
-    (eq-or-lt_of_le low)
-
-pub in_range : {X : Type 0} (g : ℕ → List X) (a n j : ℕ) (x : X) → a ≤ j → j < a + n → Contains (g j) x → Contains (flat_map g (range_with_len a n)) x
-in_range g a zero j x low high has = absurd (omega arith)
-in_range g a (suc n) j x low high has = in_later g a n j x (λ more. in_range g (a + 1) n j x more (omega arith) has) low has
+pub none_range : {X : Type 0} (g : ℕ → List X) (a n : ℕ) → ((j : ℕ) → a ≤ j → j < a + n → g j ≡ []) → flat_map g (range_with_len a n) ≡ []
+none_range g a zero each = refl
+none_range g a (suc n) each =
+    ap (λ xs. xs ++ flat_map g (range_with_len (a + 1) n)) (each a (omega arith) (omega arith)) ∙ none_range g (a + 1) n (λ j low high. each j (omega arith) (omega arith))
 
 -- a live file is one of the table's
 pub live_within : (files : List File) (f : ℕ) → (file_at files f).live ≡ true → f < length files

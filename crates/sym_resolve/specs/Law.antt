@@ -1,11 +1,13 @@
 -- What a name is bound to, and the room of COMMON symbols (System V gABI, "Symbol Table").
-use Rattle.std.specs.Prelude.{◌≡◌, ◌≢◌, ℕ, ◌<◌, ◌≤◌, ◌⊎◌, max, Bool, true, List, [], length, map, All, Contains, slice_index_or}
+use Rattle.std.specs.Prelude.{◌≡◌, ℕ, ◌<◌, ◌≤◌, ◌⊎◌, max, Bool, true, List, length, map, All, Contains}
 use Rattle.std.specs.List.Sorted.{IsStrictlyIncreasing}
-use Rattle.lk_tables.specs.declared.binding.BoundCommon.{BoundCommon}
+use Rattle.lk_tables.specs.declared.commons.BoundCommon.{BoundCommon}
 use Rattle.lk_tables.specs.declared.heads.Symbol.{Symbol}
-use Rattle.lk_tables.specs.Bodies.{is_common}
-use Rattle.lk_tables.specs.Files.{File, file_at, symbol_at, symbol_name}
-use Rattle.lk_tables.specs.Binding.{Offer, Bindings, no_rank, rank_of, offers}
+use Rattle.lk_tables.specs.Symbols.{is_common}
+use Rattle.lk_tables.specs.Binding.{Offer, Bindings, offers}
+use Rattle.lk_tables.specs.Files.{File, common_no, file_at, is_visible, symbol_at, symbol_name, symbol_no}
+use Rattle.lk_tables.specs.Ranks.{no_rank, rank_of}
+use Rattle.lk_tables.specs.Targets.{commons_at, rank_at}
 
 -- the rank of an offer of the name, or none; and no offer of the name has a smaller one
 pub record IsBound (all : List Offer) (name : List ℕ) (rank : ℕ) : Type 0 where
@@ -15,8 +17,8 @@ pub record IsBound (all : List Offer) (name : List ℕ) (rank : ℕ) : Type 0 wh
 -- each symbol of a live file that other files see has the rank that its name is bound to
 abbrev pub EachIsBound : List File → List Bool → Bindings → Type 0
 EachIsBound files gone b =
-    (f i : ℕ) → (file_at files f).live ≡ true → i < length (file_at files f).head.symbols → (symbol_at (file_at files f) i).binding ≢ 0
-    → IsBound (offers files gone) (symbol_name (file_at files f) i) (slice_index_or (slice_index_or b.ranks f []) i no_rank)
+    (f i : ℕ) → (file_at files f).live ≡ true → i < length (file_at files f).head.symbols → is_visible (symbol_at (file_at files f) i) ≡ true
+    → IsBound (offers files gone) (symbol_name (file_at files f) i) (rank_at b (symbol_no files f i))
 
 -- symbol i of file f is a COMMON one, and the file is live
 pub record IsCommonIn (files : List File) (f i : ℕ) : Type 0 where
@@ -27,7 +29,7 @@ pub record IsCommonIn (files : List File) (f i : ℕ) : Type 0 where
 -- one that other files see, and to whose own offer its name is bound
 pub record IsBoundCommon (files : List File) (gone : List Bool) (f i : ℕ) : Type 0 where
   pub common : IsCommonIn files f i
-  pub seen : (symbol_at (file_at files f) i).binding ≢ 0
+  pub visible : is_visible (symbol_at (file_at files f) i) ≡ true
   pub own : IsBound (offers files gone) (symbol_name (file_at files f) i) (rank_of 1 f i)
 
 -- what a COMMON symbol asks for: its bytes, and its alignment, 0 being read as 1
@@ -46,23 +48,21 @@ pub record IsMostAsked (files : List File) (name : List ℕ) (asked : Symbol →
   pub reached : asked (symbol_at (file_at files file) symbol) ≡ most
   pub greatest : (f i : ℕ) → IsCommonIn files f i → symbol_name (file_at files f) i ≡ name → asked (symbol_at (file_at files f) i) ≤ most
 
--- a bound COMMON symbol of file f, with the greatest room that is asked for under its name
+-- a bound COMMON symbol of file f, with its number among the sections and the greatest room that is asked for under its name
 pub record HasItsRoom (files : List File) (gone : List Bool) (f : ℕ) (c : BoundCommon) : Type 0 where
   pub file_is : c.file ≡ f
   pub bound : IsBoundCommon files gone f c.symbol
+  pub section_is : c.section ≡ common_no files f c.symbol
   pub size_is : IsMostAsked files (symbol_name (file_at files f) c.symbol) size_asked c.size
   pub align_is : IsMostAsked files (symbol_name (file_at files f) c.symbol) align_asked c.align
 
--- what a binding gives room to in file f, and by which symbols
-abbrev pub commons_of : Bindings → ℕ → List BoundCommon
-commons_of b f = slice_index_or b.commons f []
-
+-- the symbols of file f that a binding gives room to
 abbrev pub common_symbols : Bindings → ℕ → List ℕ
-common_symbols b f = map (λ c. c.symbol) (commons_of b f)
+common_symbols b f = map (λ c. c.symbol) (commons_at b.commons f)
 
 -- the bound COMMON symbols get room: no others, each of them, and each once, in order
 pub record GetRoom (files : List File) (gone : List Bool) (b : Bindings) : Type 0 where
-  pub only : (f : ℕ) → All (HasItsRoom files gone f) (commons_of b f)
+  pub only : (f : ℕ) → All (HasItsRoom files gone f) (commons_at b.commons f)
   pub each : (f i : ℕ) → IsBoundCommon files gone f i → Contains (common_symbols b f) i
   pub once : (f : ℕ) → IsStrictlyIncreasing (common_symbols b f)
 

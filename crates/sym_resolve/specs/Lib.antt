@@ -1,9 +1,6 @@
-pub mod Commons
-pub mod Duplicates
-pub mod Found
+pub mod Asks
+pub mod Claims
 pub mod Law
-pub mod Numbers
-pub mod Offers
+pub mod NamedOffers
+pub mod StrongPairs
 pub mod Symbols
-pub mod Tags
-pub mod Words

@@ -1,20 +1,23 @@
 //! Names that are defined twice.
 
-ghost use Rattle.std.specs.Prelude.{◌≡◌, ℕ, ◌<◌};
-ghost use Rattle.lk_tables.specs.Binding as spec;
-ghost use Rattle.sym_resolve.specs.Duplicates.{no_clash, least_clash, lesser_clash, defect_of};
+ghost use Rattle.std.specs.Prelude.{◌≡◌};
+ghost use Rattle.sym_resolve.specs.StrongPairs.{no_clash, least_clash, lesser_clash, defect_of};
 
-use crate::offers::{CLASS_RANKS, FILE_RANKS, rank_at};
-use lk_base::{Defect, DefectKind};
-use lk_tables::NO_RANK;
+use crate::ranks::rank_at;
+use lk_base::Defect;
+use lk_base::kinds::DUPLICATE;
+use lk_tables::{NO_RANK, class_of_rank, file_of, symbol_of};
 use rank_claims::Offer;
+
+/// The class of strong offers.
+const STRONG: u64 = 0;
 
 /// Two strong offers of one name, by rank; `NO_RANK` twice is none.
 #[derive(Clone, Copy)]
 pub struct Clash {
     /// The first offer of the name.
     pub first: u64,
-    /// The one next to it.
+    /// The next one after it.
     pub next: u64,
 }
 
@@ -32,7 +35,7 @@ pub fn duplicate(least: &[u64], offers: &[Offer]) -> Option<Defect>
         return None;
     }
     Some(Defect {
-        kind: DefectKind::F20,
+        kind: DUPLICATE,
         file: file_of(clash.first),
         section: 0,
         place: symbol_of(clash.first) as u64,
@@ -57,25 +60,11 @@ fn lesser_clash(least: &[u64], best: Clash, offer: Offer) -> Clash
     ensures { result ≡ lesser_clash least.now best offer }
 {
     let first = rank_at(least, offer.word);
-    if first < offer.rank && offer.rank < CLASS_RANKS && first < best.first {
+    if first < offer.rank && class_of_rank(offer.rank) == STRONG && first < best.first {
         return Clash {
             first,
             next: offer.rank,
         };
     }
     best
-}
-
-// The file of a rank.
-fn file_of(rank: u64) -> u32
-    ensures { result ≡ spec.file_of rank }
-{
-    (rank % CLASS_RANKS / FILE_RANKS) as u32
-}
-
-// The symbol of a rank.
-fn symbol_of(rank: u64) -> u32
-    ensures { result ≡ spec.symbol_of_rank rank }
-{
-    (rank % FILE_RANKS) as u32
 }

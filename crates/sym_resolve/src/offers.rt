@@ -1,82 +1,97 @@
-//! The offers of the live files, as claims on words.
+//! The offers of the files that take part, as claims on the words of their names.
 
-ghost use Rattle.std.specs.Prelude.{◌≡◌, ℕ, ◌+◌, ◌<◌, ◌≤◌, ◌^◌, ◌++◌, ◌&&◌, not, min, length, List, IfOk, OnOk};
-ghost use Rattle.lk_tables.specs.Files as files;
-ghost use Rattle.lk_tables.specs.Files.{File};
-ghost use Rattle.lk_tables.specs.FileView.{files_of};
+ghost use Rattle.std.specs.Prelude.{◌≡◌, ◌<◌, ◌≤◌, ◌-◌, ◌++◌, ◌&&◌, not, length, flat_map, IfOk, OnOk};
+ghost use Rattle.std.specs.List.{range_with_len};
 ghost use Rattle.lk_tables.specs.Binding as spec;
-ghost use Rattle.sym_resolve.specs.Offers.{claim_at, claims, rank_at};
-ghost use Rattle.sym_resolve.specs.Symbols.{in_file};
-ghost use Rattle.sym_resolve.specs.Words.{word_at};
+ghost use Rattle.lk_tables.specs.Files.{file_at};
+ghost use Rattle.lk_tables.specs.NameNumbers.{NumbersNames, heads_alone};
+ghost use Rattle.lk_tables.specs.TablesView.{files_of};
+ghost use Rattle.sym_resolve.specs.Claims.{claim_at, claims};
+ghost use Rattle.sym_resolve.specs.Symbols.{IsRun, in_file};
+ghost use Rattle.work_split.specs.Pieces.{Tiles};
 
-use crate::files::{file, file_count, is_common, is_live, symbol, symbol_count};
-use crate::words::Words;
-use lk_tables::{NO_RANK, Place, Symbol, Tables};
+use crate::counts::file;
+use lk_base::LinkStop;
+use lk_tables::{NameNumbers, Place, Symbol, Tables, class_of, is_offer, rank_of};
 use rank_claims::Offer;
 use std::alloc::{AllocError, Global};
+use std::ops::Range;
+use std::thread::Threads;
+use work_split::{Gate, over_shares};
 
-/// The offers of the live files, in order of file and symbol.
-pub fn offers_of(
+/// The offers of the files that take part, in order of file and symbol. The workers each list those of one piece of the files.
+pub fn offers_of<R: Threads + Sync, G: Gate>(
+    rt: &R,
     alloc: Global,
     tables: &Tables,
+    names: &NameNumbers,
     discarded: &[bool],
-    words: &Words,
+    pieces: &[Range<usize>],
+    gate: &G,
 ) -> Result<Vec<Offer>, AllocError>
-    requires files { length (files_of tables.now) < 2 ^ 24 }
-    requires symbols { files.symbol_total (files_of tables.now) < 2 ^ 31 }
-    ensures { IfOk result (λ offers. offers.items ≡ claims (files_of tables.now) discarded.now (word_at words.now)) }
+    requires numbered { NumbersNames (heads_alone (files_of tables.now)) names.now }
+    requires tiles { Tiles 0 (length (files_of tables.now)) pieces.now }
+    requires most { length pieces.now ≤ 64 }
+    ensures { IfOk result (λ offers. offers.items ≡ claims (files_of tables.now) discarded.now) }
+{
+    let listed = over_shares(
+        rt,
+        alloc,
+        gate,
+        pieces,
+        |piece: Range<usize>| -> Result<Vec<Offer>, LinkStop>
+            requires numbered { NumbersNames (heads_alone (files_of tables.now)) names.now }
+            requires piece { piece.end ≤ length (files_of tables.now) }
+            ensures { IsRun (in_file (files_of tables.entry.now) (claim_at (files_of tables.entry.now) discarded.entry.now)) piece result }
+        { Ok(offers_in(alloc, tables, names, discarded, piece)?) },
+    );
+    match listed {
+        Ok(offers) => Ok(offers),
+        Err(_) => Err(AllocError),
+    }
+}
+
+// The offers of a run of files.
+fn offers_in(
+    alloc: Global,
+    tables: &Tables,
+    names: &NameNumbers,
+    discarded: &[bool],
+    piece: Range<usize>,
+) -> Result<Vec<Offer>, AllocError>
+    requires numbered { NumbersNames (heads_alone (files_of tables.now)) names.now }
+    requires piece { piece.end ≤ length (files_of tables.now) }
+    ensures { IfOk result (λ offers. offers.items ≡ flat_map (in_file (files_of tables.now) (claim_at (files_of tables.now) discarded.now)) (range_with_len piece.start (piece.end - piece.start))) }
 {
     let mut offers = Vec::new(alloc);
-    let mut first: usize = 0;
-    for f in 0..file_count(tables) {
-        push_offers(&mut offers, tables, discarded, words, f, first)?;
-        // A number past the greatest is that of no section.
-        first = first.saturating_add(section_count(tables, f));
+    for f in piece.start..piece.end {
+        push_offers(&mut offers, tables, names, discarded, f)?;
     }
     Ok(offers)
 }
 
-// How many sections of the link a file has: its own, and one for each of its COMMON symbols.
-fn section_count(tables: &Tables, f: usize) -> usize
-    requires { f < length (files_of tables.now) }
-    ensures { result ≡ min (files.section_count (files.file_at (files_of tables.now) f)) usize.MAX }
-{
-    let file = file(tables, f);
-    if !is_live(tables, f) {
-        return 0;
-    }
-    let commons = file
-        .head
-        .symbols
-        .iter()
-        .filter(|symbol| symbol.place == Place::Common)
-        .count();
-    file.head.sections.len().saturating_add(commons)
-}
-
-// The offers of one file, if it is live; its sections are numbered from `first` on.
+// The offers of one file, if it takes part.
 fn push_offers(
     offers: &mut Vec<Offer>,
     tables: &Tables,
+    names: &NameNumbers,
     discarded: &[bool],
-    words: &Words,
     f: usize,
-    first: usize,
 ) -> Result<(), AllocError>
+    requires numbered { NumbersNames (heads_alone (files_of tables.now)) names.now }
     requires file { f < length (files_of tables.now) }
-    requires files { length (files_of tables.now) < 2 ^ 24 }
-    requires symbols { files.symbol_total (files_of tables.now) < 2 ^ 31 }
-    requires first { first ≡ min (files.first_section (files_of tables.now) f) usize.MAX }
-    ensures { OnOk result (offers.new.items ≡ offers.old.items ++ in_file (files_of tables.now) (claim_at (files_of tables.now) discarded.now (word_at words.now)) f) }
+    ensures { OnOk result (offers.new.items ≡ offers.old.items ++ in_file (files_of tables.now) (claim_at (files_of tables.now) discarded.now) f) }
 {
-    if !is_live(tables, f) {
+    tables.is_few();
+    let file = file(tables, f);
+    if !file.is_live() {
         return Ok(());
     }
-    for i in 0..symbol_count(tables, f) {
-        let symbol = symbol(tables, f, i);
-        if is_offered(discarded, first, &symbol) {
+    for i in 0..file.symbols().len() {
+        let symbol = file.symbol(i);
+        if is_offered(tables, discarded, f, &symbol) {
             offers.push(Offer {
-                word: words.word(f, i),
+                word: names.number(f, i),
                 rank: rank_of(class_of(&symbol), f, i),
             })?;
         }
@@ -84,66 +99,24 @@ fn push_offers(
     Ok(())
 }
 
-// Whether a symbol offers its name, and stands in no section that was discarded; the sections of its file are numbered from
-// `first` on.
-fn is_offered(discarded: &[bool], first: usize, symbol: &Symbol) -> bool
-    ensures { (all : List File) (f : ℕ) → first ≡ min (files.first_section all f) usize.MAX → result ≡ (spec.is_offer symbol.now && not (spec.is_discarded all discarded.now f symbol.now.place)) }
+// Whether a symbol of a file offers its name, and stands in no section that was discarded.
+fn is_offered(tables: &Tables, discarded: &[bool], f: usize, symbol: &Symbol) -> bool
+    requires { f < length (files_of tables.now) }
+    ensures { result ≡ (spec.is_offer symbol.now && not (spec.is_discarded (files_of tables.now) discarded.now f symbol.now.place)) }
 {
-    is_offer(symbol) && !is_discarded(discarded, first, symbol.place)
+    is_offer(symbol) && !is_discarded(tables, discarded, f, symbol.place)
 }
 
-/// Whether a symbol offers its name: other files see it, and it is defined.
-pub fn is_offer(symbol: &Symbol) -> bool
-    ensures { result ≡ spec.is_offer symbol.now }
+// Whether a symbol of a file stands in a section that was discarded.
+fn is_discarded(tables: &Tables, discarded: &[bool], f: usize, place: Place) -> bool
+    requires { f < length (files_of tables.now) }
+    ensures { result ≡ spec.is_discarded (files_of tables.now) discarded.now f place }
 {
-    symbol.binding != 0 && symbol.place != Place::Undef
-}
-
-// Whether a symbol stands in a section that was discarded; the sections of its file are numbered from `first` on.
-fn is_discarded(discarded: &[bool], first: usize, place: Place) -> bool
-    ensures { (all : List File) (f : ℕ) → first ≡ min (files.first_section all f) usize.MAX → result ≡ spec.is_discarded all discarded.now f place }
-{
-    match place {
-        Place::Within(section) => match discarded.get(first.saturating_add(section as usize)) {
-            Some(gone) => *gone,
-            None => false,
-        },
-        _ => false,
-    }
-}
-
-/// Strong 0, COMMON 1, WEAK 2.
-pub fn class_of(symbol: &Symbol) -> u64
-    ensures { result ≡ spec.class_of symbol.now }
-{
-    if is_common(symbol) {
-        return 1;
-    }
-    if symbol.binding == 2 { 2 } else { 0 }
-}
-
-/// So many ranks has each class: 2^24 files of 2^32 symbols.
-pub const CLASS_RANKS: u64 = 0x100_0000_0000_0000;
-
-/// So many ranks has each file in a class.
-pub const FILE_RANKS: u64 = 0x1_0000_0000;
-
-/// The rank of an offer: by its class, then by its file, then by its index in the symbol table.
-pub fn rank_of(class: u64, file: usize, symbol: usize) -> u64
-    requires class { class ≤ 2 }
-    requires file { file < 2 ^ 24 }
-    requires symbol { symbol < 2 ^ 31 }
-    ensures { result ≡ spec.rank_of class file symbol }
-{
-    class * CLASS_RANKS + file as u64 * FILE_RANKS + symbol as u64
-}
-
-/// The rank that a row has for a word.
-pub fn rank_at(row: &[u64], word: u32) -> u64
-    ensures { result ≡ rank_at row.now word }
-{
-    match row.get(word as usize) {
-        Some(rank) => *rank,
-        None => NO_RANK,
+    let Place::Within(section) = place else {
+        return false;
+    };
+    match discarded.get(tables.section_no(f, section as usize)) {
+        Some(gone) => *gone,
+        None => false,
     }
 }

@@ -3,3 +3,4 @@ pub mod Jobs
 pub mod Sharing
 pub mod Tiling
 pub mod Weighing
+pub mod RunsJoined

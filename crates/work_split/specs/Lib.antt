@@ -1,3 +1,4 @@
 pub mod Pieces
 pub mod Shares
 pub mod Tasks
+pub mod Runs

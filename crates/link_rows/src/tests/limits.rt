@@ -1,14 +1,18 @@
 //! Links with limits below those of the command.
 
+ghost use Rattle.std.specs.Prelude.{◌≡◌, IfOk};
 ghost use Rattle.lk_base.specs.Limits.{IsWithinStandard};
+ghost use Rattle.link_command.specs.Command.{texts_of};
+ghost use Rattle.link_driver.specs.Contents.{input_names};
 
 use super::images::{COMMON_OF_8, FIRST, TWO_FILES};
 use super::libraries::{Library, ONE_MEMBER};
 use super::{WORKERS, files_of, words_of};
 use crate::{Image, image_of};
 use link_command::command_of;
-use link_driver::{Linked, OpenGate, link};
-use lk_base::{Defect, DefectKind, Limits, LinkStop, NO_FILE};
+use link_driver::{Inputs, Linked, OpenGate, link};
+use lk_base::kinds::{LIMIT, TOO_BIG};
+use lk_base::{Defect, Limits, LinkStop, NO_FILE};
 use std::alloc::{AllocError, Global};
 use std::test::Fail;
 use std::thread::Threads;
@@ -25,7 +29,7 @@ struct Bounded<'a> {
 
 /// A number past a limit that is no file's own.
 const PASSED: Defect = Defect {
-    kind: DefectKind::F08,
+    kind: LIMIT,
     file: NO_FILE,
     section: 0,
     place: 0,
@@ -108,7 +112,7 @@ const OBJECTS: [Bounded; 9] = [
             ..OF_OBJECTS
         },
         defect: Some(Defect {
-            kind: DefectKind::F23,
+            kind: TOO_BIG,
             place: 0x100c,
             ..PASSED
         }),
@@ -242,12 +246,15 @@ fn inputs_of(
     alloc: Global,
     names: &[String],
     files: &[(String, Vec<u8>)],
-) -> Result<Vec<Vec<u8>>, AllocError> {
+) -> Result<Inputs, AllocError>
+    ensures { IfOk result (λ inputs. input_names inputs ≡ texts_of names.now) }
+{
     let mut inputs = Vec::new(alloc);
     for name in names {
-        inputs.push(Vec::from_slice(alloc, contents_of(files, name.as_str()))?)?;
+        let bytes = Vec::from_slice(alloc, contents_of(files, name.as_str()))?;
+        inputs.push((name.clone()?, bytes))?;
     }
-    Ok(inputs)
+    Ok(Inputs { files: inputs })
 }
 
 /// Whether a link gave the defect that an example has, or its executable.
@@ -278,9 +285,9 @@ fn is_bounded<R: Threads + Sync>(
         return Ok(false);
     };
     let files = files_of(alloc, bounded.libraries)?;
-    let inputs = inputs_of(alloc, command.inputs.as_slice(), files.as_slice())?;
+    let inputs = inputs_of(alloc, command.inputs.names(), files.as_slice())?;
     let limits = within_standard(&bounded.limits);
-    let answer = link(rt, alloc, &command, inputs.as_slice(), &limits, &OpenGate);
+    let answer = link(rt, alloc, &command, &inputs, &limits, &OpenGate);
     is_given(alloc, bounded, &answer)
 }
 

@@ -2,7 +2,7 @@ use Rattle.std.proofs.Common.{◌≡◌, ◌-◌, length, flat_map}
 use Rattle.std.specs.List.{range_with_len}
 use Rattle.elf_out.specs.Executable.{flags_at, live_flags}
 use Rattle.elf_out.specs.Headers.{first_flags}
-use Rattle.lk_tables.specs.FileView.{files_of}
+use Rattle.lk_tables.specs.TablesView.{files_of}
 use Rattle.elf_out.proofs.flags.first_flags.Given as goal
 
 abbrev pub invariant-loop-f : goal.invariant-loop-f

@@ -3,7 +3,7 @@ use Rattle.std.specs.List.{range_with_len}
 use Rattle.elf_out.specs.Executable.{flags_at, live_flags}
 use Rattle.elf_out.specs.Headers.{flags_together}
 use Rattle.elf_out.proofs.FlagSteps.{flags_from}
-use Rattle.lk_tables.specs.FileView.{files_of}
+use Rattle.lk_tables.specs.TablesView.{files_of}
 use Rattle.elf_out.proofs.flags.flags_together.Given as goal
 
 abbrev pub invariant-loop-f : goal.invariant-loop-f

@@ -1,6 +1,6 @@
 use Rattle.elf_out.specs.Executable.{live_flags}
 use Rattle.elf_out.proofs.FlagSteps.{kept_is}
-use Rattle.lk_tables.specs.FileView.{files_of}
+use Rattle.lk_tables.specs.TablesView.{files_of}
 use Rattle.elf_out.proofs.flags.kept_flags.Goals as goal
 
 pub returns : goal.returns

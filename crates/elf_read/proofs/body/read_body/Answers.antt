@@ -4,8 +4,6 @@ use Rattle.std.proofs.lemmas.Result.{IfOk-weaker}
 use Rattle.lk_base.specs.declared.defects.Flaw.{Flaw}
 use Rattle.lk_tables.specs.Checks.{Gives}
 use Rattle.lk_tables.specs.Objects.{ObjectView, object_view, object_of, object_checks, parts_of}
-use Rattle.lk_tables.specs.Heads.{head_view}
-use Rattle.lk_tables.proofs.SoundBody.{body_inside}
 use Rattle.lk_tables.proofs.Passing.{found_from, refused_from, ok_from_none, err_from_first}
 use Rattle.elf_read.proofs.body.read_body.Goals as goal
 
@@ -34,11 +32,3 @@ returns-clause-broken c = λ flaw is.
     let b = c.args.bytes.now in
     let whole : object_of b ≡ Err flaw = err_from_first (object_checks b) (parts_of b) flaw is in
     subst (λ (r : Result ObjectView Flaw). Gives object_view c.read.result r) whole c.read.ensures
-
-pub returns-clause-inside : goal.returns-clause-inside
-unfolding object_of
-returns-clause-inside c =
-    let b = c.args.bytes.now in
-    IfOk-weaker c.read.result _ _ (λ x h short.
-    body_inside b (head_view c.args.head.now) (object_view x) c.requires (record { parts = h.0; sound = h.1 }) short)
-    (found_from object_view (object_checks b) (parts_of b) c.read.result c.read.ensures)

@@ -4,7 +4,6 @@ use Rattle.std.proofs.lemmas.Result.{IfOk-weaker}
 use Rattle.lk_base.specs.declared.defects.Flaw.{Flaw}
 use Rattle.lk_tables.specs.Checks.{Gives}
 use Rattle.lk_tables.specs.Heads.{HeadView, head_view, head_of, head_checks, fields_of}
-use Rattle.lk_tables.proofs.SoundHead.{head_inside}
 use Rattle.lk_tables.proofs.Passing.{found_from, refused_from, ok_from_none, err_from_first}
 use Rattle.elf_read.proofs.head.read_head.Goals as goal
 
@@ -33,10 +32,3 @@ returns-clause-broken c = λ flaw is.
     let b = c.args.bytes.now in
     let whole : head_of b ≡ Err flaw = err_from_first (head_checks b) (fields_of b) flaw is in
     subst (λ (r : Result HeadView Flaw). Gives head_view c.read.result r) whole c.read.ensures
-
-pub returns-clause-inside : goal.returns-clause-inside
-unfolding head_of
-returns-clause-inside c =
-    let b = c.args.bytes.now in
-    IfOk-weaker c.read.result _ _ (λ x h. head_inside b (head_view x) (record { fields = h.0; sound = h.1 }))
-    (found_from head_view (head_checks b) (fields_of b) c.read.result c.read.ensures)

@@ -1,52 +1,52 @@
-use Rattle.std.proofs.Common.{◌≡◌, ℕ, ◌+◌, ◌<◌, false, List, Vec, Global, length, replicate, All, sym, ap, ◌∙◌, subst, arith, rules}
+use Rattle.std.proofs.Common.{◌≡◌, ◌+◌, ◌<◌, false, length, replicate, get_or, sym, ap, ◌∙◌, subst, arith, rules}
 use Rattle.std.proofs.lemmas.List.{length-map, get_or_default}
-use Rattle.std.proofs.lemmas.List.Elements.{All-weaker}
-use Rattle.file_live.specs.Pulls.{lists_of}
-use Rattle.file_live.specs.Search.{ends_at, Reached, reached, all_visited}
-use Rattle.file_live.proofs.Searching.{Searched, searched_start, searched_more, searched_all, queue_within, ends_read}
+use Rattle.lk_tables.specs.FileView.{file_view, file_views}
+use Rattle.lk_tables.specs.Reach.{ends_at}
+use Rattle.file_live.specs.Pulls.{commands, ends, pulled_in}
+use Rattle.file_live.specs.Visits.{Reached, reached, all_visited}
+use Rattle.file_live.proofs.Searching.{Searched, searched_start, searched_more, searched_all, queue_within}
+use Rattle.file_live.proofs.Pulling.{length_ends, ends_read}
+use Rattle.file_live.proofs.TakePart.{commands_within, ends_within}
 use Rattle.file_live.proofs.search.reach.Goals as goal
 
 pub loop-next-init : goal.loop-next-init
 loop-next-init c =
-    let ends = c.args.ends.now in
-    let items : Vec ℕ Global → List ℕ = λ v. v.items in
-    let fresh : c.in_ok-seen.seen.items ≡ replicate (length ends) false = search rules in
-    searched_start c.args.roots.now (lists_of ends) (length ends) c.in_ok-seen.seen.items c.new-queue.result.items (reached c.visit_all.new.seen.items c.visit_all.new.queue.items)
-    (sym (length-map ends items)) c.requires.roots fresh c.new-queue.ensures.items c.in_ok-visit_all.ensures
+    let lent = c.args.files.now in
+    let files = file_views lent in
+    let fresh : c.in_ok-seen.seen.items ≡ replicate (length lent) false = search rules in
+    searched_start (commands files) (ends files) (length lent) c.in_ok-seen.seen.items c.in_ok-queue.queue.items (reached c.visit_commands.new.seen.items c.visit_commands.new.queue.items)
+    (omega (arith, length_ends files, length-map lent file_view)) (commands_within files (length lent) (sym (length-map lent file_view))) fresh c.in_ok-queue.ensures.items c.in_ok-visit_commands.ensures
 
-pub bounds-ends-place : goal.bounds-ends-place
-bounds-ends-place c =
-    let ends = c.args.ends.now in
-    let items : Vec ℕ Global → List ℕ = λ v. v.items in
+pub visit_pulled-requires-clause-file : goal.visit_pulled-requires-clause-file
+visit_pulled-requires-clause-file c =
+    let lent = c.args.files.now in
+    let files = file_views lent in
     let queue = c.loop-next.queue.items in
     let ok = c.loop-next.queue.ok in
     let test = c.loop-next-test.true in
     let len = c.len.ensures in
     let lt : c.loop-next.next < length queue = omega arith in
-    let low = queue_within c.args.roots.now (lists_of ends) c.loop-next.next (reached c.loop-next.seen.items queue) lt c.loop-next.invariant in
+    let low = queue_within (commands files) (ends files) c.loop-next.next (reached c.loop-next.seen.items queue) lt c.loop-next.invariant in
     let at = c.index.ensures ∙ get_or_default queue c.loop-next.next c.index.result.now 0 lt in
-    omega (arith, length-map ends items)
+    omega (arith, length_ends files, length-map lent file_view)
 
-pub visit_all-requires-in-loop-next : goal.visit_all-requires-in-loop-next
-visit_all-requires-in-loop-next c =
-    let ends = c.args.ends.now in
-    let items : Vec ℕ Global → List ℕ = λ v. v.items in
-    let queue = c.loop-next.queue.items in
-    let seen = c.loop-next.seen.items in
+pub visit_pulled-requires-clause-wide : goal.visit_pulled-requires-clause-wide
+visit_pulled-requires-clause-wide c =
+    let wide = c.loop-next.invariant.tied.wide in
+    omega (arith, length_ends (file_views c.args.files.now), length-map c.args.files.now file_view)
+
+pub loop-next-smaller : goal.loop-next-smaller
+loop-next-smaller c =
     let ok = c.loop-next.queue.ok in
     let test = c.loop-next-test.true in
     let len = c.len.ensures in
-    let lt : c.loop-next.next < length queue = omega arith in
-    let low = queue_within c.args.roots.now (lists_of ends) c.loop-next.next (reached seen queue) lt c.loop-next.invariant in
-    let read = ends_read ends queue c.loop-next.next c.index.result.now c.index-ends-place.result c.as_slice.result.now lt (omega (arith, length-map ends items)) c.index.ensures c.index-ends-place.is c.as_slice.ensures.value in
-    let wide = c.loop-next.invariant.tied.wide in
-    let P : List ℕ → Type 0 = All (λ g. g < length seen) in
-    subst P (sym read) (All-weaker (λ (g : ℕ). g < length ends) (λ (g : ℕ). g < length seen) (λ g less. omega (arith, length-map ends items)) (ends_at (lists_of ends) _) (c.requires.ends _))
+    let counted = c.loop-next.invariant.tied.counted in
+    omega (arith, length_ends (file_views c.args.files.now), length-map c.args.files.now file_view)
 
 pub loop-next-preserved : goal.loop-next-preserved
 loop-next-preserved c =
-    let ends = c.args.ends.now in
-    let items : Vec ℕ Global → List ℕ = λ v. v.items in
+    let lent = c.args.files.now in
+    let files = file_views lent in
     let queue = c.loop-next.queue.items in
     let seen = c.loop-next.seen.items in
     let next = c.loop-next.next in
@@ -54,16 +54,19 @@ loop-next-preserved c =
     let test = c.loop-next-test.true in
     let len = c.len.ensures in
     let lt : next < length queue = omega arith in
-    let low = queue_within c.args.roots.now (lists_of ends) next (reached seen queue) lt c.loop-next.invariant in
-    let read = ends_read ends queue next c.index.result.now c.index-ends-place.result c.as_slice.result.now lt (omega (arith, length-map ends items)) c.index.ensures c.index-ends-place.is c.as_slice.ensures.value in
-    let P : Reached → Type 0 = Searched c.args.roots.now (lists_of ends) (next + 1) in
-    subst P (sym (c.in_ok-visit_all-2.ensures ∙ ap (all_visited (reached seen queue)) read))
-    (searched_more c.args.roots.now (lists_of ends) next (reached seen queue) lt
-    (λ f. All-weaker (λ (g : ℕ). g < length ends) (λ (g : ℕ). g < length (lists_of ends)) (λ g less. omega (arith, length-map ends items)) (ends_at (lists_of ends) f) (c.requires.ends f)) c.loop-next.invariant)
+    let low = queue_within (commands files) (ends files) next (reached seen queue) lt c.loop-next.invariant in
+    let at : c.index.result.now ≡ get_or queue next 0 = c.index.ensures ∙ get_or_default queue next c.index.result.now 0 lt in
+    let within : c.index.result.now < length files = omega (arith, length_ends files) in
+    let pulls : pulled_in files c.index.result.now ≡ ends_at (ends files) (get_or queue next 0) = sym (ends_read files c.index.result.now within) ∙ ap (ends_at (ends files)) at in
+    let few : length files < 16777216 = omega (arith, c.requires.files, length-map lent file_view) in
+    let P : Reached → Type 0 = Searched (commands files) (ends files) (next + 1) in
+    subst P (sym (c.in_ok-visit_pulled.ensures ∙ ap (all_visited (reached seen queue)) pulls))
+    (searched_more (commands files) (ends files) next (reached seen queue) lt (ends_within files few c.requires.symbols) c.loop-next.invariant)
 
 pub returns : goal.returns
 returns c =
+    let files = file_views c.args.files.now in
     let ok = c.loop-next.queue.ok in
     let test = c.loop-next-test.false in
     let len = c.len.ensures in
-    searched_all c.args.roots.now (lists_of c.args.ends.now) c.loop-next.next (reached c.loop-next.seen.items c.loop-next.queue.items) (omega arith) c.loop-next.invariant
+    searched_all (commands files) (ends files) c.loop-next.next (reached c.loop-next.seen.items c.loop-next.queue.items) (omega arith) c.loop-next.invariant

@@ -10,7 +10,7 @@ use Rattle.layout.proofs.walk.walk_class.Goals as goal
 pub loop-rest-preserved : goal.loop-rest-preserved
 loop-rest-preserved c =
     let some : 0 < length c.loop-rest.rest.now = grind (arith, nat_tests) in
-    let e = cut_is c.loop-rest.rest.now c.split_at.result.0.now c.split_at.result.1.now c.run_len.result some c.run_len.ensures.value
+    let e = cut_is c.loop-rest.rest.now c.split_at.result.0.now c.split_at.result.1.now c.run_len.result c.run_len.ensures.value
     c.split_at.ensures.front c.split_at.ensures.back in
     record {
       len = c.in_ok-at.ensures.len ∙ c.loop-rest.invariant.len;

@@ -1,7 +1,7 @@
 use Rattle.std.proofs.Common.{◌≡◌, ◌≤◌, ◌+◌, ◌*◌, ◌^◌, ◌++◌, length, List, ℕ, All}
 use Rattle.layout.specs.Order.{IsFit}
 use Rattle.layout.specs.Walk.{Section, all_put, cut, end_along, sections_along, stands_along, views}
-use Rattle.layout.specs.declared.names.Class.{Class}
+use Rattle.lk_tables.specs.declared.classes.Class.{Class}
 use Rattle.layout.specs.Parts.{Part, parts_of}
 use Rattle.layout.specs.declared.order.Row.{Row}
 use Rattle.layout.proofs.walk.walk_class.Given as goal

@@ -1,39 +1,41 @@
-use Rattle.std.proofs.Common.{◌≡◌, ◌≤◌, Bool, [], ℕ, arith, ap, ◌∙◌, sym, length, subst, refl}
+use Rattle.std.proofs.Common.{◌≡◌, ◌≤◌, Bool, [], ℕ, arith, ap, ◌∙◌, sym, length, subst, Ok}
 use Rattle.std.specs.Prelude.{if◌then◌else◌, IfSome}
+use Rattle.lk_base.specs.declared.abi.TheConstants.{FILE_MAX}
 use Rattle.lk_base.specs.Firsts.{StopsAt}
 use Rattle.lk_base.proofs.Loops.{pass_step, stop_step}
 use Rattle.lk_tables.specs.Files.{File}
 use Rattle.lk_tables.specs.FileView.{file_view}
-use Rattle.lk_tables.specs.Heads.{HeadOf}
+use Rattle.lk_tables.specs.Gathering.{IsBodyOf}
+use Rattle.lk_tables.specs.Heads.{head_of}
+use Rattle.work_split.proofs.Sharing.{each_pushed}
 use Rattle.link_driver.specs.Contents.{sources_of}
-use Rattle.link_driver.specs.Link.{body_defects, body_defects_at}
-use Rattle.link_driver.specs.Shares.{IsBodyAt, IsBodyOf}
+use Rattle.link_driver.specs.Defects.{body_defects, body_defects_at}
+use Rattle.link_driver.specs.Reading.{IsBodyAt}
 use Rattle.link_driver.specs.Sources.{headed, source_at}
-use Rattle.link_driver.proofs.Opening.{count_views, headed_at}
-use Rattle.link_driver.proofs.Reading.{opened_head, opened_short}
-use Rattle.link_driver.proofs.Sharing.{each_pushed}
+use Rattle.link_driver.proofs.FileFacts.{count_views, headed_at, opened_head}
 use Rattle.link_driver.proofs.bodies.read_piece.Goals as goal
 
 pub bounds-files-at : goal.bounds-files-at
 bounds-files-at c =
     let ss = sources_of c.args.sources.now in
-    omega (arith, count_views c.args.files.now c.args.files.now (headed ss) (length c.args.sources.now) refl c.requires.files)
+    omega (arith, count_views c.args.files.now (headed ss) (length c.args.sources.now) c.requires.files)
 
 pub read_wanted-requires-clause-head : goal.read_wanted-requires-clause-head
 read_wanted-requires-clause-head c = λ wanted.
     let ss = sources_of c.args.sources.now in
     let f = c.loop-at.at in
     let was : file_view c.index-files-at.result ≡ headed ss f = ap file_view c.index-files-at.is ∙ headed_at (headed ss) c.args.files.now f (length c.args.sources.now) (omega arith) c.requires.files c.index-files-at.result in
-    let P : File → Type 0 = λ file. HeadOf file.bytes file.head in
-    subst P (sym was) (opened_head ss c.args.live.now f (sym c.has_body-wanted.ensures ∙ wanted) (c.requires.heads f (omega arith)))
+    let P : File → Type 0 = λ file. head_of file.bytes ≡ Ok file.head in
+    let has = sym c.has_body-wanted.ensures ∙ wanted in
+    subst P (sym was) (opened_head ss c.args.live.now f has (c.requires.heads f (omega arith) has))
 
 pub read_wanted-requires-clause-short : goal.read_wanted-requires-clause-short
 read_wanted-requires-clause-short c = λ wanted.
     let ss = sources_of c.args.sources.now in
     let f = c.loop-at.at in
     let was : file_view c.index-files-at.result ≡ headed ss f = ap file_view c.index-files-at.is ∙ headed_at (headed ss) c.args.files.now f (length c.args.sources.now) (omega arith) c.requires.files c.index-files-at.result in
-    let P : File → Type 0 = λ file. length file.bytes ≤ 2147483647 in
-    subst P (sym was) (opened_short ss c.args.live.now f (sym c.has_body-wanted.ensures ∙ wanted) (c.requires.heads f (omega arith)))
+    let P : File → Type 0 = λ file. length file.bytes ≤ FILE_MAX in
+    subst P (sym was) (c.requires.heads f (omega arith) (sym c.has_body-wanted.ensures ∙ wanted)).short
 
 pub returns-in-Err : goal.returns-in-Err
 returns-in-Err c =

@@ -1,8 +1,9 @@
 use Rattle.std.proofs.Common.{◌≡◌, ◌-◌, flat_map}
 use Rattle.std.specs.List.{range_with_len}
+use Rattle.work_split.specs.Shares.{EachFrom}
 use Rattle.link_driver.specs.Contents.{sources_of}
-use Rattle.link_driver.specs.Link.{body_defects_at}
-use Rattle.link_driver.specs.Shares.{EachFrom, IsBodyAt}
+use Rattle.link_driver.specs.Defects.{body_defects_at}
+use Rattle.link_driver.specs.Reading.{IsBodyAt}
 use Rattle.link_driver.proofs.bodies.read_piece.Given as goal
 
 abbrev pub invariant-loop-at : goal.invariant-loop-at

@@ -1,4 +1,4 @@
-use Rattle.link_driver.proofs.Opening.{text_short}
+use Rattle.link_driver.proofs.FileFacts.{text_short}
 use Rattle.link_driver.proofs.finding.push_member.Goals as goal
 
 pub invariant_of-push : goal.invariant_of-push

@@ -1,17 +1,19 @@
-use Rattle.std.proofs.Common.{arith, ap, get_or, vec_len}
-use Rattle.lk_tables.specs.declared.files.File.{File as LentFile}
-use Rattle.link_driver.proofs.Totals.{symbols_step}
+use Rattle.std.proofs.Common.{◌≡◌, ◌<◌, ◌∙◌, ap, arith, length}
+use Rattle.std.proofs.lemmas.List.{length-map}
+use Rattle.lk_tables.specs.Files.{File, file_at, no_file}
+use Rattle.lk_tables.specs.FileView.{file_view, file_views}
+use Rattle.lk_tables.proofs.FirstNumbers.{file_read, first_more}
 use Rattle.link_driver.proofs.heads.count_symbols.Goals as goal
 
 pub loop-index-preserved : goal.loop-index-preserved
 loop-index-preserved c =
-    let d : LentFile = c.index-files-index.result in
-    let file : LentFile = get_or c.args.files.now c.loop-index.index d in
-    let long = file.head.symbols.ok.0 in
-    let more = symbols_step c.args.files.now c.loop-index.index d (omega arith) in
-    let few = c.requires.few c.loop-index.index d (omega arith) in
-    let same = ap (λ (f : LentFile). vec_len f.head.symbols) c.index-files-index.is in
+    let files = file_views c.args.files.now in
+    let i = c.loop-index.index in
+    let lt : i < length files = omega (arith, length-map c.args.files.now file_view) in
+    let view : file_view c.index-files-index.result ≡ file_at files i = file_read c.args.files.now i c.index-files-index.result (omega arith) c.index-files-index.is in
+    let here : length c.symbols.result.now ≡ length (file_at files i).head.symbols = ap length c.symbols.ensures ∙ ap (λ (file : File). length file.head.symbols) view in
+    let few = c.requires.few i no_file lt in
     record {
-      total = omega (arith, long, more, c.loop-index.invariant.total, same);
-      few = omega (arith, long, c.loop-index.invariant.few, few, same);
+      total = omega (arith, here, first_more files i lt, c.loop-index.invariant.total);
+      few = omega (arith, here, few, c.loop-index.invariant.few);
     }

@@ -1,14 +1,12 @@
-use Rattle.std.proofs.Common.{arith, ap, ◌≡◌, ◌∙◌, sym, subst, refl, ℕ}
+use Rattle.std.proofs.Common.{arith, ap, ◌≡◌, ◌∙◌, sym, subst, ℕ}
 use Rattle.lk_base.specs.Firsts.{StopsAt}
 use Rattle.lk_base.proofs.Loops.{pass_step, stop_step}
-use Rattle.lk_tables.specs.Heads.{head_view}
+use Rattle.work_split.proofs.Sharing.{each_pushed}
 use Rattle.link_driver.specs.Contents.{source_view, sources_of}
-use Rattle.link_driver.specs.Link.{head_defects, head_defects_at}
-use Rattle.link_driver.specs.Shares.{IsHeadOf}
-use Rattle.link_driver.specs.Sources.{Source, head_in, source_at}
-use Rattle.link_driver.proofs.Opening.{source_is}
-use Rattle.link_driver.proofs.Sharing.{each_pushed}
-use Rattle.link_driver.proofs.Totals.{is_head_of}
+use Rattle.link_driver.specs.Defects.{head_defects, head_defects_at}
+use Rattle.link_driver.specs.Reading.{IsHeadAt, IsHeadOf}
+use Rattle.link_driver.specs.Sources.{Source, source_at}
+use Rattle.link_driver.proofs.FileFacts.{source_is}
 use Rattle.link_driver.proofs.heads.read_piece.Goals as goal
 
 pub returns-in-Err : goal.returns-in-Err
@@ -25,12 +23,11 @@ pub loop-at-preserved : goal.loop-at-preserved
 loop-at-preserved c =
     let ss = sources_of c.args.sources.now in
     let f : ℕ = c.loop-at.at in
-    let s = source_at ss f in
-    let is : source_view c.index-sources-at.result ≡ s = ap source_view c.index-sources-at.is ∙ source_is c.args.sources.now f c.index-sources-at.result (omega arith) in
-    let head_is : head_view c.in-Ok.head ≡ head_in s = c.in-Ok.ensures.head ∙ ap head_in is in
+    let is : source_view c.index-sources-at.result ≡ source_at ss f = ap source_view c.index-sources-at.is ∙ source_is c.args.sources.now f c.index-sources-at.result (omega arith) in
+    let P : Source → Type 0 = λ s. IsHeadOf s c.in-Ok.head in
     record {
       none = pass_step (head_defects_at ss) f c.args.piece.end _ (omega arith) c.loop-at.invariant.none
           (sym (ap (λ (x : Source). head_defects x f) is) ∙ c.in-Ok.ensures.goes);
-      each = each_pushed (IsHeadOf ss) c.args.piece.start f c.loop-at.files.items c.push.new.self.items _ c.in_ok-push.ensures.items c.loop-at.invariant.each
-          (is_head_of ss f _ refl (ap (λ (x : Source). x.member) is) (ap (λ (x : Source). x.bytes) is) head_is refl c.in-Ok.ensures.few);
+      each = each_pushed (IsHeadAt ss) c.args.piece.start f c.loop-at.heads.items c.push.new.self.items _ c.in_ok-push.ensures.items c.loop-at.invariant.each
+          (subst P is c.in-Ok.ensures.head);
     }

@@ -2,7 +2,7 @@ use Rattle.std.proofs.Common.{◌≡◌, ◌++◌, ◌-◌, length, flat_map}
 use Rattle.std.specs.List.{range_with_len}
 use Rattle.layout.specs.Parts.{parts_of}
 use Rattle.lk_tables.specs.BindingView.{binding_view}
-use Rattle.lk_tables.specs.FileView.{files_of}
+use Rattle.lk_tables.specs.TablesView.{files_of}
 use Rattle.reloc_apply.specs.Parts.{parts_in}
 use Rattle.reloc_apply.proofs.parts.members.Given as goal
 

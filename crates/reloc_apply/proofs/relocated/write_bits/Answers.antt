@@ -1,28 +1,35 @@
-use Rattle.std.proofs.Common.{◌≡◌, ◌+◌, ◌-◌, ◌≤◌, ◌<◌, length, arith, ap, ◌∙◌}
+use Rattle.std.proofs.Common.{◌≡◌, ℕ, ◌+◌, ◌-◌, ◌≤◌, ◌<◌, ◌∷◌, [], length, arith, ap, ◌∙◌, subst}
+use borrow.Rule.Slice.PartMut.{put_mid}
+use Rattle.lk_base.specs.declared.abi.TheConstants.{IMAGE_BASE}
 use Rattle.lk_tables.specs.Files.{file_at, section_at, relocs_at}
-use Rattle.reloc_apply.specs.Relocated.{all_put, contents}
-use Rattle.reloc_apply.specs.ListedViews.{files_in, names_in, starts_in}
+use Rattle.lk_tables.specs.Sections.{contents_of}
+use Rattle.lk_tables.specs.Views.{binding_in, files_in, sections_in}
+use Rattle.reloc_apply.specs.Image.{Shows, piece}
+use Rattle.reloc_apply.specs.Relocated.{relocated}
 use Rattle.reloc_apply.proofs.SectionLies.{one_piece}
 use Rattle.reloc_apply.proofs.relocated.write_bits.Goals as goal
 
 pub returns : goal.returns
 returns c =
     let files = files_in c.args.view.now in
-    let b = names_in c.args.view.now in
-    let starts = starts_in c.args.view.now in
+    let b = binding_in c.args.view.now in
+    let sections = sections_in c.args.view.now in
     let f = c.args.file in
     let k = c.args.section in
     let raw = c.contents-bytes.result.now in
-    let relocs_are : c.relocs_in-relocs.result.now ≡ relocs_at (file_at files f) k = c.relocs_in-relocs.ensures.value ∙ ap (λ file. relocs_at file k) c.file_in-entry.ensures in
-    let raw_is : c.copy_from_slice.new.self ≡ contents (file_at files f) (section_at (file_at files f) k) =
-    c.copy_from_slice.ensures.after ∙ c.contents-bytes.ensures.value ∙ ap (λ file. contents file (section_at file k)) c.file_in-entry.ensures in
-    let long : length raw ≡ length c.relocate-2.new.bytes = omega arith in
-    let size : length raw ≡ (section_at (file_at files f) k).size = c.contents-bytes.ensures.size ∙ ap (λ file. (section_at file k).size) c.file_in-entry.ensures in
+    let out = c.args.out.now in
+    let done = c.relocate-2.new.bytes in
+    let here = c.start_of.result - IMAGE_BASE in
+    let long : length raw ≡ length done = omega arith in
+    let size = c.contents-bytes.ensures.size in
     let some : 0 < (section_at (file_at files f) k).size = omega (arith, size) in
-    let low = c.requires.placed.low c.requires.bits some in
-    let high = c.requires.placed.high c.requires.bits some in
-    let room : (c.args.start - 65536) + length raw ≤ length c.args.out.now = omega arith in
-    one_piece c.args.out.now c.relocate-2.new.bytes (all_put files b starts f k c.args.start (relocs_at (file_at files f) k) (contents (file_at files f) (section_at (file_at files f) k)))
-    (c.args.start - 65536) (length raw)
-    (c.relocate-2.ensures ∙ ap (λ rs. all_put files b starts f k c.args.start rs c.copy_from_slice.new.self) relocs_are ∙ ap (λ bs. all_put files b starts f k c.args.start (relocs_at (file_at files f) k) bs) raw_is)
-    long room
+    let placed = c.args.view.now.room f k c.requires.file c.requires.live c.requires.section c.requires.written c.requires.bits some in
+    let room : here + length raw ≤ length out = omega (arith, placed.low, placed.high, c.start_of.ensures, size) in
+    let raw_is : c.copy_from_slice.new.self ≡ contents_of (file_at files f).bytes (section_at (file_at files f) k) = c.copy_from_slice.ensures.after ∙ c.contents-bytes.ensures.value in
+    let wanted = relocated files b sections f k (relocs_at (file_at files f) k) (contents_of (file_at files f).bytes (section_at (file_at files f) k)) in
+    let P : ℕ → Type 0 = λ start. Shows out (put_mid here (here + length raw - here) out done) (piece (start - IMAGE_BASE) wanted ∷ []) in
+    subst P c.start_of.ensures
+    (one_piece out done wanted here (length raw)
+    (c.relocate-2.ensures ∙ ap (λ rs. relocated files b sections f k rs c.copy_from_slice.new.self) c.relocs_in-relocs.ensures.value
+    ∙ ap (λ bs. relocated files b sections f k (relocs_at (file_at files f) k) bs) raw_is)
+    long room)

@@ -1,20 +1,18 @@
 use Rattle.std.proofs.Common.{arith, length}
-use Rattle.std.proofs.lemmas.List.{length-map}
-use Rattle.lk_tables.specs.FileView.{file_view}
-use Rattle.reloc_apply.specs.Relocated.{defects_in, pieces_in, relocation_defects}
-use Rattle.reloc_apply.specs.ListedViews.{files_in, names_in, starts_in}
+use Rattle.lk_tables.specs.Views.{binding_in, files_in, sections_in}
+use Rattle.lk_tables.specs.Walks.{over_file, over_live, over_section}
+use Rattle.reloc_apply.specs.Relocated.{reloc_defects, section_pieces}
 use Rattle.reloc_apply.proofs.NoDefects.{none_below}
 use Rattle.reloc_apply.proofs.Showing.{shows_step}
 use Rattle.reloc_apply.proofs.relocated.write_files.Goals as goal
 
 pub write_file-requires-clause-sound : goal.write_file-requires-clause-sound
-unfolding relocation_defects
+unfolding over_live
 write_file-requires-clause-sound c =
-    none_below (defects_in (files_in c.args.view.now) (names_in c.args.view.now) (starts_in c.args.view.now))
-    (length (files_in c.args.view.now)) c.loop-file.file c.requires.sound
-    (omega (arith, length-map c.args.view.now.known.tables.now.files.items file_view))
+    none_below (over_file (files_in c.args.view.now) (over_section (files_in c.args.view.now) (reloc_defects (files_in c.args.view.now) (binding_in c.args.view.now) (sections_in c.args.view.now))))
+    (length (files_in c.args.view.now)) c.loop-file.file c.requires.sound (omega arith)
 
 pub loop-file-preserved : goal.loop-file-preserved
 loop-file-preserved c =
-    shows_step (pieces_in (files_in c.args.view.now) (names_in c.args.view.now) (starts_in c.args.view.now))
+    shows_step (over_file (files_in c.args.view.now) (section_pieces (files_in c.args.view.now) (binding_in c.args.view.now) (sections_in c.args.view.now)))
     c.loop-file.file _ _ _ c.loop-file.invariant c.write_file.ensures

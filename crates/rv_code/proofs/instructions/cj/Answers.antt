@@ -2,7 +2,8 @@ use Rattle.std.proofs.Common.{◌≡◌, arith, subst, ℤ, to_z, of_z}
 use Rattle.std.specs.Int.{w128}
 use Rattle.std.proofs.lemmas.Int.{ints}
 use Rattle.byteorder.specs.Endian.{little_number}
-use Rattle.rv_code.specs.Kinds.{kind_of}
+use Rattle.lk_base.specs.declared.abi.TheConstants.{R_RISCV_RVC_JUMP}
+use Rattle.lk_base.specs.RelocKinds.{kind_of}
 use Rattle.rv_code.specs.Places.{HoldsValue}
 use Rattle.rv_code.specs.Transfers.{Goes}
 use Rattle.rv_code.proofs.JumpWords.{short_word}
@@ -14,6 +15,6 @@ returns c =
     let read : c.from_le_bytes.result ≡ little_number 2 c.patch.new.place = omega (arith, c.from_le_bytes.ensures) in
     short_word c.from_le_bytes.result c.args.offset c.to_le_bytes-bytes.result c.patch.new.place
     c.to_le_bytes-bytes.ensures
-    (subst (λ (v : ℤ). HoldsValue (kind_of 45).field c.to_le_bytes-bytes.result v c.patch.new.place) same c.patch.ensures.field)
-    (subst (λ (v : ℤ). Goes 45 v c.patch.new.place) same c.patch.ensures.goes)
+    (subst (λ (v : ℤ). HoldsValue (kind_of R_RISCV_RVC_JUMP).field c.to_le_bytes-bytes.result v c.patch.new.place) same c.patch.ensures.field)
+    (subst (λ (v : ℤ). Goes R_RISCV_RVC_JUMP v c.patch.new.place) same c.patch.ensures.goes)
     read

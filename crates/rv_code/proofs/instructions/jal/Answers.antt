@@ -2,7 +2,8 @@ use Rattle.std.proofs.Common.{◌≡◌, ◌+◌, ◌*◌, ◌%◌, ◌^◌, ◌
 use Rattle.std.specs.Int.{w128}
 use Rattle.std.proofs.lemmas.Int.{ints}
 use Rattle.byteorder.specs.Endian.{little_number}
-use Rattle.rv_code.specs.Kinds.{kind_of}
+use Rattle.lk_base.specs.declared.abi.TheConstants.{R_RISCV_JAL}
+use Rattle.lk_base.specs.RelocKinds.{kind_of}
 use Rattle.rv_code.specs.Places.{HoldsValue}
 use Rattle.rv_code.specs.Transfers.{Goes}
 use Rattle.rv_code.proofs.JumpWords.{jal_word}
@@ -16,6 +17,6 @@ returns c =
     let below : 0x6f + c.args.rd * 128 % 2 ^ 32 < 256 ^ 4 = omega (arith, c.requires.register) in
     jal_word c.args.rd (0x6f + c.args.rd * 128 % 2 ^ 32) c.from_le_bytes.result c.args.offset c.to_le_bytes-bytes.result c.patch.new.place
     below base c.to_le_bytes-bytes.ensures
-    (subst (λ (v : ℤ). HoldsValue (kind_of 17).field c.to_le_bytes-bytes.result v c.patch.new.place) same c.patch.ensures.field)
-    (subst (λ (v : ℤ). Goes 17 v c.patch.new.place) same c.patch.ensures.goes)
+    (subst (λ (v : ℤ). HoldsValue (kind_of R_RISCV_JAL).field c.to_le_bytes-bytes.result v c.patch.new.place) same c.patch.ensures.field)
+    (subst (λ (v : ℤ). Goes R_RISCV_JAL v c.patch.new.place) same c.patch.ensures.goes)
     read

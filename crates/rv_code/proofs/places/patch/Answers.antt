@@ -1,42 +1,43 @@
 use Rattle.std.proofs.Common.{arith, ◌∙◌}
 use Rattle.std.proofs.lemmas.Int.{to_z-of_z}
-use Rattle.rv_code.specs.Formats.{field_of}
-use Rattle.rv_code.specs.Kinds.{kind_of}
+use Rattle.lk_base.specs.Formats.{field_of}
+use Rattle.lk_base.specs.RelocKinds.{kind_of}
+use Rattle.lk_base.proofs.TableLines.{width_few, width_some}
 use Rattle.rv_code.proofs.WholePlaces.{patched_by, held_by}
-use Rattle.rv_code.proofs.ReadingBack.{sound_kind, reads_back}
+use Rattle.rv_code.proofs.ReadingBack.{same_field, sound_kind, reads_back}
 use Rattle.rv_code.proofs.Going.{goes}
 use Rattle.rv_code.proofs.places.patch.Goals as goal
 
 pub read_uint-old-requires-clause-low : goal.read_uint-old-requires-clause-low
-read_uint-old-requires-clause-low c = omega (arith, c.line_of-line.ensures.width, c.requires.width, c.line_of-line.ensures.some)
+read_uint-old-requires-clause-low c = omega (arith, c.requires.width, width_some c.args.kind c.requires.value)
 
 pub read_uint-old-requires-clause-high : goal.read_uint-old-requires-clause-high
-read_uint-old-requires-clause-high c = omega (arith, c.line_of-line.ensures.width, c.requires.width, c.line_of-line.ensures.few)
+read_uint-old-requires-clause-high c = omega (arith, c.requires.width, width_few c.args.kind)
 
 pub write_number-requires : goal.write_number-requires
-write_number-requires c = omega (arith, c.line_of-line.ensures.width, c.requires.width, c.line_of-line.ensures.few)
+write_number-requires c = omega (arith, c.requires.width, width_few c.args.kind)
 
 pub returns-clause-value : goal.returns-clause-value
 returns-clause-value c =
     let fits = c.ranges.v in
     let bits = simp to_z-of_z at c.put_value-new.ensures in
     c.write_number.ensures
-    ∙ patched_by (field_of c.line_of-line.result.format) (kind_of c.args.kind).field c.args.v c.args.place.now
-    c.read_uint-old.result c.put_value-new.result c.put_value-new.type_inv c.line_of-line.ensures.field
+    ∙ patched_by (field_of c.kind_of-line.result.format) (kind_of c.args.kind).field c.args.v c.args.place.now
+    c.read_uint-old.result c.put_value-new.result c.put_value-new.type_inv (same_field c.kind_of-line.result c.args.kind c.kind_of-line.ensures.line)
     c.read_uint-old.ensures bits
 
 pub returns-clause-field : goal.returns-clause-field
 returns-clause-field c =
     let fits = c.ranges.v in
     let bits = simp to_z-of_z at c.put_value-new.ensures in
-    held_by (field_of c.line_of-line.result.format) (kind_of c.args.kind).field c.args.v c.args.place.now
-    c.write_number.new.place c.read_uint-old.result c.put_value-new.result c.line_of-line.ensures.field
+    held_by (field_of c.kind_of-line.result.format) (kind_of c.args.kind).field c.args.v c.args.place.now
+    c.write_number.new.place c.read_uint-old.result c.put_value-new.result (same_field c.kind_of-line.result c.args.kind c.kind_of-line.ensures.line)
     c.read_uint-old.ensures c.write_number.ensures bits
 
 pub returns-clause-reads_back : goal.returns-clause-reads_back
 returns-clause-reads_back c =
     reads_back (kind_of c.args.kind) c.args.v c.args.place.now c.write_number.new.place
-    (sound_kind c.args.kind c.requires.value) c.requires.width (returns-clause-field c)
+    (sound_kind c.args.kind) c.requires.width (returns-clause-field c)
 
 pub returns-clause-goes : goal.returns-clause-goes
 returns-clause-goes c =

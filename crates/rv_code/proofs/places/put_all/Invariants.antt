@@ -1,7 +1,7 @@
 use Rattle.std.proofs.Common.{◌≡◌, ℕ, ◌≤◌, length, drop}
 use Rattle.std.specs.Int.{bit_at}
 use Rattle.lk_base.specs.Fields.{field_bit}
-use Rattle.rv_code.specs.Formats.{runs_of}
+use Rattle.rv_code.specs.Parts.{runs_of}
 use Rattle.rv_code.proofs.places.put_all.Given as goal
 
 abbrev pub invariant-loop-left : goal.invariant-loop-left

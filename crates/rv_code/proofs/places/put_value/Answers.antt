@@ -2,8 +2,8 @@ use Rattle.std.proofs.Common.{◌≡◌, ℕ, ◌+ℤ◌, pos, ◌%◌, ◌+◌,
 use Rattle.std.specs.Int.{bit_at}
 use Rattle.std.proofs.lemmas.Int.{to_z-of_z}
 use Rattle.lk_base.specs.Fields.{Run, field_bit}
-use Rattle.rv_code.specs.Formats.{field_of}
-use Rattle.rv_code.specs.Places.{bits_of}
+use Rattle.lk_base.specs.Formats.{field_of}
+use Rattle.lk_base.specs.Arithmetic.{bits_of}
 use Rattle.rv_code.proofs.WholePlaces.{placed_is, rounded_bits}
 use Rattle.rv_code.proofs.places.put_value.Goals as goal
 

@@ -1,5 +1,5 @@
 use Rattle.std.proofs.Common.{◌≡◌, drop}
-use Rattle.sym_resolve.specs.Duplicates.{no_clash, least_clash}
+use Rattle.sym_resolve.specs.StrongPairs.{no_clash, least_clash}
 use Rattle.sym_resolve.proofs.duplicates.least_clash.Given as goal
 
 abbrev pub invariant-loop-offer : goal.invariant-loop-offer

@@ -1,25 +1,15 @@
-use Rattle.std.proofs.Common.{◌≡◌, ◌<◌, [], length, ap, ◌∙◌, arith}
-use Rattle.std.specs.Prelude.{flat_map}
-use Rattle.std.specs.List.{range_with_len}
-use Rattle.lk_tables.specs.FileView.{files_of}
-use Rattle.sym_resolve.specs.Offers.{claim_at, claims}
+use Rattle.std.proofs.Common.{length}
+use Rattle.lk_tables.specs.TablesView.{files_of}
+use Rattle.sym_resolve.specs.Claims.{claim_at, claims}
 use Rattle.sym_resolve.specs.Symbols.{in_file}
-use Rattle.sym_resolve.specs.Words.{word_at}
-use Rattle.sym_resolve.proofs.Walks.{walk_more}
-use Rattle.sym_resolve.proofs.Claiming.{section_next}
+use Rattle.sym_resolve.proofs.Runs.{joined_run, piece_within}
 use Rattle.sym_resolve.proofs.offers.offers_of.Goals as goal
 
-pub loop-f-preserved : goal.loop-f-preserved
-loop-f-preserved c =
-    let files = files_of c.args.tables.now in
-    let lt : c.loop-f.f < length files = omega arith in (
-      walk_more (in_file files (claim_at files c.args.discarded.now (word_at c.args.words.now))) [] c.loop-f.offers.items c.push_offers.new.offers.items c.loop-f.f c.loop-f.invariant.0 c.in_ok-push_offers.ensures,
-      section_next files c.loop-f.f c.loop-f.first c.section_count.result c.saturating_add-first.result lt c.loop-f.invariant.1 c.section_count.ensures c.saturating_add-first.ensures,
-    )
+pub over_shares-listed-requires-clause-accepts : goal.over_shares-listed-requires-clause-accepts
+over_shares-listed-requires-clause-accepts g c = λ κs bound w p lt at. (c.requires.numbered, piece_within (length (files_of c.args.tables.now)) c.args.pieces.now w p c.requires.tiles lt at)
 
-pub returns : goal.returns
+pub returns-in-Ok : goal.returns-in-Ok
 unfolding claims
-returns c =
+returns-in-Ok g c =
     let files = files_of c.args.tables.now in
-    let all : c.loop-f.f ≡ length files = omega arith in
-    c.loop-f.invariant.0 ∙ ap (λ k. flat_map (in_file files (claim_at files c.args.discarded.now (word_at c.args.words.now))) (range_with_len 0 k)) all
+    joined_run (in_file files (claim_at files c.args.discarded.now)) _ (length files) c.args.pieces.now c.over_shares-listed.result c.in-Ok.offers c.over_shares-listed.ensures (λ p s h. h.1) c.requires.tiles c.in-Ok.is

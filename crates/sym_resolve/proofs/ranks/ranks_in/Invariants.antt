@@ -1,9 +1,12 @@
-use Rattle.std.proofs.Common.{◌≡◌, map}
+use Rattle.std.proofs.Common.{◌≡◌, ◌-◌, ◌++◌}
+use Rattle.std.specs.Prelude.{flat_map}
 use Rattle.std.specs.List.{range_with_len}
-use Rattle.lk_tables.specs.FileView.{files_of}
-use Rattle.sym_resolve.specs.Words.{word_at}
-use Rattle.sym_resolve.specs.Offers.{rank_by}
+use Rattle.lk_tables.specs.TablesView.{files_of}
+use Rattle.lk_tables.proofs.ByNumber.{symbol_row}
+use Rattle.sym_resolve.specs.Claims.{rank_by}
 use Rattle.sym_resolve.proofs.ranks.ranks_in.Given as goal
 
-abbrev pub invariant-loop-i : goal.invariant-loop-i
-invariant-loop-i l = l.ranks.items ≡ map (rank_by (files_of l.tables) l.least (word_at l.words) l.f) (range_with_len 0 l.i)
+abbrev pub invariant-loop-f : goal.invariant-loop-f
+invariant-loop-f l =
+    l.ranks.items ++ flat_map (symbol_row (files_of l.tables) (rank_by (files_of l.tables) l.least)) (range_with_len l.f (l.fn.piece.end - l.f))
+    ≡ flat_map (symbol_row (files_of l.tables) (rank_by (files_of l.tables) l.least)) (range_with_len l.fn.piece.start (l.fn.piece.end - l.fn.piece.start))

@@ -1,6 +1,6 @@
 use Rattle.std.proofs.Common.{ℕ, ◌<◌, get_or}
 use Rattle.layout.specs.Parts.{IsSized, part_of}
-use Rattle.layout.specs.declared.names.Member.{Member}
+use Rattle.layout.specs.declared.members.Member.{Member}
 use Rattle.layout.proofs.placing.tests.are_sized.Given as goal
 
 abbrev pub invariant-loop-member : goal.invariant-loop-member

@@ -1,0 +1,9 @@
+use Rattle.std.proofs.Common.{◌≡◌}
+use Rattle.std.specs.Prelude.{flat_map}
+use Rattle.std.specs.List.{range_with_len}
+use Rattle.lk_tables.specs.FileView.{file_views}
+use Rattle.file_live.specs.Claims.{claims_in}
+use Rattle.file_live.proofs.claims.claims_of.Given as goal
+
+abbrev pub invariant-loop-f : goal.invariant-loop-f
+invariant-loop-f l = l.list.items ≡ flat_map (claims_in (file_views l.files)) (range_with_len 0 l.f)

@@ -1,0 +1,62 @@
+//! The files that take part in a link.
+
+ghost use Rattle.std.specs.Prelude.{◌≡◌, ◌<◌, ◌≤◌, ◌^◌, length, IfOk};
+ghost use Rattle.lk_tables.specs.FileView.{file_views};
+ghost use Rattle.lk_tables.specs.Files.{symbol_total};
+ghost use Rattle.lk_tables.specs.NameNumbers.{NumbersNames, heads_alone};
+ghost use Rattle.lk_tables.specs.TablesView.{heads_of};
+ghost use Rattle.file_live.specs.Live.{live_of, IsLive};
+
+use crate::claims::claims_of;
+use crate::search::reach;
+use claim_rows::least_offers;
+use lk_tables::{File, Heads, NameNumbers};
+use name_numbers::number_names;
+use std::alloc::{AllocError, Global};
+use std::thread::Threads;
+use work_split::Gate;
+
+/// By number, whether a file takes part in the link: the objects of the command do, and each member that a symbol of one that
+/// does asks for. It answers the same whatever the number of workers. Names that have no numbers yet are numbered for this call.
+pub fn live<R: Threads + Sync, G: Gate>(
+    rt: &R,
+    alloc: Global,
+    heads: &Heads,
+    workers: u32,
+    gate: &G,
+) -> Result<Vec<bool>, AllocError>
+    requires some { 1 ≤ workers }
+    requires most { workers ≤ 64 }
+    requires symbols { symbol_total (heads_of heads.now) < 2 ^ 31 }
+    ensures live { IfOk result (λ list. list.items ≡ live_of (heads_of heads.now)) }
+    ensures least { IfOk result (λ list. IsLive (heads_of heads.now) list.items) }
+{
+    if let Some(names) = heads.names() {
+        return live_by(rt, alloc, heads.files(), names, workers, gate);
+    }
+    let names = number_names(rt, alloc, heads.files(), workers)?;
+    live_by(rt, alloc, heads.files(), &names, workers, gate)
+}
+
+/// The same, by the numbers of the files' names.
+fn live_by<R: Threads + Sync, G: Gate>(
+    rt: &R,
+    alloc: Global,
+    files: &[File],
+    names: &NameNumbers,
+    workers: u32,
+    gate: &G,
+) -> Result<Vec<bool>, AllocError>
+    requires some { 1 ≤ workers }
+    requires most { workers ≤ 64 }
+    requires files { length files.now < 2 ^ 24 }
+    requires symbols { symbol_total (file_views files.now) < 2 ^ 31 }
+    requires names { NumbersNames (heads_alone (file_views files.now)) names.now }
+    ensures live { IfOk result (λ list. list.items ≡ live_of (file_views files.now)) }
+    ensures least { IfOk result (λ list. IsLive (file_views files.now) list.items) }
+{
+    let words = names.numbers.len() as u32;
+    let claims = claims_of(alloc, files, names)?;
+    let row = least_offers(rt, alloc, gate, workers, words, claims.as_slice())?;
+    reach(alloc, files, names, row.as_slice())
+}

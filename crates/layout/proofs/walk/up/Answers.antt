@@ -1,8 +1,0 @@
-use Rattle.std.proofs.Common.{◌+◌, ◌-◌, ◌/◌}
-use native.Mathlib.Nat.{mul-mod_left}
-use Rattle.layout.specs.Walk.{up}
-use Rattle.layout.proofs.walk.up.Goals as goal
-
-pub returns-clause-multiple : goal.returns-clause-multiple
-unfolding up
-returns-clause-multiple c = mul-mod_left ((c.args.x + (c.args.align - 1)) / c.args.align) c.args.align

@@ -1,0 +1,8 @@
+use Rattle.link_command.specs.Command.{asks}
+use Rattle.link_driver.specs.Contents.{input_contents, sources_of}
+use Rattle.link_driver.proofs.Starting.{line_is}
+use Rattle.link_driver.proofs.driving.report_defect.Goals as goal
+
+pub returns : goal.returns
+returns c =
+    line_is (asks c.args.command.now) (input_contents c.args.inputs.now) (sources_of c.args.sources.now) c.args.defect.now c.in-Ok.line.items c.requires c.in-Ok.ensures

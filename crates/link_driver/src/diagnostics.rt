@@ -1,0 +1,163 @@
+//! What is reported: the line of a defect, and the lines about inputs and files.
+
+ghost use Rattle.std.specs.Prelude.{◌≡◌, [], slice_index_or, IfOk};
+ghost use Rattle.link_command.specs.Command.{asks};
+ghost use Rattle.link_driver.specs.Contents.{input_contents, source_view, sources_of};
+ghost use Rattle.link_driver.specs.Endings.{AreLines, map_line};
+ghost use Rattle.link_driver.specs.Link.{about, cannot_write, defect_name, line_in, shown_in};
+ghost use Rattle.link_driver.specs.Sources.{input_at, shown_file, shown_source, source_at};
+
+use crate::inputs::Inputs;
+use crate::sources::Source;
+use crate::symbol_names::symbol_name;
+use link_command::Command;
+use lk_base::{Defect, FileNo, line_of, push_escaped};
+use lk_tables::text_of;
+use std::alloc::{AllocError, Global};
+
+/// `text`, a name and a newline.
+pub fn line_about(alloc: Global, text: &[u8], name: &str) -> Result<Vec<u8>, AllocError>
+    ensures { IfOk result (λ line. line.items ≡ about text.now name.now) }
+{
+    let mut line = Vec::from_slice(alloc, text)?;
+    push_escaped(&mut line, name.as_bytes())?;
+    line.push(b'\n')?;
+    Ok(line)
+}
+
+/// The lines for files that may fail, made before the first is begun.
+#[derive(Drop)]
+pub struct Lines {
+    pub output: Vec<u8>,
+    pub map: Vec<u8>,
+}
+
+/// The line for the map, empty where none is asked.
+#[tactic(auto, unfolding(crate::specs::Link::cannot_write))]
+fn line_for_map(alloc: Global, command: &Command) -> Result<Vec<u8>, AllocError>
+    ensures { IfOk result (λ line. line.items ≡ map_line (asks command.now).map) }
+{
+    let Some(map) = &command.map else {
+        return Ok(Vec::new(alloc));
+    };
+    line_about(alloc, b"rvld: cannot write ", map.as_str())
+}
+
+#[tactic(auto, unfolding(crate::specs::Link::cannot_write))]
+pub fn lines_for(alloc: Global, command: &Command) -> Result<Lines, AllocError>
+    ensures { IfOk result (λ lines. AreLines (asks command.now) lines) }
+{
+    let output = line_about(alloc, b"rvld: cannot write ", command.output.as_str())?;
+    let map = line_for_map(alloc, command)?;
+    Ok(Lines { output, map })
+}
+
+/// The name of an input, empty where there is none of this number.
+fn file_name(command: &Command, file: u64) -> &[u8]
+    ensures { result.now ≡ slice_index_or (asks command.now).inputs file [] }
+{
+    let Some(name) = command.inputs.names().get(file as usize) else {
+        return &[];
+    };
+    name.as_str().as_bytes()
+}
+
+/// The bytes of an input, none where there is none of this number.
+fn input_bytes(inputs: &Inputs, input: usize) -> &[u8]
+    ensures { result.now ≡ input_at (input_contents inputs.now) input }
+{
+    let Some(file) = inputs.files.get(input) else {
+        return &[];
+    };
+    file.1.as_slice()
+}
+
+/// The name of a file as lines show it.
+#[tactic(auto, unfolding(crate::specs::Sources::shown_source))]
+fn shown_source(
+    alloc: Global,
+    command: &Command,
+    inputs: &Inputs,
+    source: &Source,
+) -> Result<Vec<u8>, AllocError>
+    ensures { IfOk result (λ name. name.items ≡ shown_source (asks command.now).inputs (input_contents inputs.now) (source_view source.now)) }
+{
+    let mut name = Vec::from_slice(alloc, file_name(command, source.input as u64))?;
+    if let Some(label) = &source.label {
+        name.push(b'(')?;
+        name.extend_from_slice(text_of(input_bytes(inputs, source.input), label))?;
+        name.push(b')')?;
+    }
+    Ok(name)
+}
+
+/// The name of a file by its number, none where there is no such file.
+fn shown_file(
+    alloc: Global,
+    command: &Command,
+    inputs: &Inputs,
+    sources: &[Source],
+    file: u64,
+) -> Result<Vec<u8>, AllocError>
+    ensures { IfOk result (λ name. name.items ≡ shown_file (asks command.now).inputs (input_contents inputs.now) (sources_of sources.now) file) }
+{
+    let Some(source) = sources.get(file as usize) else {
+        return Ok(Vec::new(alloc));
+    };
+    shown_source(alloc, command, inputs, source)
+}
+
+/// The bytes of a file, none where there is none of this number.
+fn file_bytes<'a>(sources: &[Source<'a>], file: FileNo) -> &'a [u8]
+    ensures { result.now ≡ (source_at (sources_of sources.now) file).bytes }
+{
+    let Some(source) = sources.get(file as usize) else {
+        return &[];
+    };
+    source.bytes
+}
+
+/// The name of a defect's symbol.
+fn symbol_of<'a>(
+    alloc: Global,
+    sources: &[Source<'a>],
+    defect: &Defect,
+) -> Result<&'a [u8], AllocError>
+    ensures { IfOk result (λ name. name.now ≡ shown_in (source_at (sources_of sources.now) defect.now.file).bytes defect.now.symbol) }
+{
+    symbol_name(alloc, file_bytes(sources, defect.file), defect.symbol)
+}
+
+/// The name that the line of a defect shows.
+fn name_for<'a>(
+    alloc: Global,
+    command: &'a Command,
+    sources: &[Source<'a>],
+    defect: &Defect,
+) -> Result<&'a [u8], AllocError>
+    ensures { IfOk result (λ name. name.now ≡ defect_name (asks command.now) (sources_of sources.now) defect.now) }
+{
+    if defect.kind.names_symbol() {
+        return symbol_of(alloc, sources, defect);
+    }
+    if defect.kind.names_entry() {
+        return Ok(command.entry.as_str().as_bytes());
+    }
+    Ok(&[])
+}
+
+/// The line of a defect.
+pub fn line_for(
+    alloc: Global,
+    command: &Command,
+    inputs: &Inputs,
+    sources: &[Source],
+    defect: &Defect,
+) -> Result<Vec<u8>, AllocError>
+    ensures { IfOk result (λ line. line.items ≡ line_in (asks command.now) (input_contents inputs.now) (sources_of sources.now) defect.now) }
+{
+    let file = shown_file(alloc, command, inputs, sources, defect.file as u64)?;
+    let other = shown_file(alloc, command, inputs, sources, defect.other)?;
+    let name = name_for(alloc, command, sources, defect)?;
+    line_of(alloc, defect, file.as_slice(), name, other.as_slice())
+}

@@ -1,0 +1,79 @@
+-- The file of a section's number, and what is written of a file.
+use Rattle.std.proofs.Common.{◌≡◌, ℕ, ◌+◌, ◌-◌, ◌<◌, ◌≤◌, ◌&&◌, Bool, true, false, List, length, refl, ap, ◌∙◌, arith, nat_lt, unwrap_or, inl, inr}
+use Rattle.std.specs.Prelude.{Option}
+use Rattle.std.proofs.lemmas.Bool.{cases_lt, le-ltb, lt-ltb}
+use Rattle.std.proofs.lemmas.List.{get_or_past}
+use Rattle.std.proofs.Math.Bool.{and-false}
+use Rattle.lk_tables.specs.declared.section_places.SectionPlace.{SectionPlace}
+use Rattle.lk_tables.specs.Files.{File, first_section, section_total, section_at, no_section, writes}
+use Rattle.lk_tables.specs.Sections.{is_loaded, is_written}
+use Rattle.lk_tables.specs.Sites.{IsPlaceOf, owner_of, place_of}
+use Rattle.lk_tables.proofs.Finding.{first_number}
+use Rattle.lk_tables.proofs.FirstNumbers.{section_more, section_upto}
+
+-- the number is one of this file's
+pub record IsOwner (files : List File) (section f : ℕ) : Type 0 where
+  pub file : f < length files
+  pub from : first_section files f ≤ section
+  pub below : section < first_section files (f + 1)
+
+pub owner_is : (files : List File) (section f : ℕ) → IsOwner files section f → owner_of files section ≡ f
+unfolding owner_of
+owner_is files section f is =
+    let test : ℕ → Bool = λ k. nat_lt section (first_section files (k + 1)) in
+    ap (λ (o : Option ℕ). unwrap_or o 0) (first_number test (length files) f is.file
+    (λ k less. let from = is.from in le-ltb section (first_section files (k + 1)) (omega (arith, section_upto files (k + 1) f (omega arith))))
+    (lt-ltb section (first_section files (f + 1)) is.below))
+
+abbrev pub place_in : List File → (section f : ℕ) → SectionPlace
+place_in files section f = record { file = f; index = section - first_section files f }
+
+pub place_is : (files : List File) (section f : ℕ) → IsOwner files section f → place_of files section ≡ place_in files section f
+unfolding place_of
+place_is files section f is = ap (place_in files section) (owner_is files section f is)
+
+pub place_law : (files : List File) (section f : ℕ) → IsOwner files section f → IsPlaceOf files section (place_in files section f)
+place_law files section f is =
+    let from = is.from in
+    let below = is.below in
+    record { file = is.file; index = omega (arith, section_more files f is.file); number = omega arith }
+
+-- the first p of the files' first numbers are not above the section's, and the others are
+pub record IsSplit (files : List File) (section p : ℕ) : Type 0 where
+  pub below : (k : ℕ) → k < p → k ≤ length files → first_section files k ≤ section
+  pub above : (k : ℕ) → p ≤ k → k ≤ length files → section < first_section files k
+
+pub some_below : (files : List File) (section p : ℕ) → IsSplit files section p → 1 ≤ p
+some_below files section p split = elim (cases_lt 0 p) [
+  | inl lt ↦ lt
+  | inr none ↦ absurd (let no : section < 0 = split.above 0 none (omega arith) in omega (arith, no))
+]
+
+pub split_owner : (files : List File) (section p : ℕ) → section < section_total files → IsSplit files section p → IsOwner files section (p - 1)
+split_owner files section p within split =
+    let some = some_below files section p split in
+    let most : p ≤ length files = elim (cases_lt (length files) p) [
+      | inl lt ↦ absurd (let no = split.below (length files) lt (omega arith) in omega (arith, no, within))
+      | inr le ↦ le
+    ] in
+    let next : p - 1 + 1 ≡ p = omega arith in
+    record {
+      file = omega arith;
+      from = split.below (p - 1) (omega arith) (omega arith);
+      below = omega (arith, split.above p (omega arith) most, ap (first_section files) next);
+    }
+
+-- what is written is a section of the file's table
+unwritten : (b : List ℕ) → is_written b no_section ≡ false
+unfolding is_written is_loaded
+unwritten b = refl
+
+pub written_within : (file : File) (k : ℕ) → writes file k ≡ true → k < length file.head.sections
+written_within file k written = elim (cases_lt k (length file.head.sections)) [
+  | inl lt ↦ lt
+  | inr past ↦
+      let none : section_at file k ≡ no_section = get_or_past file.head.sections k no_section past in
+      let not_written : writes file k ≡ false =
+      ap (λ s. nat_lt 0 k && is_written file.bytes s) none ∙ ap (λ b. nat_lt 0 k && b) (unwritten file.bytes) ∙ and-false (nat_lt 0 k) in
+      absurd cc
+]

@@ -1,0 +1,19 @@
+use Rattle.std.proofs.Common.{◌+◌, length, ap, arith}
+use Rattle.std.proofs.lemmas.List.{length-map}
+use Rattle.lk_tables.specs.FileView.{file_view}
+use Rattle.lk_tables.specs.Files.{first_symbol}
+use Rattle.lk_tables.specs.TablesView.{files_of}
+use Rattle.lk_tables.proofs.FirstNumbers.{first_read, length_firsts}
+use Rattle.lk_tables.proofs.tables.Tables.symbol_no.Goals as goal
+
+pub index-requires : goal.index-requires
+index-requires c =
+    let s = c.args.self.now in
+    let few = c.requires.file in
+    omega (arith, length_firsts (first_symbol (files_of s)) s.first_symbols.items (length s.files.items) s.symbols, length-map s.files.items file_view, s.first_symbols.ok.0)
+
+pub returns : goal.returns
+returns c =
+    let s = c.args.self.now in
+    let few = c.requires.file in
+    ap (λ k. k + c.args.symbol) (first_read (first_symbol (files_of s)) s.first_symbols.items (length s.files.items) c.args.file c.index.result.now s.symbols (omega (arith, length-map s.files.items file_view)) c.index.ensures)

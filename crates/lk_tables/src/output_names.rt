@@ -1,0 +1,122 @@
+//! The output section to which a section goes, and its place among the members of it, by its name alone.
+
+ghost use Rattle.std.specs.Prelude.{◌≡◌, ◌≤◌, length};
+ghost use Rattle.lk_tables.specs.OutputNames.{gathered, is_numbered, is_under, number_of, output_name, priority_of, texts};
+
+const PREFIXES: [&[u8]; 16] = [
+    b".text",
+    b".rodata",
+    b".srodata",
+    b".data.rel.ro",
+    b".data",
+    b".bss",
+    b".sdata",
+    b".sbss",
+    b".tdata",
+    b".tbss",
+    b".preinit_array",
+    b".init_array",
+    b".fini_array",
+    b".ctors",
+    b".dtors",
+    b".gcc_except_table",
+];
+
+/// The name of the output section to which a section of this name goes.
+#[tactic(auto, unfolding(crate::specs::OutputNames::output_name))]
+pub fn output_name<'a>(name: &'a [u8]) -> &'a [u8]
+    ensures { result.now ≡ output_name name.now }
+{
+    if name == b"COMMON".as_slice() {
+        return b".bss";
+    }
+    gathered(&PREFIXES, name)
+}
+
+/// The priority of a section among the members of its output section: N for a name `.init_array.N` or `.fini_array.N` of one to
+/// five digits, and 65536, after most, for each other.
+#[tactic(auto, unfolding(crate::specs::OutputNames::priority_of))]
+pub fn priority_of(name: &[u8]) -> u32
+    ensures { result ≡ priority_of name.now }
+{
+    if !is_numbered(name) {
+        return 65536;
+    }
+    number_of(&name[12..]).unwrap_or(65536)
+}
+
+// The first of these prefixes that fits a name, or the name itself.
+#[tactic(auto, unfolding(crate::specs::OutputNames::gathered))]
+fn gathered<'a>(prefixes: &[&'a [u8]], name: &'a [u8]) -> &'a [u8]
+    ensures { result.now ≡ gathered (texts prefixes.now) name.now }
+{
+    for prefix in prefixes {
+        if is_under(name, prefix) {
+            return prefix;
+        }
+    }
+    name
+}
+
+// Whether a name is `prefix`, or `prefix` with a dot and more after it.
+#[tactic(auto, unfolding(crate::specs::OutputNames::is_under))]
+fn is_under(name: &[u8], prefix: &[u8]) -> bool
+    ensures { result ≡ is_under prefix.now name.now }
+{
+    if name == prefix {
+        return true;
+    }
+    name.starts_with(prefix)
+        && prefix.len() < name.len()
+        && name[prefix.len()] == b'.'
+        && prefix.len() < name.len() - 1
+}
+
+// Whether a name is one of those that may end in a priority, with one to five bytes in its place.
+fn is_numbered(name: &[u8]) -> bool
+    ensures { result ≡ is_numbered name.now }
+{
+    (is_under(name, b".init_array") || is_under(name, b".fini_array"))
+        && 13 <= name.len()
+        && name.len() <= 17
+}
+
+// The number that at most five decimal digits write.
+fn number_of(digits: &[u8]) -> Option<u32>
+    requires { length digits.now ≤ 5 }
+    ensures { result ≡ number_of digits.now 0 }
+{
+    let mut number: u32 = 0;
+    for digit in digits {
+        if !(b'0'..=b'9').contains(digit) {
+            return None;
+        }
+        number = 10 * number + (*digit - b'0') as u32;
+    }
+    Some(number)
+}
+
+#[cfg(test)]
+mod tests {
+    use super::*;
+
+    const NAMES: [(&[u8], &[u8]); 10] = [
+        (b".text.hot", b".text"),
+        (b".text.", b".text."),
+        (b".textual", b".textual"),
+        (b".data.rel.ro.local", b".data.rel.ro"),
+        (b".data.rel.ro", b".data.rel.ro"),
+        (b".data.rel", b".data"),
+        (b".rodata.str1.1", b".rodata"),
+        (b".init_array.5", b".init_array"),
+        (b"COMMON", b".bss"),
+        (b".comment", b".comment"),
+    ];
+
+    #[test]
+    fn names_of_output_sections(rt: HostRuntime) {
+        for (name, output) in NAMES.iter() {
+            assert_eq!(rt; output_name(*name), *output);
+        }
+    }
+}

@@ -1,0 +1,61 @@
+//! The numbers of each file's first symbol and first section.
+
+ghost use Rattle.std.specs.Prelude.{◌≡◌, ◌+◌, ◌<◌, ◌≤◌, ◌^◌, map, length, IfOk};
+ghost use Rattle.std.specs.List.{range_with_len};
+ghost use Rattle.lk_tables.specs.FileView.{file_view, file_views};
+ghost use Rattle.lk_tables.specs.Files.{commons_before, first_section, first_symbol, section_count, section_total, symbol_total};
+
+use crate::files::File;
+use crate::reading::is_common;
+use std::alloc::{AllocError, Global};
+
+/// The number of each file's first symbol, and after these how many symbols there are.
+pub fn first_symbols(alloc: Global, files: &[File]) -> Result<Vec<u32>, AllocError>
+    requires { symbol_total (file_views files.now) < 2 ^ 31 }
+    ensures { IfOk result (λ firsts. firsts.items ≡ map (first_symbol (file_views files.now)) (range_with_len 0 (length files.now + 1))) }
+{
+    let mut firsts = Vec::with_capacity(alloc, files.len().saturating_add(1))?;
+    let mut total: u32 = 0;
+    for f in 0..files.len() {
+        firsts.push(total)?;
+        total += files[f].symbols().len() as u32;
+    }
+    firsts.push(total)?;
+    Ok(firsts)
+}
+
+/// The number of each file's first section, and after these how many sections there are.
+pub fn first_sections(alloc: Global, files: &[File]) -> Result<Vec<u32>, AllocError>
+    requires { section_total (file_views files.now) ≤ 2 ^ 28 }
+    ensures { IfOk result (λ firsts. firsts.items ≡ map (first_section (file_views files.now)) (range_with_len 0 (length files.now + 1))) }
+{
+    let mut firsts = Vec::with_capacity(alloc, files.len().saturating_add(1))?;
+    let mut total: u32 = 0;
+    for f in 0..files.len() {
+        firsts.push(total)?;
+        total += section_count(&files[f]) as u32;
+    }
+    firsts.push(total)?;
+    Ok(firsts)
+}
+
+/// How many section numbers a file has: its own sections, and one for each of its COMMON symbols; none if it takes no part.
+pub fn section_count(file: &File) -> usize
+    ensures { result ≡ section_count (file_view file.now) }
+{
+    if !file.is_live() {
+        return 0;
+    }
+    file.sections().len() + commons_in(file)
+}
+
+/// How many COMMON symbols a file has.
+fn commons_in(file: &File) -> usize
+    ensures count { result ≡ commons_before (file_view file.now) (length (file_view file.now).head.symbols) }
+    ensures few { result ≤ length (file_view file.now).head.symbols }
+{
+    file.symbols()
+        .iter()
+        .filter(|symbol| is_common(symbol))
+        .count()
+}

@@ -1,0 +1,16 @@
+//! The names of all symbols of a link, numbered once for all passes.
+//!
+//! The number of a name is that of the first symbol that has it. Symbols of a file whose names are the same span of its bytes share one
+//! key, so no bytes of equal spans are read twice. The keys of all files are sorted by a tag that the bytes decide, then by the bytes, then
+//! by symbol; the first key of a run of equal names has the number of the whole run.
+#![tactic(auto)]
+
+mod keys;
+mod numbers;
+mod sorting;
+mod spans;
+mod tags;
+#[cfg(test)]
+mod tests;
+
+pub use numbers::number_names;

@@ -1,0 +1,16 @@
+//! A number that a name's bytes decide, so that few bytes are compared.
+
+ghost use Rattle.std.specs.Prelude.{◌≡◌};
+ghost use Rattle.name_numbers.specs.Tags as spec;
+
+/// The tag of a name: its bytes as the coefficients of a polynomial, modulo 2^64. Equal names have equal tags, and others seldom do.
+#[tactic(auto, unfolding(crate::specs::Tags::tag_of))]
+pub fn tag_of(text: &[u8]) -> u64
+    ensures { result ≡ spec.tag_of text.now }
+{
+    let mut tag: u64 = 0;
+    for byte in text {
+        tag = tag.wrapping_mul(0x100_0000_01b3).wrapping_add(*byte as u64);
+    }
+    tag
+}
