@@ -13,7 +13,7 @@ ghost use Rattle.lk_tables.specs.BindingView.{binding_view};
 ghost use Rattle.lk_tables.specs.Files.{section_total, symbol_total};
 ghost use Rattle.lk_tables.specs.TablesView.{files_of, heads_of};
 ghost use Rattle.file_live.specs.Live.{IsLive, live_of};
-ghost use Rattle.link_driver.specs.Contents.{input_contents, input_names, sources_of};
+ghost use Rattle.link_driver.specs.Contents.{input_contents, sources_of};
 ghost use Rattle.link_driver.specs.Defects.{opening_defects, reading_defects};
 ghost use Rattle.link_driver.specs.Link.{bound_names, none_gone};
 ghost use Rattle.link_driver.specs.Phases.{AfterLink};
@@ -273,7 +273,7 @@ pub fn link_sources<R: Threads + Sync, G: Gate>(
     })
 }
 
-/// Links the inputs of a command, which are its own: these names, in order.
+/// Links the inputs of a command, which are its own: their names are the command's, in order, and serve lines about them alone.
 ///
 /// The answer is what the link gives if the inputs have no defect; else the first defect of the first phase that has
 /// any, whatever the number of workers and the order of their steps; or out of memory. No limit is above the standard one. The
@@ -290,7 +290,6 @@ pub fn link<R: Threads + Sync, G: Gate>(
     requires some { 1 ≤ command.now.threads }
     requires most { command.now.threads ≤ 64 }
     requires linkable { IsLinkable (asks command.now) }
-    requires own { input_names inputs.now ≡ (asks command.now).inputs }
     ensures { AfterLink limits.now (asks command.now) (sources limits.now (input_contents inputs.now)) result }
 {
     let sources = find_sources(alloc, limits, inputs)?;

@@ -1,9 +1,6 @@
 //! Links with limits below those of the command.
 
-ghost use Rattle.std.specs.Prelude.{◌≡◌, IfOk};
 ghost use Rattle.lk_base.specs.Limits.{IsWithinStandard};
-ghost use Rattle.link_command.specs.Command.{texts_of};
-ghost use Rattle.link_driver.specs.Contents.{input_names};
 
 use super::images::{COMMON_OF_8, FIRST, TWO_FILES};
 use super::libraries::{Library, ONE_MEMBER};
@@ -246,9 +243,7 @@ fn inputs_of(
     alloc: Global,
     names: &[String],
     files: &[(String, Vec<u8>)],
-) -> Result<Inputs, AllocError>
-    ensures { IfOk result (λ inputs. input_names inputs ≡ texts_of names.now) }
-{
+) -> Result<Inputs, AllocError> {
     let mut inputs = Vec::new(alloc);
     for name in names {
         let bytes = Vec::from_slice(alloc, contents_of(files, name.as_str()))?;
