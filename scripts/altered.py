@@ -1,10 +1,11 @@
 #!/usr/bin/env python3
 """Links altered copies of a real object, and of an archive of real objects, with rvld; and links that are made by chance, sound or not.
 
-Usage: scripts/altered.py [RVLD] [--count 10000] [--mode objects|archive|links|several|all] [--seed 1] [--only K] [--keep DIR] [--workers 3] [--loose]
+Usage: scripts/altered.py [RVLD] [--count 10000] [--mode objects|groups|archive|links|several|all] [--seed 1] [--only K] [--keep DIR] [--workers 3] [--loose]
 
 Copy K is made from the seed and K alone: one byte changed, the end cut off, an entry of the section table doubled, or a field of a
-section, a symbol or a relocation set to a hard value; for an archive a byte or a cut, most often near the headers. Link K of the mode
+section, a symbol, a relocation or a group set to a hard value; for an archive a byte or a cut, most often near the headers. Every third
+is linked with --gc-sections. In the mode `groups` it is a copy of a file in C++, linked with one that has the same groups. Link K of the mode
 `links` has a few files, one to sixty-four workers, and sometimes another entry (scripts/chance_links.py); one of `several` has the files of
 a few such links, and up to a dozen of these are altered, so that it is seen which defect is told by any number of workers. Each run must end
 by itself within the limit of time, with status 0 (no line, an executable), 1 (the line of a defect, no executable) or 3. Its status,
@@ -34,13 +35,14 @@ KINDS = ('NotObject BadHeader Outside BadSection Compressed BadArchive Thin Limi
 SHOWN = r'(?:[!-$&-~]|%[0-9A-F]{2})'
 DEFECT = re.compile(r'rvld: F(\d\d) (\w+) file=(%s+) section=\d+ place=\d+ name=%s* other=%s*\n' % (SHOWN, SHOWN, SHOWN))
 NO_FILE = re.compile(r'rvld: cannot (?:read|write) %s+\n' % SHOWN)
+CXX = '-std=c++17 -fno-exceptions -fno-rtti -fno-threadsafe-statics -ffunction-sections -fdata-sections'.split()
 COMPILE = ('clang --target=riscv64-unknown-elf -march=rv64gc -mabi=lp64d -mno-relax -mcmodel=medany -O1 -ffreestanding -fno-builtin '
            '-nostdlib -fno-pic -fno-jump-tables -fno-asynchronous-unwind-tables -fcommon -c -o').split()
 
 
-def compiled(folder, source):
-    out = os.path.join(folder, os.path.basename(source)[:-2] + '.o')
-    subprocess.run(COMPILE + [out, source], check=True)
+def compiled(folder, source, options=()):
+    out = os.path.join(folder, os.path.splitext(os.path.basename(source))[0] + '.o')
+    subprocess.run(COMPILE + [out, source, *options], check=True)
     with open(out, 'rb') as file:
         return file.read()
 
@@ -72,7 +74,8 @@ def altered_object(original, chance):
         offset, width = chance.choice(fields)
         put(contents, at + offset, width, hard(chance, len(contents)))
 
-    way = chance.randrange(10)
+    groups = [row for row in rows if row[1] == 17 and row[5] >= 4 and row[4] + row[5] <= len(contents)]
+    way = chance.randrange(12 if groups else 10)
     if way == 0:
         at = chance.randrange(len(contents))
         contents[at] ^= 1 << chance.randrange(8)
@@ -90,6 +93,11 @@ def altered_object(original, chance):
     elif way in (7, 8):
         row = next(row for row in rows if row[1] == 2)
         field(row[4] + 24 * chance.randrange(row[5] // 24), SYMBOL_FIELDS)
+    elif way == 10:                             # a group's flag word, or one of its members
+        row = chance.choice(groups)
+        put(contents, row[4] + 4 * chance.randrange(row[5] // 4), 4, chance.choice([chance.randrange(count + 2), hard(chance, count)]))
+    elif way == 11:                             # the header of a group
+        field(table + 64 * rows.index(chance.choice(groups)), SECTION_FIELDS)
     else:
         row = chance.choice([row for row in rows if row[1] == 4])
         field(row[4] + 24 * chance.randrange(row[5] // 24), RELOCATION_FIELDS)
@@ -176,6 +184,9 @@ def judged(status, line, out):
     return 'status %d' % status, 'status %d' % status
 
 
+FIGURES = ['-e', '_Z15work_of_figuresv']
+
+
 class Maker:
     """Makes copy K of a mode, and the words that link it."""
 
@@ -183,6 +194,11 @@ class Maker:
         sources = os.path.join(here, '../samples/programs')
         self.seed = seed
         self.originals = []                     # what is linked as it is, first of all
+        if 'groups' in modes:
+            self.grouped, *others = [compiled(folder, os.path.join(sources, 'templates', name + '.cc'), CXX)
+                                     for name in ('squares', 'figures', 'output')]
+            self.others = list(zip(('figures.o', 'output.o'), others))
+            self.originals.append((FIGURES, [('x.o', self.grouped)] + self.others))
         if not set(modes) & {'objects', 'archive'}:
             return
         self.object = compiled(folder, os.path.join(sources, 'squares.c'))
@@ -193,15 +209,19 @@ class Maker:
         self.start = compiled(folder, os.path.join(sources, 'many/start.c'))
         self.archive = archive(members, [(name, k) for k, (_, contents) in enumerate(members) for name in defined(contents)])
         self.places = member_places(self.archive)
-        self.originals = [([], [('x.o', self.object)]), ([], [('x.a', self.archive), ('start.o', self.start)])]
+        self.originals += [([], [('x.o', self.object)]), ([], [('x.a', self.archive), ('start.o', self.start)])]
 
     def copy(self, mode, k):
         """The options and the inputs (name, bytes) of run K."""
         chance = random.Random('%d %s %d' % (self.seed, mode, k))
+        collected = ['--gc-sections'] if k % 3 == 2 else []
         if mode == 'objects':
-            return [], [('x.o', altered_object(self.object, chance))]
+            return collected, [('x.o', altered_object(self.object, chance))]
+        if mode == 'groups':
+            copy = [('x.o', altered_object(self.grouped, chance))]
+            return FIGURES + collected, copy + self.others if k % 2 else self.others + copy
         if mode == 'archive':
-            return [], [('x.a', altered_archive(self.archive, self.places, chance)), ('start.o', self.start)]
+            return collected, [('x.a', altered_archive(self.archive, self.places, chance)), ('start.o', self.start)]
         if mode == 'several':
             return several_defects(chance)
         return chance_link(chance)
@@ -226,7 +246,7 @@ def link(rvld, words, inputs, folder, limit):
 def compared(words, inputs, status, line, out):
     """Why the end is not that of the plain rules, or None."""
     start = words[words.index('-e') + 1] if '-e' in words else '_start'
-    expected, found = plain_link.link([(name.encode(), contents) for name, contents in inputs], start.encode())
+    expected, found = plain_link.link([(name.encode(), contents) for name, contents in inputs], start.encode(), '--gc-sections' in words)
     if status != expected:
         return 'status %s, and not %s %s' % (status, expected, found if expected else '')
     if status == 1:
@@ -259,7 +279,7 @@ def main():
     reader = argparse.ArgumentParser(usage=__doc__)
     reader.add_argument('rvld', nargs='?', default=os.path.join(here, '../crates/rvld/out/rvld'))
     reader.add_argument('--count', type=int, default=10000)
-    reader.add_argument('--mode', choices=['objects', 'archive', 'links', 'several', 'all'], default='all')
+    reader.add_argument('--mode', choices=['objects', 'groups', 'archive', 'links', 'several', 'all'], default='all')
     reader.add_argument('--seed', type=int, default=1)
     reader.add_argument('--workers', type=int, default=3)
     reader.add_argument('--limit', type=float, default=20, help='seconds for one run')
@@ -270,7 +290,7 @@ def main():
     if not os.access(words.rvld, os.X_OK):
         sys.exit('altered: no program at ' + words.rvld)
     rvld = os.path.abspath(words.rvld)
-    modes = ['objects', 'archive', 'links', 'several'] if words.mode == 'all' else [words.mode]
+    modes = ['objects', 'groups', 'archive', 'links', 'several'] if words.mode == 'all' else [words.mode]
     if not shutil.which('clang'):
         print('altered: skipped the altered copies of real files (clang is not there)')
         modes = [mode for mode in modes if mode in ('links', 'several')]

@@ -1,6 +1,7 @@
 """Links made by chance: a few objects and archives that define, refer to, and relocate nearly as they should."""
-from elf_objects import (ABS, ALLOC, COMMON, EXECINSTR, GLOBAL, INFO_LINK, LOCAL, NOBITS, PROGBITS, RELA, STRTAB, SYMTAB, UNDEF, WEAK, WRITE,
-                         Texts, archive, entry, relocatable, symbol)
+from elf_objects import (ABS, ALLOC, COMMON, EXECINSTR, FINI_ARRAY, GLOBAL, GROUP, INFO_LINK, INIT_ARRAY, IN_GROUP, LINK_ORDER, LOCAL, NOBITS,
+                         NOTE, PREINIT_ARRAY, PROGBITS, RELA, RETAIN, STRTAB, SYMTAB, UNDEF, WEAK, WRITE, Texts, archive, entry, relocatable,
+                         symbol)
 
 UNIQUE = 10
 EXCLUDE = 0x80000000
@@ -14,7 +15,14 @@ FORMS = [    # name, type, flags: those that come often first
     ('.init_array.123', PROGBITS, ALLOC | WRITE), ('.init_array', PROGBITS, ALLOC | WRITE), ('.fini_array.00007', PROGBITS, ALLOC | WRITE),
     ('.ctors.9', PROGBITS, ALLOC | WRITE), ('.dtors', PROGBITS, ALLOC | WRITE), ('.preinit_array', PROGBITS, ALLOC | WRITE),
     ('.dataset', PROGBITS, ALLOC | WRITE), ('COMMON', NOBITS, ALLOC | WRITE), ('.eh_frame', PROGBITS, ALLOC), ('.debug_info', PROGBITS, 0),
-    ('.left_out', PROGBITS, ALLOC | EXCLUDE), ('', PROGBITS, ALLOC | WRITE), ('.shstrtab', PROGBITS, ALLOC), ('.bss.x', NOBITS, ALLOC | WRITE)]
+    ('.left_out', PROGBITS, ALLOC | EXCLUDE), ('.text.', PROGBITS, ALLOC | EXECINSTR), ('.data.rel.ro.', PROGBITS, ALLOC | WRITE),
+    ('', PROGBITS, ALLOC | WRITE), ('.shstrtab', PROGBITS, ALLOC), ('.bss.x', NOBITS, ALLOC | WRITE)]
+RARE_FORMS = [
+    ('.note.one', NOTE, ALLOC), ('.note.two', NOTE, ALLOC), ('.rodata', NOTE, ALLOC), ('.note.w', NOTE, ALLOC | WRITE),
+    ('.init_array', INIT_ARRAY, ALLOC | WRITE), ('.fini_array', FINI_ARRAY, ALLOC | WRITE), ('.preinit_array', PREINIT_ARRAY, ALLOC | WRITE),
+    ('.init_array', INIT_ARRAY, ALLOC), ('.data', FINI_ARRAY, ALLOC | WRITE), ('.init', PROGBITS, ALLOC | EXECINSTR),
+    ('.data.held', PROGBITS, ALLOC | WRITE | RETAIN), ('.text.held', PROGBITS, ALLOC | EXECINSTR | RETAIN),
+    ('.order', PROGBITS, ALLOC | LINK_ORDER), ('.order', PROGBITS, ALLOC | WRITE | LINK_ORDER), ('.order.z', NOBITS, ALLOC | WRITE | LINK_ORDER)]
 WIDTHS = {0: 0, 2: 8, 17: 4, 18: 8, 19: 8, 23: 4, 24: 4}
 
 
@@ -26,14 +34,16 @@ def chance_object(chance, names, wild, entry_point):
     if chance.random() < 0.15:                  # output sections in which members stand by their number
         forms += [(chance.choice(['.init_array', '.fini_array', '.init_array.65536', '.init_array.100000'] +
                                  ['.init_array.%d' % chance.randrange(20), '.fini_array.%05d' % chance.randrange(20)]),
-                   PROGBITS, ALLOC | WRITE) for _ in range(chance.randrange(5))]
+                   chance.choice([PROGBITS, INIT_ARRAY, FINI_ARRAY]), ALLOC | WRITE) for _ in range(chance.randrange(5))]
     else:
         forms += [FORMS[min(int(chance.expovariate(0.1)), len(FORMS) - 1)] for _ in range(chance.randrange(5))]
+    forms += [chance.choice(RARE_FORMS) for _ in range(chance.choice([0, 0, 0, 1, 2]))]
     for form_name, sort, flags in forms:
         size = chance.choice([0, 4, 8, 12, 16, 24, 40, 64, 100, 2 * chance.randrange(200), chance.randrange(5000)])
         align = chance.choice([0, 1, 1, 2, 4, 4, 8, 16, 64, 4096])
         contents = size if sort == NOBITS else chance.randbytes(size)
-        rows.append([form_name, sort, flags, contents, 0, 0, align, chance.choice([0, 0, 1, 8])])
+        link = chance.randrange(len(forms) + 1) if flags & LINK_ORDER else 0
+        rows.append([form_name, sort, flags, contents, link, 0, align, chance.choice([0, 0, 1, 8])])
     sections = list(range(1, len(rows) + 1))
 
     def size_of(i):
@@ -119,15 +129,41 @@ def chance_object(chance, names, wild, entry_point):
                                  chance.randrange(-4, 4)))
         chance.shuffle(entries)
         relas.append((i, b''.join(entries)))
-    at_symtab = len(rows) + len(relas) + 1
+    groups = chance_groups(chance, len(rows), [i for i, _ in relas], len(table), wild)
+    for row in {k for members in groups for k in members[2] if 0 < k <= len(rows)}:
+        rows[row - 1][2] |= IN_GROUP
+    at_symtab = len(rows) + len(relas) + len(groups) + 1
     for i, entries in relas:
         rows.append(['.rela' + rows[i - 1][0], RELA, INFO_LINK, entries, at_symtab, i, 8, 24])
+    for flag, signature, members in groups:
+        words = b''.join(k.to_bytes(4, 'little') for k in [flag] + members)
+        rows.append(['.group', GROUP, 0, words, at_symtab, signature, 4, 4])
     rows.append(['.symtab', SYMTAB, 0, b''.join(table), at_symtab + 1, locals_, 8, 24])
     rows.append(['.strtab', STRTAB, 0, texts.bytes(), 0, 0, 1, 0])
     if chance.random() < wild:
         row = chance.choice(rows)
-        row[chance.choice([2, 6])] ^= chance.choice([1, 2, 4, 0x10, 0x80, 0x400, 0x800, 2 ** 21])
+        row[chance.choice([2, 6])] ^= chance.choice([1, 2, 4, 0x10, 0x80, 0x200, 0x400, 0x800, 2 ** 21])
     return relocatable([tuple(row) for row in rows], flags=chance.choice([4, 5, 5, 21]) if chance.random() > wild / 4 else 1)
+
+
+def chance_groups(chance, own, relocated, symbols, wild):
+    """Groups of an object: (flag word, symbol of the signature, members). It has `own` sections of its own, and after them one of
+    relocations for each of `relocated`; a group most often has both."""
+    groups, free = [], list(range(1, own + 1))
+    chance.shuffle(free)
+    for _ in range(chance.choice([0, 0, 1, 1, 2, 3])):
+        members = []
+        for _ in range(chance.randrange(4)):
+            if free:
+                i = free.pop()
+                members.append(i)
+                if i in relocated and chance.random() < 0.8:
+                    members.append(own + 1 + relocated.index(i))
+        if chance.random() < wild:
+            members.append(chance.choice([0, 1, own, own + len(relocated) + 1, 60000, 2 ** 32 - 1]))
+        flag = 2 if chance.random() < wild / 2 else chance.choice([0, 1, 1, 1])
+        groups.append((flag, chance.randrange(symbols + (chance.random() < wild / 2)), members))
+    return groups
 
 
 def chance_link(chance):
@@ -153,4 +189,6 @@ def chance_link(chance):
     words = ['--threads', str(chance.choice([1, 2, 3, 4, 64]))]
     if chance.random() < 0.2:
         words += ['-e', chance.choice(names)]
+    if chance.random() < 0.4:
+        words.append('--gc-sections')
     return words, inputs

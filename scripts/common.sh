@@ -45,6 +45,11 @@ compile() {
         -nostdlib -fno-pic -fno-jump-tables -fno-asynchronous-unwind-tables -fcommon -Wall -c -o "$1" "$2" "${@:3}"
 }
 
+# compile_cxx OUT SOURCE [OPTION..]: the same for C++ without exceptions and type information; .s is assembled
+compile_cxx() {
+    compile "$1" "$2" "${@:3}" -std=c++17 -fno-exceptions -fno-rtti -fno-threadsafe-statics -fno-use-cxa-atexit -Wno-unused-command-line-argument
+}
+
 # only_known OBJECT..: whether each has only the kinds of relocation, and of written section, that rvld takes today
 only_known() {
     local object other wrong=0
@@ -54,7 +59,7 @@ only_known() {
         if [ -n "$other" ]; then say "$object has relocations of kinds that rvld does not take yet: $other"; wrong=1; fi
         # a row is: [Nr] Name Type Address Off Size ES Flg Lk Inf Al
         other=$(riscv64-linux-gnu-readelf -SW "$object" | sed -n 's/^ *\[ *[0-9]*\] //p' |
-            awk '$7 ~ /A/ && $7 !~ /E/ && $1 != ".eh_frame" && ($7 ~ /[MTC]/ || $2 !~ /^(PROGBITS|NOBITS)$/) || $2 == "GROUP" { print $1 }' |
+            awk '$7 ~ /A/ && $7 !~ /E/ && $1 != ".eh_frame" && ($7 ~ /[MTC]/ || $2 !~ /^(PROGBITS|NOBITS|NOTE|(PREINIT|INIT|FINI)_ARRAY)$/) { print $1 }' |
             tr '\n' ' ')
         if [ -n "$other" ]; then say "$object has sections that rvld does not take yet: $other"; wrong=1; fi
     done

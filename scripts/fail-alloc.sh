@@ -1,7 +1,7 @@
 #!/usr/bin/env bash
 # Each allocation of a link made to fail in turn, until one is asked for that the link does not come to. Each run has to end
 # with 0 and the whole executable, or with 4 and no file, and with nothing on either stream. Linked are the sample a.o, and
-# the program of many files with one worker and with four.
+# with one worker and with four the program of many files, and with --gc-sections the one in C++.
 # Usage: scripts/fail-alloc.sh [RVLD]     RVLD: the program; else crates/rvld/out/rvld, built first if it is not there
 # shellcheck disable=SC1091,SC2154
 set -u
@@ -59,5 +59,17 @@ links many.out "${files[@]}" || end
 runs many.out 86 "$sources/many.said" || end
 for threads in 1 4; do
     each_fails "many files, workers: $threads" many.out --threads "$threads" "${files[@]}"
+done
+
+files=()
+for source in "$sources"/templates/*.cc "$sources"/templates/*.s; do
+    object=$(basename "${source%.*}").o
+    compile_cxx "$object" "$source" -ffunction-sections -fdata-sections || { say "$source is not compiled"; end; }
+    only_known "$object" || end
+    files+=("$object")
+done
+links kept.out --gc-sections "${files[@]}" || end
+for threads in 1 4; do
+    each_fails "groups, workers: $threads" kept.out --gc-sections --threads "$threads" "${files[@]}"
 done
 end

@@ -1,7 +1,7 @@
 #!/usr/bin/env python3
 """The rules of a link once more, in plain and slow form, to compare rvld with: the first defect's line, or the executable's bytes.
 
-Usage: scripts/plain_link.py [-o OUT] [-e ENTRY] FILE..     as rvld -s, on one thread
+Usage: scripts/plain_link.py [-o OUT] [-e ENTRY] [--gc-sections] FILE..     as rvld -s, on one thread
 
 It was written from the rules, not from rvld's sources.
 """
@@ -12,11 +12,12 @@ KINDS = ('- NotObject BadHeader Outside BadSection Compressed BadArchive Thin Li
          'BadAlignment FlagsClash Ifunc BsdName BadFrame Duplicate NoEntry Undefined TooBig Range Odd NoPartner NopsShort').split()
 WIDTHS = {0: 0, 2: 8, 17: 4, 18: 8, 19: 8, 23: 4, 24: 4}
 CALLS = (18, 19)
+NOTE, NOBITS, ARRAYS = 7, 8, (14, 15, 16)
 BASE = 0x10000
 ONCE = (b'.text', b'.rodata', b'.srodata', b'.data.rel.ro', b'.data', b'.bss', b'.sdata', b'.sbss', b'.tdata', b'.tbss',
         b'.preinit_array', b'.init_array', b'.fini_array', b'.ctors', b'.dtors', b'.gcc_except_table')
 RANKS = {
-    'R': [b'.rodata', b'.srodata', b'.gcc_except_table', None],
+    'R': ['notes', b'.rodata', b'.srodata', b'.gcc_except_table', None],
     'RX': [b'.init', b'.text', b'.fini', None],
     'RW': [b'.preinit_array', b'.init_array', b'.fini_array', b'.ctors', b'.dtors', b'.data.rel.ro', b'.got', b'.data', None, b'.sdata'],
     'NOBITS': [b'.sbss', b'.bss', None],
@@ -160,6 +161,8 @@ class File:
 
     def read_body(self):
         relocated = set()
+        self.groups = []                        # (section, whether COMDAT, signature, members)
+        self.grouped = set()                    # the sections that these groups have
         for s in self.sections:
             s.relocs = []
         for i, s in enumerate(self.sections):
@@ -171,7 +174,7 @@ class File:
                 raise Flaw(4, i, s.at, 0)
             if s.flags & 2 and not s.flags & 0x80000000:
                 if (s.type not in (1, 7, 8, 14, 15, 16) or s.flags & 5 == 5 or (s.flags & 0x80 and s.link >= self.count)
-                        or (s.written and (s.type in (7, 14, 15, 16) or s.flags & 0x410))):
+                        or (s.written and s.flags & 0x410)):
                     raise Flaw(4, i, s.at, 0)
                 if s.align & (s.align - 1) and s.align or s.align > 2 ** 20:
                     raise Flaw(15, i, s.at, 0)
@@ -185,7 +188,7 @@ class File:
                     relocated.add(s.info)
                     self.read_relocs(i, s, self.sections[s.info])
             if s.type == 17:
-                raise Flaw(4, i, s.at, 0)
+                self.read_group(i, s)
         for i, y in enumerate(self.symbols):
             if i == 0:
                 continue
@@ -196,6 +199,23 @@ class File:
                     raise Flaw(15, self.symtab, y.at, 0)
                 if y.size > 2 ** 32:
                     raise Flaw(8, self.symtab, y.at, 0)
+
+    def read_group(self, i, s):
+        words = [self.number(at, 4) for at in range(s.offset, s.offset + s.size, 4)]
+        if (s.entsize != 4 or s.size == 0 or s.size % 4 or words[0] not in (0, 1) or not self.symtab or s.link != self.symtab
+                or s.info >= len(self.symbols)):
+            raise Flaw(13, i, s.at, 0)
+        for k in words[1:]:
+            if k == 0 or k >= self.count or k == i or k in self.grouped:
+                raise Flaw(13, i, s.at, 0)
+        self.grouped |= set(words[1:])
+        self.groups.append((i, words[0] == 1, self.shown_name(self.symbols[s.info]), words[1:]))
+
+    def shown_name(self, y):
+        """A symbol's name; for a local one of a section that section's."""
+        if y.binding == 0 and y.type == 3:
+            return self.sections[y.shndx].name if 0 < y.shndx < self.count else b''
+        return y.name
 
     def read_relocs(self, i, s, target):
         entries = []
@@ -315,7 +335,7 @@ def live_of(files):
 def output_name(name):
     best = None
     for front in ONCE:
-        if (name == front or name.startswith(front + b'.')) and (best is None or len(front) > len(best)):
+        if (name == front or name.startswith(front + b'.') and len(name) > len(front) + 1) and (best is None or len(front) > len(best)):
             best = front
     return b'.bss' if name == b'COMMON' else best if best is not None else name
 
@@ -334,15 +354,52 @@ def class_of(flags, sort):
     return 'RX' if flags & 4 else 'R'
 
 
-def link(inputs, entry=b'_start'):
-    """(1, line) or (0, executable) of inputs (name, bytes) in command order."""
+def discarded_of(files, live):
+    """The sections (file, section) of COMDAT groups that an earlier group has the signature of."""
+    stays, discarded = set(), set()
+    for n in live:
+        for _, comdat, signature, members in sorted(files[n].groups):
+            if comdat and signature in stays:
+                discarded |= {(n, k) for k in members}
+            if comdat:
+                stays.add(signature)
+    return discarded
+
+
+def kept_of(files, live, members, entry, spot):
+    """The sections that --gc-sections keeps, of `members`; `spot` gives the section that a file's symbol means, or None."""
+    ends = {key: set() for key in members}      # what each section keeps
+    for n in live:
+        file = files[n]
+        for i, s in enumerate(file.sections):
+            if (n, i) in ends:
+                ends[n, i] |= {spot(n, file.symbols[index]) for _, _, index, _ in s.relocs}
+                if s.flags & 0x80 and s.link and (n, s.link) in ends:
+                    ends[n, s.link].add((n, i))
+        for _, _, _, group in file.groups:
+            for k in group:
+                if (n, k) in ends:
+                    ends[n, k] |= {(n, other) for other in group}
+    kept = set()
+    queue = [entry] + [key for key, (name, flags, sort, _, _) in members.items()
+                       if sort == NOTE or sort in ARRAYS or name in (b'.init', b'.fini') or flags & 0x200000]
+    while queue:
+        key = queue.pop()
+        if key in members and key not in kept:
+            kept.add(key)
+            queue += ends[key]
+    return kept
+
+
+def link(inputs, entry=b'_start', gc=False):
+    """(1, line) or (0, executable) of inputs (name, bytes) in command order; `gc` is --gc-sections."""
     try:
-        return 0, linked(inputs, entry)
+        return 0, linked(inputs, entry, gc)
     except Defect as defect:
         return 1, defect.args[0]
 
 
-def linked(inputs, entry):
+def linked(inputs, entry, gc):
     files = read_all(inputs)
     live = live_of(files)
     for n in live:
@@ -356,9 +413,12 @@ def linked(inputs, entry):
             raise Defect(line_of(16, files[n].shown, 0, files[n].flags & 6, b'', files[live[0]].flags & 6))
 
     # names: the least offer of each; the greatest common
+    discarded = discarded_of(files, live)
     bound, strong, twice, commons = {}, {}, [], {}
     for n in live:
         for i, y, sort in offers_of(files[n]):
+            if (n, y.shndx) in discarded:
+                continue
             rank = (sort, n, i)
             if y.name not in bound or rank < bound[y.name]:
                 bound[y.name] = rank
@@ -382,7 +442,7 @@ def linked(inputs, entry):
         file = files[n]
         count = file.count
         for i, s in enumerate(file.sections):
-            if s.written:
+            if s.written and (n, i) not in discarded:
                 members[n, i] = (s.name, s.flags, s.type, s.size, s.align or 1)
         for i, y in enumerate(file.symbols):
             if y.shndx == 0xfff2:
@@ -392,12 +452,32 @@ def linked(inputs, entry):
                 y.common = count
                 count += 1
 
+    def meant(n, y):
+        """The file and the symbol that a symbol of a file stands for; no symbol where its name is bound to none."""
+        if y.binding:
+            if y.name not in bound:
+                return n, None
+            _, n, i = bound[y.name]
+            y = files[n].symbols[i]
+        return n, y
+
+    def spot(n, y):
+        """The section that a symbol of a file means, or None."""
+        n, y = meant(n, y)
+        if y is not None and y.shndx == 0xfff2:
+            return n, y.common
+        return (n, y.shndx) if y is not None and y.shndx < files[n].count and (n, y.shndx) in members else None
+
+    # what is kept, and what it lacks
+    if gc:
+        kept = kept_of(files, live, members, spot(*bound_symbol(files, bound, entry)), spot)
+        members = {key: members[key] for key in members if key in kept}
     for n in live:
         for i, s in enumerate(files[n].sections):
-            for offset, _, index, _ in s.relocs:
+            for offset, _, index, _ in s.relocs if (n, i) in members else ():
                 y = files[n].symbols[index]
-                if y.binding not in (0, 2) and y.shndx == 0 and y.name not in bound:
-                    raise Defect(line_of(22, files[n].shown, i, offset, y.name))
+                if y.binding not in (0, 2) and y.name not in bound or y.binding == 0 and (n, y.shndx) in discarded:
+                    raise Defect(line_of(22, files[n].shown, i, offset, files[n].shown_name(y)))
 
     # output sections and the walk
     outputs = {row: {} for row in RANKS}
@@ -409,7 +489,10 @@ def linked(inputs, entry):
 
     def in_order(row):
         rank = RANKS[row]
-        places = {name: (rank.index(name if name in rank else None), k) for k, name in enumerate(outputs[row])}
+        places = {}
+        for k, (name, list_) in enumerate(outputs[row].items()):
+            front = 'notes' if 'notes' in rank and min(list_)[2] == NOTE else name
+            places[name] = (rank.index(front if front in rank else None), k)
         return sorted(outputs[row], key=lambda name: places[name])
 
     full = {row: any(m[3] for list_ in outputs[row].values() for m in list_) for row in RANKS}
@@ -446,15 +529,11 @@ def linked(inputs, entry):
     # places of symbols: (section or None, address or number)
     def place(n, y):
         """The section and the address that a symbol of this file means; no section for a number."""
-        if y.binding:
-            if y.name not in bound:
-                return None, 0
-            _, n, i = bound[y.name]
-            y = files[n].symbols[i]
-            if y.shndx == 0xfff2:
-                return (n, y.common), addresses[n, y.common]
-        if y.shndx == 0:
+        n, y = meant(n, y)
+        if y is None or y.shndx == 0:
             return None, 0
+        if y.shndx == 0xfff2:
+            return (n, y.common), addresses[n, y.common]
         if y.shndx != 0xfff1 and files[n].sections[y.shndx].written:
             return (n, y.shndx), addresses[n, y.shndx] + (0 if y.type == 3 and not y.binding else y.value)
         return None, y.value
@@ -463,15 +542,16 @@ def linked(inputs, entry):
     out = bytearray(image_end - BASE)
     for n in live:
         for i, s in enumerate(files[n].sections):
-            if s.written and s.type != 8 and s.size:
+            if (n, i) in members and s.type != NOBITS and s.size:
                 at = addresses[n, i] - BASE
                 out[at:at + s.size] = files[n].bytes[s.offset:s.offset + s.size]
     for n in live:
         for i, s in enumerate(files[n].sections):
-            relocate(files[n], n, i, s, place, addresses, out)
+            if (n, i) in members:
+                relocate(files[n], n, i, s, place, addresses, out)
 
     # the file's tables
-    _, start = place(live[0], bound_symbol(files, bound, entry))
+    _, start = place(*bound_symbol(files, bound, entry))
     flags = files[live[0]].flags & 6
     for n in live:
         flags |= files[n].flags & 17
@@ -502,8 +582,9 @@ def linked(inputs, entry):
 
 
 def bound_symbol(files, bound, name):
+    """The file and the symbol that a name is bound to."""
     _, n, i = bound[name]
-    return files[n].symbols[i]
+    return n, files[n].symbols[i]
 
 
 def relocate(file, n, i, s, place, addresses, out):
@@ -519,10 +600,7 @@ def relocate(file, n, i, s, place, addresses, out):
             continue
 
         def stop(defect, v):
-            name = y.name
-            if y.binding == 0 and y.type == 3:
-                name = file.sections[y.shndx].name if 0 < y.shndx < file.count else b''
-            raise Defect(line_of(defect, file.shown, i, offset, name, v % 2 ** 64))
+            raise Defect(line_of(defect, file.shown, i, offset, file.shown_name(y), v % 2 ** 64))
 
         if kind == 24:
             section, label = place(n, y)
@@ -559,7 +637,7 @@ def relocate(file, n, i, s, place, addresses, out):
 
 
 def main():
-    out, entry, names = 'a.out', '_start', []
+    out, entry, gc, names = 'a.out', '_start', False, []
     words = iter(sys.argv[1:])
     for word in words:
         if word == '-o':
@@ -568,6 +646,8 @@ def main():
             entry = next(words)
         elif word == '--threads':
             next(words)
+        elif word == '--gc-sections':
+            gc = True
         elif word != '-s':
             names.append(word)
     inputs = []
@@ -578,7 +658,7 @@ def main():
         except OSError:
             print('rvld: cannot read ' + escaped(name.encode()), file=sys.stderr)
             return 3
-    status, found = link(inputs, entry.encode())
+    status, found = link(inputs, entry.encode(), gc)
     if status:
         print(found, file=sys.stderr)
     else:

@@ -1,57 +1,71 @@
--- Pieces laid over a file of zeros, one after the other.
-use Rattle.std.proofs.Common.{◌≡◌, ℕ, ◌+◌, ◌<◌, List, [], ◌∷◌, ◌++◌, length, map, replicate, take, slice_index, refl, ap, sym, ◌∙◌, arith}
-use Rattle.std.specs.List.{range_with_len}
+-- Pieces laid over a block of a file, one after the other.
+use Rattle.std.proofs.Common.{◌≡◌, ℕ, ◌+◌, ◌-◌, ◌<◌, ◌≤◌, List, [], ◌∷◌, ◌++◌, length, replicate, take, drop, slice_index, refl, ap, sym, ◌∙◌, arith}
 use Rattle.std.proofs.Math.Seq.{take-append_seam}
-use Rattle.std.proofs.lemmas.List.{ext_get_or, get_or-replicate}
+use Rattle.std.proofs.lemmas.List.{ext_get_or, get_or-replicate, get_or-take, get_or-drop, length-replicate, length-take-le, length-drop, take_all}
+use Rattle.std.proofs.lemmas.Bool.Decides.{nat_tests}
 use Rattle.std.proofs.lemmas.List.FromFn.{get_or-map-range_with_len, length-map-range_with_len}
-use Rattle.reloc_apply.specs.Image.{Piece, Shows, over, byte_over, byte_at, image}
+use Rattle.elf_out.specs.Frames.{StandsFor}
+use Rattle.reloc_apply.specs.Image.{Piece, ShowsFrom, over, byte_over, byte_at, image, piece}
 
 pub over_append : (u i : ℕ) (ps qs : List Piece) → byte_over u (ps ++ qs) i ≡ byte_over (byte_over u ps i) qs i
 over_append u i [] qs = refl
 over_append u i (p ∷ ps) qs = over_append (over p u i) i ps qs
 
-shows_both : (ps qs : List Piece) (a b c : List ℕ) → Shows a b ps → Shows b c qs → Shows a c (ps ++ qs)
-shows_both ps qs a b c first second = (
+pub shows_both : (from : ℕ) (ps qs : List Piece) (a b c : List ℕ) → ShowsFrom from a b ps → ShowsFrom from b c qs → ShowsFrom from a c (ps ++ qs)
+shows_both from ps qs a b c first second = (
   second.0 ∙ first.0,
   λ i lt. let within : i < length b = omega (arith, first.0) in
-      second.1 i within ∙ ap (λ u. byte_over u qs i) (first.1 i lt) ∙ sym (over_append (slice_index a i) i ps qs),
+      second.1 i within ∙ ap (λ u. byte_over u qs (from + i)) (first.1 i lt) ∙ sym (over_append (slice_index a i) (from + i) ps qs),
 )
 
--- one piece, copied from the start of the file
-abbrev pub IsCopied : Piece → (before after : List ℕ) → Type 0
-IsCopied p before after = (i : ℕ) → i < length before → slice_index after i ≡ over p (slice_index before i) (0 + i)
+-- a piece that ends before a block is nothing in it
+pub stands_past : (bytes made : List ℕ) (from to : ℕ) → made ≡ [] → length bytes ≤ from → StandsFor from to (piece 0 made) (piece 0 bytes)
+stands_past bytes made from to none short = λ before place low high.
+    let no : length made ≡ 0 = ap length none in
+    let left : over (piece 0 made) before place ≡ before = grind (arith, nat_tests) in
+    let right : over (piece 0 bytes) before place ≡ before = grind (arith, nat_tests) in
+    left ∙ sym right
 
-shows_one : (p : Piece) (a b : List ℕ) → length b ≡ length a → IsCopied p a b → Shows a b (p ∷ [])
-shows_one p a b long each =
-    (long, λ i lt. let e : 0 + i ≡ i = omega arith in each i lt ∙ ap (over p (slice_index a i)) e)
+-- the headers, the sections, and what follows them
+pub shows_all : (from : ℕ) (head : Piece) (middle ends : List Piece) (o0 o1 o2 o3 : List ℕ)
+    → ShowsFrom from o0 o1 (head ∷ []) → ShowsFrom from o1 o2 middle → ShowsFrom from o2 o3 ends
+    → ShowsFrom from o0 o3 (head ∷ middle ++ ends)
+shows_all from head middle ends o0 o1 o2 o3 first second third =
+    shows_both from (head ∷ []) (middle ++ ends) o0 o1 o3 first (shows_both from middle ends o1 o2 o3 second third)
 
--- the headers, the sections, the names and the table
-pub shows_all : (head names table : Piece) (middle : List Piece) (o0 o1 o2 o3 o4 : List ℕ)
-    → length o1 ≡ length o0 → length o3 ≡ length o2 → length o4 ≡ length o3
-    → IsCopied head o0 o1 → Shows o1 o2 middle → IsCopied names o2 o3 → IsCopied table o3 o4
-    → Shows o0 o4 (head ∷ middle ++ (names ∷ table ∷ []))
-shows_all head names table middle o0 o1 o2 o3 o4 l1 l3 l4 first second third fourth =
-    shows_both (head ∷ []) (middle ++ (names ∷ table ∷ [])) o0 o1 o4 (shows_one head o0 o1 l1 first)
-    (shows_both middle (names ∷ table ∷ []) o1 o2 o4 second
-    (shows_both (names ∷ []) (table ∷ []) o2 o3 o4 (shows_one names o2 o3 l3 third) (shows_one table o3 o4 l4 fourth)))
-
--- pieces over zeros are the file
-laid : (size : ℕ) (ps : List Piece) (out : List ℕ) → length out ≡ size
-    → ((i : ℕ) → i < size → slice_index out i ≡ byte_over 0 ps i) → out ≡ image ps size
+-- a byte of a file, and how long it is
+pub image_byte : (ps : List Piece) (size i : ℕ) → i < size → slice_index (image ps size) i ≡ byte_at ps i
 unfolding image
-laid size ps out long shown =
-    let wide : length out ≡ length (map (byte_at ps) (range_with_len 0 size)) = long ∙ sym (length-map-range_with_len (byte_at ps) 0 size) in
-    ext_get_or 0 out (map (byte_at ps) (range_with_len 0 size)) wide
-    (λ i lt. let within : i < size = omega arith in
-    shown i within ∙ sym (get_or-map-range_with_len (byte_at ps) 0 size i i 0 within (omega arith)))
+image_byte ps size i lt = get_or-map-range_with_len (byte_at ps) 0 size i i 0 lt (omega arith)
 
--- so is a vector, whose items are what was written and what stands after it
-pub whole : (size n : ℕ) (ps : List Piece) (zeros block after : List ℕ) → length zeros ≡ n → n ≡ size → zeros ≡ replicate size 0
-    → Shows zeros block ps → take n (block ++ after) ≡ image ps size
-whole size n ps zeros block after zeros_long n_is zeros_is shown =
-    let long : length block ≡ size = shown.0 ∙ zeros_long ∙ n_is in
-    let full : n ≡ length block = omega arith in
-    let zero : (i : ℕ) → i < size → slice_index zeros i ≡ 0 = λ i lt. ap (λ l. slice_index l i) zeros_is ∙ get_or-replicate size i 0 0 lt in
-    rw full (take-append_seam block after)
-    ∙ laid size ps block long
-    (λ i lt. let within : i < length zeros = omega arith in shown.1 i within ∙ ap (λ u. byte_over u ps i) (zero i lt))
+pub image_length : (ps : List Piece) (size : ℕ) → length (image ps size) ≡ size
+unfolding image
+image_length ps size = length-map-range_with_len (byte_at ps) 0 size
+
+-- pieces over a block of zeros are that part of the file
+pub part : (from size : ℕ) (ps : List Piece) (old zeros out : List ℕ) → from + length old ≤ size → zeros ≡ replicate (length old) 0
+    → ShowsFrom from zeros out ps → out ≡ take (length old) (drop from (image ps size))
+part from size ps old zeros out room zeros_are shown =
+    let n = length old in
+    let same : length zeros ≡ n = ap length zeros_are ∙ length-replicate n 0 in
+    let long : length out ≡ n = shown.0 ∙ same in
+    let rest : length (drop from (image ps size)) ≡ size - from = length-drop from (image ps size) ∙ ap (λ k. k - from) (image_length ps size) in
+    let wide : length (take n (drop from (image ps size))) ≡ n = length-take-le n (drop from (image ps size)) (omega (arith, rest)) in
+    ext_get_or 0 out (take n (drop from (image ps size))) (long ∙ sym wide)
+    (λ i lt. let within : i < length zeros = omega (arith, long, same) in
+    let below : i < n = omega (arith, long) in
+    let zero : slice_index zeros i ≡ 0 = ap (λ l. slice_index l i) zeros_are ∙ get_or-replicate n i 0 0 below in
+    shown.1 i within ∙ ap (λ u. byte_over u ps (from + i)) zero
+    ∙ sym (get_or-take n (drop from (image ps size)) i 0 below ∙ get_or-drop from (image ps size) i 0
+    ∙ image_byte ps size (from + i) (omega arith)))
+
+-- a vector of zeros becomes the whole file: its items are what was written and what stands after it
+pub whole : (size n : ℕ) (ps : List Piece) (zeros block after : List ℕ) → n ≡ size → zeros ≡ replicate size 0
+    → ShowsFrom 0 zeros block ps → take n (block ++ after) ≡ image ps size
+whole size n ps zeros block after n_is zeros_are shown =
+    let same : length zeros ≡ size = ap length zeros_are ∙ length-replicate size 0 in
+    let full : n ≡ length block = omega (arith, shown.0, same) in
+    let start : replicate {A = ℕ} size 0 ≡ replicate (length zeros) 0 = ap (λ k. replicate {A = ℕ} k 0) (sym same) in
+    let all : block ≡ take (length zeros) (drop 0 (image ps size)) = part 0 size ps zeros zeros block (omega (arith, same)) (zeros_are ∙ start) shown in
+    let end : length (image ps size) ≤ length zeros = omega (arith, same, image_length ps size) in
+    rw full (take-append_seam block after) ∙ all ∙ take_all (length zeros) (image ps size) end

@@ -1,4 +1,9 @@
 pub mod Appends
 pub mod FlagSteps
+pub mod Framing
 pub mod Laying
 pub mod NameSteps
+pub mod Outputs
+pub mod Runs
+pub mod Starting
+pub mod Whole

@@ -1,26 +1,26 @@
 -- The headers of output sections one after the other, each with the offset of its name.
-use Rattle.std.proofs.Common.{◌≡◌, ℕ, suc, ◌+◌, ◌<◌, ◌≤◌, List, [], ◌∷◌, ◌++◌, length, drop, get_or, append_assoc, length-append, refl, ap, sym, ◌∙◌, arith}
+use Rattle.std.proofs.Common.{◌≡◌, ℕ, suc, ◌+◌, ◌<◌, ◌≤◌, ◌^◌, List, [], ◌∷◌, ◌++◌, length, map, drop, get_or, append_assoc, length-append, refl, ap, sym, ◌∙◌, arith}
 use Rattle.std.proofs.Math.Seq.{drop-cons}
-use Rattle.layout.specs.declared.walk.Output.{Output}
-use Rattle.layout.specs.Walk.{Section, view, views}
-use Rattle.elf_out.specs.declared.headers.SectionHeader.{SectionHeader}
+use Rattle.link_sections.specs.declared.layouts.Output.{Output}
+use Rattle.link_sections.specs.LaidOut.{OutputSection, output_view}
+use Rattle.elf_out.specs.declared.header_bytes.SectionHeader.{SectionHeader}
 use Rattle.elf_out.specs.Headers.{names_section, null_section, output_headers, output_names, output_section, own_name, section_header, section_headers, section_names, zero_ended}
 
-pub record Along (all rest : List Section) (old now : List ℕ) (name : ℕ) : Type 0 where
+pub record Along (all rest : List OutputSection) (old now : List ℕ) (name : ℕ) : Type 0 where
   pub written : now ++ output_headers name rest ≡ old ++ output_headers 1 all
   pub named : name + length (output_names rest) ≡ 1 + length (output_names all)
 
-names_long : (rest later : List Section) (o : Section) → rest ≡ o ∷ later
+names_long : (rest later : List OutputSection) (o : OutputSection) → rest ≡ o ∷ later
     → length (output_names rest) ≡ length o.name + 1 + length (output_names later)
 names_long rest later o e =
     ap (λ r. length (output_names r)) e ∙ length-append (zero_ended o.name) (output_names later)
     ∙ ap (λ n. n + length (output_names later)) (length-append o.name (0 ∷ []))
 
-pub along_room : (all rest later : List Section) (o : Section) (old now : List ℕ) (name : ℕ) → rest ≡ o ∷ later
+pub along_room : (all rest later : List OutputSection) (o : OutputSection) (old now : List ℕ) (name : ℕ) → rest ≡ o ∷ later
     → Along all rest old now name → name + (length o.name + 1) ≤ 1 + length (output_names all)
 along_room all rest later o old now name e a = omega (arith, names_long rest later o e, a.named)
 
-pub along_next : (all rest later : List Section) (o : Section) (old now next : List ℕ) (name k : ℕ) → rest ≡ o ∷ later
+pub along_next : (all rest later : List OutputSection) (o : OutputSection) (old now next : List ℕ) (name k : ℕ) → rest ≡ o ∷ later
     → next ≡ now ++ section_header (output_section name o) → k ≡ name + (length o.name + 1)
     → Along all rest old now name → Along all later old next k
 along_next all rest later o old now next name k e pushed more a =
@@ -33,31 +33,30 @@ along_next all rest later o old now next name k e pushed more a =
       named = omega (arith, names_long rest later o e, a.named);
     }
 
-rest_is : (xs : List Output) (i : ℕ) (d : Output) → i < length xs → views (drop i xs) ≡ view (get_or xs i d) ∷ views (drop (i + 1) xs)
+rest_is : (xs : List Output) (i : ℕ) (d : Output) → i < length xs → map output_view (drop i xs) ≡ output_view (get_or xs i d) ∷ map output_view (drop (i + 1) xs)
 rest_is xs i d lt =
     let e : suc i ≡ i + 1 = omega arith in
-    ap views (drop-cons xs i d lt) ∙ ap (λ k. view (get_or xs i d) ∷ views (drop k xs)) e
+    ap (map output_view) (drop-cons xs i d lt) ∙ ap (λ k. output_view (get_or xs i d) ∷ map output_view (drop k xs)) e
 
-name_is : (o : Output) → (view o).name ≡ o.name.now
-unfolding view
+name_is : (o : Output) → (output_view o).name ≡ o.name.now
 name_is o = refl
 
 pub along_step : (xs : List Output) (i : ℕ) (d : Output) (old now next : List ℕ) (name k : ℕ) (h : SectionHeader)
-    → h ≡ output_section name (view (get_or xs i d)) → next ≡ now ++ section_header h
+    → h ≡ output_section name (output_view (get_or xs i d)) → next ≡ now ++ section_header h
     → k ≡ name + (length (get_or xs i d).name.now + 1) → i < length xs
-    → Along (views xs) (views (drop i xs)) old now name → Along (views xs) (views (drop (i + 1) xs)) old next k
+    → Along (map output_view xs) (map output_view (drop i xs)) old now name → Along (map output_view xs) (map output_view (drop (i + 1) xs)) old next k
 along_step xs i d old now next name k h h_is pushed k_is lt a =
-    along_next (views xs) (views (drop i xs)) (views (drop (i + 1) xs)) (view (get_or xs i d)) old now next name k (rest_is xs i d lt)
+    along_next (map output_view xs) (map output_view (drop i xs)) (map output_view (drop (i + 1) xs)) (output_view (get_or xs i d)) old now next name k (rest_is xs i d lt)
     (pushed ∙ ap (λ s. now ++ section_header s) h_is)
     (k_is ∙ ap (λ n. name + (length n + 1)) (sym (name_is (get_or xs i d)))) a
 
 -- the names of the output sections are a part of all names
-pub names_shorter : (outputs : List Section) → length (output_names outputs) ≤ length (section_names outputs)
+pub names_shorter : (outputs : List OutputSection) → length (output_names outputs) ≤ length (section_names outputs)
 unfolding section_names
 names_shorter outputs = omega (arith, length-append (output_names outputs) own_name)
 
 -- the whole table
-pub table_is : (outputs : List Section) (offset size name : ℕ) (o0 o1 o2 o3 : List ℕ) (h : SectionHeader) → o0 ≡ []
+pub table_is : (outputs : List OutputSection) (offset size name : ℕ) (o0 o1 o2 o3 : List ℕ) (h : SectionHeader) → o0 ≡ []
     → o1 ≡ o0 ++ section_header null_section → o2 ≡ o1 ++ output_headers 1 outputs → name ≡ 1 + length (output_names outputs)
     → size ≡ length (section_names outputs) → h ≡ names_section name offset size → o3 ≡ o2 ++ section_header h
     → o3 ≡ section_headers outputs offset
@@ -71,3 +70,25 @@ table_is outputs offset size name o0 o1 o2 o3 h e0 e1 e2 name_at size_is h_is e3
     h_is ∙ ap (λ n. names_section n offset size) name_at ∙ ap (λ n. names_section (1 + length (output_names outputs)) offset n) size_is in
     e3 ∙ ap (λ l. l ++ section_header h) both ∙ append_assoc front middle (section_header h)
     ∙ ap (λ s. front ++ (middle ++ section_header s)) last
+
+-- how many bytes the names have
+pub record Counted (all rest : List OutputSection) (size : ℕ) : Type 0 where
+  pub total : size + length (output_names rest) ≡ length (section_names all)
+  pub small : size < 2 ^ 62
+
+pub counted_first : (outputs : List OutputSection) (size : ℕ) → size ≡ 11 → Counted outputs outputs size
+unfolding section_names own_name
+counted_first outputs size is = record {
+  total = omega (arith, is, length-append (output_names outputs) own_name);
+  small = omega (arith, is);
+}
+
+pub counted_step : (xs : List Output) (i : ℕ) (d : Output) (size sum : ℕ) → i < length xs → sum ≡ size + (length (get_or xs i d).name.now + 1)
+    → sum < 2 ^ 62 → Counted (map output_view xs) (map output_view (drop i xs)) size
+    → Counted (map output_view xs) (map output_view (drop (i + 1) xs)) sum
+counted_step xs i d size sum lt is few held =
+    let long = names_long (map output_view (drop i xs)) (map output_view (drop (i + 1) xs)) (output_view (get_or xs i d)) (rest_is xs i d lt) in
+    record { total = omega (arith, is, held.total, long); small = few }
+
+pub counted_last : (all : List OutputSection) (size : ℕ) → Counted all [] size → size ≡ length (section_names all)
+counted_last all size held = omega (arith, held.total)

@@ -2,11 +2,11 @@
 use Rattle.std.specs.Prelude.{ℕ, ◌+◌, ◌-◌, ◌%◌, ◌^◌, if◌then◌else◌, List, [], ◌∷◌, ◌++◌, length, codes, flat_map, bit_and, bit_or}
 use Rattle.std.specs.List.{fold}
 use Rattle.std.specs.Int.{to_le_bytes, w16, w32, w64}
-use Rattle.lk_base.specs.declared.abi.TheConstants.{ELFCLASS64, ELFDATA2LSB, EV_CURRENT, ET_EXEC, EM_RISCV, EHDR_SIZE, PHDR_SIZE, SHDR_SIZE, IMAGE_BASE, PAGE, PT_LOAD, PT_GNU_STACK, PF_R, PF_W, PF_X, SHT_NULL, SHT_STRTAB, EF_RISCV_RVC, EF_RISCV_TSO, EF_RISCV_FLOAT_ABI}
-use Rattle.elf_out.specs.declared.headers.ProgramHeader.{ProgramHeader}
-use Rattle.elf_out.specs.declared.headers.SectionHeader.{SectionHeader}
-use Rattle.layout.specs.declared.placing.Bounds.{Bounds}
-use Rattle.layout.specs.Walk.{Section}
+use Rattle.lk_base.specs.declared.abi.TheConstants.{ELFCLASS64, ELFDATA2LSB, EV_CURRENT, ET_EXEC, EM_RISCV, EHDR_SIZE, PHDR_SIZE, SHDR_SIZE, IMAGE_BASE, PAGE, PT_LOAD, PT_TLS, PT_GNU_STACK, PF_R, PF_W, PF_X, SHT_NULL, SHT_STRTAB, EF_RISCV_RVC, EF_RISCV_TSO, EF_RISCV_FLOAT_ABI}
+use Rattle.elf_out.specs.declared.header_bytes.ProgramHeader.{ProgramHeader}
+use Rattle.elf_out.specs.declared.header_bytes.SectionHeader.{SectionHeader}
+use Rattle.link_sections.specs.declared.layouts.Bounds.{Bounds}
+use Rattle.link_sections.specs.LaidOut.{OutputSection}
 
 -- numbers of 2, 4 and 8 bytes
 unfoldable pub half : ℕ → List ℕ
@@ -53,15 +53,28 @@ loaded flags start bits end = record {
   align = PAGE;
 }
 
+-- the thread-local sections: those with bits first, which alone have bytes in the file
+abbrev pub tls_segment : Bounds → ProgramHeader
+tls_segment b = record {
+  kind = PT_TLS;
+  flags = PF_R;
+  offset = b.tls_start - IMAGE_BASE;
+  address = b.tls_start;
+  file_size = if b.has_tls_bits then b.tls_bits_end - b.tls_start else 0;
+  memory_size = b.tls_end - b.tls_start;
+  align = b.tls_align;
+}
+
 -- the stack is read and written
 abbrev pub stack_segment : ProgramHeader
 stack_segment = record { kind = PT_GNU_STACK; flags = PF_R + PF_W; offset = 0; address = 0; file_size = 0; memory_size = 0; align = 16 }
 
--- read only, with the headers; read and execute; read and write; the stack
+-- read only, with the headers; read and execute; read and write; the thread-local sections; the stack
 abbrev pub segments : Bounds → List ProgramHeader
 segments b = loaded PF_R IMAGE_BASE b.r_end b.r_end
     ∷ (if b.has_rx then loaded (PF_R + PF_X) b.rx_start b.rx_end b.rx_end ∷ [] else [])
-    ++ ((if b.has_rw then loaded (PF_R + PF_W) b.rw_start b.bits_end b.nobits_end ∷ [] else []) ++ stack_segment ∷ [])
+    ++ ((if b.has_rw then loaded (PF_R + PF_W) b.rw_start b.bits_end b.nobits_end ∷ [] else [])
+    ++ ((if b.has_tls then tls_segment b ∷ [] else []) ++ stack_segment ∷ []))
 
 unfoldable pub program_headers : Bounds → List ℕ
 program_headers b = flat_map program_header (segments b)
@@ -71,7 +84,7 @@ abbrev pub null_section : SectionHeader
 null_section = record { name = 0; sh_type = SHT_NULL; flags = 0; address = 0; offset = 0; size = 0; align = 0 }
 
 -- an output section whose name starts at `name` of the string table
-abbrev pub output_section : (name : ℕ) → Section → SectionHeader
+abbrev pub output_section : (name : ℕ) → OutputSection → SectionHeader
 output_section name s = record {
   name = name % 2 ^ 32;
   sh_type = s.sh_type;
@@ -92,22 +105,22 @@ abbrev pub zero_ended : List ℕ → List ℕ
 zero_ended name = name ++ 0 ∷ []
 
 -- the section name string table: a zero byte, the names of the output sections, and its own
-abbrev pub output_names : List Section → List ℕ
+abbrev pub output_names : List OutputSection → List ℕ
 output_names outputs = flat_map (λ s. zero_ended s.name) outputs
 
 unfoldable pub own_name : List ℕ
 own_name = zero_ended (codes ".shstrtab")
 
-unfoldable pub section_names : List Section → List ℕ
+unfoldable pub section_names : List OutputSection → List ℕ
 section_names outputs = 0 ∷ output_names outputs ++ own_name
 
 -- the headers of output sections, the first of whose names starts at `name`
-abbrev pub output_headers : (name : ℕ) → List Section → List ℕ
+abbrev pub output_headers : (name : ℕ) → List OutputSection → List ℕ
 output_headers name [] = []
 output_headers name (s ∷ ss) = section_header (output_section name s) ++ output_headers (name + length s.name + 1) ss
 
 -- the section headers, if the names stand at this file offset
-unfoldable pub section_headers : List Section → (offset : ℕ) → List ℕ
+unfoldable pub section_headers : List OutputSection → (offset : ℕ) → List ℕ
 section_headers outputs offset = section_header null_section
     ++ (output_headers 1 outputs
     ++ section_header (names_section (1 + length (output_names outputs)) offset (length (section_names outputs))))

@@ -1,2 +1,5 @@
 pub mod Headers
 pub mod Executable
+pub mod Ends
+pub mod Frames
+pub mod Standing

@@ -1,11 +1,11 @@
 //! What stands at the end of the file: the names of the sections, and the section headers.
 
-ghost use Rattle.std.specs.Prelude.{◌≡◌, ◌+◌, ◌^◌, ◌<◌, ◌++◌, length, IfOk, OnOk};
+ghost use Rattle.std.specs.Prelude.{◌≡◌, ◌+◌, ◌^◌, ◌<◌, ◌++◌, length, map, IfOk, OnOk};
 ghost use Rattle.elf_out.specs.Headers as spec;
-ghost use Rattle.layout.specs.Walk.{view, views};
+ghost use Rattle.link_sections.specs.LaidOut.{output_view};
 
-use crate::headers::{SectionHeader, offset_of, push_section_header};
-use layout::Output;
+use crate::header_bytes::{SectionHeader, offset_of, push_section_header};
+use link_sections::Output;
 use lk_base::abi::{SHT_NULL, SHT_STRTAB};
 use std::alloc::{AllocError, Global};
 
@@ -32,9 +32,8 @@ fn push_name(out: &mut Vec<u8>, name: &[u8]) -> Result<(), AllocError>
 }
 
 /// Adds the names of output sections.
-#[tactic(auto, unfolding(layout::specs::Walk::view))]
 fn push_output_names(out: &mut Vec<u8>, outputs: &[Output]) -> Result<(), AllocError>
-    ensures { OnOk result (out.new.items ≡ out.old.items ++ spec.output_names (views outputs.now)) }
+    ensures { OnOk result (out.new.items ≡ out.old.items ++ spec.output_names (map output_view outputs.now)) }
 {
     for output in outputs {
         push_name(out, output.name)?;
@@ -46,7 +45,7 @@ fn push_output_names(out: &mut Vec<u8>, outputs: &[Output]) -> Result<(), AllocE
 /// section's own.
 #[tactic(auto, unfolding(crate::specs::Headers::section_names, crate::specs::Headers::own_name))]
 pub fn name_bytes(alloc: Global, outputs: &[Output]) -> Result<Vec<u8>, AllocError>
-    ensures { IfOk result (λ v. v.items ≡ spec.section_names (views outputs.now)) }
+    ensures { IfOk result (λ v. v.items ≡ spec.section_names (map output_view outputs.now)) }
 {
     let mut out = Vec::new(alloc);
     out.push(0)?;
@@ -55,10 +54,35 @@ pub fn name_bytes(alloc: Global, outputs: &[Output]) -> Result<Vec<u8>, AllocErr
     Ok(out)
 }
 
+/// How many bytes the names have; out of memory if no memory holds so many.
+#[tactic(auto, unfolding(crate::specs::Headers::section_names, crate::specs::Headers::own_name))]
+pub fn names_size(outputs: &[Output]) -> Result<u64, AllocError>
+    ensures value { IfOk result (λ size. size ≡ length (spec.section_names (map output_view outputs.now))) }
+    ensures small { IfOk result (λ size. size < 2 ^ 62) }
+{
+    let mut size: u64 = 1 + OWN_NAME.len() as u64 + 1;
+    for output in outputs {
+        size = with_name(size, output.name)?;
+    }
+    Ok(size)
+}
+
+/// These bytes, and those of one more name.
+fn with_name(size: u64, name: &[u8]) -> Result<u64, AllocError>
+    requires { size < 2 ^ 62 }
+    ensures value { IfOk result (λ sum. sum ≡ size + (length name.now + 1)) }
+    ensures small { IfOk result (λ sum. sum < 2 ^ 62) }
+{
+    let sum = size + (name.len() as u64 + 1);
+    if sum >= 1 << 62 {
+        return Err(AllocError);
+    }
+    Ok(sum)
+}
+
 /// The header of an output section whose name starts at `name`.
-#[tactic(auto, unfolding(layout::specs::Walk::view))]
 fn output_section(name: u64, output: &Output) -> SectionHeader
-    ensures { result ≡ spec.output_section name (view output.now) }
+    ensures { result ≡ spec.output_section name (output_view output.now) }
 {
     SectionHeader {
         name: (name % 0x1_0000_0000) as u32,
@@ -88,9 +112,9 @@ fn names_section(name: u64, offset: u64, size: u64) -> SectionHeader
 
 /// Adds the headers of output sections, and gives where the name after theirs starts.
 fn push_output_headers(out: &mut Vec<u8>, outputs: &[Output]) -> Result<u64, AllocError>
-    requires { length (spec.output_names (views outputs.now)) < 2 ^ 63 }
-    ensures written { OnOk result (out.new.items ≡ out.old.items ++ spec.output_headers 1 (views outputs.now)) }
-    ensures next { IfOk result (λ name. name ≡ 1 + length (spec.output_names (views outputs.now))) }
+    requires { length (spec.output_names (map output_view outputs.now)) < 2 ^ 63 }
+    ensures written { OnOk result (out.new.items ≡ out.old.items ++ spec.output_headers 1 (map output_view outputs.now)) }
+    ensures next { IfOk result (λ name. name ≡ 1 + length (spec.output_names (map output_view outputs.now))) }
 {
     let mut name: u64 = 1;
     for output in outputs {
@@ -107,9 +131,9 @@ pub fn header_table(
     offset: u64,
     size: u64,
 ) -> Result<Vec<u8>, AllocError>
-    requires names { size ≡ length (spec.section_names (views outputs.now)) }
+    requires names { size ≡ length (spec.section_names (map output_view outputs.now)) }
     requires room { size < 2 ^ 63 }
-    ensures { IfOk result (λ v. v.items ≡ spec.section_headers (views outputs.now) offset) }
+    ensures { IfOk result (λ v. v.items ≡ spec.section_headers (map output_view outputs.now) offset) }
 {
     let mut out = Vec::new(alloc);
     push_section_header(&mut out, &NULL_SECTION)?;
@@ -135,6 +159,7 @@ mod tests {
             address: 0x11000,
             size: 8,
             align: 4,
+            count: 1,
         };
         let names = name_bytes(rt.alloc(), &[text])?;
         assert_eq!(rt; names.as_slice(), b"\0.text\0.shstrtab\0".as_slice());

@@ -1,11 +1,16 @@
 //! What stands at the start of the file: the file header, and the program headers of the segments.
 
 ghost use Rattle.std.specs.Prelude.{◌≡◌, ◌≤◌, ◌++◌, ◌∷◌, [], if◌then◌else◌, flat_map, length, IfOk, OnOk};
-ghost use Rattle.elf_out.specs.Headers.{file_header, loaded, program_header, program_headers, segments};
+ghost use Rattle.link_sections.specs.Views.{binding_in, files_in, laid_in, leaders_in};
+ghost use Rattle.elf_out.specs.Executable as spec;
+ghost use Rattle.elf_out.specs.Headers.{file_header, loaded, program_header, program_headers, segments, tls_segment};
 
-use crate::headers::{ProgramHeader, offset_of, push_file_header, push_program_header};
-use layout::Bounds;
-use lk_base::abi::{IMAGE_BASE, PAGE, PF_R, PF_W, PF_X, PT_GNU_STACK, PT_LOAD};
+use crate::ends::ends_of;
+use crate::flags::kept_flags;
+use crate::header_bytes::{ProgramHeader, offset_of, push_file_header, push_program_header};
+use link_sections::{Bounds, View};
+use lk_base::abi::{IMAGE_BASE, PAGE, PF_R, PF_W, PF_X, PT_GNU_STACK, PT_LOAD, PT_TLS};
+use reloc_apply::entry_address;
 use std::alloc::{AllocError, Global};
 
 /// The stack is read and written.
@@ -34,6 +39,31 @@ fn loaded(flags: u32, start: u64, bits: u64, end: u64) -> ProgramHeader
     }
 }
 
+/// The bytes of the file that each thread's storage starts with: none without a member that has bits.
+fn tls_file_size(bounds: &Bounds) -> u64
+    ensures { result ≡ (tls_segment bounds.now).file_size }
+{
+    if !bounds.has_tls_bits {
+        return 0;
+    }
+    bounds.tls_bits_end.saturating_sub(bounds.tls_start)
+}
+
+/// The segment of thread-local storage.
+fn thread_local(bounds: &Bounds) -> ProgramHeader
+    ensures { result ≡ tls_segment bounds.now }
+{
+    ProgramHeader {
+        kind: PT_TLS,
+        flags: PF_R,
+        offset: offset_of(bounds.tls_start),
+        address: bounds.tls_start,
+        file_size: tls_file_size(bounds),
+        memory_size: bounds.tls_end.saturating_sub(bounds.tls_start),
+        align: bounds.tls_align,
+    }
+}
+
 /// Adds the program header of a segment, if there is one.
 fn push_if(out: &mut Vec<u8>, is_there: bool, header: &ProgramHeader) -> Result<(), AllocError>
     ensures { OnOk result (out.new.items ≡ out.old.items ++ flat_map program_header (if is_there then header.now ∷ [] else [])) }
@@ -44,8 +74,8 @@ fn push_if(out: &mut Vec<u8>, is_there: bool, header: &ProgramHeader) -> Result<
     push_program_header(out, header)
 }
 
-/// Adds the program headers: of what is only read, with the headers, of what is executed, of what is written, and of the
-/// stack.
+/// Adds the program headers: of what is only read, with the headers, of what is executed, of what is written, of thread-local
+/// storage, and of the stack.
 fn push_program_headers(out: &mut Vec<u8>, bounds: &Bounds) -> Result<(), AllocError>
     ensures { OnOk result (out.new.items ≡ out.old.items ++ program_headers bounds.now) }
 {
@@ -60,44 +90,52 @@ fn push_program_headers(out: &mut Vec<u8>, bounds: &Bounds) -> Result<(), AllocE
     push_program_header(out, &first)?;
     push_if(out, bounds.has_rx, &executed)?;
     push_if(out, bounds.has_rw, &written)?;
+    push_if(out, bounds.has_tls, &thread_local(bounds))?;
     push_program_header(out, &STACK)?;
     Ok(())
 }
 
-/// How many program headers there are.
-fn segment_count(bounds: &Bounds) -> u16
-    ensures { result ≡ length (segments bounds.now) }
+/// 1 for a segment that is there.
+fn one_if(is_there: bool) -> u16
+    ensures { result ≡ (if is_there then 1 else 0) }
 {
-    if bounds.has_rx && bounds.has_rw {
-        return 4;
+    if is_there {
+        return 1;
     }
-    if bounds.has_rx || bounds.has_rw {
-        return 3;
-    }
-    2
+    0
 }
 
-/// The bytes from the file's start to the end of the program headers.
-pub fn front_bytes(
-    alloc: Global,
-    entry: u64,
-    table: u64,
-    flags: u32,
-    sections: u16,
-    bounds: &Bounds,
-) -> Result<Vec<u8>, AllocError>
-    requires { 1 ≤ sections }
-    ensures { IfOk result (λ v. v.items ≡ file_header entry table flags (length (segments bounds.now)) sections ++ program_headers bounds.now) }
+/// How many program headers there are: that of what is only read and that of the stack always.
+pub fn segment_count(bounds: &Bounds) -> u16
+    ensures value { result ≡ length (segments bounds.now) }
+    ensures most { result ≤ 5 }
 {
+    2 + one_if(bounds.has_rx) + one_if(bounds.has_rw) + one_if(bounds.has_tls)
+}
+
+/// The bytes from the file's start to the end of the program headers, if the section headers stand at `table`.
+pub fn headers_before(alloc: Global, view: &View, table: u64) -> Result<Vec<u8>, AllocError>
+    requires { table ≡ spec.table_offset (laid_in view.now) }
+    ensures { IfOk result (λ v. v.items ≡ spec.headers (files_in view.now) (binding_in view.now) (leaders_in view.now) (laid_in view.now)) }
+{
+    let bounds = &view.layout.bounds;
     let mut out = Vec::new(alloc);
     push_file_header(
         &mut out,
-        entry,
+        entry_address(view),
         table,
-        flags,
+        kept_flags(view.tables),
         segment_count(bounds),
-        sections,
+        view.layout.outputs.len() as u16 + 2,
     )?;
     push_program_headers(&mut out, bounds)?;
     Ok(out)
+}
+
+/// The file header and the program headers of an executable, which stand at its start.
+pub fn headers(alloc: Global, view: &View) -> Result<Vec<u8>, AllocError>
+    ensures { IfOk result (λ v. v.items ≡ spec.headers (files_in view.now) (binding_in view.now) (leaders_in view.now) (laid_in view.now)) }
+{
+    let ends = ends_of(view)?;
+    headers_before(alloc, view, ends.table_at)
 }

@@ -1,121 +1,129 @@
-//! The executable as one file.
+//! The executable as one file, written by many workers.
 
-ghost use Rattle.std.specs.Prelude.{◌≡◌, ◌-◌, ◌++◌, ◌∷◌, [], ◌≤◌, ◌<◌, ◌^◌, length, IfOk, OnOk};
-ghost use Rattle.lk_base.specs.declared.abi.TheConstants.{IMAGE_BASE};
-ghost use Rattle.lk_base.specs.Firsts.{Goes, Passes};
-ghost use Rattle.lk_base.specs.Limits.{standard};
+ghost use Rattle.std.specs.Prelude.{◌≡◌, ◌+◌, ◌*◌, ◌≤◌, ◌<◌, ◌^◌, length, IfOk};
+ghost use Rattle.lk_base.specs.Firsts.{Goes};
+ghost use Rattle.link_sections.specs.Views.{binding_in, files_in, laid_in, leaders_in};
 ghost use Rattle.elf_out.specs.Executable as spec;
-ghost use Rattle.layout.specs.Layout.{IsWithin, view_of};
-ghost use Rattle.lk_tables.specs.Views.{binding_in, files_in, sections_in};
-ghost use Rattle.reloc_apply.specs.Image.{piece, image, Shows};
-ghost use Rattle.reloc_apply.specs.PieceView.{piece_of, Ends};
-ghost use Rattle.reloc_apply.specs.Relocated.{relocated_pieces, relocation_defects};
+ghost use Rattle.elf_out.specs.Frames.{IsFrame};
+ghost use Rattle.elf_out.specs.Standing.{SectionsStand};
+ghost use Rattle.reloc_apply.specs.Image.{ShowsFrom};
+ghost use Rattle.reloc_apply.specs.Relocated.{relocation_defects};
 
-use crate::flags::kept_flags;
-use crate::headers::offset_of;
-use crate::sections::{header_table, name_bytes};
-use crate::segments::front_bytes;
-use layout::Layout;
-use lk_base::abi::SHDR_SIZE;
-use lk_base::{Defect, LinkStop, up};
-use lk_tables::View;
-use reloc_apply::{Piece, apply, entry_address, fill_piece};
+use crate::blocks::BLOCK;
+use crate::ends::ends_of;
+use crate::frames::{Frame, frame_in, lay_ends, lay_headers};
+use link_sections::View;
+use lk_base::{LinkStop, up};
+use reloc_apply::{check_relocations, write_block};
 use std::alloc::{AllocError, Global};
+use std::thread;
+use std::thread::Threads;
+use work_split::Gate;
 
-/// The executable of a link whose sections stand where the layout has them, or the first relocation, in order of file and
-/// section, that can't be done.
-#[tactic(auto, unfolding(crate::specs::Executable::executable, crate::specs::Executable::pieces, layout::specs::Layout::view_of))]
-pub fn write_executable(alloc: Global, view: &View, layout: &Layout) -> Result<Vec<u8>, LinkStop>
-    requires limits { IsWithin standard (view_of layout.now) }
-    requires size { view.now.file_size ≡ layout.now.bounds.file_end - IMAGE_BASE }
-    ensures written { IfOk result (λ v. v.items ≡ spec.executable (files_in view.now) (binding_in view.now) (view_of layout.now) (sections_in view.now)) }
-    ensures goes { Goes result (relocation_defects (files_in view.now) (binding_in view.now) (sections_in view.now)) }
-{
-    let outputs = layout.outputs.as_slice();
-    let names = name_bytes(alloc, outputs)?;
-    let names_at = offset_of(layout.bounds.file_end);
-    let table_at = up(names_at + names.len() as u64, 8);
-    let headers = all_headers(alloc, view, layout, table_at)?;
-    let table = header_table(alloc, outputs, names_at, names.len() as u64)?;
-    let names = Piece {
-        at: names_at,
-        bytes: names.as_slice(),
-    };
-    let table = Piece {
-        at: table_at,
-        bytes: table.as_slice(),
-    };
-    let size = table_at as usize + SHDR_SIZE as usize * (outputs.len() + 2);
-    joined(alloc, view, headers.as_slice(), &names, &table, size)
-}
-
-/// The bytes from the file's start to the end of the program headers, if the section headers stand at `table`.
-#[tactic(auto, unfolding(crate::specs::Executable::headers, crate::specs::Executable::entry_address, layout::specs::Layout::view_of))]
-fn all_headers(
+/// The executable of a link, or the first relocation, in order of file, section and offset, that can't be done. All relocations are
+/// tested before a byte is written. So many workers test them and write the file, each a run of its blocks. The bytes of each section
+/// stand whole in the file.
+pub fn write_executable<R: Threads + Sync, G: Gate>(
+    rt: &R,
     alloc: Global,
     view: &View,
-    layout: &Layout,
-    table: u64,
-) -> Result<Vec<u8>, AllocError>
-    requires limits { IsWithin standard (view_of layout.now) }
-    requires table { table ≡ spec.table_offset (view_of layout.now) }
-    ensures { IfOk result (λ v. v.items ≡ spec.headers (files_in view.now) (binding_in view.now) (view_of layout.now) (sections_in view.now)) }
-{
-    let flags = kept_flags(view.tables);
-    let count = layout.outputs.len() as u16 + 2;
-    front_bytes(
-        alloc,
-        entry_address(view),
-        table,
-        flags,
-        count,
-        &layout.bounds,
-    )
-}
-
-/// A file of so many bytes from its headers, its sections, the names and the section headers.
-fn joined(
-    alloc: Global,
-    view: &View,
-    headers: &[u8],
-    names: &Piece,
-    table: &Piece,
-    size: usize,
+    workers: u32,
+    gate: &G,
 ) -> Result<Vec<u8>, LinkStop>
-    requires room { view.now.file_size ≤ size }
-    requires names { Ends names.now }
-    requires table { table.now.at ≤ size }
-    ensures written { IfOk result (λ v. v.items ≡ image (piece 0 headers.now ∷ relocated_pieces (files_in view.now) (binding_in view.now) (sections_in view.now) ++ (piece_of names.now ∷ piece_of table.now ∷ [])) size) }
-    ensures goes { Goes result (relocation_defects (files_in view.now) (binding_in view.now) (sections_in view.now)) }
+    requires some { 1 ≤ workers }
+    requires most { workers ≤ 64 }
+    ensures written { IfOk result (λ v. v.items ≡ spec.executable (files_in view.now) (binding_in view.now) (leaders_in view.now) (laid_in view.now)) }
+    ensures goes { Goes result (relocation_defects (files_in view.now) (binding_in view.now) (leaders_in view.now) (laid_in view.now)) }
+    ensures stands { IfOk result (λ v. SectionsStand (files_in view.now) (binding_in view.now) (leaders_in view.now) (laid_in view.now) v.items) }
 {
-    let mut out = vec![in alloc; 0u8; size]?;
-    lay(&mut out, view, headers, names, table)?;
+    check_relocations(rt, alloc, view, workers, gate)?;
+    let file = whole_file(rt, alloc, view, workers, gate)?;
+    Ok(file)
+}
+
+/// The bytes of the executable, whether its relocations can be done or not.
+#[tactic(auto, unfolding(crate::specs::Executable::executable))]
+fn whole_file<R: Threads + Sync, G: Gate>(
+    rt: &R,
+    alloc: Global,
+    view: &View,
+    workers: u32,
+    gate: &G,
+) -> Result<Vec<u8>, AllocError>
+    requires some { 1 ≤ workers }
+    ensures { IfOk result (λ v. v.items ≡ spec.executable (files_in view.now) (binding_in view.now) (leaders_in view.now) (laid_in view.now)) }
+{
+    let ends = ends_of(view)?;
+    let frame = frame_in(alloc, view, &ends, 0, ends.end)?;
+    let mut out = vec![in alloc; 0u8; ends.end as usize]?;
+    fill(rt, &mut out, view, &frame, workers, gate);
     Ok(out)
 }
 
-/// Lays over a file the headers, over them the sections with their relocations done, and over these the names and the
-/// section headers.
-fn lay(
+/// Lays everything over a file of zeros: each worker over a run of whole blocks of it.
+fn fill<R: Threads + Sync, G: Gate>(
+    rt: &R,
     out: &mut [u8],
     view: &View,
-    headers: &[u8],
-    names: &Piece,
-    table: &Piece,
-) -> Result<(), Defect>
-    requires room { view.now.file_size ≤ length out.old }
-    requires small { length out.old < 2 ^ 63 }
-    requires names { Ends names.now }
-    requires table { Ends table.now }
-    ensures goes { Passes result (relocation_defects (files_in view.now) (binding_in view.now) (sections_in view.now)) }
-    ensures bytes { OnOk result (Shows out.old out.new (piece 0 headers.now ∷ relocated_pieces (files_in view.now) (binding_in view.now) (sections_in view.now) ++ (piece_of names.now ∷ piece_of table.now ∷ []))) }
+    frame: &Frame,
+    workers: u32,
+    gate: &G,
+)
+    requires some { 1 ≤ workers }
+    requires room { length out.old < 2 ^ 63 }
+    requires frame { IsFrame (files_in view.now) (binding_in view.now) (leaders_in view.now) (laid_in view.now) 0 (length out.old) frame.now }
+    ensures { ShowsFrom 0 out.old out.new (spec.pieces (files_in view.now) (binding_in view.now) (leaders_in view.now) (laid_in view.now)) }
 {
-    let front = Piece {
-        at: 0,
-        bytes: headers,
-    };
-    fill_piece(out, 0, &front);
-    apply(out, view)?;
-    fill_piece(out, 0, names);
-    fill_piece(out, 0, table);
-    Ok(())
+    let run = run_length(out.len(), workers);
+    if out.len() <= run {
+        lay(out, 0, view, frame);
+        return;
+    }
+    thread::for_each_chunk_mut(
+        rt,
+        out,
+        run,
+        &|start: usize, part: &mut [u8]|
+            requires run { 0 < run }
+            requires room { start + length part.now < 2 ^ 63 }
+            requires frame { IsFrame (files_in view.now) (binding_in view.now) (leaders_in view.now) (laid_in view.now) start (start + length part.now) frame.now }
+            ensures { ShowsFrom start part.entry.now part.exit.now (spec.pieces (files_in view.entry.now) (binding_in view.entry.now) (leaders_in view.entry.now) (laid_in view.entry.now)) }
+        { lay_run(part, start, run, view, frame, gate) },
+    );
+}
+
+/// How many bytes each worker writes: whole blocks, so many that no more runs than workers are needed.
+fn run_length(len: usize, workers: u32) -> usize
+    requires some { 1 ≤ workers }
+    requires room { len < 2 ^ 63 }
+    ensures some { 0 < result }
+    ensures enough { len < result * workers }
+{
+    up(len as u64 / workers as u64 + 1, BLOCK) as usize
+}
+
+/// Writes one worker's run, between the two steps of its gate.
+fn lay_run<G: Gate>(part: &mut [u8], start: usize, run: usize, view: &View, frame: &Frame, gate: &G)
+    requires run { 0 < run }
+    requires room { start + length part.old < 2 ^ 63 }
+    requires frame { IsFrame (files_in view.now) (binding_in view.now) (leaders_in view.now) (laid_in view.now) start (start + length part.old) frame.now }
+    ensures { ShowsFrom start part.old part.new (spec.pieces (files_in view.now) (binding_in view.now) (leaders_in view.now) (laid_in view.now)) }
+{
+    let worker = (start / run % 0x1_0000_0000) as u32;
+    gate.at(worker, 0);
+    lay(part, start as u64, view, frame);
+    gate.at(worker, 1);
+}
+
+/// Lays over a block that starts at a file offset the headers, over them the sections with their relocations done, and over these the
+/// names and the section headers.
+#[tactic(auto, unfolding(crate::specs::Executable::pieces))]
+fn lay(block: &mut [u8], from: u64, view: &View, frame: &Frame)
+    requires room { from + length block.old < 2 ^ 63 }
+    requires frame { IsFrame (files_in view.now) (binding_in view.now) (leaders_in view.now) (laid_in view.now) from (from + length block.old) frame.now }
+    ensures { ShowsFrom from block.old block.new (spec.pieces (files_in view.now) (binding_in view.now) (leaders_in view.now) (laid_in view.now)) }
+{
+    lay_headers(block, from, view, frame);
+    write_block(block, from, view);
+    lay_ends(block, from, view, frame);
 }

@@ -1,3 +1,4 @@
+pub mod GroupLists
 pub mod LastNames
 pub mod Overlaps
 pub mod RelocLists

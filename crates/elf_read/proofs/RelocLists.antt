@@ -18,7 +18,7 @@ use Rattle.lk_tables.specs.Sections.{section_of, takes_relocs}
 use Rattle.lk_tables.proofs.Ranges.{find_more}
 use Rattle.elf_read.specs.RelaSections.{marks_before, list_before, lists_before}
 
-map_same : {X : Type 0} (f g : ℕ → X) → ((k : ℕ) → f k ≡ g k) → (ks : List ℕ) → map f ks ≡ map g ks
+pub map_same : {X : Type 0} (f g : ℕ → X) → ((k : ℕ) → f k ≡ g k) → (ks : List ℕ) → map f ks ≡ map g ks
 map_same f g same [] = refl
 map_same f g same (k ∷ ks) = ap (λ x. x ∷ map f ks) (same k) ∙ ap (λ xs. g k ∷ xs) (map_same f g same ks)
 
@@ -42,7 +42,7 @@ or_nothing : {X : Type 0} (r : Option X) → option_or r None ≡ r
 or_nothing None = refl
 or_nothing (Some x) = refl
 
-or_false : (a : Bool) → (a || (false || false)) ≡ a
+pub or_false : (a : Bool) → (a || (false || false)) ≡ a
 or_false true = refl
 or_false false = refl
 

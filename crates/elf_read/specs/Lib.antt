@@ -1,3 +1,4 @@
+pub mod Groups
 pub mod Names
 pub mod RelaSections
 pub mod Relocations

@@ -7,18 +7,19 @@ ghost use Rattle.lk_tables.specs.Checks.{Gives, IsFirstBroken};
 ghost use Rattle.lk_tables.specs.Heads.{head_of, head_view};
 ghost use Rattle.lk_tables.specs.Objects.{ObjectView, object_view, object_of, object_checks, BodyOf};
 
-use crate::rela_sections::read_sections;
+use crate::section_bodies::read_sections;
 use crate::sound_file::reopen;
 use crate::symbol_checks::check_uses;
 use lk_base::ReadFault;
 use lk_tables::{Head, Object, Reloc};
 use std::alloc::{AllocError, Global};
 
-/// Reads the relocations of a relocatable object for 64-bit RISC-V whose head is read.
+/// Reads the section groups and the relocations of a relocatable object for 64-bit RISC-V whose head is read.
 ///
-/// The answer is the body whose relocations are the numbers at their places, one list for each section in stable order
-/// of offset, if no check is broken; else the first broken check in the order of `object_checks`, with its place; or
-/// that memory ran out.
+/// The answer is the body whose groups, in order of their sections, and relocations, one list for each section in stable order
+/// of offset, are the numbers at their places, if no check is broken; else the first broken check in the order of
+/// `object_checks`, with its place; or that memory ran out. Signatures are spans of the input, which name no file and count
+/// from its first byte.
 pub fn read_body(alloc: Global, bytes: &[u8], head: &Head) -> Result<Object, ReadFault>
     // The head is of these bytes.
     requires { head_of bytes.now ≡ Ok (head_view head.now) }
@@ -45,10 +46,19 @@ fn read(alloc: Global, bytes: &[u8], head: &Head) -> Result<Object, ReadFault>
     let count = file.sections.len();
     let mut marks = vec![in alloc; false; count]?;
     let mut lists = empty_lists(alloc, count)?;
-    read_sections(alloc, &file, marks.as_mut_slice(), lists.as_mut_slice())?;
+    let mut taken = vec![in alloc; false; count]?;
+    let mut groups = Vec::new(alloc);
+    read_sections(
+        alloc,
+        &file,
+        marks.as_mut_slice(),
+        lists.as_mut_slice(),
+        taken.as_mut_slice(),
+        &mut groups,
+    )?;
     check_uses(&file)?;
     Ok(Object {
-        groups: Vec::new(alloc),
+        groups,
         relocs: lists,
     })
 }

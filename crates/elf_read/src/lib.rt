@@ -1,22 +1,24 @@
 //! Reads relocatable objects for 64-bit RISC-V (System V gABI, ELF-64; RISC-V ELF psABI): `read_head` gives what the
-//! file header, the section table and the symbol table say, `read_body` the relocations of a file that takes part in
-//! the link. Each answers the first broken check of the format, in the order in which lk_tables lists them, or what
+//! file header, the section table and the symbol table say, `read_body` the section groups and the relocations of a file that
+//! takes part in the link. Each answers the first broken check of the format, in the order in which lk_tables lists them, or what
 //! the bytes say.
 //!
 //! `numbers`, `entries` and `names` read at a place. `header` tests the file header, `sections` and `symbols` read the tables
 //! of a head, and `head` all of it. `sound_file` is a file whose head is sound; `section_checks` and `symbol_checks` are what is
-//! asked of it before it is linked, `relocations` reads one relocation section, `rela_sections` all of them, and `body` the
-//! whole.
+//! asked of it before it is linked, `relocations` reads the entries of a relocation section, `rela_sections` one such section,
+//! `groups` one group, `section_bodies` all sections, and `body` the whole.
 #![tactic(auto)]
 
 mod body;
 mod entries;
+mod groups;
 mod head;
 mod header;
 mod names;
 mod numbers;
 mod rela_sections;
 mod relocations;
+mod section_bodies;
 mod section_checks;
 mod sections;
 mod sound_file;

@@ -1,4 +1,4 @@
-//! The relocation sections, and the relocations of all sections (System V gABI, "Relocation").
+//! The relocation sections (System V gABI, "Relocation").
 
 ghost use Rattle.std.specs.Prelude.{◌≡◌, ◌+◌, ◌<◌, length, map, OnOk, IsFalse, IsTrue};
 ghost use Rattle.lk_base.specs.declared.abi.TheConstants.{SHT_RELA};
@@ -10,65 +10,16 @@ ghost use Rattle.elf_read.specs.RelaSections.{marks_before, lists_before};
 
 use crate::header::flaw;
 use crate::relocations::read_relocations;
-use crate::section_checks::{check_group, check_plain};
 use crate::sound_file::SoundFile;
 use lk_base::ReadFault;
-use lk_base::abi::{RELA_SIZE, SHT_NULL, SHT_RELA};
+use lk_base::abi::{RELA_SIZE, SHT_RELA};
 use lk_base::kinds::BAD_SECTION;
 use lk_tables::{Reloc, Section};
 use std::alloc::Global;
 
-/// All sections, if they are sound, with the relocations of each: `marks` has the sections of which the relocations were read,
-/// and `lists` their relocations.
-pub fn read_sections(
-    alloc: Global,
-    file: &SoundFile,
-    marks: &mut [bool],
-    lists: &mut [Vec<Reloc>],
-) -> Result<(), ReadFault>
-    requires marks { marks.old ≡ marks_before file.now.bytes.now 0 }
-    requires lists { map (λ list. list.items) lists.old ≡ lists_before file.now.bytes.now 0 }
-    ensures checked { Follows result (read.all_body_checks file.now.bytes.now) }
-    ensures lists { OnOk result (map (λ list. list.items) lists.new ≡ lists_before file.now.bytes.now (section_count file.now.bytes.now)) }
-{
-    let count = file.sections.len() as u32;
-    for index in 0..count {
-        read_section(alloc, file, index, marks, lists)?;
-    }
-    Ok(())
-}
-
-/// The section `index`, if it is sound, with its relocations.
-#[tactic(auto, using(lk_tables::proofs::Passing::checked_append), unfolding(lk_tables::specs::Bodies::body_checks))]
-fn read_section(
-    alloc: Global,
-    file: &SoundFile,
-    index: u32,
-    marks: &mut [bool],
-    lists: &mut [Vec<Reloc>],
-) -> Result<(), ReadFault>
-    requires index { index < length file.now.sections.now }
-    requires marks { marks.old ≡ marks_before file.now.bytes.now index }
-    requires lists { map (λ list. list.items) lists.old ≡ lists_before file.now.bytes.now index }
-    ensures checked { Follows result (read.body_checks file.now.bytes.now index) }
-    ensures marks { OnOk result (marks.new ≡ marks_before file.now.bytes.now (index + 1)) }
-    ensures lists { OnOk result (map (λ list. list.items) lists.new ≡ lists_before file.now.bytes.now (index + 1)) }
-{
-    let section = file.section(index);
-    if index == 0 {
-        return Ok(());
-    }
-    if section.sh_type == SHT_NULL {
-        return Ok(());
-    }
-    check_plain(file, index, &section)?;
-    read_rela(alloc, file, index, marks, lists)?;
-    Ok(check_group(file, index, &section)?)
-}
-
 /// The relocation section `index`, if it is sound: its relocations become those of the section that it names.
 #[tactic(auto, unfolding(lk_tables::specs::Bodies::rela_checks))]
-fn read_rela(
+pub fn read_rela(
     alloc: Global,
     file: &SoundFile,
     index: u32,

@@ -1,4 +1,4 @@
-//! What is asked of a section by itself before it is linked (System V gABI, "Section Header Table", "Section Groups").
+//! What is asked of a section by itself before it is linked (System V gABI, "Section Header Table").
 
 ghost use Rattle.std.specs.Prelude.{◌≡◌, ◌<◌, length};
 ghost use Rattle.lk_tables.specs.Bodies as read;
@@ -9,8 +9,7 @@ use crate::sound_file::SoundFile;
 use lk_base::Flaw;
 use lk_base::abi::{
     ALIGN_MAX, NOBITS_MAX, SHF_COMPRESSED, SHF_EXECINSTR, SHF_LINK_ORDER, SHF_MERGE, SHF_TLS,
-    SHF_WRITE, SHT_FINI_ARRAY, SHT_GROUP, SHT_INIT_ARRAY, SHT_NOBITS, SHT_NOTE, SHT_PREINIT_ARRAY,
-    SHT_REL,
+    SHF_WRITE, SHT_NOBITS, SHT_REL,
 };
 use lk_base::kinds::{BAD_ALIGNMENT, BAD_SECTION, COMPRESSED, LIMIT};
 use lk_tables::{Section, is_loaded, is_loaded_type, is_written};
@@ -43,18 +42,6 @@ pub fn check_plain(file: &SoundFile, index: u32, section: &Section) -> Result<()
     )
 }
 
-/// The check of a section group: none is linked yet.
-#[tactic(auto, unfolding(lk_tables::specs::Bodies::group_checks))]
-pub fn check_group(file: &SoundFile, index: u32, section: &Section) -> Result<(), Flaw>
-    requires { index < length file.now.sections.now }
-    ensures { result ≡ passes (read.group_checks file.now.bytes.now index section.now) }
-{
-    reject(
-        section.sh_type == SHT_GROUP,
-        flaw(BAD_SECTION, index, file.place_of(index)),
-    )
-}
-
 /// Whether an alignment is no power of two, or too great; 0 counts as 1.
 #[tactic(auto, unfolding(lk_tables::specs::Bodies::is_bad_alignment))]
 pub fn is_bad_alignment(align: u64) -> bool
@@ -73,13 +60,10 @@ fn is_bad_loaded(count: usize, section: &Section) -> bool
         || (section.flags & SHF_LINK_ORDER != 0 && count <= section.link as usize)
 }
 
-/// Whether a written section is of a form that is not linked yet.
+/// Whether a written section has a flag that is not linked yet.
 #[tactic(auto, unfolding(lk_tables::specs::Bodies::is_unlinked))]
 fn is_unlinked(bytes: &[u8], section: &Section) -> bool
     ensures { result ≡ read.is_unlinked bytes.now section.now }
 {
-    is_written(bytes, section)
-        && ([SHT_NOTE, SHT_INIT_ARRAY, SHT_FINI_ARRAY, SHT_PREINIT_ARRAY].contains(&section.sh_type)
-            || section.flags & SHF_MERGE != 0
-            || section.flags & SHF_TLS != 0)
+    is_written(bytes, section) && (section.flags & SHF_MERGE != 0 || section.flags & SHF_TLS != 0)
 }

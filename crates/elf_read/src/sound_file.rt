@@ -1,10 +1,12 @@
 //! A file whose head is sound, with what was read of it.
 
-ghost use Rattle.std.specs.Prelude.{◌≡◌, ◌+◌, ◌*◌, ◌^◌, ◌<◌, ◌≤◌, length, Ok};
+ghost use Rattle.std.specs.Prelude.{◌≡◌, ℕ, ◌+◌, ◌*◌, ◌^◌, ◌<◌, ◌≤◌, length, Ok};
+ghost use Rattle.std.specs.List.{All};
 ghost use Rattle.lk_base.specs.declared.abi.TheConstants.{SHDR_SIZE};
 ghost use Rattle.lk_tables.specs.Checks.{passes};
 ghost use Rattle.lk_tables.specs.FileHeader as read;
 ghost use Rattle.lk_tables.specs.Heads.{head_of, head_view, sections_of, symbols_of, all_section_checks};
+ghost use Rattle.lk_tables.specs.declared.heads.Place.TheVariants.{Within};
 ghost use Rattle.lk_tables.specs.Sections.{section_of, takes_relocs};
 ghost use Rattle.lk_tables.specs.Symbols as tables;
 
@@ -30,6 +32,7 @@ pub struct SoundFile<'a> {
     ghost few: { length sections.now ≤ 2 ^ 28 },
     ghost within: { table + SHDR_SIZE * length sections.now ≤ length bytes.now },
     ghost symbols_are: { symbols.now ≡ symbols_of bytes.now },
+    ghost placed: { All (λ s. (k : ℕ) → s.place ≡ Within k → k < length sections.now) symbols.now },
     ghost symbols_counted: { length symbols.now ≡ tables.symbol_count bytes.now },
     ghost symtab_is: { symtab ≡ tables.symtab_of bytes.now },
     ghost passed: { passes (all_section_checks bytes.now) ≡ Ok tt },
@@ -67,6 +70,15 @@ impl<'a> SoundFile<'a> {
         ensures { result ≡ section_of self.now.bytes.now index }
     {
         section_in(self.bytes, self.sections, index as usize)
+    }
+
+    /// A symbol.
+    pub fn symbol(&self, index: usize) -> Symbol
+        requires { index < length self.now.symbols.now }
+        ensures value { result ≡ tables.symbol_of self.now.bytes.now index }
+        ensures placed { (k : ℕ) → result.place ≡ Within k → k < length self.now.sections.now }
+    {
+        self.symbols[index]
     }
 
     /// Whether the relocations of a section are read: those of a written one are.

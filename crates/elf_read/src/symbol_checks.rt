@@ -13,7 +13,7 @@ use crate::sound_file::SoundFile;
 use lk_base::Flaw;
 use lk_base::abi::{NOBITS_MAX, STT_GNU_IFUNC, SYM_SIZE};
 use lk_base::kinds::{BAD_ALIGNMENT, IFUNC, LIMIT};
-use lk_tables::{Place, Symbol, is_common};
+use lk_tables::{Place, is_common};
 
 /// The checks of all symbols.
 pub fn check_uses(file: &SoundFile) -> Result<(), Flaw>
@@ -48,7 +48,7 @@ fn check_use(file: &SoundFile, from: usize, index: usize) -> Result<(), Flaw>
     if index == 0 {
         return Ok(());
     }
-    let symbol = symbol_in(file, index);
+    let symbol = file.symbol(index);
     let place = from + SYM_SIZE as usize * index;
     let common = is_common(&symbol);
     reject(
@@ -63,14 +63,6 @@ fn check_use(file: &SoundFile, from: usize, index: usize) -> Result<(), Flaw>
         common && NOBITS_MAX < symbol.size,
         flaw(LIMIT, file.symtab, place),
     )
-}
-
-/// A symbol.
-fn symbol_in(file: &SoundFile, index: usize) -> Symbol
-    requires { index < length file.now.symbols.now }
-    ensures { result ≡ symbols.symbol_of file.now.bytes.now index }
-{
-    file.symbols[index]
 }
 
 /// Whether a symbol is defined elsewhere.

@@ -3,8 +3,8 @@
 
 use crate::{read_body, read_head};
 use lk_base::kinds::{
-    BAD_ALIGNMENT, BAD_HEADER, BAD_NAME, BAD_RELOC, BAD_SECTION, BAD_SYMBOL, COMPRESSED, IFUNC,
-    LIMIT, NOT_OBJECT, OUTSIDE, RELOC_KIND,
+    BAD_ALIGNMENT, BAD_GROUP, BAD_HEADER, BAD_NAME, BAD_RELOC, BAD_SECTION, BAD_SYMBOL, COMPRESSED,
+    IFUNC, LIMIT, NOT_OBJECT, OUTSIDE, RELOC_KIND,
 };
 use lk_base::{DefectKind, Flaw, NO_FILE, ReadFault};
 use lk_tables::{Place, Reloc, Span};
@@ -58,12 +58,16 @@ type Change = (usize, u8);
 /// The object with some bytes changed.
 fn altered(alloc: Global, changes: &[Change]) -> Result<Vec<u8>, AllocError> {
     let mut bytes = sound(alloc)?;
+    alter(bytes.as_mut_slice(), changes);
+    Ok(bytes)
+}
+
+fn alter(bytes: &mut [u8], changes: &[Change]) {
     for (at, byte) in changes {
         if let Some(place) = bytes.get_mut(*at) {
             *place = *byte;
         }
     }
-    Ok(bytes)
 }
 
 /// The flaw of the bytes: the head's, else the body's.
@@ -81,7 +85,7 @@ fn flaw_in(alloc: Global, bytes: &[u8]) -> Option<Flaw> {
 /// A byte, what it becomes, and the answer's kind, section, place and other number.
 type Row = (usize, u8, DefectKind, u32, u64, u64);
 
-const ROWS: [Row; 60] = [
+const ROWS: [Row; 56] = [
     // The file header.
     (0, 0x7e, NOT_OBJECT, 0, 0, 0),
     (4, 1, BAD_HEADER, 0, 4, 0),
@@ -132,11 +136,7 @@ const ROWS: [Row; 60] = [
     (328, 7, BAD_SECTION, 1, 320, 0),
     (328, 0x16, BAD_SECTION, 1, 320, 0),
     (329, 4, BAD_SECTION, 1, 320, 0),
-    (324, 7, BAD_SECTION, 1, 320, 0),
-    (324, 14, BAD_SECTION, 1, 320, 0),
-    (324, 15, BAD_SECTION, 1, 320, 0),
-    (324, 16, BAD_SECTION, 1, 320, 0),
-    (388, 17, BAD_SECTION, 2, 384, 0),
+    (388, 17, BAD_GROUP, 2, 384, 0),
     (368, 3, BAD_ALIGNMENT, 1, 320, 0),
     (440, 25, BAD_SECTION, 2, 384, 0),
     (424, 4, BAD_SECTION, 2, 384, 0),
@@ -172,13 +172,17 @@ fn reports_the_first_broken_check(rt: HostRuntime) -> Result<(), Fail> {
 #[test]
 fn passes_what_is_not_checked(rt: HostRuntime) -> Result<(), Fail> {
     // A value at the section's end; visibility; a relocation section of one that is not written; .text is excluded, or
-    // ordered by section 0; fields of the file header that an object does not use.
+    // ordered by section 0, or a note or an array of functions; fields of the file header that an object does not use.
     for (at, byte) in [
         (160, 16),
         (157, 2),
         (428, 3),
         (331, 0x80),
         (328, 0x86),
+        (324, 7),
+        (324, 14),
+        (324, 15),
+        (324, 16),
         (7, 3),
         (24, 1),
         (32, 1),
@@ -333,5 +337,105 @@ fn reads_each_field(rt: HostRuntime) -> Result<(), Fail> {
         },
     ];
     assert_eq!(rt; object.relocs[1].as_slice(), wanted.as_slice());
+    Ok(())
+}
+
+/// .rela.text becomes a COMDAT group of .text, of which `_start` is the signature.
+const GROUP: [Change; 5] = [(388, 17), (440, 4), (416, 8), (80, 1), (84, 1)];
+
+/// .text becomes a group of .strtab.
+const EARLIER: [Change; 9] = [
+    (324, 17),
+    (328, 0),
+    (376, 4),
+    (352, 8),
+    (360, 3),
+    (364, 1),
+    (64, 1),
+    (68, 4),
+    (84, 5),
+];
+
+/// The object with a group, and with some more bytes changed.
+fn grouped(alloc: Global, changes: &[Change]) -> Result<Vec<u8>, AllocError> {
+    let mut bytes = altered(alloc, GROUP.as_slice())?;
+    alter(bytes.as_mut_slice(), changes);
+    Ok(bytes)
+}
+
+/// A change of the group that cannot be: entries of 8 bytes; no bytes, and 6; a flag word of 2; another symbol table; symbol 3;
+/// the member 0, the section count, and the group itself.
+const BAD_GROUPS: [Change; 9] = [
+    (440, 8),
+    (416, 0),
+    (416, 6),
+    (80, 2),
+    (424, 4),
+    (428, 3),
+    (84, 0),
+    (84, 6),
+    (84, 2),
+];
+
+#[test]
+fn reports_groups_that_cannot_be(rt: HostRuntime) -> Result<(), Fail> {
+    let wanted = Some(Flaw {
+        kind: BAD_GROUP,
+        section: 2,
+        place: 384,
+        other: 0,
+    });
+    for change in BAD_GROUPS {
+        let bytes = grouped(rt.alloc(), &[change])?;
+        assert_eq!(rt;
+            flaw_in(rt.alloc(), bytes.as_slice()),
+            wanted,
+            "byte {}",
+            change.0
+        );
+    }
+    // Two groups of different sections, and of one.
+    let mut bytes = grouped(rt.alloc(), EARLIER.as_slice())?;
+    assert_eq!(rt; flaw_in(rt.alloc(), bytes.as_slice()), None);
+    alter(bytes.as_mut_slice(), &[(84, 4)]);
+    assert_eq!(rt; flaw_in(rt.alloc(), bytes.as_slice()), wanted);
+    Ok(())
+}
+
+/// Changes of the group, whether it is COMDAT then, how many members it has, and the start and the length of its
+/// signature.
+type GroupRow = (&'static [Change], bool, usize, u64, u64);
+
+const GROUPS: [GroupRow; 5] = [
+    (&[], true, 1, 201, 6),
+    (&[(80, 0)], false, 1, 201, 6),
+    // One section twice.
+    (&[(416, 12), (88, 1)], true, 2, 201, 6),
+    // `_start` is the SECTION symbol of .text, and one that stands nowhere.
+    (&[(156, 3), (492, 2)], true, 1, 211, 5),
+    (&[(156, 3), (492, 2), (158, 0)], true, 1, 0, 0),
+];
+
+#[test]
+fn reads_groups(rt: HostRuntime) -> Result<(), Fail> {
+    for (changes, comdat, count, from, len) in GROUPS {
+        let bytes = grouped(rt.alloc(), changes)?;
+        let head = read_head(rt.alloc(), bytes.as_slice())?;
+        let object = read_body(rt.alloc(), bytes.as_slice(), &head)?;
+        assert_eq!(rt; object.groups.len(), 1);
+        let group = &object.groups[0];
+        assert_eq!(rt; group.section, 2);
+        assert_eq!(rt; group.comdat, comdat);
+        assert_eq!(rt; group.members.len(), count);
+        assert_eq!(rt; group.members[0], 1);
+        assert_eq!(rt;
+            group.signature,
+            Span {
+                file: NO_FILE,
+                from,
+                len
+            }
+        );
+    }
     Ok(())
 }

@@ -1,39 +1,52 @@
 -- The bounds of a layout, from what each step of the walk gives.
-use Rattle.std.proofs.Common.{◌≡◌, ℕ, ◌+◌, ◌*◌, not, ◌&&◌, if◌then◌else◌, List, refl}
+use Rattle.std.proofs.Common.{◌≡◌, ◌+◌, ◌*◌, not, if◌then◌else◌, List, refl, ap, ◌∙◌, sym}
 use Rattle.lk_base.specs.declared.abi.TheConstants.{EHDR_SIZE, IMAGE_BASE, PAGE, PHDR_SIZE}
-use Rattle.layout.specs.declared.placing.Bounds.{Bounds}
-use Rattle.layout.specs.Parts.{Part}
-use Rattle.layout.specs.Walk.{Section, cut, end_along, is_empty}
-use Rattle.layout.specs.Layout.{Orders, bounds_of, bits_end_of, count_of, file_end_of, has_rw, has_rx, headers_end_of, headers_of, image_end_of, laid_of, last_end, nobits_end_of, r_end_of, rw_start_of, rx_end_of, rx_start_of, sections_of, starts_of}
-use Rattle.std.specs.Prelude.{length}
 use Rattle.lk_base.specs.Arithmetic.{up}
+use Rattle.link_sections.specs.declared.layouts.Bounds.{Bounds}
+use Rattle.link_sections.specs.Cuts.{Cut}
+use Rattle.layout.specs.declared.walk.Cursor.{Cursor}
+use Rattle.layout.specs.Order.{Orders}
+use Rattle.layout.specs.Walk.{cursor_at, end_along, is_empty, runs}
+use Rattle.layout.specs.Layout.{after_tls_bits, bits_end_of, bounds_of, file_end_of, has_rw, has_rx, has_tls, has_tls_bits, headers_end_of, headers_of, image_end_of, last_end, nobits_end_of, r_end_of, rw_start_of, rx_end_of, rx_start_of, tls_align_of, tls_bits_end_of, tls_end_of, tls_start_of}
 
 -- each bound from those before it
-pub record AreBounds (o : Orders) (b : Bounds) : Type 0 where
-  pub rx_is : b.has_rx ≡ not (is_empty o.rx)
-  pub rw_is : b.has_rw ≡ not (is_empty o.rw_bits && is_empty o.rw_nobits)
-  pub headers : b.headers ≡ 2 + count_of b.has_rx + count_of b.has_rw
+pub record AreBounds (sizes : List (List Cut)) (o : Orders) (b : Bounds) : Type 0 where
+  pub rx_is : b.has_rx ≡ has_rx o
+  pub rw_is : b.has_rw ≡ has_rw o
+  pub tls_is : b.has_tls ≡ has_tls o
+  pub tls_bits_is : b.has_tls_bits ≡ has_tls_bits o
+  pub headers : b.headers ≡ headers_of o
   pub headers_end : b.headers_end ≡ IMAGE_BASE + (EHDR_SIZE + PHDR_SIZE * b.headers)
-  pub r_end : b.r_end ≡ end_along b.headers_end (cut o.r)
+  pub r_end : b.r_end ≡ (end_along sizes (cursor_at b.headers_end) (runs o.r)).at
   pub rx_start : b.rx_start ≡ up b.r_end PAGE
-  pub rx_end : b.rx_end ≡ end_along b.rx_start (cut o.rx)
+  pub rx_end : b.rx_end ≡ (end_along sizes (cursor_at b.rx_start) (runs o.rx)).at
   pub rw_start : b.rw_start ≡ up b.rx_end PAGE
-  pub bits_end : b.bits_end ≡ end_along b.rw_start (cut o.rw_bits)
-  pub nobits_end : b.nobits_end ≡ end_along b.bits_end (cut o.rw_nobits)
-  pub file_end : b.file_end ≡ last_end o b.r_end b.rx_end b.bits_end
+  pub tls_align : b.tls_align ≡ tls_align_of o
+  pub tls_start : b.tls_start ≡ (if has_tls o then up b.rw_start b.tls_align else 0)
+  pub tls_bits_end : b.tls_bits_end ≡ (after_tls_bits sizes o b.rw_start b.tls_align).at
+  pub tls_end : b.tls_end ≡ (end_along sizes (after_tls_bits sizes o b.rw_start b.tls_align) (runs o.tls_nobits)).at
+  pub bits_end : b.bits_end ≡ (end_along sizes (cursor_at b.tls_bits_end) (runs o.rw_bits)).at
+  pub nobits_end : b.nobits_end ≡ (end_along sizes (cursor_at b.bits_end) (runs o.rw_nobits)).at
+  pub file_end : b.file_end ≡ last_end o b.r_end b.rx_end b.tls_bits_end b.bits_end
   pub image_end : b.image_end ≡ (if not (is_empty o.rw_nobits) then b.nobits_end else b.file_end)
 
-pub bounds_are : (o : Orders) → AreBounds o (bounds_of o)
-unfolding bounds_of has_rx has_rw headers_of headers_end_of r_end_of rx_start_of rx_end_of rw_start_of bits_end_of nobits_end_of file_end_of image_end_of
-bounds_are o = record {
+pub bounds_are : (sizes : List (List Cut)) (o : Orders) → AreBounds sizes o (bounds_of sizes o)
+unfolding bounds_of headers_end_of r_end_of rx_start_of rx_end_of rw_start_of tls_start_of tls_bits_end_of tls_end_of bits_end_of nobits_end_of file_end_of image_end_of
+bounds_are sizes o = record {
   rx_is = refl;
   rw_is = refl;
+  tls_is = refl;
+  tls_bits_is = refl;
   headers = refl;
   headers_end = refl;
   r_end = refl;
   rx_start = refl;
   rx_end = refl;
   rw_start = refl;
+  tls_align = refl;
+  tls_start = refl;
+  tls_bits_end = refl;
+  tls_end = refl;
   bits_end = refl;
   nobits_end = refl;
   file_end = refl;
@@ -41,31 +54,36 @@ bounds_are o = record {
 }
 
 -- they are one: two chains give the same bounds
-same_bounds : (a b : Bounds) → a.has_rx ≡ b.has_rx → a.has_rw ≡ b.has_rw → a.headers ≡ b.headers → a.headers_end ≡ b.headers_end
-    → a.r_end ≡ b.r_end → a.rx_start ≡ b.rx_start → a.rx_end ≡ b.rx_end → a.rw_start ≡ b.rw_start → a.bits_end ≡ b.bits_end
-    → a.nobits_end ≡ b.nobits_end → a.file_end ≡ b.file_end → a.image_end ≡ b.image_end → a ≡ b
-same_bounds a b e1 e2 e3 e4 e5 e6 e7 e8 e9 e10 e11 e12 = rw (e1, e2, e3, e4, e5, e6, e7, e8, e9, e10, e11, e12) refl
+same_bounds : (a b : Bounds) → a.has_rx ≡ b.has_rx → a.has_rw ≡ b.has_rw → a.has_tls ≡ b.has_tls → a.has_tls_bits ≡ b.has_tls_bits → a.headers ≡ b.headers
+    → a.headers_end ≡ b.headers_end → a.r_end ≡ b.r_end → a.rx_start ≡ b.rx_start → a.rx_end ≡ b.rx_end → a.rw_start ≡ b.rw_start → a.tls_start ≡ b.tls_start
+    → a.tls_bits_end ≡ b.tls_bits_end → a.tls_end ≡ b.tls_end → a.tls_align ≡ b.tls_align → a.bits_end ≡ b.bits_end → a.nobits_end ≡ b.nobits_end
+    → a.file_end ≡ b.file_end → a.image_end ≡ b.image_end → a ≡ b
+same_bounds a b e1 e2 e3 e4 e5 e6 e7 e8 e9 e10 e11 e12 e13 e14 e15 e16 e17 e18 =
+    rw (e1, e2, e3, e4, e5, e6, e7, e8, e9, e10, e11, e12, e13, e14, e15, e16, e17, e18) refl
 
-pub bounds_is : (o : Orders) (b : Bounds) → AreBounds o b → b ≡ bounds_of o
-bounds_is o b is =
-    let k = bounds_are o in
-    let e1 : b.has_rx ≡ (bounds_of o).has_rx = cc in
-    let e2 : b.has_rw ≡ (bounds_of o).has_rw = cc in
-    let e3 : b.headers ≡ (bounds_of o).headers = cc in
-    let e4 : b.headers_end ≡ (bounds_of o).headers_end = cc in
-    let e5 : b.r_end ≡ (bounds_of o).r_end = cc in
-    let e6 : b.rx_start ≡ (bounds_of o).rx_start = cc in
-    let e7 : b.rx_end ≡ (bounds_of o).rx_end = cc in
-    let e8 : b.rw_start ≡ (bounds_of o).rw_start = cc in
-    let e9 : b.bits_end ≡ (bounds_of o).bits_end = cc in
-    let e10 : b.nobits_end ≡ (bounds_of o).nobits_end = cc in
-    let e11 : b.file_end ≡ (bounds_of o).file_end = cc in
-    let e12 : b.image_end ≡ (bounds_of o).image_end = cc in
-    same_bounds b (bounds_of o) e1 e2 e3 e4 e5 e6 e7 e8 e9 e10 e11 e12
-
--- a layout, from its bounds and what stands at them
-pub laid_is : (parts : List Part) (n : ℕ) (o : Orders) (b : Bounds) (starts : List ℕ) (outputs : List Section) → AreBounds o b
-    → n ≡ length parts → starts ≡ starts_of n o b → outputs ≡ sections_of parts o b
-    → record { starts = starts; outputs = outputs; bounds = b } ≡ laid_of parts o
-unfolding laid_of
-laid_is parts n o b starts outputs is count s e = rw (s, e, count, bounds_is o b is) refl
+pub bounds_is : (sizes : List (List Cut)) (o : Orders) (b : Bounds) → AreBounds sizes o b → b ≡ bounds_of sizes o
+bounds_is sizes o b is =
+    let a : Bounds = bounds_of sizes o in
+    let k = bounds_are sizes o in
+    let headers : b.headers ≡ a.headers = is.headers ∙ sym k.headers in
+    let headers_end : b.headers_end ≡ a.headers_end = is.headers_end ∙ ap (λ x. IMAGE_BASE + (EHDR_SIZE + PHDR_SIZE * x)) headers ∙ sym k.headers_end in
+    let r_end : b.r_end ≡ a.r_end = is.r_end ∙ ap (λ x. (end_along sizes (cursor_at x) (runs o.r)).at) headers_end ∙ sym k.r_end in
+    let rx_start : b.rx_start ≡ a.rx_start = is.rx_start ∙ ap (λ x. up x PAGE) r_end ∙ sym k.rx_start in
+    let rx_end : b.rx_end ≡ a.rx_end = is.rx_end ∙ ap (λ x. (end_along sizes (cursor_at x) (runs o.rx)).at) rx_start ∙ sym k.rx_end in
+    let rw_start : b.rw_start ≡ a.rw_start = is.rw_start ∙ ap (λ x. up x PAGE) rx_end ∙ sym k.rw_start in
+    let tls_align : b.tls_align ≡ a.tls_align = is.tls_align ∙ sym k.tls_align in
+    let tls_start : b.tls_start ≡ a.tls_start = is.tls_start ∙ ap (λ x. if has_tls o then up x b.tls_align else 0) rw_start
+    ∙ ap (λ x. if has_tls o then up a.rw_start x else 0) tls_align ∙ sym k.tls_start in
+    let after_bits : after_tls_bits sizes o b.rw_start b.tls_align ≡ after_tls_bits sizes o a.rw_start a.tls_align =
+    ap (λ x. after_tls_bits sizes o x b.tls_align) rw_start ∙ ap (λ x. after_tls_bits sizes o a.rw_start x) tls_align in
+    let tls_bits_end : b.tls_bits_end ≡ a.tls_bits_end = is.tls_bits_end ∙ ap (λ (x : Cursor). x.at) after_bits ∙ sym k.tls_bits_end in
+    let tls_end : b.tls_end ≡ a.tls_end = is.tls_end ∙ ap (λ x. (end_along sizes x (runs o.tls_nobits)).at) after_bits ∙ sym k.tls_end in
+    let bits_end : b.bits_end ≡ a.bits_end = is.bits_end ∙ ap (λ x. (end_along sizes (cursor_at x) (runs o.rw_bits)).at) tls_bits_end ∙ sym k.bits_end in
+    let nobits_end : b.nobits_end ≡ a.nobits_end = is.nobits_end ∙ ap (λ x. (end_along sizes (cursor_at x) (runs o.rw_nobits)).at) bits_end ∙ sym k.nobits_end in
+    let file_end : b.file_end ≡ a.file_end = is.file_end ∙ ap (λ x. last_end o x b.rx_end b.tls_bits_end b.bits_end) r_end
+    ∙ ap (λ x. last_end o a.r_end x b.tls_bits_end b.bits_end) rx_end ∙ ap (λ x. last_end o a.r_end a.rx_end x b.bits_end) tls_bits_end
+    ∙ ap (λ x. last_end o a.r_end a.rx_end a.tls_bits_end x) bits_end ∙ sym k.file_end in
+    let image_end : b.image_end ≡ a.image_end = is.image_end ∙ ap (λ x. if not (is_empty o.rw_nobits) then x else b.file_end) nobits_end
+    ∙ ap (λ x. if not (is_empty o.rw_nobits) then a.nobits_end else x) file_end ∙ sym k.image_end in
+    same_bounds b a (is.rx_is ∙ sym k.rx_is) (is.rw_is ∙ sym k.rw_is) (is.tls_is ∙ sym k.tls_is) (is.tls_bits_is ∙ sym k.tls_bits_is) headers headers_end r_end rx_start
+    rx_end rw_start tls_start tls_bits_end tls_end tls_align bits_end nobits_end file_end image_end

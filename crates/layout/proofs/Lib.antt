@@ -1,17 +1,33 @@
-pub mod Apart
-mod Chain
-pub mod Classes
-mod Cursors
-mod Cuts
-pub mod Disjoint
-pub mod Inside
-mod Known
-mod Numbered
-mod Outputs
-pub mod Passed
+pub mod Boundaries
+pub mod Chain
+pub mod ClassSums
+pub mod Cursors
+pub mod CutSums
+pub mod CutsPassed
+pub mod FitRows
+pub mod HeadSteps
+pub mod ItemFacts
+pub mod ItemSteps
+pub mod LaidCuts
+pub mod Members
+pub mod NextPool
+pub mod PlacedMembers
 pub mod Rising
-mod Rows
-mod Runs
-mod Seen
-pub mod Segments
-pub mod Stands
+pub mod RowNumbers
+pub mod RowsOfCuts
+pub mod Runs
+pub mod ShortCuts
+pub mod SizeBounds
+pub mod Sized
+pub mod SizedItems
+pub mod Splitting
+pub mod Trails
+pub mod Walked
+pub mod Weights
+pub mod Laying
+pub mod Marks
+pub mod RelocsLie
+pub mod MemberFacts
+pub mod Inside
+pub mod Sounds
+pub mod Seen

@@ -1,84 +1,136 @@
--- The bounds of a layout rise, and the file and the image end within them.
-use Rattle.std.proofs.Common.{◌≡◌, ℕ, ◌+◌, ◌*◌, ◌^◌, ◌<◌, ◌≤◌, Bool, true, false, not, if◌then◌else◌, length, List, All, arith}
-use Rattle.lk_base.specs.declared.abi.TheConstants.{EHDR_SIZE, IMAGE_BASE, PAGE, PHDR_SIZE}
-use Rattle.layout.specs.declared.placing.Bounds.{Bounds}
-use Rattle.layout.specs.Order.{IsFit}
-use Rattle.layout.specs.Parts.{IsSized, Part}
-use Rattle.layout.specs.Walk.{cut, end_along, is_empty}
-use Rattle.layout.specs.Layout.{AreFit, Orders, bounds_of, count_of, laid_of, last_end, layout_of, orders_of, with_got}
-use Rattle.layout.specs.Spots.{AreRising}
-use Rattle.layout.proofs.Chain.{AreBounds, bounds_are}
-use Rattle.layout.proofs.Cursors.{end_least, end_most}
-use Rattle.layout.proofs.Rows.{count_whole, fit_orders, sized_whole}
-use Rattle.layout.proofs.Runs.{each_cut}
-use Rattle.lk_base.proofs.Multiples.{up_below, up_least}
+-- The bounds of a layout rise.
+use Rattle.std.proofs.Common.{◌≡◌, ℕ, ◌+◌, ◌*◌, ◌^◌, ◌<◌, ◌≤◌, Bool, true, false, not, if◌then◌else◌, List, All, arith}
+use Rattle.lk_base.specs.declared.abi.TheConstants.{ALIGN_MAX, EHDR_SIZE, IMAGE_BASE, PAGE, PHDR_SIZE}
 use Rattle.lk_base.specs.Arithmetic.{up}
+use Rattle.lk_base.proofs.Multiples.{up_below, up_least}
+use Rattle.link_sections.specs.declared.layouts.Bounds.{Bounds}
+use Rattle.link_sections.specs.Cuts.{AreApart, Cut}
+use Rattle.layout.specs.declared.order.Row.{Row}
+use Rattle.layout.specs.Layout.{AreReady, after_tls_bits, all_weight, count_of, has_rw, has_rx, has_tls, headers_of, last_end, tls_align_of, tls_cursor}
+use Rattle.layout.specs.Order.{Orders}
+use Rattle.layout.specs.Spots.{AreRising}
+use Rattle.layout.specs.Walk.{IsReady, cursor_at, end_along, greatest, is_empty, runs, weight}
+use Rattle.layout.proofs.Chain.{AreBounds}
+use Rattle.layout.proofs.Cursors.{Moves, RowFits, end_moves, greatest_most}
+use Rattle.layout.proofs.Runs.{each_run}
+use Rattle.layout.proofs.SizeBounds.{size_most}
 
--- the last of three ends that rise, where some may not count
-last_between : (p q : Bool) (r x w : ℕ) → r ≤ x → x ≤ w
-    → (r ≤ (if not p then w else if not q then x else r)) × ((if not p then w else if not q then x else r) ≤ w)
-last_between true true r x w rx xw = (omega arith, omega arith)
-last_between true false r x w rx xw = (omega arith, omega arith)
-last_between false q r x w rx xw = (omega arith, omega arith)
+-- the rows of each class fit
+pub record AllFit (sizes : List (List Cut)) (o : Orders) : Type 0 where
+  pub r : All (RowFits sizes) o.r
+  pub rx : All (RowFits sizes) o.rx
+  pub tls_bits : All (RowFits sizes) o.tls_bits
+  pub tls_nobits : All (RowFits sizes) o.tls_nobits
+  pub rw_bits : All (RowFits sizes) o.rw_bits
+  pub rw_nobits : All (RowFits sizes) o.rw_nobits
 
-image_between : (p : Bool) (f n : ℕ) → f ≤ n → (f ≤ (if not p then n else f)) × ((if not p then n else f) ≤ n)
-image_between true f n le = (omega arith, omega arith)
-image_between false f n le = (omega arith, omega arith)
+fits_of : (sizes : List (List Cut)) (sections pools : ℕ) (rows : List Row) → All AreApart sizes → All (IsReady sizes sections pools) rows → All (RowFits sizes) rows
+fits_of sizes sections pools rows apart ready = λ k d lt. record {
+  some = (ready k d lt).some;
+  aligned = (ready k d lt).aligned;
+  sized = λ start. size_most sizes sections pools start _ apart (ready k d lt);
+}
 
-count_most : (test : Bool) → count_of test ≤ 1
+pub all_fit : (sizes : List (List Cut)) (sections pools : ℕ) (o : Orders) → All AreApart sizes → AreReady sizes sections pools o → AllFit sizes o
+all_fit sizes sections pools o apart ready = record {
+  r = fits_of sizes sections pools o.r apart ready.r;
+  rx = fits_of sizes sections pools o.rx apart ready.rx;
+  tls_bits = fits_of sizes sections pools o.tls_bits apart ready.tls_bits;
+  tls_nobits = fits_of sizes sections pools o.tls_nobits apart ready.tls_nobits;
+  rw_bits = fits_of sizes sections pools o.rw_bits apart ready.rw_bits;
+  rw_nobits = fits_of sizes sections pools o.rw_nobits apart ready.rw_nobits;
+}
+
+pub tls_most : (sizes : List (List Cut)) (o : Orders) → AllFit sizes o → tls_align_of o ≤ ALIGN_MAX
+unfolding tls_align_of
+tls_most sizes o fit =
+    let bits : greatest o.tls_bits ≤ ALIGN_MAX = greatest_most sizes o.tls_bits fit.tls_bits in
+    let nobits : greatest o.tls_nobits ≤ ALIGN_MAX = greatest_most sizes o.tls_nobits fit.tls_nobits in
+    omega arith
+
+count_most : (b : Bool) → count_of b ≤ 1
 count_most true = omega arith
 count_most false = omega arith
 
-pub rising : (n : ℕ) (o : Orders) (b : Bounds) → n ≤ 2 ^ 28 + 1 → AreFit n o → AreBounds o b → AreRising b
-rising n o b few fit is =
-    let rx_count : count_of b.has_rx ≤ 1 = count_most b.has_rx in
-    let rw_count : count_of b.has_rw ≤ 1 = count_most b.has_rw in
-    let headers : b.headers ≡ 2 + count_of b.has_rx + count_of b.has_rw = is.headers in
-    let first_is : b.headers_end ≡ IMAGE_BASE + (EHDR_SIZE + PHDR_SIZE * b.headers) = is.headers_end in
-    let r_is : b.r_end ≡ end_along b.headers_end (cut o.r) = is.r_end in
-    let r : b.headers_end ≤ end_along b.headers_end (cut o.r) = end_least n b.headers_end (cut o.r) (each_cut (IsFit n) o.r fit.r) in
-    let r_most : end_along b.headers_end (cut o.r) ≤ b.headers_end + length o.r * (2 ^ 32 + 2 ^ 21) = end_most n b.headers_end o.r (each_cut (IsFit n) o.r fit.r) in
-    let r_few : length o.r ≤ n = fit.few_r in
-    let rx_start_is : b.rx_start ≡ up b.r_end PAGE = is.rx_start in
-    let rx_start : b.r_end ≤ up b.r_end PAGE = up_least b.r_end PAGE (omega arith) in
-    let rx_start_most : up b.r_end PAGE < b.r_end + PAGE = up_below b.r_end PAGE (omega arith) in
-    let rx_is : b.rx_end ≡ end_along b.rx_start (cut o.rx) = is.rx_end in
-    let rx : b.rx_start ≤ end_along b.rx_start (cut o.rx) = end_least n b.rx_start (cut o.rx) (each_cut (IsFit n) o.rx fit.rx) in
-    let rx_most : end_along b.rx_start (cut o.rx) ≤ b.rx_start + length o.rx * (2 ^ 32 + 2 ^ 21) = end_most n b.rx_start o.rx (each_cut (IsFit n) o.rx fit.rx) in
-    let rx_few : length o.rx ≤ n = fit.few_rx in
-    let rw_start_is : b.rw_start ≡ up b.rx_end PAGE = is.rw_start in
-    let rw_start : b.rx_end ≤ up b.rx_end PAGE = up_least b.rx_end PAGE (omega arith) in
-    let rw_start_most : up b.rx_end PAGE < b.rx_end + PAGE = up_below b.rx_end PAGE (omega arith) in
-    let bits_is : b.bits_end ≡ end_along b.rw_start (cut o.rw_bits) = is.bits_end in
-    let bits : b.rw_start ≤ end_along b.rw_start (cut o.rw_bits) = end_least n b.rw_start (cut o.rw_bits) (each_cut (IsFit n) o.rw_bits fit.rw_bits) in
-    let bits_most : end_along b.rw_start (cut o.rw_bits) ≤ b.rw_start + length o.rw_bits * (2 ^ 32 + 2 ^ 21) = end_most n b.rw_start o.rw_bits (each_cut (IsFit n) o.rw_bits fit.rw_bits) in
-    let bits_few : length o.rw_bits ≤ n = fit.few_bits in
-    let nobits_is : b.nobits_end ≡ end_along b.bits_end (cut o.rw_nobits) = is.nobits_end in
-    let nobits : b.bits_end ≤ end_along b.bits_end (cut o.rw_nobits) = end_least n b.bits_end (cut o.rw_nobits) (each_cut (IsFit n) o.rw_nobits fit.rw_nobits) in
-    let nobits_most : end_along b.bits_end (cut o.rw_nobits) ≤ b.bits_end + length o.rw_nobits * (2 ^ 32 + 2 ^ 21) = end_most n b.bits_end o.rw_nobits (each_cut (IsFit n) o.rw_nobits fit.rw_nobits) in
-    let nobits_few : length o.rw_nobits ≤ n = fit.few_nobits in
-    let file = last_between (is_empty o.rw_bits) (is_empty o.rx) b.r_end b.rx_end b.bits_end (omega arith) (omega arith) in
-    let file_is : b.file_end ≡ last_end o b.r_end b.rx_end b.bits_end = is.file_end in
-    let file_most : b.file_end ≤ b.bits_end = rw file_is file.1 in
-    let image = image_between (is_empty o.rw_nobits) b.file_end b.nobits_end (omega arith) in
+headers_most : (o : Orders) → (2 ≤ headers_of o) × (headers_of o ≤ 5)
+unfolding headers_of
+headers_most o =
+    (omega arith, omega (arith, count_most (has_rx o), count_most (has_rw o), count_most (has_tls o)))
+
+-- how each class moves the cursor
+pub record ClassMoves (sizes : List (List Cut)) (o : Orders) (b : Bounds) : Type 0 where
+  pub r : Moves (cursor_at b.headers_end) (end_along sizes (cursor_at b.headers_end) (runs o.r)) (weight o.r)
+  pub rx : Moves (cursor_at b.rx_start) (end_along sizes (cursor_at b.rx_start) (runs o.rx)) (weight o.rx)
+  pub tls_bits : Moves (tls_cursor sizes o b.rw_start b.tls_align) (after_tls_bits sizes o b.rw_start b.tls_align) (weight o.tls_bits)
+  pub tls_nobits : Moves (after_tls_bits sizes o b.rw_start b.tls_align) (end_along sizes (after_tls_bits sizes o b.rw_start b.tls_align) (runs o.tls_nobits)) (weight o.tls_nobits)
+  pub rw_bits : Moves (cursor_at b.tls_bits_end) (end_along sizes (cursor_at b.tls_bits_end) (runs o.rw_bits)) (weight o.rw_bits)
+  pub rw_nobits : Moves (cursor_at b.bits_end) (end_along sizes (cursor_at b.bits_end) (runs o.rw_nobits)) (weight o.rw_nobits)
+
+pub class_moves : (sizes : List (List Cut)) (o : Orders) (b : Bounds) → AllFit sizes o → AreBounds sizes o b → ClassMoves sizes o b
+class_moves sizes o b fit is =
+    let extra : b.tls_align ≤ ALIGN_MAX = omega (arith, is.tls_align, tls_most sizes o fit) in
+    let bits = end_moves sizes (tls_cursor sizes o b.rw_start b.tls_align) o.tls_bits extra (each_run (RowFits sizes) o.tls_bits fit.tls_bits) in
     record {
-      first = omega arith;
-      r = omega arith;
-      rx_rounded = omega arith;
-      rx = omega arith;
-      rw_rounded = omega arith;
-      bits = omega arith;
-      nobits = omega arith;
+      r = end_moves sizes (cursor_at b.headers_end) o.r (omega arith) (each_run (RowFits sizes) o.r fit.r);
+      rx = end_moves sizes (cursor_at b.rx_start) o.rx (omega arith) (each_run (RowFits sizes) o.rx fit.rx);
+      tls_bits = bits;
+      tls_nobits = end_moves sizes (after_tls_bits sizes o b.rw_start b.tls_align) o.tls_nobits bits.extra (each_run (RowFits sizes) o.tls_nobits fit.tls_nobits);
+      rw_bits = end_moves sizes (cursor_at b.tls_bits_end) o.rw_bits (omega arith) (each_run (RowFits sizes) o.rw_bits fit.rw_bits);
+      rw_nobits = end_moves sizes (cursor_at b.bits_end) o.rw_nobits (omega arith) (each_run (RowFits sizes) o.rw_nobits fit.rw_nobits);
+    }
+
+last_between : (p q s : Bool) (r x t w : ℕ) → r ≤ x → x ≤ t → t ≤ w
+    → (r ≤ (if not p then w else if not q then t else if not s then x else r)) × ((if not p then w else if not q then t else if not s then x else r) ≤ w)
+last_between false q s r x t w rx xt tw = (omega arith, omega arith)
+last_between true false s r x t w rx xt tw = (omega arith, omega arith)
+last_between true true false r x t w rx xt tw = (omega arith, omega arith)
+last_between true true true r x t w rx xt tw = (omega arith, omega arith)
+
+image_between : (p : Bool) (w n : ℕ) → w ≤ n → (w ≤ (if not p then n else w)) × ((if not p then n else w) ≤ n)
+image_between true w n le = (omega arith, omega arith)
+image_between false w n le = (omega arith, omega arith)
+
+pub rising : (sizes : List (List Cut)) (o : Orders) (b : Bounds) → AllFit sizes o → all_weight o + 2 ^ 32 < 2 ^ 63 → AreBounds sizes o b → AreRising b
+rising sizes o b fit room is =
+    let m = class_moves sizes o b fit is in
+    let headers = headers_most o in
+    let rx_up : b.r_end ≤ up b.r_end PAGE = up_least b.r_end PAGE (omega arith) in
+    let rx_near : up b.r_end PAGE < b.r_end + PAGE = up_below b.r_end PAGE (omega arith) in
+    let rw_up : b.rx_end ≤ up b.rx_end PAGE = up_least b.rx_end PAGE (omega arith) in
+    let rw_near : up b.rx_end PAGE < b.rx_end + PAGE = up_below b.rx_end PAGE (omega arith) in
+    let headers_is : b.headers ≡ headers_of o = is.headers in
+    let first : b.headers_end ≡ IMAGE_BASE + (EHDR_SIZE + PHDR_SIZE * b.headers) = is.headers_end in
+    let r : (b.headers_end ≤ b.r_end) × (b.r_end ≤ b.headers_end + weight o.r) = (omega (arith, m.r.least, is.r_end), omega (arith, m.r.most, is.r_end)) in
+    let rx : (b.rx_start ≤ b.rx_end) × (b.rx_end ≤ b.rx_start + weight o.rx) = (omega (arith, m.rx.least, is.rx_end), omega (arith, m.rx.most, is.rx_end)) in
+    let tls : (b.rw_start ≤ b.tls_bits_end) × (b.tls_bits_end ≤ b.rw_start + weight o.tls_bits) =
+    (omega (arith, m.tls_bits.least, is.tls_bits_end), omega (arith, m.tls_bits.most, is.tls_bits_end)) in
+    let zeros : (b.tls_bits_end ≤ b.tls_end) × (b.tls_end ≤ b.tls_bits_end + weight o.tls_nobits) =
+    (omega (arith, m.tls_nobits.least, is.tls_bits_end, is.tls_end), omega (arith, m.tls_nobits.most, is.tls_bits_end, is.tls_end)) in
+    let bits : (b.tls_bits_end ≤ b.bits_end) × (b.bits_end ≤ b.tls_bits_end + weight o.rw_bits) =
+    (omega (arith, m.rw_bits.least, is.bits_end), omega (arith, m.rw_bits.most, is.bits_end)) in
+    let nobits : (b.bits_end ≤ b.nobits_end) × (b.nobits_end ≤ b.bits_end + weight o.rw_nobits) =
+    (omega (arith, m.rw_nobits.least, is.nobits_end), omega (arith, m.rw_nobits.most, is.nobits_end)) in
+    let rx_is : b.rx_start ≡ up b.r_end PAGE = is.rx_start in
+    let rw_is : b.rw_start ≡ up b.rx_end PAGE = is.rw_start in
+    let file = last_between (is_empty o.rw_bits) (is_empty o.tls_bits) (is_empty o.rx) b.r_end b.rx_end b.tls_bits_end b.bits_end
+    (omega (arith, rx_is, rx_up, rx.0)) (omega (arith, rw_is, rw_up, tls.0)) bits.0 in
+    let file_is : b.file_end ≡ last_end o b.r_end b.rx_end b.tls_bits_end b.bits_end = is.file_end in
+    let file_most : b.file_end ≤ b.bits_end = rw file_is file.1 in
+    let image = image_between (is_empty o.rw_nobits) b.file_end b.nobits_end (omega (arith, file_most, nobits.0)) in
+    record {
+      first = omega (arith, first, headers_is, headers.0);
+      r = r.0;
+      rx_rounded = omega (arith, rx_is, rx_up);
+      rx = rx.0;
+      rw_rounded = omega (arith, rw_is, rw_up);
+      tls_bits = tls.0;
+      tls_nobits = zeros.0;
+      bits = bits.0;
+      nobits = nobits.0;
       file_least = rw file_is file.0;
       file_most = file_most;
       image_least = rw is.image_end image.0;
       image_most = rw is.image_end image.1;
-      room = omega arith;
+      room = omega (arith, room, first, headers_is, headers.1, r.1, rx_is, rx_near, rx.1, rw_is, rw_near, tls.1, bits.1, nobits.1);
+      tls_room = omega (arith, room, first, headers_is, headers.1, r.1, rx_is, rx_near, rx.1, rw_is, rw_near, tls.1, zeros.1);
     }
-
-pub rising_laid : (parts : List Part) → length parts ≤ 2 ^ 28 → All IsSized parts → AreRising (layout_of parts).bounds
-unfolding layout_of laid_of
-rising_laid parts few sized =
-    let count : length (with_got parts) ≡ length parts + 1 = count_whole parts in
-    rising (length (with_got parts)) (orders_of (with_got parts)) (bounds_of (orders_of (with_got parts))) (omega arith)
-    (fit_orders (with_got parts) (sized_whole parts sized)) (bounds_are (orders_of (with_got parts)))

@@ -1,59 +1,37 @@
--- What holds of the layout of parts holds of each layout that is seen as it.
-use Rattle.std.proofs.Common.{◌≡◌, ◌^◌, ◌≤◌, List, length, All, arith, subst, sym}
-use Rattle.layout.specs.declared.members.Member.{Member}
-use Rattle.layout.specs.declared.placing.Layout.{Layout}
-use Rattle.layout.specs.Layout.{AreApart, LaidOut, layout_of, view_of}
-use Rattle.layout.specs.Parts.{IsSized, Part, parts_of}
-use Rattle.layout.specs.Spots.{AreDisjoint, AreRising, HaveSegments, HaveSpots, IsWithinClass}
-use Rattle.layout.specs.Walk.{views}
-use Rattle.layout.proofs.Apart.{apart_laid}
-use Rattle.layout.proofs.Inside.{spots_laid, within_laid}
-use Rattle.layout.proofs.Rising.{rising_laid}
-use Rattle.layout.proofs.Disjoint.{disjoint_laid}
-use Rattle.layout.proofs.Rows.{count_parts}
-use Rattle.layout.proofs.Segments.{segments_laid}
+-- What holds of the layout of a link holds of each layout that is seen as it.
+use Rattle.std.proofs.Common.{◌≡◌, ℕ, ◌+◌, ◌^◌, ◌<◌, Option, List, length, All, refl, ap, sym, ◌∙◌, subst}
+use Rattle.lk_tables.specs.Binding.{Bindings}
+use Rattle.lk_tables.specs.Files.{File, section_total}
+use Rattle.link_sections.specs.declared.layouts.Layout.{Layout}
+use Rattle.link_sections.specs.declared.pools.Pool.{Pool}
+use Rattle.link_sections.specs.Cuts.{AreApart, Cut}
+use Rattle.link_sections.specs.LaidOut.{LaidOut, layout_view}
+use Rattle.layout.specs.Items.{AreLeaders, IsSized, items}
+use Rattle.layout.specs.Layout.{FitSizes, all_weight, bounds_of, laid_by, laid_of, layout_of}
+use Rattle.layout.specs.Order.{Orders, orders_of}
+use Rattle.layout.specs.Spots.{AreRising}
+use Rattle.layout.proofs.Chain.{bounds_are}
+use Rattle.layout.proofs.ItemFacts.{ready_of}
+use Rattle.layout.proofs.Rising.{AllFit, all_fit, rising}
 
-few_parts : (members : List Member) → length members ≤ 2 ^ 28 → length (parts_of members) ≤ 2 ^ 28
-few_parts members few = omega (arith, count_parts members)
+bounds_seen : (layout : Layout) → (layout_view layout).bounds ≡ layout.bounds
+unfolding layout_view
+bounds_seen layout = refl
 
-pub apart_seen : (layout : Layout) (parts : List Part) → view_of layout ≡ layout_of parts → All IsSized parts
-    → AreApart layout.bounds.headers_end (views layout.outputs.items)
-unfolding view_of
-apart_seen layout parts is sized =
-    let P : LaidOut → Type 0 = λ laid. AreApart laid.bounds.headers_end laid.outputs in
-    subst P (sym is) (apart_laid parts sized)
+bounds_laid : (files : List File) (b : Bindings) (pools : List Pool) (words : ℕ) (leaders : List (Option ℕ)) (sizes : List (List Cut))
+    → (layout_of files b pools words leaders sizes).bounds ≡ bounds_of sizes (orders_of (items files b pools words leaders))
+unfolding layout_of laid_of laid_by
+bounds_laid files b pools words leaders sizes = refl
 
-pub rising_seen : (layout : Layout) (members : List Member) → view_of layout ≡ layout_of (parts_of members) → length members ≤ 2 ^ 28
-    → All IsSized (parts_of members) → AreRising layout.bounds
-unfolding view_of
-rising_seen layout members is few sized =
-    let P : LaidOut → Type 0 = λ laid. AreRising laid.bounds in
-    subst P (sym is) (rising_laid (parts_of members) (few_parts members few) sized)
+pub bounds_of_layout : (layout : Layout) (files : List File) (b : Bindings) (pools : List Pool) (words : ℕ) (leaders : List (Option ℕ)) (sizes : List (List Cut))
+    → layout_view layout ≡ layout_of files b pools words leaders sizes → layout.bounds ≡ bounds_of sizes (orders_of (items files b pools words leaders))
+bounds_of_layout layout files b pools words leaders sizes is =
+    sym (bounds_seen layout) ∙ ap (λ (l : LaidOut). l.bounds) is ∙ bounds_laid files b pools words leaders sizes
 
-pub spots_seen : (layout : Layout) (members : List Member) → view_of layout ≡ layout_of (parts_of members) → length members ≤ 2 ^ 28
-    → All IsSized (parts_of members) → HaveSpots (parts_of members) layout.starts.items layout.bounds
-unfolding view_of
-spots_seen layout members is few sized =
-    let P : LaidOut → Type 0 = λ laid. HaveSpots (parts_of members) laid.starts laid.bounds in
-    subst P (sym is) (spots_laid (parts_of members) (few_parts members few) sized)
-
-pub inside_seen : (layout : Layout) (members : List Member) → view_of layout ≡ layout_of (parts_of members) → length members ≤ 2 ^ 28
-    → All IsSized (parts_of members) → All (IsWithinClass layout.bounds) (views layout.outputs.items)
-unfolding view_of
-inside_seen layout members is few sized =
-    let P : LaidOut → Type 0 = λ laid. All (IsWithinClass laid.bounds) laid.outputs in
-    subst P (sym is) (within_laid (parts_of members) (few_parts members few) sized)
-
-pub segments_seen : (layout : Layout) (members : List Member) → view_of layout ≡ layout_of (parts_of members) → length members ≤ 2 ^ 28
-    → All IsSized (parts_of members) → HaveSegments layout.bounds
-unfolding view_of
-segments_seen layout members is few sized =
-    let P : LaidOut → Type 0 = λ laid. HaveSegments laid.bounds in
-    subst P (sym is) (segments_laid (parts_of members) (few_parts members few) sized)
-
-pub disjoint_seen : (layout : Layout) (members : List Member) → view_of layout ≡ layout_of (parts_of members) → length members ≤ 2 ^ 28
-    → All IsSized (parts_of members) → AreDisjoint (parts_of members) layout.starts.items
-unfolding view_of
-disjoint_seen layout members is few sized =
-    let P : LaidOut → Type 0 = λ laid. AreDisjoint (parts_of members) laid.starts in
-    subst P (sym is) (disjoint_laid (parts_of members) (few_parts members few) sized)
+pub rising_seen : (layout : Layout) (files : List File) (b : Bindings) (pools : List Pool) (words : ℕ) (leaders : List (Option ℕ)) (sizes : List (List Cut)) → AreLeaders files b leaders
+    → FitSizes files b sizes → All AreApart sizes → All IsSized (items files b pools words leaders)
+    → all_weight (orders_of (items files b pools words leaders)) + 2 ^ 32 < 2 ^ 63 → layout_view layout ≡ layout_of files b pools words leaders sizes → AreRising layout.bounds
+rising_seen layout files b pools words leaders sizes are fit apart sized room is =
+    let o : Orders = orders_of (items files b pools words leaders) in
+    let rows : AllFit sizes o = all_fit sizes (section_total files) (length pools) o apart (ready_of files b pools words leaders sizes are fit sized) in
+    subst AreRising (sym (bounds_of_layout layout files b pools words leaders sizes is)) (rising sizes o (bounds_of sizes o) rows room (bounds_are sizes o))

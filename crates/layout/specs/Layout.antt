@@ -1,172 +1,215 @@
--- The layout of a link, one function of its parts: the classes one after the other, each from the cursor after the one
--- before, and the limits.
-use Rattle.std.specs.Prelude.{◌≡◌, ℕ, ◌+◌, ◌-◌, ◌*◌, ◌%◌, ◌<◌, ◌≤◌, nat_lt, nat_le, Bool, not, ◌&&◌, if◌then◌else◌, List, [], ◌∷◌, ◌++◌, length, codes, All, replicate}
-use Rattle.lk_base.specs.declared.abi.TheConstants.{EHDR_SIZE, IMAGE_BASE, PAGE, PHDR_SIZE, SHF_ALLOC, SHF_WRITE, SHT_PROGBITS}
+-- The layout of a link, one function of its items: the classes one after the other, each from the cursor after the one before, and the
+-- limits (System V gABI, "Sections" and "Program Header").
+use Rattle.std.specs.Prelude.{◌≡◌, ℕ, ◌+◌, ◌-◌, ◌*◌, ◌<◌, ◌≤◌, ◌⊎◌, nat_lt, nat_le, Bool, not, ◌&&◌, if◌then◌else◌, max, Option, List, [], ◌∷◌, ◌++◌, length, map, flat_map, replicate, slice_index, slice_index_or, All}
+use Rattle.std.specs.List.{range_with_len}
+use Rattle.lk_base.specs.declared.abi.TheConstants.{EHDR_SIZE, IMAGE_BASE, PAGE, PHDR_SIZE}
 use Rattle.lk_base.specs.declared.defects.Defect.{Defect}
-use Rattle.lk_base.specs.declared.defects.LinkStop.{LinkStop}
-use Rattle.lk_base.specs.declared.defects.LinkStop.TheVariants.{Defect as StopsAt, Memory}
 use Rattle.lk_base.specs.declared.kinds.TheConstants.{TOO_BIG}
-use Rattle.lk_base.specs.Defects.{count_defect, linkwide}
 use Rattle.lk_base.specs.declared.limits.Limits.{Limits}
-use Rattle.lk_tables.specs.declared.classes.Class.TheVariants.{R, Rx, RwBits, RwNobits}
-use Rattle.layout.specs.declared.members.TheConstants.{NO_SECTION}
-use Rattle.layout.specs.declared.order.Row.{Row}
-use Rattle.layout.specs.declared.placing.Bounds.{Bounds}
-use Rattle.layout.specs.declared.placing.Layout.{Layout}
-use Rattle.layout.specs.declared.placing.Ordered.{Ordered}
-use Rattle.layout.specs.Order.{IsFit, order_of}
-use Rattle.layout.specs.Parts.{Part}
-use Rattle.layout.specs.Walk.{Section, all_put, cut, end_along, is_empty, sections_along, stands_along, views}
 use Rattle.lk_base.specs.Arithmetic.{up}
-
--- the linker's own part: an empty global offset table of alignment 8 (psABI, "Global Offset Table")
-abbrev pub got : Part
-got = record { section = NO_SECTION; name = codes ".got"; sh_type = SHT_PROGBITS; flags = SHF_WRITE + SHF_ALLOC; size = 0; align = 8 }
-
--- all parts: those given, in command order, and after them the linker's
-unfoldable pub with_got : List Part → List Part
-with_got parts = parts ++ got ∷ []
-
--- the parts of each class
-pub record Orders : Type 0 where
-  pub r : List Row
-  pub rx : List Row
-  pub rw_bits : List Row
-  pub rw_nobits : List Row
-
-abbrev pub orders_in : Ordered → Orders
-orders_in o = record { r = o.r.items; rx = o.rx.items; rw_bits = o.rw_bits.items; rw_nobits = o.rw_nobits.items }
-
--- each class's in its order
-unfoldable pub orders_of : List Part → Orders
-orders_of parts = record {
-  r = order_of R parts;
-  rx = order_of Rx parts;
-  rw_bits = order_of RwBits parts;
-  rw_nobits = order_of RwNobits parts;
-}
-
--- no class has more than all n parts, and their sizes are as they can be
-pub record AreFit (n : ℕ) (o : Orders) : Type 0 where
-  pub r : All (IsFit n) o.r
-  pub rx : All (IsFit n) o.rx
-  pub rw_bits : All (IsFit n) o.rw_bits
-  pub rw_nobits : All (IsFit n) o.rw_nobits
-  pub few_r : length o.r ≤ n
-  pub few_rx : length o.rx ≤ n
-  pub few_bits : length o.rw_bits ≤ n
-  pub few_nobits : length o.rw_nobits ≤ n
+use Rattle.lk_base.specs.Defects.{count_defect, linkwide}
+use Rattle.lk_base.specs.RelocKinds.{kind_of}
+use Rattle.lk_tables.specs.declared.classes.Class.{Class}
+use Rattle.lk_tables.specs.declared.classes.Class.TheVariants.{R, Rx, TlsBits, TlsNobits, RwBits, RwNobits}
+use Rattle.lk_tables.specs.Binding.{Bindings, first_phase}
+use Rattle.lk_tables.specs.Files.{File, section_total}
+use Rattle.lk_tables.specs.Sites.{place_of, relocs_of}
+use Rattle.link_sections.specs.declared.layouts.Bounds.{Bounds}
+use Rattle.link_sections.specs.declared.members.Content.TheVariants.{Section, Pool as IsPool}
+use Rattle.link_sections.specs.declared.members.Member.{Member}
+use Rattle.link_sections.specs.declared.pools.Pool.{Pool}
+use Rattle.link_sections.specs.Cuts.{Cut}
+use Rattle.link_sections.specs.InputSections.{input_at}
+use Rattle.link_sections.specs.LaidOut.{LaidOut, OutputSection, output_view}
+use Rattle.link_sections.specs.Leaders.{leads}
+use Rattle.layout.specs.declared.order.Row.{Row}
+use Rattle.layout.specs.declared.walk.Cursor.{Cursor}
+use Rattle.layout.specs.declared.placing.Walked.{Walked}
+use Rattle.layout.specs.Cutting.{laid_cuts, short_defects}
+use Rattle.layout.specs.Items.{Item, items}
+use Rattle.layout.specs.Order.{Orders, orders_of}
+use Rattle.layout.specs.Walk.{IsReady, Stands, all_put, cursor_at, end_along, greatest, is_empty, members_along, runs, sections_along, stands_along, stands_view, weight}
 
 abbrev pub count_of : Bool → ℕ
 count_of test = if test then 1 else 0
 
--- a class that is executed, or written, has a segment if one of its parts has a byte
+-- a class that is executed, written or thread-local has a segment if one of its members has a byte; thread-local bits are written
 unfoldable pub has_rx : Orders → Bool
 has_rx o = not (is_empty o.rx)
 
-unfoldable pub has_rw : Orders → Bool
-has_rw o = not (is_empty o.rw_bits && is_empty o.rw_nobits)
+unfoldable pub has_tls_bits : Orders → Bool
+has_tls_bits o = not (is_empty o.tls_bits)
 
--- the program headers: that of the first segment, those of the two above, that of the stack
+unfoldable pub has_tls : Orders → Bool
+has_tls o = not (is_empty o.tls_bits && is_empty o.tls_nobits)
+
+unfoldable pub has_rw : Orders → Bool
+has_rw o = not (is_empty o.tls_bits && (is_empty o.rw_bits && is_empty o.rw_nobits))
+
+-- the program headers: that of the first segment, those of the three above, that of the stack
 unfoldable pub headers_of : Orders → ℕ
-headers_of o = 2 + count_of (has_rx o) + count_of (has_rw o)
+headers_of o = 2 + count_of (has_rx o) + count_of (has_rw o) + count_of (has_tls o)
 
 -- the image starts with the file header and the program headers (gABI, "ELF Header", "Program Header")
 unfoldable pub headers_end_of : Orders → ℕ
 headers_end_of o = IMAGE_BASE + (EHDR_SIZE + PHDR_SIZE * headers_of o)
 
--- the chain of the classes: the cursor is rounded before RX, and once more after it (where the thread-local classes
--- will stand)
-unfoldable pub r_end_of : Orders → ℕ
-r_end_of o = end_along (headers_end_of o) (cut o.r)
+-- the greatest alignment of a thread-local member
+unfoldable pub tls_align_of : Orders → ℕ
+tls_align_of o = max (greatest o.tls_bits) (greatest o.tls_nobits)
 
-unfoldable pub rx_start_of : Orders → ℕ
-rx_start_of o = up (r_end_of o) PAGE
+-- the greatest end of the headers or of an output section that is not empty: ends grow along the walk, so it is the end of the last class
+-- that is not empty; in the file, of the last with bits
+abbrev pub last_end : Orders → (r_end rx_end tls_bits_end bits_end : ℕ) → ℕ
+last_end o r_end rx_end tls_bits_end bits_end = if not (is_empty o.rw_bits) then bits_end
+    else if not (is_empty o.tls_bits) then tls_bits_end
+    else if not (is_empty o.rx) then rx_end else r_end
 
-unfoldable pub rx_end_of : Orders → ℕ
-rx_end_of o = end_along (rx_start_of o) (cut o.rx)
+module _ (sizes : List (List Cut)) (o : Orders) where
+  -- the chain of the classes: the cursor is rounded before RX and before the thread-local classes, and goes back after thread-local nobits
+  unfoldable pub r_end_of : ℕ
+  r_end_of = (end_along sizes (cursor_at (headers_end_of o)) (runs o.r)).at
 
-unfoldable pub rw_start_of : Orders → ℕ
-rw_start_of o = up (rx_end_of o) PAGE
+  unfoldable pub rx_start_of : ℕ
+  rx_start_of = up r_end_of PAGE
 
-unfoldable pub bits_end_of : Orders → ℕ
-bits_end_of o = end_along (rw_start_of o) (cut o.rw_bits)
+  unfoldable pub rx_end_of : ℕ
+  rx_end_of = (end_along sizes (cursor_at rx_start_of) (runs o.rx)).at
 
-unfoldable pub nobits_end_of : Orders → ℕ
-nobits_end_of o = end_along (bits_end_of o) (cut o.rw_nobits)
+  unfoldable pub rw_start_of : ℕ
+  rw_start_of = up rx_end_of PAGE
 
--- the greatest end of the headers or of an output section that is not empty: ends grow along the walk, so it is the end
--- of the last class that is not empty; in the file, of the last with bits, and in the image, of the last of all
-abbrev pub last_end : Orders → (r_end rx_end bits_end : ℕ) → ℕ
-last_end o r_end rx_end bits_end = if not (is_empty o.rw_bits) then bits_end else if not (is_empty o.rx) then rx_end else r_end
+  -- the first thread-local output section that is not empty starts at the greatest alignment of all thread-local members
+  abbrev pub tls_cursor : (rw_start tls_align : ℕ) → Cursor
+  tls_cursor rw_start tls_align = record { at = rw_start; extra = tls_align }
 
-unfoldable pub file_end_of : Orders → ℕ
-file_end_of o = last_end o (r_end_of o) (rx_end_of o) (bits_end_of o)
+  abbrev pub after_tls_bits : (rw_start tls_align : ℕ) → Cursor
+  after_tls_bits rw_start tls_align = end_along sizes (tls_cursor rw_start tls_align) (runs o.tls_bits)
 
-unfoldable pub image_end_of : Orders → ℕ
-image_end_of o = if not (is_empty o.rw_nobits) then nobits_end_of o else file_end_of o
+  unfoldable pub tls_bits_end_of : ℕ
+  tls_bits_end_of = (after_tls_bits rw_start_of (tls_align_of o)).at
 
-unfoldable pub bounds_of : Orders → Bounds
-bounds_of o = record {
-  has_rx = has_rx o;
-  has_rw = has_rw o;
-  headers = headers_of o;
-  headers_end = headers_end_of o;
-  r_end = r_end_of o;
-  rx_start = rx_start_of o;
-  rx_end = rx_end_of o;
-  rw_start = rw_start_of o;
-  bits_end = bits_end_of o;
-  nobits_end = nobits_end_of o;
-  file_end = file_end_of o;
-  image_end = image_end_of o;
+  unfoldable pub tls_end_of : ℕ
+  tls_end_of = (end_along sizes (after_tls_bits rw_start_of (tls_align_of o)) (runs o.tls_nobits)).at
+
+  unfoldable pub tls_start_of : ℕ
+  tls_start_of = if has_tls o then up rw_start_of (tls_align_of o) else 0
+
+  unfoldable pub bits_end_of : ℕ
+  bits_end_of = (end_along sizes (cursor_at tls_bits_end_of) (runs o.rw_bits)).at
+
+  unfoldable pub nobits_end_of : ℕ
+  nobits_end_of = (end_along sizes (cursor_at bits_end_of) (runs o.rw_nobits)).at
+
+  unfoldable pub file_end_of : ℕ
+  file_end_of = last_end o r_end_of rx_end_of tls_bits_end_of bits_end_of
+
+  unfoldable pub image_end_of : ℕ
+  image_end_of = if not (is_empty o.rw_nobits) then nobits_end_of else file_end_of
+
+  unfoldable pub bounds_of : Bounds
+  bounds_of = record {
+    has_rx = has_rx o;
+    has_rw = has_rw o;
+    has_tls = has_tls o;
+    has_tls_bits = has_tls_bits o;
+    headers = headers_of o;
+    headers_end = headers_end_of o;
+    r_end = r_end_of;
+    rx_start = rx_start_of;
+    rx_end = rx_end_of;
+    rw_start = rw_start_of;
+    tls_start = tls_start_of;
+    tls_bits_end = tls_bits_end_of;
+    tls_end = tls_end_of;
+    tls_align = tls_align_of o;
+    bits_end = bits_end_of;
+    nobits_end = nobits_end_of;
+    file_end = file_end_of;
+    image_end = image_end_of;
+  }
+
+-- what the walk has come past: the output sections that are not empty, their members with bytes in the file and those without, and where
+-- all members stand
+pub record Trail : Type 0 where
+  pub outputs : List OutputSection
+  pub members : List Member
+  pub zeros : List Member
+  pub stands : Stands
+
+unfoldable pub trail_view : Walked → Trail
+trail_view w = record {
+  outputs = map output_view w.outputs.items;
+  members = w.members.items;
+  zeros = w.zeros.items;
+  stands = stands_view w.places;
 }
 
--- the output sections that are not empty, in order
-unfoldable pub sections_of : List Part → Orders → Bounds → List Section
-sections_of parts o b = sections_along parts R b.headers_end (cut o.r)
-    ++ sections_along parts Rx b.rx_start (cut o.rx)
-    ++ sections_along parts RwBits b.rw_start (cut o.rw_bits)
-    ++ sections_along parts RwNobits b.bits_end (cut o.rw_nobits)
+module _ (sizes : List (List Cut)) (parts : List Item) where
+  -- a class with bytes in the file, and one without, after those before it
+  unfoldable pub with_bits : Class → Cursor → List Row → Trail → Trail
+  with_bits class c rows t = record {
+    outputs = t.outputs ++ sections_along sizes parts class c (runs rows);
+    members = t.members ++ members_along sizes c (runs rows);
+    zeros = t.zeros;
+    stands = all_put (stands_along sizes c (runs rows)) t.stands;
+  }
 
--- the first address of each of n parts
-unfoldable pub starts_of : ℕ → Orders → Bounds → List ℕ
-starts_of n o b = all_put (stands_along b.bits_end (cut o.rw_nobits))
-    (all_put (stands_along b.rw_start (cut o.rw_bits))
-    (all_put (stands_along b.rx_start (cut o.rx))
-    (all_put (stands_along b.headers_end (cut o.r)) (replicate n 0))))
+  unfoldable pub with_zeros : Class → Cursor → List Row → Trail → Trail
+  with_zeros class c rows t = record {
+    outputs = t.outputs ++ sections_along sizes parts class c (runs rows);
+    members = t.members;
+    zeros = t.zeros ++ members_along sizes c (runs rows);
+    stands = all_put (stands_along sizes c (runs rows)) t.stands;
+  }
 
--- where everything stands
-pub record LaidOut : Type 0 where
-  pub starts : List ℕ
-  pub outputs : List Section
-  pub bounds : Bounds
+  unfoldable pub trail_of : Orders → Bounds → Trail → Trail
+  trail_of o b t =
+      with_zeros RwNobits (cursor_at b.bits_end) o.rw_nobits
+      (with_bits RwBits (cursor_at b.tls_bits_end) o.rw_bits
+      (with_zeros TlsNobits (after_tls_bits sizes o b.rw_start b.tls_align) o.tls_nobits
+      (with_bits TlsBits (tls_cursor sizes o b.rw_start b.tls_align) o.tls_bits
+      (with_bits Rx (cursor_at b.rx_start) o.rx
+      (with_bits R (cursor_at b.headers_end) o.r t)))))
 
-unfoldable pub view_of : Layout → LaidOut
-view_of layout = record { starts = layout.starts.items; outputs = views layout.outputs.items; bounds = layout.bounds }
-
--- the layout of parts that stand in this order
-unfoldable pub laid_of : List Part → Orders → LaidOut
-laid_of parts o = record {
-  starts = starts_of (length parts) o (bounds_of o);
-  outputs = sections_of parts o (bounds_of o);
-  bounds = bounds_of o;
+-- before the walk: nothing stands anywhere
+abbrev pub no_trail : (sections pools : ℕ) → Trail
+no_trail sections pools = record {
+  outputs = [];
+  members = [];
+  zeros = [];
+  stands = record { starts = replicate sections 0; pools = replicate pools 0; got = 0 };
 }
 
--- the layout of the parts of a link, given in command order
-unfoldable pub layout_of : List Part → LaidOut
-layout_of parts = laid_of (with_got parts) (orders_of (with_got parts))
+-- the cuts of each section that leads itself, by section number, once the sections stand at `starts`
+unfoldable pub cuts_of : (leaders : List (Option ℕ)) → (sizes : List (List Cut)) → (starts : List ℕ) → (section : ℕ) → List Cut
+cuts_of leaders sizes starts section = if leads leaders section then laid_cuts (slice_index starts section) (slice_index_or sizes section []) else []
 
--- output sections one after the other from an address on: each starts at a multiple of its alignment, and not below the
--- end of the one before
-abbrev pub AreApart : ℕ → List Section → Type 0
-AreApart from [] = Unit {0}
-AreApart from (s ∷ ss) = (from ≤ s.address) × (s.address % s.align ≡ 0) × AreApart (s.address + s.size) ss
+abbrev pub all_cuts : (leaders : List (Option ℕ)) → (sizes : List (List Cut)) → (starts : List ℕ) → (sections : ℕ) → List (List Cut)
+all_cuts leaders sizes starts sections = map (cuts_of leaders sizes starts) (range_with_len 0 sections)
 
--- the limits: on the count of the output sections, and on the image's size
-pub record IsWithin (limits : Limits) (laid : LaidOut) : Type 0 where
-  pub outputs : length laid.outputs ≤ limits.outputs
-  pub image : laid.bounds.image_end - IMAGE_BASE < limits.image
+-- the layout of items that stand in this order, after this walk
+unfoldable pub laid_by : (leaders : List (Option ℕ)) → (sizes : List (List Cut)) → (sections : ℕ) → Bounds → Trail → LaidOut
+laid_by leaders sizes sections b t = record {
+  outputs = t.outputs;
+  members = t.members;
+  zeros = t.zeros;
+  starts = t.stands.starts;
+  pools = t.stands.pools;
+  got = t.stands.got;
+  cuts = all_cuts leaders sizes t.stands.starts sections;
+  bounds = b;
+}
+
+unfoldable pub laid_of : (leaders : List (Option ℕ)) → (sizes : List (List Cut)) → (sections pools : ℕ) → List Item → LaidOut
+laid_of leaders sizes sections pools parts =
+    laid_by leaders sizes sections (bounds_of sizes (orders_of parts))
+    (trail_of sizes parts (orders_of parts) (bounds_of sizes (orders_of parts)) (no_trail sections pools))
+
+module _ (files : List File) (b : Bindings) (pools : List Pool) (got_words : ℕ) (leaders : List (Option ℕ)) where
+  -- the layout of a link; `sizes` has by section number where each section loses bytes
+  unfoldable pub layout_of : (sizes : List (List Cut)) → LaidOut
+  layout_of sizes = laid_of leaders sizes (section_total files) (length pools) (items files b pools got_words leaders)
 
 -- the first limit that is passed, if one is: output sections above their limit, or an image not below its
 abbrev pub limit_passed : Limits → (outputs size : ℕ) → List Defect
@@ -177,7 +220,40 @@ limit_passed limits outputs size = if nat_lt limits.outputs outputs then count_d
 unfoldable pub limit_defects : Limits → LaidOut → List Defect
 limit_defects limits laid = limit_passed limits (length laid.outputs) (laid.bounds.image_end - IMAGE_BASE)
 
--- why there is no layout: a limit that the layout of these parts passes, or memory ran out
-abbrev pub Stops : Limits → LaidOut → LinkStop → Type 0
-Stops limits laid Memory = Unit {0}
-Stops limits laid (StopsAt defect) = limit_defects limits laid ≡ defect ∷ []
+-- the count of the output sections is not above its limit, and the image's size is below its
+pub record IsWithin (limits : Limits) (laid : LaidOut) : Type 0 where
+  pub outputs : length laid.outputs ≤ limits.outputs
+  pub image : laid.bounds.image_end - IMAGE_BASE < limits.image
+
+-- alignments that need more bytes than they have, in order of section and offset
+abbrev pub cut_defects : List File → List (List Cut) → (sections : ℕ) → List Defect
+cut_defects files cuts sections = flat_map (λ n. short_defects (place_of files n) (slice_index_or cuts n [])) (range_with_len 0 sections)
+
+-- why a layout is refused: alignments first, then the limits
+unfoldable pub layout_defects : Limits → List File → LaidOut → List Defect
+layout_defects limits files laid = first_phase (cut_defects files laid.cuts (section_total files) ∷ limit_defects limits laid ∷ [])
+
+-- an item that is one of so many sections, whose cuts lie in it, or one of so many pools
+pub record IsThere (sizes : List (List Cut)) (sections pools : ℕ) (item : Item) : Type 0 where
+  pub number : (n : ℕ) → item.content ≡ Section n → n < sections
+  pub pool : (p : ℕ) → item.content ≡ IsPool p → p < pools
+  pub cuts : (n : ℕ) → item.content ≡ Section n → All (λ c. c.at + c.whole ≤ item.size) (slice_index_or sizes n [])
+
+-- rows of each class as the walk takes them
+pub record AreReady (sizes : List (List Cut)) (sections pools : ℕ) (o : Orders) : Type 0 where
+  pub r : All (IsReady sizes sections pools) o.r
+  pub rx : All (IsReady sizes sections pools) o.rx
+  pub tls_bits : All (IsReady sizes sections pools) o.tls_bits
+  pub tls_nobits : All (IsReady sizes sections pools) o.tls_nobits
+  pub rw_bits : All (IsReady sizes sections pools) o.rw_bits
+  pub rw_nobits : All (IsReady sizes sections pools) o.rw_nobits
+
+abbrev pub all_weight : Orders → ℕ
+all_weight o = weight o.r + weight o.rx + weight o.tls_bits + weight o.tls_nobits + weight o.rw_bits + weight o.rw_nobits
+
+-- one list of cuts for each section; each cut lies in its section, and meets no place that a relocation writes
+pub record FitSizes (files : List File) (b : Bindings) (sizes : List (List Cut)) : Type 0 where
+  pub count : length sizes ≡ section_total files
+  pub within : (n : ℕ) → n < section_total files → All (λ c. c.at + c.whole ≤ (input_at files b n).size) (slice_index_or sizes n [])
+  pub clear : (n : ℕ) → n < section_total files → All (λ r. 0 < (kind_of r.kind).width
+      → All (λ c. (c.at + c.whole ≤ r.offset) ⊎ (r.offset + (kind_of r.kind).width ≤ c.at)) (slice_index_or sizes n [])) (relocs_of files n)

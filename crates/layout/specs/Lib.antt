@@ -1,5 +1,9 @@
-pub mod Parts
+pub mod Cutting
+pub mod CutsSoFar
+pub mod Items
+pub mod ItemViews
 pub mod Order
 pub mod Walk
 pub mod Layout
 pub mod Spots
+pub mod Heads

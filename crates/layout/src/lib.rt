@@ -1,13 +1,14 @@
 //! Where everything stands: which output section each kept section goes to, in which order the output sections
 //! and their members stand, and at which addresses, by one walk in that order (System V gABI, "Sections" and
-//! "Program Header").
+//! "Program Header"); and how many bytes of its nops each alignment keeps there (RISC-V ELF psABI, "Linker Relaxation").
 #![tactic(auto)]
 
-mod members;
+mod cut_rows;
+mod cutting;
+mod items;
 mod order;
+mod places;
 mod placing;
 mod walk;
 
-pub use members::{Member, NO_SECTION};
-pub use placing::{Bounds, Layout, place};
-pub use walk::Output;
+pub use placing::place;

@@ -1,22 +1,29 @@
-//! The order in which the members of a class stand.
+//! The order in which the items of a class stand.
 
-ghost use Rattle.std.specs.Prelude.{◌≡◌, ℕ, ◌+◌, ◌<◌, ◌≤◌, ◌∷◌, [], ◌++◌, ◌^◌, All, length, IfOk, OnOk, replicate};
-ghost use Rattle.layout.specs.Order.{IsFit, group_of, key_of, known_after, order_of, own_row, rows_of, with_name};
-ghost use Rattle.layout.specs.Parts.{IsSized, part_of, parts_of};
+ghost use Rattle.std.specs.Prelude.{◌≡◌, ℕ, ◌+◌, ◌<◌, ◌≤◌, ◌∷◌, [], ◌++◌, ◌^◌, All, length, IfOk, OnOk, Some, None, List, true};
+ghost use Rattle.std.specs.List.{sum_by};
+ghost use Rattle.std.specs.List.Sorted.{IsNonDecreasingBy};
+ghost use Rattle.layout.specs.Items.{IsSized};
+ghost use Rattle.layout.specs.ItemViews.{item_view, items_view};
+ghost use Rattle.layout.specs.Order.{AreFit, head_after, key_of, orders_in, orders_of, own_row, with_item};
+ghost use Rattle.layout.specs.Heads.{AreHeads, AreNoted, ArePushed, AreRows, head_in, seen};
 ghost use Rattle.lk_base.specs.Order.{stable_order};
-ghost use Rattle.lk_tables.specs.OutputNames.{output_name, texts};
 
-use crate::members::Member;
-use indexmap::IndexSet;
+use crate::items::Item;
+use link_sections::Content;
+use lk_base::abi::SHT_PROGBITS;
 use lk_tables::{Class, is_in, output_name, output_rank, priority_of};
 use std::alloc::{AllocError, Global};
+use std::collections::BTreeMap;
 
-/// A member of an output section, with what decides its place.
-#[derive(Clone, Copy)]
+/// An item of an output section, with what decides its place.
+#[derive(Clone, Copy, Debug, PartialEq, Eq)]
 pub struct Row {
-    /// The member's place in command order.
+    /// The item's place in the list of items.
     pub number: u32,
-    /// Its output section, counted in the class by first members.
+    /// What it is.
+    pub content: Content,
+    /// Its output section: the number of the first item of it.
     pub group: u32,
     /// The rank of that output section.
     pub rank: u32,
@@ -32,76 +39,238 @@ pub struct Row {
     pub align: u64,
 }
 
-/// The members of a class in their order.
-pub fn find_order(alloc: Global, members: &[Member], class: Class) -> Result<Vec<Row>, AllocError>
-    requires few { length members.now < 2 ^ 32 }
-    requires sized { All IsSized (parts_of members.now) }
-    ensures order { IfOk result (λ rows. rows.items ≡ order_of class (parts_of members.now)) }
-    ensures fit { IfOk result (λ rows. All (IsFit (length members.now)) rows.items) }
-    ensures few { IfOk result (λ rows. length rows.items ≤ length members.now) }
+/// The items of each class in their order.
+#[derive(Debug, Drop)]
+pub struct Ordered {
+    pub r: Vec<Row>,
+    pub rx: Vec<Row>,
+    pub tls_bits: Vec<Row>,
+    pub tls_nobits: Vec<Row>,
+    pub rw_bits: Vec<Row>,
+    pub rw_nobits: Vec<Row>,
+}
+
+/// What is known of the output sections of each class, by name.
+#[derive(Drop)]
+pub struct Heads<'a> {
+    r: BTreeMap<&'a [u8], Head>,
+    rx: BTreeMap<&'a [u8], Head>,
+    tls_bits: BTreeMap<&'a [u8], Head>,
+    tls_nobits: BTreeMap<&'a [u8], Head>,
+    rw_bits: BTreeMap<&'a [u8], Head>,
+    rw_nobits: BTreeMap<&'a [u8], Head>,
+}
+
+/// What is known of an output section.
+#[derive(Clone, Copy, Debug, PartialEq, Eq)]
+pub struct Head {
+    /// The number of its first item in command order.
+    pub group: u32,
+    /// The least priority of an item of it.
+    pub priority: u32,
+    /// The type of the first item of that priority, which stands first in it.
+    pub sh_type: u32,
+}
+
+/// The items of all classes in their order.
+pub fn find_orders(alloc: Global, items: &[Item]) -> Result<Ordered, AllocError>
+    requires few { length items.now < 2 ^ 32 }
+    requires sized { All IsSized (items_view items.now) }
+    ensures order { IfOk result (λ o. orders_in o ≡ orders_of (items_view items.now)) }
+    ensures fit { IfOk result (λ o. AreFit (length items.now) (sum_by (λ item. item.size) (items_view items.now)) (orders_in o)) }
 {
-    let mut rows = rows_in(alloc, members, class)?;
-    sort_rows(&mut rows)?;
+    let heads = heads_of(alloc, items)?;
+    let mut rows = rows_in(alloc, items, &heads)?;
+    sort_rows(&mut rows.r)?;
+    sort_rows(&mut rows.rx)?;
+    sort_rows(&mut rows.tls_bits)?;
+    sort_rows(&mut rows.tls_nobits)?;
+    sort_rows(&mut rows.rw_bits)?;
+    sort_rows(&mut rows.rw_nobits)?;
     Ok(rows)
 }
 
-// The number of a name among those known; a new one becomes the last.
-fn note_name<'a>(known: &mut IndexSet<&'a [u8]>, name: &'a [u8]) -> Result<usize, AllocError>
-    ensures number { IfOk result (λ group. group ≡ group_of (texts known.old.keys) name.now) }
-    ensures names { OnOk result (texts known.new.keys ≡ with_name (texts known.old.keys) name.now) }
-    ensures within { IfOk result (λ group. group ≤ length known.old.keys) }
-    ensures more { OnOk result (length known.new.keys ≤ length known.old.keys + 1) }
+/// What is known of each output section once all items were seen.
+fn heads_of<'a>(alloc: Global, items: &[Item<'a>]) -> Result<Heads<'a>, AllocError>
+    requires { length items.now < 2 ^ 32 }
+    ensures { IfOk result (λ heads. AreHeads (items_view items.now) heads) }
 {
-    let (group, _) = known.insert_full(name)?;
-    Ok(group)
+    let mut heads = Heads {
+        r: BTreeMap::new(alloc),
+        rx: BTreeMap::new(alloc),
+        tls_bits: BTreeMap::new(alloc),
+        tls_nobits: BTreeMap::new(alloc),
+        rw_bits: BTreeMap::new(alloc),
+        rw_nobits: BTreeMap::new(alloc),
+    };
+    for (i, item) in items.iter().enumerate() {
+        note_all(&mut heads, i as u32, item)?;
+    }
+    Ok(heads)
 }
 
-// One member after those before it, if it is of the class.
-#[tactic(auto, unfolding(crate::specs::Order::own_row, crate::specs::Order::known_after, crate::specs::Order::row_of))]
-fn push_row<'a>(
-    rows: &mut Vec<Row>,
-    known: &mut IndexSet<&'a [u8]>,
+/// One more item, in its class.
+fn note_all<'a>(heads: &mut Heads<'a>, number: u32, item: &Item<'a>) -> Result<(), AllocError>
+    ensures { OnOk result (AreNoted number (item_view item.now) heads.old heads.new) }
+{
+    note_item(&mut heads.r, Class::R, number, item)?;
+    note_item(&mut heads.rx, Class::Rx, number, item)?;
+    note_item(&mut heads.tls_bits, Class::TlsBits, number, item)?;
+    note_item(&mut heads.tls_nobits, Class::TlsNobits, number, item)?;
+    note_item(&mut heads.rw_bits, Class::RwBits, number, item)?;
+    note_item(&mut heads.rw_nobits, Class::RwNobits, number, item)?;
+    Ok(())
+}
+
+/// One more item, if it is of the class.
+#[tactic(auto, unfolding(crate::specs::Order::head_after))]
+fn note_item<'a>(
+    heads: &mut BTreeMap<&'a [u8], Head>,
     class: Class,
     number: u32,
-    member: &Member<'a>,
+    item: &Item<'a>,
 ) -> Result<(), AllocError>
-    requires few { length known.old.keys ≤ number }
-    ensures rows { OnOk result (rows.new.items ≡ rows.old.items ++ own_row class (texts known.old.keys) number (part_of member.now)) }
-    ensures names { OnOk result (texts known.new.keys ≡ known_after class (texts known.old.keys) (part_of member.now)) }
-    ensures more { OnOk result (length known.new.keys ≤ length known.old.keys + 1) }
+    ensures { OnOk result ((name : List ℕ) → seen heads.new name ≡ head_after class name (seen heads.old name) number (item_view item.now)) }
 {
-    if !is_in(class, member.sh_type, member.flags) {
+    if !is_in(class, item.sh_type, item.flags) {
         return Ok(());
     }
-    let name = output_name(member.name);
-    let group = note_name(known, name)? as u32;
+    let name = output_name(item.name);
+    let head = with_item(heads.get(&name).copied(), number, item);
+    heads.insert(name, head)?;
+    Ok(())
+}
+
+/// An output section with one more item.
+#[tactic(auto, unfolding(crate::specs::Order::with_item))]
+fn with_item(head: Option<Head>, number: u32, item: &Item) -> Head
+    ensures { result ≡ with_item head number (item_view item.now) }
+{
+    let priority = priority_of(item.name);
+    let Some(head) = head else {
+        return Head {
+            group: number,
+            priority,
+            sh_type: item.sh_type,
+        };
+    };
+    if priority < head.priority {
+        return Head {
+            group: head.group,
+            priority,
+            sh_type: item.sh_type,
+        };
+    }
+    head
+}
+
+/// The items of each class in command order.
+fn rows_in<'a>(alloc: Global, items: &[Item<'a>], heads: &Heads<'a>) -> Result<Ordered, AllocError>
+    requires few { length items.now < 2 ^ 32 }
+    requires heads { AreHeads (items_view items.now) heads.now }
+    ensures { IfOk result (λ rows. AreRows (items_view items.now) (orders_in rows)) }
+{
+    let mut rows = Ordered {
+        r: Vec::new(alloc),
+        rx: Vec::new(alloc),
+        tls_bits: Vec::new(alloc),
+        tls_nobits: Vec::new(alloc),
+        rw_bits: Vec::new(alloc),
+        rw_nobits: Vec::new(alloc),
+    };
+    for (i, item) in items.iter().enumerate() {
+        push_all(&mut rows, heads, i as u32, item)?;
+    }
+    Ok(rows)
+}
+
+/// One item after those before it, in its class.
+fn push_all<'a>(
+    rows: &mut Ordered,
+    heads: &Heads<'a>,
+    number: u32,
+    item: &Item<'a>,
+) -> Result<(), AllocError>
+    ensures { OnOk result (ArePushed number (item_view item.now) heads.now (orders_in rows.old) (orders_in rows.new)) }
+{
+    push_row(&mut rows.r, &heads.r, Class::R, number, item)?;
+    push_row(&mut rows.rx, &heads.rx, Class::Rx, number, item)?;
+    push_row(
+        &mut rows.tls_bits,
+        &heads.tls_bits,
+        Class::TlsBits,
+        number,
+        item,
+    )?;
+    push_row(
+        &mut rows.tls_nobits,
+        &heads.tls_nobits,
+        Class::TlsNobits,
+        number,
+        item,
+    )?;
+    push_row(
+        &mut rows.rw_bits,
+        &heads.rw_bits,
+        Class::RwBits,
+        number,
+        item,
+    )?;
+    push_row(
+        &mut rows.rw_nobits,
+        &heads.rw_nobits,
+        Class::RwNobits,
+        number,
+        item,
+    )?;
+    Ok(())
+}
+
+/// One item after those before it, if it is of the class.
+#[tactic(auto, unfolding(crate::specs::Order::own_row, crate::specs::Order::row_in))]
+fn push_row<'a>(
+    rows: &mut Vec<Row>,
+    heads: &BTreeMap<&'a [u8], Head>,
+    class: Class,
+    number: u32,
+    item: &Item<'a>,
+) -> Result<(), AllocError>
+    ensures { OnOk result (rows.new.items ≡ rows.old.items ++ own_row class (head_in heads.now) number (item_view item.now)) }
+{
+    if !is_in(class, item.sh_type, item.flags) {
+        return Ok(());
+    }
+    let name = output_name(item.name);
+    let head = head_in(heads, name);
     rows.push(Row {
         number,
-        group,
-        rank: output_rank(class, name),
-        priority: priority_of(member.name),
-        sh_type: member.sh_type,
-        flags: member.flags,
-        size: member.size,
-        align: member.align,
+        content: item.content,
+        group: head.group,
+        rank: output_rank(class, head.sh_type, name),
+        priority: priority_of(item.name),
+        sh_type: item.sh_type,
+        flags: item.flags,
+        size: item.size,
+        align: item.align,
     })?;
     Ok(())
 }
 
-// The members of a class in command order.
-fn rows_in(alloc: Global, members: &[Member], class: Class) -> Result<Vec<Row>, AllocError>
-    requires few { length members.now < 2 ^ 32 }
-    ensures { IfOk result (λ rows. rows.items ≡ rows_of class (parts_of members.now)) }
+/// What is known of an output section.
+fn head_in<'a>(heads: &BTreeMap<&'a [u8], Head>, name: &'a [u8]) -> Head
+    ensures { result ≡ head_in heads.now name.now }
 {
-    let mut rows = Vec::new(alloc);
-    let mut known: IndexSet<&[u8]> = IndexSet::new(alloc);
-    for (i, member) in members.iter().enumerate() {
-        push_row(&mut rows, &mut known, class, i as u32, member)?;
+    match heads.get(&name) {
+        Some(head) => *head,
+        None => Head {
+            group: 0,
+            priority: 0,
+            sh_type: SHT_PROGBITS,
+        },
     }
-    Ok(rows)
 }
 
-// Rank, group and priority as one number.
+/// Rank, group and priority as one number.
 #[tactic(auto, unfolding(crate::specs::Order::key_of))]
 fn key_of(row: &Row) -> u128
     ensures { result ≡ key_of row.now }
@@ -110,10 +279,108 @@ fn key_of(row: &Row) -> u128
     (section << 32) + row.priority as u128
 }
 
-// Puts rows into their order; ties stay as they stand.
+/// Puts rows into their order; ties stay as they stand.
 fn sort_rows(rows: &mut Vec<Row>) -> Result<(), AllocError>
-    ensures { IfOk result (λ _. rows.new.items ≡ stable_order key_of rows.old.items) }
+    ensures { OnOk result (rows.new.items ≡ stable_order key_of rows.old.items) }
 {
+    if is_ordered(rows.as_slice()) {
+        return Ok(());
+    }
     rows.sort_by_key(|row| key_of(row))?;
     Ok(())
+}
+
+/// Whether rows stand in their order.
+fn is_ordered(rows: &[Row]) -> bool
+    ensures { result ≡ true → IsNonDecreasingBy key_of rows.now }
+{
+    rows.is_sorted_by(|row, next| key_of(row) <= key_of(next))
+}
+
+#[cfg(test)]
+mod tests {
+    use super::*;
+    use lk_base::LinkStop;
+    use lk_base::abi::{
+        SHF_ALLOC, SHF_EXECINSTR, SHF_TLS, SHF_WRITE, SHT_NOBITS, SHT_NOTE, SHT_PROGBITS,
+    };
+
+    /// An item of four bytes.
+    fn item(name: &'static [u8], sh_type: u32, flags: u64) -> Item<'static> {
+        Item {
+            content: Content::Got,
+            name,
+            sh_type,
+            flags,
+            size: 4,
+            align: 4,
+        }
+    }
+
+    /// Whether sizes and alignments can be.
+    fn are_sized(items: &[Item]) -> bool
+        ensures { result ≡ true → All IsSized (items_view items.now) }
+    {
+        for item in items {
+            if item.align < 1 || 0x10_0000 < item.align || 0x1_0000_0000 < item.size {
+                return false;
+            }
+        }
+        true
+    }
+
+    /// The items in their order.
+    fn ordered(alloc: Global, items: &[Item]) -> Result<Ordered, LinkStop> {
+        if 1000 < items.len() || !are_sized(items) {
+            return Err(LinkStop::Memory);
+        }
+        Ok(find_orders(alloc, items)?)
+    }
+
+    /// The numbers of items.
+    fn numbers(alloc: Global, rows: &Vec<Row>) -> Result<Vec<u32>, LinkStop> {
+        let mut numbers = Vec::new(alloc);
+        for row in rows.iter() {
+            numbers.push(row.number)?;
+        }
+        Ok(numbers)
+    }
+
+    /// Notes stand first if the member that stands first in their output section is one.
+    #[test]
+    fn notes_first(rt: HostRuntime) -> Result<(), LinkStop> {
+        let items = [
+            item(b".rodata.a", SHT_PROGBITS, SHF_ALLOC),
+            item(b".init_array", SHT_NOTE, SHF_ALLOC),
+            item(b"own", SHT_PROGBITS, SHF_ALLOC),
+            item(b".note.a", SHT_NOTE, SHF_ALLOC),
+            item(b".init_array.5", SHT_PROGBITS, SHF_ALLOC),
+            item(b".rodata.b", SHT_NOTE, SHF_ALLOC),
+        ];
+        let orders = ordered(rt.alloc(), &items)?;
+        let order = numbers(rt.alloc(), &orders.r)?;
+        assert_eq!(rt; order.as_slice(), &[3, 0, 5, 4, 1, 2][..]);
+        Ok(())
+    }
+
+    /// Thread-local items are of no other class, and stand in the order of the command.
+    #[test]
+    fn thread_local_ones(rt: HostRuntime) -> Result<(), LinkStop> {
+        let items = [
+            item(b".tdata.b", SHT_PROGBITS, SHF_ALLOC + SHF_WRITE + SHF_TLS),
+            item(b"own", SHT_PROGBITS, SHF_ALLOC + SHF_TLS),
+            item(b".tbss", SHT_NOBITS, SHF_ALLOC + SHF_WRITE + SHF_TLS),
+            item(b".tdata", SHT_PROGBITS, SHF_ALLOC + SHF_EXECINSTR + SHF_TLS),
+            item(b".data", SHT_PROGBITS, SHF_ALLOC + SHF_WRITE),
+            item(b".got", SHT_PROGBITS, SHF_ALLOC + SHF_WRITE),
+        ];
+        let orders = ordered(rt.alloc(), &items)?;
+        let bits = numbers(rt.alloc(), &orders.tls_bits)?;
+        assert_eq!(rt; bits.as_slice(), &[0, 3, 1][..]);
+        let nobits = numbers(rt.alloc(), &orders.tls_nobits)?;
+        assert_eq!(rt; nobits.as_slice(), &[2][..]);
+        let written = numbers(rt.alloc(), &orders.rw_bits)?;
+        assert_eq!(rt; written.as_slice(), &[5, 4][..]);
+        Ok(())
+    }
 }

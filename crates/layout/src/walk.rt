@@ -1,62 +1,70 @@
 //! The walk: where the output sections of a class and their members stand, from a cursor on.
 
-ghost use Rattle.std.specs.Prelude.{◌≡◌, ℕ, ◌+◌, ◌*◌, ◌%◌, ◌<◌, ◌≤◌, ◌∷◌, [], ◌++◌, ◌^◌, All, drop, length, take, ◌==◌, IfOk, OnOk};
+ghost use Rattle.std.specs.Prelude.{◌≡◌, ℕ, ◌+◌, ◌*◌, ◌%◌, ◌<◌, ◌≤◌, ◌∷◌, [], ◌++◌, ◌^◌, All, drop, length, map, take, ◌==◌, max, if◌then◌else◌, IfOk, OnOk};
 ghost use Rattle.std.specs.List.{prefix_len};
-ghost use Rattle.layout.specs.Order.{IsFit};
-ghost use Rattle.layout.specs.Parts.{parts_of};
-ghost use Rattle.layout.specs.Walk.{after, all_put, cut, end_along, first_name, first_type, flags_of, greatest, is_empty, past, section_in, section_of, sections_along, stands, stands_along, stands_in, stands_still, start_of, view, views};
 ghost use Rattle.lk_base.specs.Arithmetic.{up};
 ghost use Rattle.lk_base.specs.declared.abi.TheConstants.{ALIGN_MAX, NOBITS_MAX};
+ghost use Rattle.link_sections.specs.LaidOut.{output_view};
+ghost use Rattle.link_sections.specs.SizesView.{sizes_of};
+ghost use Rattle.layout.specs.ItemViews.{items_view};
+ghost use Rattle.layout.specs.Walk as spec;
 
-use crate::members::Member;
+use crate::items::Item;
 use crate::order::Row;
+use crate::places::{Places, place_row, put};
+use link_sections::{Member, Output, Sizes};
 use lk_base::abi::{SHF_ALLOC, SHF_EXECINSTR, SHF_TLS, SHF_WRITE, SHT_NOBITS, SHT_PROGBITS};
 use lk_base::up;
 use lk_tables::{Class, output_name};
 use std::alloc::{AllocError, Global};
 
-/// An output section that is not empty, as its header tells it.
+/// What the walk reads.
 #[derive(Clone, Copy)]
-pub struct Output<'a> {
-    /// Its name.
-    pub name: &'a [u8],
-    /// Its class.
-    pub class: Class,
-    /// Its type: NOBITS in a class without bits, else that of its first member.
-    pub sh_type: u32,
-    /// The flags of its members together, of those that an output section keeps.
-    pub flags: u64,
-    /// Its first address.
-    pub address: u64,
-    /// Bytes, to the end of its last member.
-    pub size: u64,
-    /// Alignment in bytes.
-    pub align: u64,
+pub struct Sources<'t, 'a> {
+    pub alloc: Global,
+    /// By their numbers.
+    pub items: &'t [Item<'a>],
+    /// Where sections lose bytes, before it is known how many of an alignment stay.
+    pub sizes: &'t Sizes,
 }
 
-/// The output sections of a class, whose members are given in order: puts the starts of all members into `starts`, those
-/// output sections that are not empty after `outputs`, and gives the cursor after them.
+/// Where the walk goes on.
+#[derive(Clone, Copy, Debug, PartialEq, Eq)]
+pub struct Cursor {
+    /// The address after what stands already.
+    pub at: u64,
+    /// An alignment that the next output section that is not empty takes beside its own, in bytes.
+    pub extra: u64,
+}
+
+/// The output sections of a class, whose rows are given in order: those that are not empty go after `outputs`, their members after
+/// `members`, and where all members stand into `places`. Gives the cursor after them.
 pub fn walk_class<'a>(
-    cursor: u64,
-    members: &[Member<'a>],
+    from: &Sources<'_, 'a>,
+    cursor: Cursor,
     class: Class,
     rows: &[Row],
     outputs: &mut Vec<Output<'a>>,
-    starts: &mut Vec<u64>,
-) -> Result<u64, AllocError>
-    requires fit { All (IsFit (length starts.old.items)) rows.now }
-    requires room { cursor + length rows.now * 2 ^ 33 < 2 ^ 64 }
-    ensures end { IfOk result (λ end. end ≡ end_along cursor (cut rows.now)) }
-    ensures outputs { OnOk result (views outputs.new.items ≡ views outputs.old.items ++ sections_along (parts_of members.now) class cursor (cut rows.now)) }
-    ensures starts { OnOk result (starts.new.items ≡ all_put (stands_along cursor (cut rows.now)) starts.old.items) }
-    ensures bound { IfOk result (λ end. end ≤ cursor + length rows.now * 2 ^ 33) }
-    ensures len { OnOk result (length starts.new.items ≡ length starts.old.items) }
+    members: &mut Vec<Member>,
+    places: &mut Places,
+) -> Result<Cursor, AllocError>
+    requires ready { All (spec.IsReady (sizes_of from.now.sizes.now) (length places.old.starts.items) (length places.old.pools.items)) rows.now }
+    requires extra { cursor.extra ≤ ALIGN_MAX }
+    requires room { cursor.at + spec.weight rows.now + ALIGN_MAX < 2 ^ 63 }
+    ensures end { IfOk result (λ end. end ≡ spec.end_along (sizes_of from.now.sizes.now) cursor (spec.runs rows.now)) }
+    ensures outputs { OnOk result (map output_view outputs.new.items ≡ map output_view outputs.old.items ++ spec.sections_along (sizes_of from.now.sizes.now) (items_view from.now.items.now) class cursor (spec.runs rows.now)) }
+    ensures members { OnOk result (members.new.items ≡ members.old.items ++ spec.members_along (sizes_of from.now.sizes.now) cursor (spec.runs rows.now)) }
+    ensures stands { OnOk result (spec.stands_view places.new ≡ spec.all_put (spec.stands_along (sizes_of from.now.sizes.now) cursor (spec.runs rows.now)) (spec.stands_view places.old)) }
+    ensures bound { IfOk result (λ end. end.at ≤ cursor.at + spec.weight rows.now) }
+    ensures extra { IfOk result (λ end. end.extra ≤ ALIGN_MAX) }
+    ensures sections { OnOk result (length places.new.starts.items ≡ length places.old.starts.items) }
+    ensures pools { OnOk result (length places.new.pools.items ≡ length places.old.pools.items) }
 {
     let mut rest = rows;
     let mut at = cursor;
     while !rest.is_empty() {
         let (section, later) = rest.split_at(run_len(rest));
-        at = walk_section(at, members, class, section, outputs, starts)?;
+        at = walk_section(from, at, class, section, outputs, members, places)?;
         rest = later;
     }
     Ok(at)
@@ -65,16 +73,16 @@ pub fn walk_class<'a>(
 /// Whether no member has a byte.
 #[tactic(auto, unfolding(crate::specs::Walk::is_empty))]
 pub fn is_empty(rows: &[Row]) -> bool
-    ensures { result ≡ is_empty rows.now }
+    ensures { result ≡ spec.is_empty rows.now }
 {
     rows.iter().all(|row| row.size == 0)
 }
 
-// The greatest alignment of these members.
+/// The greatest alignment of these members, and 1 of none.
 #[tactic(auto, unfolding(crate::specs::Walk::greatest))]
-fn greatest_alignment(rows: &[Row]) -> u64
+pub fn greatest_alignment(rows: &[Row]) -> u64
     requires { All (λ row. row.align ≤ ALIGN_MAX) rows.now }
-    ensures value { result ≡ greatest rows.now }
+    ensures value { result ≡ spec.greatest rows.now }
     ensures some { 1 ≤ result }
     ensures bound { result ≤ ALIGN_MAX }
 {
@@ -85,10 +93,10 @@ fn greatest_alignment(rows: &[Row]) -> u64
     found
 }
 
-// The flags of members together, of those that an output section keeps.
+/// The flags of members together, of those that an output section keeps.
 #[tactic(auto, unfolding(crate::specs::Walk::flags_of))]
 fn flags_of(rows: &[Row]) -> u64
-    ensures { result ≡ flags_of rows.now }
+    ensures { result ≡ spec.flags_of rows.now }
 {
     let mut flags: u64 = 0;
     for row in rows {
@@ -97,22 +105,22 @@ fn flags_of(rows: &[Row]) -> u64
     flags & (SHF_WRITE | SHF_ALLOC | SHF_EXECINSTR | SHF_TLS)
 }
 
-fn first_name<'a>(members: &[Member<'a>], rows: &[Row]) -> &'a [u8]
-    ensures { result.now ≡ first_name (parts_of members.now) rows.now }
+fn first_name<'a>(items: &[Item<'a>], rows: &[Row]) -> &'a [u8]
+    ensures { result.now ≡ spec.first_name (items_view items.now) rows.now }
 {
     let Some(row) = rows.first() else {
         return &[];
     };
-    let Some(member) = members.get(row.number as usize) else {
+    let Some(item) = items.get(row.number as usize) else {
         return &[];
     };
-    output_name(member.name)
+    output_name(item.name)
 }
 
 fn first_type(class: Class, rows: &[Row]) -> u32
-    ensures { result ≡ first_type class rows.now }
+    ensures { result ≡ spec.first_type class rows.now }
 {
-    if class == Class::RwNobits {
+    if class == Class::TlsNobits || class == Class::RwNobits {
         return SHT_NOBITS;
     }
     let Some(row) = rows.first() else {
@@ -124,90 +132,115 @@ fn first_type(class: Class, rows: &[Row]) -> u32
     row.sh_type
 }
 
-// Puts the members of an output section that is not empty one after another, and gives their end.
-fn walk_members(start: u64, rows: &[Row], starts: &mut Vec<u64>) -> u64
-    requires fit { All (IsFit (length starts.old.items)) rows.now }
-    requires room { start + length rows.now * (NOBITS_MAX + ALIGN_MAX) < 2 ^ 64 }
-    ensures end { result ≡ past start rows.now }
-    ensures starts { starts.new.items ≡ all_put (stands start rows.now) starts.old.items }
-    ensures least { start ≤ result }
-    ensures bound { result ≤ start + length rows.now * (NOBITS_MAX + ALIGN_MAX) }
-    ensures len { length starts.new.items ≡ length starts.old.items }
+/// Puts the members of an output section that is not empty one after another, and gives their end.
+fn walk_members(
+    from: &Sources,
+    start: u64,
+    rows: &[Row],
+    members: &mut Vec<Member>,
+    places: &mut Places,
+) -> Result<u64, AllocError>
+    requires ready { All (spec.IsReady (sizes_of from.now.sizes.now) (length places.old.starts.items) (length places.old.pools.items)) rows.now }
+    requires room { start + spec.weight rows.now < 2 ^ 63 }
+    ensures end { IfOk result (λ end. end ≡ spec.past (sizes_of from.now.sizes.now) start rows.now) }
+    ensures members { OnOk result (members.new.items ≡ members.old.items ++ spec.members_from (sizes_of from.now.sizes.now) start rows.now) }
+    ensures stands { OnOk result (spec.stands_view places.new ≡ spec.all_put (spec.members_from (sizes_of from.now.sizes.now) start rows.now) (spec.stands_view places.old)) }
+    ensures least { IfOk result (λ end. start ≤ end) }
+    ensures bound { IfOk result (λ end. end + length rows.now * ALIGN_MAX ≤ start + spec.weight rows.now) }
+    ensures sections { OnOk result (length places.new.starts.items ≡ length places.old.starts.items) }
+    ensures pools { OnOk result (length places.new.pools.items ≡ length places.old.pools.items) }
 {
     let mut cursor = start;
     for row in rows {
-        let address = up(cursor, row.align);
-        starts[row.number as usize] = address;
-        cursor = address + row.size;
+        let member = place_row(from.alloc, from.sizes, row, up(cursor, row.align), places)?;
+        cursor = member.start + member.size;
+        members.push(member)?;
     }
-    cursor
+    Ok(cursor)
 }
 
-// Puts the members of an empty output section at its start.
-fn walk_empty(start: u64, rows: &[Row], starts: &mut Vec<u64>)
-    requires fit { All (IsFit (length starts.old.items)) rows.now }
-    ensures starts { starts.new.items ≡ all_put (stands_still start rows.now) starts.old.items }
-    ensures len { length starts.new.items ≡ length starts.old.items }
+/// Puts the members of an empty output section at its start.
+fn walk_empty(start: u64, rows: &[Row], places: &mut Places)
+    requires known { All (spec.IsKnown (length places.old.starts.items) (length places.old.pools.items)) rows.now }
+    ensures stands { spec.stands_view places.new ≡ spec.all_put (spec.members_still start rows.now) (spec.stands_view places.old) }
+    ensures sections { length places.new.starts.items ≡ length places.old.starts.items }
+    ensures pools { length places.new.pools.items ≡ length places.old.pools.items }
 {
     for row in rows {
-        starts[row.number as usize] = start;
+        put(places, row.content, start);
     }
 }
 
-// An output section from its start to its end.
-#[tactic(auto, unfolding(crate::specs::Walk::section_of, crate::specs::Walk::view))]
-fn describe<'a>(
-    members: &[Member<'a>],
-    class: Class,
-    rows: &[Row],
-    start: u64,
-    end: u64,
-) -> Output<'a>
+/// An output section from its start to its end.
+#[tactic(auto, unfolding(crate::specs::Walk::section_of))]
+fn describe<'a>(items: &[Item<'a>], class: Class, rows: &[Row], start: u64, end: u64) -> Output<'a>
     requires aligned { All (λ row. row.align ≤ ALIGN_MAX) rows.now }
     requires rising { start ≤ end }
-    ensures { view result ≡ section_of (parts_of members.now) class rows.now start end }
+    ensures { output_view result ≡ spec.section_of (items_view items.now) class rows.now start end }
 {
     Output {
-        name: first_name(members, rows),
+        name: first_name(items, rows),
         class,
         sh_type: first_type(class, rows),
         flags: flags_of(rows),
         address: start,
         size: end - start,
         align: greatest_alignment(rows),
+        count: rows.len() as u64,
     }
 }
 
-// One output section: gives the cursor after it.
-#[tactic(auto, unfolding(crate::specs::Walk::after, crate::specs::Walk::section_in, crate::specs::Walk::stands_in, crate::specs::Walk::start_of))]
+/// The alignment of an output section at its start.
+fn start_alignment(cursor: Cursor, rows: &[Row], empty: bool) -> u64
+    requires ready { All (λ row. row.align ≤ ALIGN_MAX) rows.now }
+    requires extra { cursor.extra ≤ ALIGN_MAX }
+    ensures value { result ≡ (if empty then spec.greatest rows.now else max cursor.extra (spec.greatest rows.now)) }
+    ensures some { 1 ≤ result }
+    ensures bound { result ≤ ALIGN_MAX }
+{
+    let greatest = greatest_alignment(rows);
+    if empty {
+        return greatest;
+    }
+    cursor.extra.max(greatest)
+}
+
+/// One output section: gives the cursor after it.
+#[tactic(auto, unfolding(crate::specs::Walk::after, crate::specs::Walk::section_in, crate::specs::Walk::stands_in, crate::specs::Walk::members_in, crate::specs::Walk::start_of))]
 fn walk_section<'a>(
-    cursor: u64,
-    members: &[Member<'a>],
+    from: &Sources<'_, 'a>,
+    cursor: Cursor,
     class: Class,
     rows: &[Row],
     outputs: &mut Vec<Output<'a>>,
-    starts: &mut Vec<u64>,
-) -> Result<u64, AllocError>
+    members: &mut Vec<Member>,
+    places: &mut Places,
+) -> Result<Cursor, AllocError>
     requires some { 0 < length rows.now }
-    requires fit { All (IsFit (length starts.old.items)) rows.now }
-    requires room { cursor + length rows.now * 2 ^ 33 < 2 ^ 64 }
-    ensures end { IfOk result (λ end. end ≡ after cursor rows.now) }
-    ensures outputs { OnOk result (views outputs.new.items ≡ views outputs.old.items ++ section_in (parts_of members.now) class cursor rows.now) }
-    ensures starts { OnOk result (starts.new.items ≡ all_put (stands_in cursor rows.now) starts.old.items) }
-    ensures bound { IfOk result (λ end. end ≤ cursor + length rows.now * 2 ^ 33) }
-    ensures len { OnOk result (length starts.new.items ≡ length starts.old.items) }
+    requires ready { All (spec.IsReady (sizes_of from.now.sizes.now) (length places.old.starts.items) (length places.old.pools.items)) rows.now }
+    requires extra { cursor.extra ≤ ALIGN_MAX }
+    requires room { cursor.at + spec.weight rows.now + ALIGN_MAX < 2 ^ 63 }
+    ensures end { IfOk result (λ end. end ≡ spec.after (sizes_of from.now.sizes.now) cursor rows.now) }
+    ensures outputs { OnOk result (map output_view outputs.new.items ≡ map output_view outputs.old.items ++ spec.section_in (sizes_of from.now.sizes.now) (items_view from.now.items.now) class cursor rows.now) }
+    ensures members { OnOk result (members.new.items ≡ members.old.items ++ spec.members_in (sizes_of from.now.sizes.now) cursor rows.now) }
+    ensures stands { OnOk result (spec.stands_view places.new ≡ spec.all_put (spec.stands_in (sizes_of from.now.sizes.now) cursor rows.now) (spec.stands_view places.old)) }
+    ensures bound { IfOk result (λ end. end.at ≤ cursor.at + spec.weight rows.now) }
+    ensures extra { IfOk result (λ end. end.extra ≤ ALIGN_MAX) }
+    ensures sections { OnOk result (length places.new.starts.items ≡ length places.old.starts.items) }
+    ensures pools { OnOk result (length places.new.pools.items ≡ length places.old.pools.items) }
 {
-    let start = up(cursor, greatest_alignment(rows));
-    if is_empty(rows) {
-        walk_empty(start, rows, starts);
+    let empty = is_empty(rows);
+    let start = up(cursor.at, start_alignment(cursor, rows, empty));
+    if empty {
+        walk_empty(start, rows, places);
         return Ok(cursor);
     }
-    let end = walk_members(start, rows, starts);
-    outputs.push(describe(members, class, rows, start, end))?;
-    Ok(end)
+    let end = walk_members(from, start, rows, members, places)?;
+    outputs.push(describe(from.items, class, rows, start, end))?;
+    Ok(Cursor { at: end, extra: 1 })
 }
 
-// How many rows from the first on are of this group.
+/// How many rows from the first on are of this group.
 fn same_len(group: u32, rows: &[Row]) -> usize
     ensures value { result ≡ prefix_len (λ row. row.group == group) rows.now }
     ensures within { result ≤ length rows.now }
@@ -220,10 +253,10 @@ fn same_len(group: u32, rows: &[Row]) -> usize
     rows.len()
 }
 
-// How many rows make the first output section.
+/// How many rows make the first output section.
 fn run_len(rows: &[Row]) -> usize
     requires { 0 < length rows.now }
-    ensures value { cut rows.now ≡ take result rows.now ∷ cut (drop result rows.now) }
+    ensures value { spec.runs rows.now ≡ take result rows.now ∷ spec.runs (drop result rows.now) }
     ensures some { 0 < result }
     ensures within { result ≤ length rows.now }
 {

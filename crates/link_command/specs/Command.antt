@@ -11,12 +11,13 @@ use Rattle.link_command.specs.declared.command.Wanted.TheVariants.{Files}
 use Rattle.link_command.specs.Grammar.{taken}
 
 -- what a command asks for: the names of the executable and of the map, the entry symbol, the number of
--- workers, whether symbols are left out, and the inputs
+-- workers, whether sections that nothing refers to are left out, whether symbols are, and the inputs
 pub record Asked : Type 0 where
   pub output : List ℕ
   pub map : Option (List ℕ)
   pub entry : List ℕ
   pub threads : ℕ
+  pub gc : Bool
   pub strip : Bool
   pub inputs : List (List ℕ)
 
@@ -34,6 +35,7 @@ asks command = record {
   map = option_map (λ name. string_bytes name) command.map;
   entry = string_bytes command.entry;
   threads = command.threads;
+  gc = command.gc;
   strip = command.strip;
   inputs = names_of command.inputs;
 }
@@ -65,6 +67,7 @@ read_from rows = record {
   map = None;
   entry = text_of (codes "entry") rows;
   threads = workers_in rows;
+  gc = is_on (codes "gc-sections") rows;
   strip = is_on (codes "strip-all") rows;
   inputs = inputs_in rows;
 }

@@ -33,6 +33,13 @@ threads_rule = record (new_rule (codes "threads")) {
   defaults = codes "4" ∷ [];
 }
 
+-- `--gc-sections`: sections that nothing refers to are left out
+abbrev pub gc_rule : Rule
+gc_rule = record (new_rule (codes "gc-sections")) {
+  long = Some (codes "gc-sections");
+  action = Some SetTrue;
+}
+
 -- `-s`, `--strip-all`: no symbol table
 abbrev pub strip_rule : Rule
 strip_rule = record (new_rule (codes "strip-all")) {
@@ -49,8 +56,8 @@ files_rule = record (new_rule (codes "files")) {
 
 -- the command
 unfoldable pub rvld_app : App
-rvld_app = with_rule (with_rule (with_rule (with_rule (with_rule (new_app (codes "rvld"))
-    output_rule) entry_rule) threads_rule) strip_rule) files_rule
+rvld_app = with_rule (with_rule (with_rule (with_rule (with_rule (with_rule (new_app (codes "rvld"))
+    output_rule) entry_rule) threads_rule) gc_rule) strip_rule) files_rule
 
 -- the rows of a parse
 abbrev pub rows_in : ArgMatches → List Row

@@ -5,7 +5,7 @@ ghost use Rattle.link_command.specs.Command.{IsLinkable, asked_of, asks, is_link
 ghost use Rattle.link_command.specs.Grammar.{HasThreads, rows_in};
 
 use crate::matching::matches_of;
-use crate::values::{inputs_of, owned_text, strip_of, threads_of};
+use crate::values::{gc_of, inputs_of, owned_text, strip_of, threads_of};
 use clap::ArgMatches;
 use std::alloc::{AllocError, Global};
 
@@ -38,6 +38,8 @@ pub struct Command {
     pub entry: String,
     /// The number of workers.
     pub threads: u32,
+    /// Whether sections that nothing refers to are left out.
+    pub gc: bool,
     /// Whether symbols are left out.
     pub strip: bool,
     /// What is linked.
@@ -58,6 +60,7 @@ fn read_from(alloc: Global, matches: &ArgMatches) -> Result<Command, AllocError>
         map: None,
         entry,
         threads: threads_of(matches),
+        gc: gc_of(matches),
         strip: strip_of(matches),
         inputs: Wanted::Files(inputs),
     })

@@ -2,7 +2,7 @@
 
 ghost use Rattle.std.specs.Prelude.{◌≡◌, IfOk, false};
 ghost use Rattle.clap.specs.Words.{app_of, rule_of};
-ghost use Rattle.link_command.specs.Grammar.{entry_rule, files_rule, output_rule, rvld_app, strip_rule, threads_rule};
+ghost use Rattle.link_command.specs.Grammar.{entry_rule, files_rule, gc_rule, output_rule, rvld_app, strip_rule, threads_rule};
 
 use clap::{Arg, ArgAction};
 use std::alloc::{AllocError, Global};
@@ -43,6 +43,16 @@ fn threads_option<'a>(alloc: Global) -> Arg<'a>
         .default_value("4")
 }
 
+/// `--gc-sections`: sections that nothing refers to are left out.
+fn gc_option<'a>(alloc: Global) -> Arg<'a>
+    ensures rule { rule_of result ≡ gc_rule }
+    ensures local { result.global ≡ false }
+{
+    Arg::new(alloc, "gc-sections")
+        .long("gc-sections")
+        .action(ArgAction::SetTrue)
+}
+
 /// `-s`, `--strip-all`: no symbol table.
 fn strip_option<'a>(alloc: Global) -> Arg<'a>
     ensures rule { rule_of result ≡ strip_rule }
@@ -71,6 +81,7 @@ pub(crate) fn command_line<'a>(alloc: Global) -> Result<clap::Command<'a>, Alloc
         .arg(output_option(alloc))?
         .arg(entry_option(alloc))?
         .arg(threads_option(alloc))?
+        .arg(gc_option(alloc))?
         .arg(strip_option(alloc))?
         .arg(files_argument(alloc))
 }

@@ -6,7 +6,7 @@ use std::test::Fail;
 
 /// The words after the program's name, and the names of the executable and of the entry, the number of workers and
 /// the inputs.
-const ACCEPTED: [(&str, &str); 24] = [
+const ACCEPTED: [(&str, &str); 26] = [
     ("-s|a.o", "a.out|_start|4|a.o"),
     ("a.o|-s", "a.out|_start|4|a.o"),
     ("--strip-all|a.o", "a.out|_start|4|a.o"),
@@ -31,9 +31,11 @@ const ACCEPTED: [(&str, &str); 24] = [
     ("-s|help", "a.out|_start|4|help"),
     ("-s|a=b|c d", "a.out|_start|4|a=b|c d"),
     ("-s|-e|\u{e9}|a\u{20ac}.o", "a.out|\u{e9}|4|a\u{20ac}.o"),
+    ("--gc-sections|-s|a.o", "a.out|_start|4 collected|a.o"),
+    ("a.o|-s|--gc-sections", "a.out|_start|4 collected|a.o"),
 ];
 
-const REFUSED: [&str; 36] = [
+const REFUSED: [&str; 39] = [
     "",
     "a.o",
     "-s",
@@ -70,6 +72,9 @@ const REFUSED: [&str; 36] = [
     "-o|x|-o|y|-s|a.o",
     "--strip-all=true|a.o",
     "--threads|4|--threads|4|-s|a.o",
+    "--gc-sections|--gc-sections|-s|a.o",
+    "--gc-sections=true|-s|a.o",
+    "--gc|-s|a.o",
 ];
 
 /// The program's name and the words.
@@ -87,6 +92,9 @@ fn answer_to(alloc: Global, words: &[String]) -> Result<String, AllocError> {
         return "refused".to_string(alloc);
     };
     let mut answer = format!(in alloc; "{}|{}|{}", command.output, command.entry, command.threads)?;
+    if command.gc {
+        answer.push_str(" collected")?;
+    }
     for input in command.inputs.names() {
         answer.push('|')?;
         answer.push_str(input.as_str())?;

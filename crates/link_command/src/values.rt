@@ -25,6 +25,13 @@ pub(crate) fn owned_text(
     text_of(matches, id).to_string(alloc)
 }
 
+/// Whether sections that nothing refers to are left out.
+pub(crate) fn gc_of(matches: &ArgMatches) -> bool
+    ensures { result ≡ is_on (codes "gc-sections") (rows_in matches.now) }
+{
+    text_of(matches, "gc-sections") == "true"
+}
+
 /// Whether symbols are left out.
 pub(crate) fn strip_of(matches: &ArgMatches) -> bool
     ensures { result ≡ is_on (codes "strip-all") (rows_in matches.now) }

@@ -1,19 +1,21 @@
 -- The phases of a link one after the other.
-use Rattle.std.proofs.Common.{◌≡◌, ℕ, List, [], ◌∷◌, ◌++◌, refl, sym, ap, ◌∙◌, subst}
+use Rattle.std.proofs.Common.{◌≡◌, ℕ, Bool, List, [], ◌∷◌, ◌++◌, refl, sym, ap, ◌∙◌, subst}
 use Rattle.lk_base.specs.declared.defects.Defect.{Defect}
 use Rattle.lk_base.specs.declared.defects.LinkStop.{LinkStop}
 use Rattle.lk_base.specs.declared.defects.LinkStop.TheVariants as stops
 use Rattle.lk_base.specs.declared.limits.Limits.{Limits}
 use Rattle.lk_base.specs.Firsts.{BeginsWith, StopsAt}
-use Rattle.elf_out.specs.Executable.{addresses, laid_out}
-use Rattle.layout.specs.Layout.{limit_defects}
+use Rattle.comdat.specs.Discarded.{discarded}
+use Rattle.layout.specs.Layout.{layout_defects}
+use Rattle.link_command.specs.Command.{Asked}
+use Rattle.link_sections.specs.Leaders.{own_leaders}
 use Rattle.lk_tables.specs.Binding.{Bindings, first_phase, binding_defects, flag_defects, duplicate_defects, entry_defects}
 use Rattle.lk_tables.specs.Files.{File}
-use Rattle.link_driver.specs.Link.{bound_names, defects_in, later_phases, none_gone}
+use Rattle.link_driver.specs.Link.{bound_names, defects_in, kept_of, laid_out, last_phases, later_phases}
 use Rattle.link_driver.specs.Defects.{opening_defects, reading_defects}
 use Rattle.link_driver.specs.Sources.{Source, files_in}
 use Rattle.reloc_apply.specs.Relocated.{relocation_defects}
-use Rattle.reloc_apply.specs.Undefined.{undefined_defects}
+use Rattle.sec_graph.specs.Undefined.{undefined_defects}
 
 -- phases of which none has a defect are passed
 pub passed : (ps qs : List (List Defect)) → first_phase ps ≡ [] → first_phase (ps ++ qs) ≡ first_phase qs
@@ -43,55 +45,65 @@ one_none : (xs : List Defect) → xs ≡ [] → first_phase (xs ∷ []) ≡ []
 one_none [] none = refl
 one_none (x ∷ xs) none = none
 
-module _ (limits : Limits) (entry : List ℕ) (ss : List Source) where
-  to_read : (stop : LinkStop) → StopsAt stop (first_phase (reading_defects limits ss ∷ opening_defects limits ss ∷ [])) → StopsAt stop (defects_in limits entry ss)
-  unfolding defects_in
-  to_read stop at = stopped (reading_defects limits ss ∷ opening_defects limits ss ∷ []) (later_phases limits (files_in ss) entry) stop at
+-- the last three, each in turn
+module _ (limits : Limits) (files : List File) (b : Bindings) (kept : List Bool) where
+  pub at_undefined : (d : Defect) → BeginsWith (undefined_defects files b kept) d → BeginsWith (first_phase (last_phases limits files b kept)) d
+  at_undefined d begins = ended (undefined_defects files b kept ∷ []) _ d (one d (undefined_defects files b kept) begins)
 
-  pub at_reading : (stop : LinkStop) → StopsAt stop (first_phase (reading_defects limits ss ∷ opening_defects limits ss ∷ [])) → StopsAt stop (defects_in limits entry ss)
-  at_reading = to_read
+  module _ (defined : undefined_defects files b kept ≡ []) where
+    last_two : first_phase (last_phases limits files b kept)
+        ≡ first_phase (layout_defects limits files (laid_out files b kept) ∷ relocation_defects files b (own_leaders kept) (laid_out files b kept) ∷ [])
+    last_two = passed (undefined_defects files b kept ∷ []) _ (one_none (undefined_defects files b kept) defined)
+
+    pub at_layout : (stop : LinkStop) → StopsAt stop (layout_defects limits files (laid_out files b kept)) → StopsAt stop (first_phase (last_phases limits files b kept))
+    at_layout stop at = let P : List Defect → Type 0 = λ ds. StopsAt stop ds in
+        subst P (sym last_two)
+        (stopped (layout_defects limits files (laid_out files b kept) ∷ []) _ stop (one_stop stop (layout_defects limits files (laid_out files b kept)) at))
+
+    module _ (laid : layout_defects limits files (laid_out files b kept) ≡ []) where
+      last_one : first_phase (last_phases limits files b kept) ≡ first_phase (relocation_defects files b (own_leaders kept) (laid_out files b kept) ∷ [])
+      last_one = last_two ∙ passed (layout_defects limits files (laid_out files b kept) ∷ []) _ (one_none (layout_defects limits files (laid_out files b kept)) laid)
+
+      pub at_relocations : (stop : LinkStop) → StopsAt stop (relocation_defects files b (own_leaders kept) (laid_out files b kept)) →
+          StopsAt stop (first_phase (last_phases limits files b kept))
+      at_relocations stop at = let P : List Defect → Type 0 = λ ds. StopsAt stop ds in
+          subst P (sym last_one) (one_stop stop (relocation_defects files b (own_leaders kept) (laid_out files b kept)) at)
+
+      pub none_last : relocation_defects files b (own_leaders kept) (laid_out files b kept) ≡ [] → first_phase (last_phases limits files b kept) ≡ []
+      none_last done = last_one ∙ one_none (relocation_defects files b (own_leaders kept) (laid_out files b kept)) done
+
+module _ (limits : Limits) (asked : Asked) (ss : List Source) where
+  pub at_reading : (stop : LinkStop) → StopsAt stop (first_phase (reading_defects limits ss ∷ opening_defects limits ss ∷ [])) → StopsAt stop (defects_in limits asked ss)
+  unfolding defects_in
+  at_reading stop at = stopped (reading_defects limits ss ∷ opening_defects limits ss ∷ []) (later_phases limits asked (files_in ss)) stop at
 
   module _ (read : first_phase (reading_defects limits ss ∷ opening_defects limits ss ∷ []) ≡ []) where
-    rest : defects_in limits entry ss ≡ first_phase (later_phases limits (files_in ss) entry)
+    rest : defects_in limits asked ss ≡ first_phase (later_phases limits asked (files_in ss))
     unfolding defects_in
-    rest = passed (reading_defects limits ss ∷ opening_defects limits ss ∷ []) (later_phases limits (files_in ss) entry) read
+    rest = passed (reading_defects limits ss ∷ opening_defects limits ss ∷ []) (later_phases limits asked (files_in ss)) read
 
     module _ (files : List File) (are : files ≡ files_in ss) where
-      left : defects_in limits entry ss ≡ first_phase (later_phases limits files entry)
-      left = rest ∙ ap (λ fs. first_phase (later_phases limits fs entry)) (sym are)
+      left : defects_in limits asked ss ≡ first_phase (later_phases limits asked files)
+      left = rest ∙ ap (λ fs. first_phase (later_phases limits asked fs)) (sym are)
 
-      pub at_binding : (stop : LinkStop) → StopsAt stop (binding_defects files (none_gone files) entry) → StopsAt stop (defects_in limits entry ss)
-      at_binding stop at = let P : List Defect → Type 0 = λ ds. StopsAt stop ds in
-          subst P (sym left) (stopped (flag_defects files ∷ duplicate_defects files (none_gone files) ∷ entry_defects files (none_gone files) entry ∷ []) _ stop at)
+      abbrev binding_phases : List (List Defect)
+      binding_phases = flag_defects files ∷ duplicate_defects files (discarded files) ∷ entry_defects files (discarded files) asked.entry ∷ []
 
-      module _ (bound : binding_defects files (none_gone files) entry ≡ []) (b : Bindings) (names : b ≡ bound_names files entry) where
-        then_left : defects_in limits entry ss ≡ first_phase (undefined_defects files b ∷ limit_defects limits (laid_out files b) ∷ relocation_defects files b (addresses files b) ∷ [])
-        then_left = left
-            ∙ passed (flag_defects files ∷ duplicate_defects files (none_gone files) ∷ entry_defects files (none_gone files) entry ∷ []) _ bound
-            ∙ ap (λ n. first_phase (undefined_defects files n ∷ limit_defects limits (laid_out files n) ∷ relocation_defects files n (addresses files n) ∷ [])) (sym names)
+      pub at_binding : (stop : LinkStop) → StopsAt stop (binding_defects files (discarded files) asked.entry) → StopsAt stop (defects_in limits asked ss)
+      at_binding stop at = let P : List Defect → Type 0 = λ ds. StopsAt stop ds in subst P (sym left) (stopped binding_phases _ stop at)
 
-        pub at_undefined : (d : Defect) → BeginsWith (undefined_defects files b) d → BeginsWith (defects_in limits entry ss) d
-        at_undefined d begins = let P : List Defect → Type 0 = λ ds. BeginsWith ds d in
-            subst P (sym then_left) (ended (undefined_defects files b ∷ []) _ d (one d (undefined_defects files b) begins))
+      module _ (bound : binding_defects files (discarded files) asked.entry ≡ []) (b : Bindings) (names : b ≡ bound_names files asked.entry)
+          (kept : List Bool) (stays : kept ≡ kept_of asked.gc files b) where
+        then_left : defects_in limits asked ss ≡ first_phase (last_phases limits files b kept)
+        then_left = left ∙ passed binding_phases _ bound
+            ∙ ap (λ n. first_phase (last_phases limits files n (kept_of asked.gc files n))) (sym names)
+            ∙ ap (λ k. first_phase (last_phases limits files b k)) (sym stays)
 
-        module _ (defined : undefined_defects files b ≡ []) where
-          last_two : defects_in limits entry ss ≡ first_phase (limit_defects limits (laid_out files b) ∷ relocation_defects files b (addresses files b) ∷ [])
-          last_two = then_left ∙ passed (undefined_defects files b ∷ []) _ (one_none (undefined_defects files b) defined)
+        pub at_last : (stop : LinkStop) → StopsAt stop (first_phase (last_phases limits files b kept)) → StopsAt stop (defects_in limits asked ss)
+        at_last stop at = let P : List Defect → Type 0 = λ ds. StopsAt stop ds in subst P (sym then_left) at
 
-          pub at_layout : (stop : LinkStop) → StopsAt stop (limit_defects limits (laid_out files b)) → StopsAt stop (defects_in limits entry ss)
-          at_layout stop at = let P : List Defect → Type 0 = λ ds. StopsAt stop ds in
-              subst P (sym last_two) (stopped (limit_defects limits (laid_out files b) ∷ []) _ stop (one_stop stop (limit_defects limits (laid_out files b)) at))
-
-          module _ (laid : limit_defects limits (laid_out files b) ≡ []) where
-            last_one : defects_in limits entry ss ≡ first_phase (relocation_defects files b (addresses files b) ∷ [])
-            last_one = last_two ∙ passed (limit_defects limits (laid_out files b) ∷ []) _ (one_none (limit_defects limits (laid_out files b)) laid)
-
-            pub at_relocations : (stop : LinkStop) → StopsAt stop (relocation_defects files b (addresses files b)) → StopsAt stop (defects_in limits entry ss)
-            at_relocations stop at = let P : List Defect → Type 0 = λ ds. StopsAt stop ds in
-                subst P (sym last_one) (one_stop stop (relocation_defects files b (addresses files b)) at)
-
-            pub no_defects : relocation_defects files b (addresses files b) ≡ [] → defects_in limits entry ss ≡ []
-            no_defects done = last_one ∙ one_none (relocation_defects files b (addresses files b)) done
+        pub no_defects : first_phase (last_phases limits files b kept) ≡ [] → defects_in limits asked ss ≡ []
+        no_defects done = then_left ∙ done
 
 -- two phases of which the first has no defect
 pub second_phase : (r o : List Defect) (d : Defect) → r ≡ [] → BeginsWith o d → BeginsWith (first_phase (r ∷ o ∷ [])) d

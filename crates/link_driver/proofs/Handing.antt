@@ -1,16 +1,18 @@
 -- What the steps of a link hand on, together.
 use Rattle.std.proofs.Common.{◌≡◌, ℕ, ◌≤◌, ◌^◌, Bool, List, length, ap, sym, ◌∙◌, subst, arith}
 use Rattle.std.specs.Prelude.{Result, Ok, Err, IfOk}
-use Rattle.elf_out.specs.Executable.{addresses, executable, laid_out}
+use Rattle.comdat.specs.Discarded.{discarded}
+use Rattle.elf_out.specs.Standing.{SectionsStand}
+use Rattle.link_command.specs.Command.{Asked}
+use Rattle.link_sections.specs.Leaders.{own_leaders}
 use Rattle.file_live.specs.Live.{IsLive, live_of}
-use Rattle.lk_tables.specs.Addresses.{IsBindingOf}
+use Rattle.lk_tables.specs.Binding.{IsBindingOf}
 use Rattle.lk_tables.specs.Binding.{Bindings}
-use Rattle.lk_tables.specs.Files.{AreFew, File}
-use Rattle.reloc_apply.specs.Parts.{parts}
-use Rattle.reloc_apply.proofs.Sized.{few_parts}
+use Rattle.lk_tables.specs.Files.{File}
 use Rattle.sym_resolve.specs.Law.{IsLawful}
-use Rattle.link_driver.specs.Link.{bound_names, executable_in, none_gone}
+use Rattle.link_driver.specs.Link.{bound_names, executable_in, executable_with, kept_in, kept_of, laid_out}
 use Rattle.link_driver.specs.Sources.{Source, files_in, heads_in, live_in}
+use Rattle.link_driver.specs.Tables.{IsCollected}
 
 -- the set of files that takes part, as the code found it
 pub live_is : (ss : List Source) (files : List File) → files ≡ heads_in ss → live_of files ≡ live_in ss
@@ -28,28 +30,54 @@ least_is ss files live are found least =
 -- the names of the files are bound
 pub binding_is : (entry : List ℕ) (files : List File) (b : Bindings) → b ≡ bound_names files entry → IsBindingOf files b
 unfolding bound_names
-binding_is entry files b names = (none_gone files, entry, names)
-
--- what goes into the executable is not more than the sections
-pub few_members : (files : List File) (b : Bindings) → IsBindingOf files b → AreFew files → length (parts files b.commons) ≤ 2 ^ 28
-few_members files b bound few = omega (arith, few_parts files b bound, few.section_count_is)
+binding_is entry files b names = (discarded files, entry, names)
 
 -- the executable of these files
-pub gives_executable : (entry : List ℕ) (ss : List Source) (files : List File) (b : Bindings) (exe : List ℕ) →
-    files ≡ files_in ss → b ≡ bound_names files entry → exe ≡ executable files b (laid_out files b) (addresses files b) →
-    exe ≡ executable_in entry ss
+pub gives_executable : (asked : Asked) (ss : List Source) (files : List File) (b : Bindings) (kept : List Bool) (exe : List ℕ) →
+    files ≡ files_in ss → b ≡ bound_names files asked.entry → kept ≡ kept_of asked.gc files b → exe ≡ executable_with files b kept →
+    exe ≡ executable_in asked ss
 unfolding executable_in
-gives_executable entry ss files b exe are names is =
-    is ∙ ap (λ n. executable files n (laid_out files n) (addresses files n)) names
-    ∙ ap (λ fs. executable fs (bound_names fs entry) (laid_out fs (bound_names fs entry)) (addresses fs (bound_names fs entry))) are
+gives_executable asked ss files b kept exe are names stays is =
+    is ∙ ap (executable_with files b) stays
+    ∙ ap (λ n. executable_with files n (kept_of asked.gc files n)) names
+    ∙ ap (λ fs. executable_with fs (bound_names fs asked.entry) (kept_of asked.gc fs (bound_names fs asked.entry))) are
 
 -- what the names of these files are bound to
 pub bound_are : (entry asked : List ℕ) (files : List File) (ss : List Source) → files ≡ files_in ss → entry ≡ asked →
-    IsLawful files (none_gone files) entry (bound_names files entry) → IsLawful (files_in ss) (none_gone (files_in ss)) asked (bound_names (files_in ss) asked)
+    IsLawful files (discarded files) entry (bound_names files entry) → IsLawful (files_in ss) (discarded (files_in ss)) asked (bound_names (files_in ss) asked)
 bound_are entry asked files ss are same bound =
-    let P : List ℕ → Type 0 = λ name. IsLawful (files_in ss) (none_gone (files_in ss)) name (bound_names (files_in ss) name) in
-    let Q : List File → Type 0 = λ fs. IsLawful fs (none_gone fs) entry (bound_names fs entry) in
+    let P : List ℕ → Type 0 = λ name. IsLawful (files_in ss) (discarded (files_in ss)) name (bound_names (files_in ss) name) in
+    let Q : List File → Type 0 = λ fs. IsLawful fs (discarded fs) entry (bound_names fs entry) in
     subst P same (subst Q are bound)
+
+-- a set that garbage collection keeps
+pub collected_are : (asked : Asked) (ss : List Source) (files : List File) (b : Bindings) (kept : List Bool) → files ≡ files_in ss →
+    b ≡ bound_names files asked.entry → kept ≡ kept_of asked.gc files b → IsCollected files b kept →
+    IsCollected (files_in ss) (bound_names (files_in ss) asked.entry) (kept_in asked ss)
+collected_are asked ss files b kept are names stays is =
+    let P : List Bool → Type 0 = λ k. IsCollected files b k in
+    let Q : Bindings → Type 0 = λ n. IsCollected files n (kept_of asked.gc files n) in
+    let R : List File → Type 0 = λ fs. IsCollected fs (bound_names fs asked.entry) (kept_of asked.gc fs (bound_names fs asked.entry)) in
+    subst R are (subst Q names (subst P stays is))
+
+-- the sections of these files stand whole
+pub stand_so : (asked : Asked) (ss : List Source) (files : List File) (b : Bindings) (kept : List Bool) (exe : List ℕ) → files ≡ files_in ss →
+    b ≡ bound_names files asked.entry → kept ≡ kept_of asked.gc files b → SectionsStand files b (own_leaders kept) (laid_out files b kept) exe →
+    SectionsStand (files_in ss) (bound_names (files_in ss) asked.entry) (own_leaders (kept_in asked ss))
+    (laid_out (files_in ss) (bound_names (files_in ss) asked.entry) (kept_in asked ss)) exe
+stand_so asked ss files b kept exe are names stays stand =
+    let P : List Bool → Type 0 = λ k. SectionsStand files b (own_leaders k) (laid_out files b k) exe in
+    let Q : Bindings → Type 0 = λ n. P' files n in
+    let R : List File → Type 0 = λ fs. P' fs (bound_names fs asked.entry) in
+    subst R are (subst Q names (subst P stays stand))
+  where
+    P' : List File → Bindings → Type 0
+    P' fs n = SectionsStand fs n (own_leaders (kept_of asked.gc fs n)) (laid_out fs n (kept_of asked.gc fs n)) exe
+
+-- what holds of an answer, and follows from it
+pub on_each : {X E : Type 0} {P Q : X → Type 0} (r : Result X E) → ((x : X) → P x → Q x) → IfOk r P → IfOk r Q
+on_each (Ok x) then has = then x has
+on_each (Err e) then has = tt
 
 -- what holds holds of an answer, if there is one
 pub on_ok : {X E : Type 0} {P : Type 0} (r : Result X E) → P → IfOk r (λ _. P)

@@ -1,9 +1,10 @@
 pub mod Chain
 pub mod FileFacts
+pub mod Fitting
 pub mod Finishing
 pub mod Gathered
 pub mod Handing
-pub mod Laying
+pub mod Keeping
 pub mod Opened
 pub mod Promising
 pub mod Starting

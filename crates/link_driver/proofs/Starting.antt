@@ -61,7 +61,7 @@ unread_input asked before after say index Unreported cause untouched telling = a
 
 -- the inputs have a defect
 pub found_defect : (asked : Asked) (before now : Store) (say : Output) (inputs : List (List ℕ)) (defect : Defect) (later : List Defect) (ending : Ending)
-    → AreLoaded asked before now inputs → defects_of standard asked.entry inputs ≡ defect ∷ later → TellsDefect (line_of_defect asked inputs defect) ending
+    → AreLoaded asked before now inputs → defects_of standard asked inputs ≡ defect ∷ later → TellsDefect (line_of_defect asked inputs defect) ending
     → Ends (Some asked) before now say say (status_of ending) (told_line ending)
 unfolding link
 found_defect asked before now say inputs defect later Memory loaded found telling =
@@ -116,10 +116,10 @@ line_is asked inputs ss defect line are is = is ∙ ap (λ l. line_in asked inpu
 
 -- the inputs were not linked
 pub not_linked : (asked : Asked) (before now : Store) (say : Output) (inputs : List (List ℕ)) (ss : List Source) (stop : LinkStop) (ending : Ending)
-    → AreLoaded asked before now inputs → ss ≡ sources standard inputs → StopsAt stop (defects_in standard asked.entry ss) → TellsStop asked inputs stop ending
+    → AreLoaded asked before now inputs → ss ≡ sources standard inputs → StopsAt stop (defects_in standard asked ss) → TellsStop asked inputs stop ending
     → Ends (Some asked) before now say say (status_of ending) (told_line ending)
 not_linked asked before now say inputs ss (link_stop.Defect defect) ending loaded are found telling =
-    found_defect asked before now say inputs defect found.0 ending loaded (ap (defects_in standard asked.entry) (sym are) ∙ found.1) telling
+    found_defect asked before now say inputs defect found.0 ending loaded (ap (defects_in standard asked) (sym are) ∙ found.1) telling
 not_linked asked before now say inputs ss link_stop.Memory ending loaded are found telling =
     rw telling (lacking (Some asked) before now say loaded.untouched (none_failed loaded.unread))
 
@@ -128,11 +128,11 @@ pub is_linked : (asked : Asked) (inputs : List (List ℕ)) (ss : List Source) (l
     IsLinked asked inputs linked
 unfolding link
 is_linked asked inputs ss linked are links =
-    let none : defects_of standard asked.entry inputs ≡ [] = ap (defects_in standard asked.entry) (sym are) ∙ links.sound in
+    let none : defects_of standard asked inputs ≡ [] = ap (defects_in standard asked) (sym are) ∙ links.sound in
     let gives : link (Some asked) inputs ≡ link_with asked inputs [] = ap (link_with asked inputs) none in
     record {
       status = ap (λ (l : Link). l.status) gives;
-      executable = links.gives.executable ∙ ap (executable_in asked.entry) are ∙ sym (ap (λ (l : Link). l.executable) gives);
+      executable = links.gives.executable ∙ ap (executable_in asked) are ∙ sym (ap (λ (l : Link). l.executable) gives);
       map = links.gives.map ∙ sym (ap (λ (l : Link). l.map) gives);
       report = links.gives.report ∙ sym (ap (λ (l : Link). l.say) gives);
     }

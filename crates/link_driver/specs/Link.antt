@@ -1,5 +1,5 @@
 -- What a link is: the command, the defects, and the one-thread definition of all that a user gets.
-use Rattle.std.specs.Prelude.{ℕ, Bool, false, Option, Some, None, Result, Ok, Err, if◌then◌else◌, List, [], ◌∷◌, ◌++◌, replicate, slice_get, codes}
+use Rattle.std.specs.Prelude.{ℕ, Bool, Option, Some, None, Result, Ok, Err, if◌then◌else◌, List, [], ◌∷◌, ◌++◌, slice_get, codes}
 use Rattle.std.specs.Option.{option_map_or}
 use Rattle.lk_base.specs.declared.defects.Defect.{Defect}
 use Rattle.lk_base.specs.declared.defects.Flaw.{Flaw}
@@ -7,58 +7,78 @@ use Rattle.lk_base.specs.declared.limits.Limits.{Limits}
 use Rattle.lk_base.specs.Kinds.{names_entry, names_symbol}
 use Rattle.lk_base.specs.Limits.{standard}
 use Rattle.lk_base.specs.Lines.{defect_line, escaped}
-use Rattle.layout.specs.Layout.{limit_defects}
+use Rattle.comdat.specs.Discarded.{discarded}
+use Rattle.layout.specs.Layout.{layout_defects, layout_of}
+use Rattle.link_sections.specs.InputSections.{all_kept}
+use Rattle.link_sections.specs.LaidOut.{LaidOut}
+use Rattle.link_sections.specs.Leaders.{own_leaders}
 use Rattle.lk_tables.specs.declared.heads.Place.{Place}
 use Rattle.lk_tables.specs.declared.heads.Place.TheVariants.{Undef, Absolute, Common, Within}
 use Rattle.lk_tables.specs.declared.heads.Symbol.{Symbol}
 use Rattle.lk_tables.specs.Binding.{Bindings, bindings, flag_defects, duplicate_defects, entry_defects, first_phase}
-use Rattle.lk_tables.specs.Files.{File, is_section_symbol, section_total}
+use Rattle.lk_tables.specs.Files.{File, is_section_symbol}
 use Rattle.lk_tables.specs.Heads.{HeadView, head_of}
 use Rattle.lk_tables.specs.Names.{text_of}
-use Rattle.elf_out.specs.Executable.{addresses, executable, laid_out}
+use Rattle.elf_out.specs.Executable.{executable}
 use Rattle.link_command.specs.Command.{Asked}
 use Rattle.link_driver.specs.Defects.{opening_defects, reading_defects}
 use Rattle.link_driver.specs.Sources.{Source, files_in, shown_file, source_at, sources}
+use Rattle.relax.specs.Sizes.{whole_cuts}
 use Rattle.reloc_apply.specs.Relocated.{relocation_defects}
-use Rattle.reloc_apply.specs.Undefined.{undefined_defects}
+use Rattle.sec_gc.specs.Kept.{reached}
+use Rattle.sec_gc.specs.Roots.{roots}
+use Rattle.sec_graph.specs.Graph.{edges}
+use Rattle.sec_graph.specs.Undefined.{undefined_defects}
 
--- no section is discarded yet
-unfoldable pub none_gone : List File → List Bool
-none_gone files = replicate (section_total files) false
-
--- what the names of these files are bound to
+-- what the names of these files are bound to: of the COMDAT groups of one signature one copy counts
 unfoldable pub bound_names : List File → (entry : List ℕ) → Bindings
-bound_names files entry = bindings files (none_gone files) entry
+bound_names files entry = bindings files (discarded files) entry
 
--- the phases of a link, each with its defects in order: the files are read, their bodies are, float ABIs agree, no name is
--- defined twice, the entry is defined, what is referred to is, the limits on the layout, and the values of relocations
-abbrev pub later_phases : Limits → List File → (entry : List ℕ) → List (List Defect)
-later_phases limits files entry =
+-- by section number, which sections are kept: all, or those that the roots lead to
+unfoldable pub kept_of : (gc : Bool) → List File → Bindings → List Bool
+kept_of gc files b = if gc then reached (roots files b) (edges files b) else all_kept files b
+
+-- where everything stands if these sections are kept: nothing is merged, the global offset table is empty, and no call is relaxed
+unfoldable pub laid_out : List File → Bindings → (kept : List Bool) → LaidOut
+laid_out files b kept = layout_of files b [] 0 (own_leaders kept) (whole_cuts files)
+
+-- the phases of a link after its files are read, each with its defects in order: float ABIs agree, no name is defined twice, the entry is
+-- defined, what is referred to is, the layout has room, and the values of relocations fit
+module _ (limits : Limits) (files : List File) (b : Bindings) (kept : List Bool) where
+  abbrev pub last_phases : List (List Defect)
+  last_phases = undefined_defects files b kept
+      ∷ layout_defects limits files (laid_out files b kept)
+      ∷ relocation_defects files b (own_leaders kept) (laid_out files b kept)
+      ∷ []
+
+abbrev pub later_phases : Limits → Asked → List File → List (List Defect)
+later_phases limits asked files =
     flag_defects files
-    ∷ duplicate_defects files (none_gone files)
-    ∷ entry_defects files (none_gone files) entry
-    ∷ undefined_defects files (bound_names files entry)
-    ∷ limit_defects limits (laid_out files (bound_names files entry))
-    ∷ relocation_defects files (bound_names files entry) (addresses files (bound_names files entry))
-    ∷ []
+    ∷ duplicate_defects files (discarded files)
+    ∷ entry_defects files (discarded files) asked.entry
+    ∷ last_phases limits files (bound_names files asked.entry) (kept_of asked.gc files (bound_names files asked.entry))
 
 -- the defects are those of the first phase that has any
-unfoldable pub defects_in : Limits → (entry : List ℕ) → List Source → List Defect
-defects_in limits entry ss =
-    first_phase (reading_defects limits ss ∷ opening_defects limits ss ∷ later_phases limits (files_in ss) entry)
+unfoldable pub defects_in : Limits → Asked → List Source → List Defect
+defects_in limits asked ss =
+    first_phase (reading_defects limits ss ∷ opening_defects limits ss ∷ later_phases limits asked (files_in ss))
 
-abbrev pub defects_of : Limits → (entry : List ℕ) → List (List ℕ) → List Defect
-defects_of limits entry inputs = defects_in limits entry (sources limits inputs)
+abbrev pub defects_of : Limits → Asked → List (List ℕ) → List Defect
+defects_of limits asked inputs = defects_in limits asked (sources limits inputs)
 
 -- the executable of files that have no defect
-unfoldable pub executable_in : (entry : List ℕ) → List Source → List ℕ
-executable_in entry ss =
-    let files = files_in ss in
-    let b = bound_names files entry in
-    executable files b (laid_out files b) (addresses files b)
+unfoldable pub executable_with : List File → Bindings → (kept : List Bool) → List ℕ
+executable_with files b kept = executable files b (own_leaders kept) (laid_out files b kept)
 
-abbrev pub executable_of : Limits → (entry : List ℕ) → List (List ℕ) → List ℕ
-executable_of limits entry inputs = executable_in entry (sources limits inputs)
+-- what is kept of the files of these sources
+abbrev pub kept_in : Asked → List Source → List Bool
+kept_in asked ss = kept_of asked.gc (files_in ss) (bound_names (files_in ss) asked.entry)
+
+unfoldable pub executable_in : Asked → List Source → List ℕ
+executable_in asked ss = executable_with (files_in ss) (bound_names (files_in ss) asked.entry) (kept_in asked ss)
+
+abbrev pub executable_of : Limits → Asked → List (List ℕ) → List ℕ
+executable_of limits asked inputs = executable_in asked (sources limits inputs)
 
 -- the name of section k by its header, empty if there is no such section
 abbrev pub section_name : List ℕ → HeadView → (k : ℕ) → List ℕ
@@ -134,9 +154,9 @@ cannot_report = line (codes "rvld: cannot report")
 abbrev pub link_with : Asked → List (List ℕ) → List Defect → Link
 link_with asked inputs (defect ∷ defects) = told 1 (line_of_defect asked inputs defect)
 link_with asked inputs [] =
-    record { status = 0; executable = executable_of standard asked.entry inputs; map = []; say = []; err = [] }
+    record { status = 0; executable = executable_of standard asked inputs; map = []; say = []; err = [] }
 
 -- the definition of all that a command gives, where each input is there; no command is asked where it was refused
 unfoldable pub link : Option Asked → List (List ℕ) → Link
 link None inputs = told 2 bad_command
-link (Some asked) inputs = link_with asked inputs (defects_of standard asked.entry inputs)
+link (Some asked) inputs = link_with asked inputs (defects_of standard asked inputs)

@@ -1,34 +1,42 @@
 -- What each step of a link hands on.
-use Rattle.std.specs.Prelude.{◌≡◌, ℕ, List, [], Some, Result, Ok, Err}
+use Rattle.std.specs.Prelude.{◌≡◌, ℕ, true, List, [], Some, Result, Ok, Err}
 use Rattle.lk_base.specs.declared.defects.LinkStop.{LinkStop}
 use Rattle.lk_base.specs.declared.limits.Limits.{Limits}
 use Rattle.lk_base.specs.Firsts.{StopsAt}
+use Rattle.elf_out.specs.Standing.{SectionsStand}
 use Rattle.file_live.specs.Live.{IsLive}
 use Rattle.link_command.specs.Command.{Asked}
+use Rattle.link_sections.specs.Leaders.{own_leaders}
 use Rattle.sym_resolve.specs.Law.{IsLawful}
 use Rattle.link_driver.specs.declared.linking.Linked.{Linked}
-use Rattle.link_driver.specs.Link.{bound_names, defects_in, executable_in, link, none_gone}
+use Rattle.comdat.specs.Discarded.{discarded}
+use Rattle.link_driver.specs.Link.{bound_names, defects_in, executable_in, kept_in, laid_out, link}
 use Rattle.link_driver.specs.Sources.{Source, files_in, heads_in, live_in}
+use Rattle.link_driver.specs.Tables.{IsCollected}
 
 -- what a link without a defect gives
 pub record Gives (asked : Asked) (ss : List Source) (linked : Linked) : Type 0 where
-  pub executable : linked.exe.items ≡ executable_in asked.entry ss
+  pub executable : linked.exe.items ≡ executable_in asked ss
   pub map : linked.map.items ≡ []
   pub report : linked.report.items ≡ []
 
 -- a link without a defect gives Link. Of Link's own words it is said, as laws: the files that take part are the least set with
 -- the command's objects and all that they pull; each name is bound to the least offer of it, if there is one, and bound COMMON
--- symbols get the greatest room asked for
+-- symbols get the greatest room asked for; what garbage collection keeps is the least set with the roots that the rules close; and the
+-- bytes of each section stand whole in the executable
 pub record Links (limits : Limits) (asked : Asked) (ss : List Source) (linked : Linked) : Type 0 where
-  pub sound : defects_in limits asked.entry ss ≡ []
+  pub sound : defects_in limits asked ss ≡ []
   pub taking_part : IsLive (heads_in ss) (live_in ss)
-  pub bound : IsLawful (files_in ss) (none_gone (files_in ss)) asked.entry (bound_names (files_in ss) asked.entry)
+  pub bound : IsLawful (files_in ss) (discarded (files_in ss)) asked.entry (bound_names (files_in ss) asked.entry)
+  pub collected : asked.gc ≡ true → IsCollected (files_in ss) (bound_names (files_in ss) asked.entry) (kept_in asked ss)
+  pub stands : SectionsStand (files_in ss) (bound_names (files_in ss) asked.entry) (own_leaders (kept_in asked ss))
+      (laid_out (files_in ss) (bound_names (files_in ss) asked.entry) (kept_in asked ss)) linked.exe.items
   pub gives : Gives asked ss linked
 
 -- Link if there is no defect, the first defect if there is one, or out of memory
 abbrev pub AfterLink : Limits → Asked → List Source → Result Linked LinkStop → Type 0
 AfterLink limits asked ss (Ok linked) = Links limits asked ss linked
-AfterLink limits asked ss (Err stop) = StopsAt stop (defects_in limits asked.entry ss)
+AfterLink limits asked ss (Err stop) = StopsAt stop (defects_in limits asked ss)
 
 -- what a link without a defect gives is what Link is
 pub record IsLinked (asked : Asked) (inputs : List (List ℕ)) (linked : Linked) : Type 0 where

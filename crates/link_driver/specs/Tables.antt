@@ -1,18 +1,20 @@
--- What the layout of a link hands on.
-use Rattle.std.specs.Prelude.{◌≡◌, List}
-use Rattle.elf_out.specs.Executable.{laid_out}
-use Rattle.layout.specs.declared.placing.Layout.{Layout}
-use Rattle.layout.specs.Layout.{IsWithin, view_of}
-use Rattle.layout.specs.Spots.{AreRising, HaveSegments, HaveSpots}
-use Rattle.lk_base.specs.Limits.{standard}
+-- What the steps of a link hand on.
+use Rattle.std.specs.Prelude.{◌≡◌, ℕ, true, Bool, List, length, ◌↔◌}
 use Rattle.lk_tables.specs.Binding.{Bindings}
-use Rattle.lk_tables.specs.Files.{File}
-use Rattle.reloc_apply.specs.Parts.{parts}
+use Rattle.lk_tables.specs.Files.{File, section_total}
+use Rattle.lk_tables.specs.Reach.{IsReach}
+use Rattle.link_sections.specs.InputSections.{may_stay_at}
+use Rattle.link_sections.specs.Leaders.{is_kept}
+use Rattle.sec_gc.specs.Roots.{roots}
+use Rattle.sec_graph.specs.Kept.{HasEnds, IsClosedByRules}
 
--- the layout of a link, with what holds of each
-pub record IsLaidOut (files : List File) (b : Bindings) (layout : Layout) : Type 0 where
-  pub is : view_of layout ≡ laid_out files b
-  pub within : IsWithin standard (view_of layout)
-  pub rising : AreRising layout.bounds
-  pub segments : HaveSegments layout.bounds
-  pub spots : HaveSpots (parts files b.commons) layout.starts.items layout.bounds
+-- by section number, and each that is kept may be
+pub record MayStay (files : List File) (b : Bindings) (kept : List Bool) : Type 0 where
+  pub wide : length kept ≡ section_total files
+  pub each : (n : ℕ) → is_kept kept n ≡ true → may_stay_at files b n ≡ true
+
+-- what garbage collection keeps is the least set with the roots that is closed by the rules
+pub record IsCollected (files : List File) (b : Bindings) (kept : List Bool) : Type 0 where
+  pub ends : List (List ℕ)
+  pub rules : (s : ℕ → Bool) → IsClosedByRules files b s ↔ HasEnds ends s
+  pub reach : IsReach (roots files b) ends kept

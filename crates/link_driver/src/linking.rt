@@ -1,27 +1,29 @@
 //! The link of one command, pass after pass.
 
-ghost use Rattle.std.specs.Prelude.{◌≡◌, ℕ, ◌+◌, ◌<◌, ◌≤◌, ◌^◌, ◌∷◌, [], All, false, length, map, replicate, IfOk};
-ghost use Rattle.elf_out.specs.Executable.{addresses, executable, laid_out};
-ghost use Rattle.layout.specs.Layout.{limit_defects};
-ghost use Rattle.layout.specs.Parts.{IsSized, parts_of};
+ghost use Rattle.std.specs.Prelude.{◌≡◌, ◌<◌, ◌≤◌, ◌^◌, ◌∷◌, [], true, IfOk};
+ghost use Rattle.comdat.specs.Discarded.{discarded};
+ghost use Rattle.elf_out.specs.Executable.{executable};
+ghost use Rattle.elf_out.specs.Standing.{SectionsStand};
+ghost use Rattle.file_live.specs.Live.{IsLive, live_of};
+ghost use Rattle.layout.specs.Layout.{layout_defects};
 ghost use Rattle.link_command.specs.Command.{IsLinkable, asks};
+ghost use Rattle.link_sections.specs.LaidOut.{layout_view};
+ghost use Rattle.link_sections.specs.Leaders.{own_leaders};
+ghost use Rattle.link_sections.specs.Sound.{IsSound};
 ghost use Rattle.lk_base.specs.Firsts.{Goes};
 ghost use Rattle.lk_base.specs.Limits.{IsWithinStandard};
-ghost use Rattle.lk_tables.specs.Addresses.{IsBindingOf};
+ghost use Rattle.lk_tables.specs.Binding.{IsBindingOf};
 ghost use Rattle.lk_tables.specs.Binding.{binding_defects, first_phase};
 ghost use Rattle.lk_tables.specs.BindingView.{binding_view};
-ghost use Rattle.lk_tables.specs.Files.{section_total, symbol_total};
+ghost use Rattle.lk_tables.specs.Files.{symbol_total};
 ghost use Rattle.lk_tables.specs.TablesView.{files_of, heads_of};
-ghost use Rattle.file_live.specs.Live.{IsLive, live_of};
 ghost use Rattle.link_driver.specs.Contents.{input_contents, sources_of};
 ghost use Rattle.link_driver.specs.Defects.{opening_defects, reading_defects};
-ghost use Rattle.link_driver.specs.Link.{bound_names, none_gone};
+ghost use Rattle.link_driver.specs.Link.{bound_names, executable_with, kept_of, laid_out, last_phases};
 ghost use Rattle.link_driver.specs.Phases.{AfterLink};
 ghost use Rattle.link_driver.specs.Sources.{files_in, heads_in, live_in, sources};
-ghost use Rattle.link_driver.specs.Tables.{IsLaidOut};
-ghost use Rattle.reloc_apply.specs.Parts.{parts};
+ghost use Rattle.link_driver.specs.Tables.{IsCollected, MayStay};
 ghost use Rattle.reloc_apply.specs.Relocated.{relocation_defects};
-ghost use Rattle.reloc_apply.specs.Undefined.{undefined_defects};
 ghost use Rattle.sym_resolve.specs.Law.{IsLawful};
 
 use crate::bodies::read_bodies;
@@ -29,15 +31,19 @@ use crate::finding::find_sources;
 use crate::heads::read_heads;
 use crate::inputs::Inputs;
 use crate::sources::Source;
+use comdat::discard;
 use elf_out::write_executable;
 use file_live::live;
-use layout::{Layout, Member, place};
+use layout::place;
 use link_command::Command;
-use lk_base::abi::IMAGE_BASE;
-use lk_base::{Limits, LinkStop};
-use lk_tables::{Binding, Heads, Tables, View};
+use link_sections::{Got, Layout, Pools, View, all_kept, own_leaders};
+use lk_base::{Limits, LinkStop, SecNo};
+use lk_tables::{Binding, Heads, Tables};
 use name_numbers::number_names;
-use reloc_apply::{find_addresses, find_uppers, members, undefined};
+use relax::sizes;
+use reloc_apply::{find_addresses, find_uppers};
+use sec_gc::{keep, roots};
+use sec_graph::{edges, undefined};
 use std::alloc::{AllocError, Global};
 use std::thread::Threads;
 use sym_resolve::bind;
@@ -126,15 +132,8 @@ fn read_files<'a, R: Threads + Sync, G: Gate>(
     )
 }
 
-/// No section is discarded yet.
-fn none_discarded(alloc: Global, count: usize) -> Result<Vec<bool>, AllocError>
-    ensures { IfOk result (λ list. list.items ≡ replicate count false) }
-{
-    vec![in alloc; false; count]
-}
-
-/// Binds all names.
-#[tactic(auto, unfolding(crate::specs::Link::none_gone, crate::specs::Link::bound_names))]
+/// Binds all names: of the COMDAT groups of one signature one copy counts.
+#[tactic(auto, unfolding(crate::specs::Link::bound_names))]
 fn bind_names<R: Threads + Sync, G: Gate>(
     rt: &R,
     alloc: Global,
@@ -145,11 +144,11 @@ fn bind_names<R: Threads + Sync, G: Gate>(
 ) -> Result<Binding, LinkStop>
     requires some { 1 ≤ workers }
     requires most { workers ≤ 64 }
-    ensures goes { Goes result (binding_defects (files_of tables.now) (none_gone (files_of tables.now)) entry.now) }
+    ensures goes { Goes result (binding_defects (files_of tables.now) (discarded (files_of tables.now)) entry.now) }
     ensures names { IfOk result (λ binding. binding_view binding ≡ bound_names (files_of tables.now) entry.now) }
-    ensures least { IfOk result (λ _. IsLawful (files_of tables.now) (none_gone (files_of tables.now)) entry.now (bound_names (files_of tables.now) entry.now)) }
+    ensures least { IfOk result (λ _. IsLawful (files_of tables.now) (discarded (files_of tables.now)) entry.now (bound_names (files_of tables.now) entry.now)) }
 {
-    let discarded = none_discarded(alloc, tables.section_count())?;
+    let discarded = discard(rt, alloc, tables, workers, gate)?;
     bind(
         rt,
         alloc,
@@ -161,35 +160,69 @@ fn bind_names<R: Threads + Sync, G: Gate>(
     )
 }
 
-/// Lays out what goes into the executable.
-#[tactic(auto, unfolding(elf_out::specs::Executable::laid_out))]
+/// By section number, which sections are kept: all, or those that the roots lead to.
+#[tactic(auto, unfolding(crate::specs::Link::kept_of))]
+fn find_kept<R: Threads + Sync, G: Gate>(
+    rt: &R,
+    alloc: Global,
+    tables: &Tables,
+    binding: &Binding,
+    gc: bool,
+    workers: u32,
+    gate: &G,
+) -> Result<Vec<bool>, AllocError>
+    requires some { 1 ≤ workers }
+    requires most { workers ≤ 64 }
+    requires bound { IsBindingOf (files_of tables.now) (binding_view binding.now) }
+    ensures kept { IfOk result (λ kept. kept.items ≡ kept_of gc (files_of tables.now) (binding_view binding.now)) }
+    ensures stay { IfOk result (λ kept. MayStay (files_of tables.now) (binding_view binding.now) kept.items) }
+    ensures collected { gc ≡ true → IfOk result (λ kept. IsCollected (files_of tables.now) (binding_view binding.now) kept.items) }
+{
+    tables.is_few();
+    if !gc {
+        return all_kept(alloc, tables, binding);
+    }
+    let roots = roots(alloc, tables, binding)?;
+    let edges = edges(rt, alloc, tables, binding, workers, gate)?;
+    keep(rt, alloc, roots.as_slice(), &edges, workers, gate)
+}
+
+/// Lays out what is kept: nothing is merged, the global offset table is empty, and no call is relaxed.
+#[tactic(auto, unfolding(crate::specs::Link::laid_out))]
 fn lay_out<'a>(
     alloc: Global,
     limits: &Limits,
     tables: &Tables<'a>,
     binding: &Binding,
-    members: &[Member<'a>],
+    kept: &[bool],
+    leaders: &[Option<SecNo>],
 ) -> Result<Layout<'a>, LinkStop>
     requires limits { IsWithinStandard limits.now }
     requires bound { IsBindingOf (files_of tables.now) (binding_view binding.now) }
-    requires members { parts_of members.now ≡ parts (files_of tables.now) (binding_view binding.now).commons }
-    ensures goes { Goes result (limit_defects limits.now (laid_out (files_of tables.now) (binding_view binding.now))) }
-    ensures laid { IfOk result (λ layout. IsLaidOut (files_of tables.now) (binding_view binding.now) layout) }
+    requires stay { MayStay (files_of tables.now) (binding_view binding.now) kept.now }
+    requires leaders { leaders.now ≡ own_leaders kept.now }
+    ensures goes { Goes result (layout_defects limits.now (files_of tables.now) (laid_out (files_of tables.now) (binding_view binding.now) kept.now)) }
+    ensures laid { IfOk result (λ layout. layout_view layout ≡ laid_out (files_of tables.now) (binding_view binding.now) kept.now) }
+    ensures sound { IfOk result (λ layout. IsSound (files_of tables.now) (binding_view binding.now) leaders.now (layout_view layout)) }
 {
-    tables.is_few();
-    match place(alloc, members, limits) {
+    let pools = Pools::none(alloc);
+    let got = Got::empty();
+    let sizes = sizes(alloc, tables)?;
+    match place(
+        alloc, tables, binding, &pools, &got, leaders, &sizes, limits,
+    ) {
         Ok(layout) => Ok(layout),
         Err(stop) => Err(stop),
     }
 }
 
-/// The executable of a link whose sections stand where the layout has them.
+/// The executable of a link that has this layout.
 fn write<R: Threads + Sync, G: Gate>(
     rt: &R,
     alloc: Global,
     tables: &Tables,
     binding: &Binding,
-    members: &[Member],
+    leaders: &[Option<SecNo>],
     layout: &Layout,
     workers: u32,
     gate: &G,
@@ -197,25 +230,67 @@ fn write<R: Threads + Sync, G: Gate>(
     requires some { 1 ≤ workers }
     requires most { workers ≤ 64 }
     requires bound { IsBindingOf (files_of tables.now) (binding_view binding.now) }
-    requires members { parts_of members.now ≡ parts (files_of tables.now) (binding_view binding.now).commons }
-    requires laid { IsLaidOut (files_of tables.now) (binding_view binding.now) layout.now }
-    ensures goes { Goes result (relocation_defects (files_of tables.now) (binding_view binding.now) (addresses (files_of tables.now) (binding_view binding.now))) }
-    ensures written { IfOk result (λ exe. exe.items ≡ executable (files_of tables.now) (binding_view binding.now) (laid_out (files_of tables.now) (binding_view binding.now)) (addresses (files_of tables.now) (binding_view binding.now))) }
+    requires sound { IsSound (files_of tables.now) (binding_view binding.now) leaders.now (layout_view layout.now) }
+    ensures goes { Goes result (relocation_defects (files_of tables.now) (binding_view binding.now) leaders.now (layout_view layout.now)) }
+    ensures written { IfOk result (λ exe. exe.items ≡ executable (files_of tables.now) (binding_view binding.now) leaders.now (layout_view layout.now)) }
+    ensures stands { IfOk result (λ exe. SectionsStand (files_of tables.now) (binding_view binding.now) leaders.now (layout_view layout.now) exe.items) }
 {
-    let starts = layout.starts.as_slice();
-    let addresses = find_addresses(rt, alloc, tables, binding, members, starts, workers, gate)?;
+    let addresses = find_addresses(rt, alloc, tables, binding, leaders, layout, workers, gate)?;
     let uppers = find_uppers(alloc, tables)?;
     let view = View {
         tables,
         binding,
+        leaders,
+        layout,
         addresses: &addresses,
         uppers: &uppers,
-        file_size: layout.bounds.file_end - IMAGE_BASE,
     };
-    match write_executable(alloc, &view, layout) {
+    match write_executable(rt, alloc, &view, workers, gate) {
         Ok(exe) => Ok(exe),
         Err(stop) => Err(stop),
     }
+}
+
+/// The executable of files whose names are bound, if these sections are kept.
+#[tactic(auto, unfolding(crate::specs::Link::executable_with))]
+fn link_kept<R: Threads + Sync, G: Gate>(
+    rt: &R,
+    alloc: Global,
+    limits: &Limits,
+    tables: &Tables,
+    binding: &Binding,
+    kept: &[bool],
+    workers: u32,
+    gate: &G,
+) -> Result<Vec<u8>, LinkStop>
+    requires limits { IsWithinStandard limits.now }
+    requires some { 1 ≤ workers }
+    requires most { workers ≤ 64 }
+    requires bound { IsBindingOf (files_of tables.now) (binding_view binding.now) }
+    requires stay { MayStay (files_of tables.now) (binding_view binding.now) kept.now }
+    ensures goes { Goes result (first_phase (last_phases limits.now (files_of tables.now) (binding_view binding.now) kept.now)) }
+    ensures written { IfOk result (λ exe. exe.items ≡ executable_with (files_of tables.now) (binding_view binding.now) kept.now) }
+    ensures stands { IfOk result (λ exe. SectionsStand (files_of tables.now) (binding_view binding.now) (own_leaders kept.now) (laid_out (files_of tables.now) (binding_view binding.now) kept.now) exe.items) }
+{
+    if let Some(defect) = undefined(tables, binding, kept) {
+        return Err(LinkStop::Defect(defect));
+    }
+    let leaders = own_leaders(alloc, kept)?;
+    // Nothing moves from here on.
+    let layout = match lay_out(alloc, limits, tables, binding, kept, leaders.as_slice()) {
+        Ok(layout) => layout,
+        Err(stop) => return Err(stop),
+    };
+    write(
+        rt,
+        alloc,
+        tables,
+        binding,
+        leaders.as_slice(),
+        &layout,
+        workers,
+        gate,
+    )
 }
 
 /// Links the files of a command: pass after pass, and the defects of each are those of its phase.
@@ -244,22 +319,15 @@ pub fn link_sources<R: Threads + Sync, G: Gate>(
         Ok(binding) => binding,
         Err(stop) => return Err(stop),
     };
-    if let Some(defect) = undefined(&tables, &binding) {
-        return Err(LinkStop::Defect(defect));
-    }
-    // Nothing moves from here on.
-    let members = members(alloc, &tables, &binding)?;
-    let layout = match lay_out(alloc, limits, &tables, &binding, members.as_slice()) {
-        Ok(layout) => layout,
-        Err(stop) => return Err(stop),
-    };
-    let exe = match write(
+    // What nothing refers to is left out from here on.
+    let kept = find_kept(rt, alloc, &tables, &binding, command.gc, workers, gate)?;
+    let exe = match link_kept(
         rt,
         alloc,
+        limits,
         &tables,
         &binding,
-        members.as_slice(),
-        &layout,
+        kept.as_slice(),
         workers,
         gate,
     ) {

@@ -14,4 +14,4 @@ mod tests;
 
 pub use archive::{ARCHIVE, Archive, Contents, Member, THIN, archive_of};
 pub use image::{Image, image_of};
-pub use object::{Object, Reloc, Section, Symbol, object_of};
+pub use object::{Object, Reloc, Section, SectionLink, Symbol, object_of};

@@ -14,6 +14,14 @@ pub struct Reloc {
     pub addend: i64,
 }
 
+/// What a section is linked with (sh_link).
+#[derive(Clone, Copy)]
+pub enum SectionLink {
+    Number(u64),
+    /// The object's symbol table.
+    Symtab,
+}
+
 /// A section.
 #[derive(Clone, Copy)]
 pub struct Section<'a> {
@@ -25,6 +33,11 @@ pub struct Section<'a> {
     pub size: u64,
     pub bytes: &'a [u8],
     pub relocs: &'a [Reloc],
+    pub link: SectionLink,
+    /// The symbol of a group's signature (sh_info).
+    pub info: u64,
+    /// The size of an entry, in bytes.
+    pub entsize: u64,
 }
 
 /// A symbol.
@@ -49,7 +62,7 @@ pub struct Object<'a> {
 /// A section header being made: its name's place, type, flags, size, link, info, alignment and entry size.
 type Fields = [u64; 8];
 
-/// The part of an object behind its header, and the section headers.
+/// The part of an object after its header, and the section headers.
 #[derive(Drop)]
 struct Parts {
     body: Vec<u8>,
@@ -78,8 +91,16 @@ fn push_section(parts: &mut Parts, fields: Fields, bytes: &[u8]) -> Result<(), A
     push_numbers(&mut parts.headers, &numbers)
 }
 
-/// Adds the sections that an object names.
-fn push_named(parts: &mut Parts, sections: &[Section]) -> Result<(), AllocError> {
+/// The number in a header; the symbol table has number `symtab`.
+fn link_number(link: SectionLink, symtab: u64) -> u64 {
+    match link {
+        SectionLink::Number(number) => number,
+        SectionLink::Symtab => symtab,
+    }
+}
+
+/// Adds the sections that an object names; the symbol table has number `symtab`.
+fn push_named(parts: &mut Parts, sections: &[Section], symtab: u64) -> Result<(), AllocError> {
     for section in sections {
         let name = parts.names.len() as u64;
         parts.names.extend_from_slice(section.name)?;
@@ -90,10 +111,10 @@ fn push_named(parts: &mut Parts, sections: &[Section]) -> Result<(), AllocError>
             section.sort,
             section.flags,
             size,
-            0,
-            0,
+            link_number(section.link, symtab),
+            section.info,
             section.align,
-            0,
+            section.entsize,
         ];
         push_section(parts, fields, section.bytes)?;
     }
@@ -207,7 +228,7 @@ fn join(alloc: Global, flags: u64, parts: &Parts, last: u64) -> Result<Vec<u8>, 
     Ok(out)
 }
 
-/// The bytes of an object. Behind its own sections stand one of relocations for each that has any, the symbol table, the
+/// The bytes of an object. After its own sections stand one of relocations for each that has any, the symbol table, the
 /// symbols' names and the sections' names, all without a name.
 pub fn object_of(alloc: Global, object: &Object) -> Result<Vec<u8>, AllocError> {
     let mut parts = Parts {
@@ -219,7 +240,7 @@ pub fn object_of(alloc: Global, object: &Object) -> Result<Vec<u8>, AllocError> 
     let symtab = own
         .wrapping_add(count_relocated(object.sections) as u64)
         .wrapping_add(1);
-    push_named(&mut parts, object.sections)?;
+    push_named(&mut parts, object.sections, symtab)?;
     push_relocs(alloc, &mut parts, object.sections, symtab)?;
     push_symbols(alloc, &mut parts, object.symbols, symtab)?;
     push_names(alloc, &mut parts)?;

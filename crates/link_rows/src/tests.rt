@@ -2,19 +2,24 @@
 //! at hand in each, and each runs with several numbers of workers.
 
 mod archives;
+mod collected;
+mod groups;
 mod images;
 mod libraries;
 mod limits;
 mod objects;
+mod orders;
+mod wrong_groups;
 
 use crate::{Image, archive_of, image_of, object_of};
 use images::{
-    COMMON_OF_8, COMMON_OF_16, FIRST, HALVES, THREE_FILES, TWO_FILES, WEAK_CALL, WIDE_COMMON,
+    COMMON_OF_8, COMMON_OF_16, FIRST, HALVES, THREE_FILES, TWO_BLOCKS, TWO_FILES, WEAK_CALL,
+    WIDE_COMMON,
 };
 use libraries::Library;
 use link_driver::{Gate, OpenGate, run};
 use lk_depot::{FileKind, MemDepot, MemSink};
-use objects::INPUTS;
+use objects::{INPUTS, Input};
 use std::alloc::{AllocError, Global};
 use std::hint;
 use std::sync::atomic::{AtomicBool, AtomicU64, Ordering};
@@ -54,37 +59,78 @@ fn words_of(alloc: Global, words: &[&str], workers: &[&str]) -> Result<Vec<Strin
     Ok(all)
 }
 
-/// All inputs that are objects, and these archives.
-fn files_of(alloc: Global, libraries: &[Library]) -> Result<Vec<(String, Vec<u8>)>, AllocError> {
+/// The files that examples have at hand, beside archives of their own.
+#[derive(Clone, Copy)]
+enum Store {
+    Objects,
+    Groups,
+    WrongGroups,
+    Collected,
+    Orders,
+}
+
+/// Files with their names.
+type Files = Vec<(String, Vec<u8>)>;
+
+fn push_object(files: &mut Files, alloc: Global, input: &Input) -> Result<(), AllocError> {
+    let mut bytes = object_of(alloc, &input.object)?;
+    bytes.truncate(input.most);
+    files.push((input.name.to_string(alloc)?, bytes))?;
+    Ok(())
+}
+
+fn push_library(files: &mut Files, alloc: Global, library: &Library) -> Result<(), AllocError> {
+    let mut bytes = archive_of(alloc, &library.archive)?;
+    bytes.extend_from_slice(library.tail)?;
+    files.push((library.name.to_string(alloc)?, bytes))?;
+    Ok(())
+}
+
+/// All inputs that are objects.
+fn objects_of(alloc: Global) -> Result<Files, AllocError> {
     let mut files = Vec::new(alloc);
     for input in &INPUTS {
-        let mut bytes = object_of(alloc, &input.object)?;
-        bytes.truncate(input.most);
-        files.push((input.name.to_string(alloc)?, bytes))?;
-    }
-    for library in libraries {
-        let mut bytes = archive_of(alloc, &library.archive)?;
-        bytes.extend_from_slice(library.tail)?;
-        files.push((library.name.to_string(alloc)?, bytes))?;
+        push_object(&mut files, alloc, input)?;
     }
     Ok(files)
 }
 
-/// A call of the program: its words, those that ask for a number of workers, the archives that are at hand, and the numbers of
-/// the depot's calls that fail.
+/// All files of a store.
+fn stored(alloc: Global, store: Store) -> Result<Files, AllocError> {
+    match store {
+        Store::Objects => objects_of(alloc),
+        Store::Groups => groups::files(alloc),
+        Store::WrongGroups => wrong_groups::files(alloc),
+        Store::Collected => collected::files(alloc),
+        Store::Orders => orders::files(alloc),
+    }
+}
+
+/// All files of a store, and these archives.
+fn files_of(alloc: Global, store: Store, libraries: &[Library]) -> Result<Files, AllocError> {
+    let mut files = stored(alloc, store)?;
+    for library in libraries {
+        push_library(&mut files, alloc, library)?;
+    }
+    Ok(files)
+}
+
+/// A call of the program: its words, those that ask for a number of workers, the files and archives that are at hand, and the
+/// numbers of the depot's calls that fail.
 #[derive(Clone, Copy)]
 struct Call<'a> {
     words: &'a [&'a str],
     workers: &'a [&'a str],
+    store: Store,
     libraries: &'a [Library<'a>],
     fails: &'a [u64],
 }
 
 /// A depot whose appends take at most 1,000 bytes.
 fn depot_of(alloc: Global, call: &Call) -> Result<MemDepot, AllocError> {
-    let files = files_of(alloc, call.libraries)?;
+    let files = files_of(alloc, call.store, call.libraries)?;
     let fails = Vec::from_slice(alloc, call.fails)?;
-    MemDepot::new(alloc, files, fails, 1000, 10_000)
+    MemDepot::new(alloc, files, fails, 1000, 100_000)
 }
 
 fn sink_of(alloc: Global) -> Result<MemSink, AllocError> {
@@ -119,10 +165,11 @@ fn run_with<R: Threads + Sync, G: Gate>(
     })
 }
 
-/// A command that links: its words, its archives, the name of its output and the executable.
+/// A command that links: its words, its files and archives, the name of its output and the executable.
 #[derive(Clone, Copy)]
 struct Link<'a> {
     words: &'a [&'a str],
+    store: Store,
     libraries: &'a [Library<'a>],
     output: &'a str,
     image: Image<'a>,
@@ -130,6 +177,7 @@ struct Link<'a> {
 
 const FIRST_LINK: Link = Link {
     words: &["rvld", "-s", "a.o"],
+    store: Store::Objects,
     libraries: &[],
     output: "a.out",
     image: FIRST,
@@ -201,6 +249,7 @@ fn is_linked<R: Threads + Sync, G: Gate>(
     let call = Call {
         words: link.words,
         workers,
+        store: link.store,
         libraries: link.libraries,
         fails: &[],
     };
@@ -269,10 +318,11 @@ fn members_pull_members(rt: HostRuntime) -> Result<(), Fail> {
     Ok(())
 }
 
-/// A command that links nothing: its words, its archives, its status and its line, and how many loads there are.
+/// A command that links nothing: its words, its files and archives, its status and its line, and how many loads there are.
 #[derive(Clone, Copy)]
 struct Refusal<'a> {
     words: &'a [&'a str],
+    store: Store,
     libraries: &'a [Library<'a>],
     status: u8,
     line: &'a str,
@@ -282,6 +332,7 @@ struct Refusal<'a> {
 const REFUSALS: [Refusal; 20] = [
     Refusal {
         words: &[],
+        store: Store::Objects,
         libraries: &[],
         status: 2,
         line: "rvld: bad command\n",
@@ -289,6 +340,7 @@ const REFUSALS: [Refusal; 20] = [
     },
     Refusal {
         words: &["rvld"],
+        store: Store::Objects,
         libraries: &[],
         status: 2,
         line: "rvld: bad command\n",
@@ -296,6 +348,7 @@ const REFUSALS: [Refusal; 20] = [
     },
     Refusal {
         words: &["rvld", "-s", "--threads", "65", "a.o"],
+        store: Store::Objects,
         libraries: &[],
         status: 2,
         line: "rvld: bad command\n",
@@ -303,6 +356,7 @@ const REFUSALS: [Refusal; 20] = [
     },
     Refusal {
         words: &["rvld", "-s", "--icf", "some", "a.o"],
+        store: Store::Objects,
         libraries: &[],
         status: 2,
         line: "rvld: bad command\n",
@@ -310,6 +364,7 @@ const REFUSALS: [Refusal; 20] = [
     },
     Refusal {
         words: &["rvld", "-s", "-o", "m", "--Map", "m", "a.o"],
+        store: Store::Objects,
         libraries: &[],
         status: 2,
         line: "rvld: bad command\n",
@@ -317,6 +372,7 @@ const REFUSALS: [Refusal; 20] = [
     },
     Refusal {
         words: &["rvld", "-s", "a.o", "z.o"],
+        store: Store::Objects,
         libraries: &[],
         status: 3,
         line: "rvld: cannot read z.o\n",
@@ -324,6 +380,7 @@ const REFUSALS: [Refusal; 20] = [
     },
     Refusal {
         words: &["rvld", "-s", "empty.o"],
+        store: Store::Objects,
         libraries: &[],
         status: 1,
         line: "rvld: F01 NotObject file=empty.o section=0 place=0 name= other=0\n",
@@ -331,6 +388,7 @@ const REFUSALS: [Refusal; 20] = [
     },
     Refusal {
         words: &["rvld", "-s", "a.o", "cut.o"],
+        store: Store::Objects,
         libraries: &[],
         status: 1,
         line: "rvld: F02 BadHeader file=cut.o section=0 place=63 name= other=0\n",
@@ -338,6 +396,7 @@ const REFUSALS: [Refusal; 20] = [
     },
     Refusal {
         words: &["rvld", "-s", "compressed.o"],
+        store: Store::Objects,
         libraries: &[],
         status: 1,
         line: "rvld: F05 Compressed file=compressed.o section=1 place=200 name= other=0\n",
@@ -345,6 +404,7 @@ const REFUSALS: [Refusal; 20] = [
     },
     Refusal {
         words: &["rvld", "-s", "a.o", "double.o"],
+        store: Store::Objects,
         libraries: &[],
         status: 1,
         line: "rvld: F16 FlagsClash file=double.o section=0 place=4 name= other=0\n",
@@ -352,6 +412,7 @@ const REFUSALS: [Refusal; 20] = [
     },
     Refusal {
         words: &["rvld", "-s", "double.o", "a.o"],
+        store: Store::Objects,
         libraries: &[],
         status: 1,
         line: "rvld: F16 FlagsClash file=a.o section=0 place=0 name= other=4\n",
@@ -359,6 +420,7 @@ const REFUSALS: [Refusal; 20] = [
     },
     Refusal {
         words: &["rvld", "-s", "p.o", "q.o"],
+        store: Store::Objects,
         libraries: &[],
         status: 1,
         line: "rvld: F20 Duplicate file=p.o section=0 place=1 name=x other=q.o\n",
@@ -366,6 +428,7 @@ const REFUSALS: [Refusal; 20] = [
     },
     Refusal {
         words: &["rvld", "-s", "a.o", "a.o"],
+        store: Store::Objects,
         libraries: &[],
         status: 1,
         line: "rvld: F20 Duplicate file=a.o section=0 place=1 name=_start other=a.o\n",
@@ -373,6 +436,7 @@ const REFUSALS: [Refusal; 20] = [
     },
     Refusal {
         words: &["rvld", "-s", "-e", "g", "a.o"],
+        store: Store::Objects,
         libraries: &[],
         status: 1,
         line: "rvld: F21 NoEntry file=- section=0 place=0 name=g other=0\n",
@@ -380,6 +444,7 @@ const REFUSALS: [Refusal; 20] = [
     },
     Refusal {
         words: &["rvld", "-s", "u.o"],
+        store: Store::Objects,
         libraries: &[],
         status: 1,
         line: "rvld: F22 Undefined file=u.o section=1 place=4 name=k other=0\n",
@@ -387,6 +452,7 @@ const REFUSALS: [Refusal; 20] = [
     },
     Refusal {
         words: &["rvld", "-s", "big.o"],
+        store: Store::Objects,
         libraries: &[],
         status: 1,
         line: "rvld: F23 TooBig file=- section=0 place=2147491840 name= other=0\n",
@@ -394,6 +460,7 @@ const REFUSALS: [Refusal; 20] = [
     },
     Refusal {
         words: &["rvld", "-s", "far.o"],
+        store: Store::Objects,
         libraries: &[],
         status: 1,
         line: "rvld: F24 Range file=far.o section=1 place=0 name=.text other=1048576\n",
@@ -401,6 +468,7 @@ const REFUSALS: [Refusal; 20] = [
     },
     Refusal {
         words: &["rvld", "-s", "uneven.o"],
+        store: Store::Objects,
         libraries: &[],
         status: 1,
         line: "rvld: F25 Odd file=uneven.o section=1 place=0 name=_start other=3\n",
@@ -408,6 +476,7 @@ const REFUSALS: [Refusal; 20] = [
     },
     Refusal {
         words: &["rvld", "-s", "alone.o"],
+        store: Store::Objects,
         libraries: &[],
         status: 1,
         line: "rvld: F26 NoPartner file=alone.o section=1 place=0 name=.L0 other=0\n",
@@ -415,6 +484,7 @@ const REFUSALS: [Refusal; 20] = [
     },
     Refusal {
         words: &["rvld", "-s", "empty.o", "a.o", "cut.o"],
+        store: Store::Objects,
         libraries: &[],
         status: 1,
         line: "rvld: F01 NotObject file=empty.o section=0 place=0 name= other=0\n",
@@ -432,6 +502,7 @@ fn is_refused<R: Threads + Sync>(
     let call = Call {
         words: refusal.words,
         workers,
+        store: refusal.store,
         libraries: refusal.libraries,
         fails: &[],
     };
@@ -492,6 +563,114 @@ fn each_wrong_archive_leaves_its_line(rt: HostRuntime) -> Result<(), Fail> {
     Ok(())
 }
 
+#[test]
+fn the_first_copy_of_a_group_stays(rt: HostRuntime) -> Result<(), Fail> {
+    for (index, link) in groups::COPIES.iter().enumerate() {
+        assert!(rt; is_linked_by_any(&rt, rt.alloc(), link)?, "example {index}");
+    }
+    Ok(())
+}
+
+#[test]
+fn signatures_are_names(rt: HostRuntime) -> Result<(), Fail> {
+    for (index, link) in groups::SIGNATURES.iter().enumerate() {
+        assert!(rt; is_linked_by_any(&rt, rt.alloc(), link)?, "example {index}");
+    }
+    Ok(())
+}
+
+#[test]
+fn what_is_discarded_is_not_asked_for(rt: HostRuntime) -> Result<(), Fail> {
+    for (index, link) in groups::UNUSED.iter().enumerate() {
+        assert!(rt; is_linked_by_any(&rt, rt.alloc(), link)?, "example {index}");
+    }
+    Ok(())
+}
+
+#[test]
+fn what_is_kept_is_defined_once(rt: HostRuntime) -> Result<(), Fail> {
+    for (index, refusal) in groups::ABSENT.iter().enumerate() {
+        assert!(rt;
+            is_refused_by_any(&rt, rt.alloc(), refusal)?,
+            "example {index}"
+        );
+    }
+    Ok(())
+}
+
+#[test]
+fn groups_have_one_form(rt: HostRuntime) -> Result<(), Fail> {
+    for (index, refusal) in wrong_groups::FORMS.iter().enumerate() {
+        assert!(rt;
+            is_refused_by_any(&rt, rt.alloc(), refusal)?,
+            "example {index}"
+        );
+    }
+    Ok(())
+}
+
+#[test]
+fn groups_have_members_of_their_own(rt: HostRuntime) -> Result<(), Fail> {
+    for (index, refusal) in wrong_groups::MEMBERS.iter().enumerate() {
+        assert!(rt;
+            is_refused_by_any(&rt, rt.alloc(), refusal)?,
+            "example {index}"
+        );
+    }
+    Ok(())
+}
+
+#[test]
+fn what_stays_for_itself_is_kept(rt: HostRuntime) -> Result<(), Fail> {
+    for (index, link) in collected::ROOTS.iter().enumerate() {
+        assert!(rt; is_linked_by_any(&rt, rt.alloc(), link)?, "example {index}");
+    }
+    Ok(())
+}
+
+#[test]
+fn what_belongs_to_the_kept_is_kept(rt: HostRuntime) -> Result<(), Fail> {
+    for (index, link) in collected::WITH_OTHERS.iter().enumerate() {
+        assert!(rt; is_linked_by_any(&rt, rt.alloc(), link)?, "example {index}");
+    }
+    Ok(())
+}
+
+#[test]
+fn all_else_is_dropped(rt: HostRuntime) -> Result<(), Fail> {
+    for (index, link) in collected::DROPPED.iter().enumerate() {
+        assert!(rt; is_linked_by_any(&rt, rt.alloc(), link)?, "example {index}");
+    }
+    Ok(())
+}
+
+#[test]
+fn what_is_kept_has_no_defect(rt: HostRuntime) -> Result<(), Fail> {
+    for (index, refusal) in collected::STILL.iter().enumerate() {
+        assert!(rt;
+            is_refused_by_any(&rt, rt.alloc(), refusal)?,
+            "example {index}"
+        );
+    }
+    Ok(())
+}
+
+#[test]
+fn notes_stand_first(rt: HostRuntime) -> Result<(), Fail> {
+    for (index, link) in orders::NOTES_FIRST.iter().enumerate() {
+        assert!(rt; is_linked_by_any(&rt, rt.alloc(), link)?, "example {index}");
+    }
+    Ok(())
+}
+
+#[test]
+fn arrays_stand_by_their_numbers(rt: HostRuntime) -> Result<(), Fail> {
+    for (index, link) in orders::BY_NUMBER.iter().enumerate() {
+        assert!(rt; is_linked_by_any(&rt, rt.alloc(), link)?, "example {index}");
+    }
+    Ok(())
+}
+
 /// A fault of the first link, whose calls of the depot are a load, a begin and five appends: the number of the call that
 /// fails, the line, how many calls there are, and how many bytes of the executable are written.
 type Fault<'a> = (u64, &'a str, u64, usize);
@@ -516,6 +695,7 @@ fn is_cut<R: Threads + Sync>(
     let call = Call {
         words: FIRST_LINK.words,
         workers,
+        store: Store::Objects,
         libraries: &[],
         fails: &fails,
     };
@@ -598,29 +778,59 @@ impl Gate for Holder {
     }
 }
 
-const SHARED: Link = Link {
-    words: &["rvld", "-s", "a.o", "h.o"],
-    image: TWO_FILES,
-    ..FIRST_LINK
-};
+/// A link that two workers share, and in how many passes they do.
+type Shared<'a> = (Link<'a>, u64);
 
-/// The passes that two workers share in a link of two files: heads, the claims for members, bodies, the list of offers, the claims for names,
-/// the ranks and the addresses of symbols.
-const SHARED_PASSES: u64 = 7;
+/// The passes of the first link are heads, the claims for members, bodies, the list of offers, the claims for names, the ranks and the
+/// addresses of symbols, and the test of relocations. Those of the second are the claims for groups, the edges between sections and
+/// the blocks of the executable too.
+const SHARED: [Shared; 2] = [
+    (
+        Link {
+            words: &["rvld", "-s", "a.o", "h.o"],
+            image: TWO_FILES,
+            ..FIRST_LINK
+        },
+        8,
+    ),
+    (
+        Link {
+            words: &[
+                "rvld",
+                "-s",
+                "--gc-sections",
+                "m.o",
+                "one.o",
+                "two.o",
+                "wide.o",
+            ],
+            store: Store::Groups,
+            image: TWO_BLOCKS,
+            ..FIRST_LINK
+        },
+        11,
+    ),
+];
 
-/// Whether a link of two files is as ever where one of its two workers is held in each pass, and the other was in time.
-fn is_held<R: Threads + Sync>(rt: &R, alloc: Global, held: u32) -> Result<bool, AllocError> {
+/// Whether a link is as ever where one of its two workers is held in each pass, and the other was in time.
+fn is_held<R: Threads + Sync>(
+    rt: &R,
+    alloc: Global,
+    shared: &Shared,
+    held: u32,
+) -> Result<bool, AllocError> {
+    let (link, passes) = shared;
     let gate = Holder {
         held,
         met: AtomicU64::new(0),
         passed: AtomicU64::new(0),
         late: AtomicBool::new(false),
     };
-    let linked = is_linked(rt, alloc, &SHARED, &["--threads", "2"], &gate)?;
+    let linked = is_linked(rt, alloc, link, &["--threads", "2"], &gate)?;
     let met = gate.met.load(Ordering::SeqCst);
     Ok(
         linked
-            && met == SHARED_PASSES
+            && met == *passes
             && met == gate.passed.load(Ordering::SeqCst)
             && !gate.late.load(Ordering::SeqCst),
     )
@@ -628,8 +838,13 @@ fn is_held<R: Threads + Sync>(rt: &R, alloc: Global, held: u32) -> Result<bool, 
 
 #[test]
 fn workers_in_either_order(rt: HostRuntime) -> Result<(), Fail> {
-    for held in 0..2 {
-        assert!(rt; is_held(&rt, rt.alloc(), held)?, "worker {held} is held");
+    for shared in &SHARED {
+        for held in 0..2 {
+            assert!(rt;
+                is_held(&rt, rt.alloc(), shared, held)?,
+                "worker {held} is held"
+            );
+        }
     }
     Ok(())
 }

@@ -90,6 +90,13 @@ pub const SHF_GNU_RETAIN: u64 = 0x20_0000;
 /// Left out of an executable.
 pub const SHF_EXCLUDE: u64 = 0x8000_0000;
 
+// Section groups (gABI, "Section Groups").
+
+/// Bytes of a word (`Elf64_Word`): a group is an array of these.
+pub const WORD_SIZE: u64 = 4;
+/// A flag word of this value: of the groups of one signature only one stays.
+pub const GRP_COMDAT: u32 = 1;
+
 // Section indexes (gABI, "Special Sections", st_shndx).
 
 /// No section.

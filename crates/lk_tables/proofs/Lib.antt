@@ -1,4 +1,6 @@
 pub mod BodyFacts
+pub mod BoundHas
+pub mod BoundWithin
 pub mod ByNumber
 pub mod FewSections
 pub mod Finding
@@ -13,3 +15,4 @@ pub mod SoundBody
 pub mod Widths
 pub mod LiveFiles
 pub mod SoundFiles
+pub mod SoundGroups

@@ -2,7 +2,7 @@
 use Rattle.std.proofs.Common.{◌≡◌, ◌≢◌, ℕ, ◌+◌, ◌<◌, ◌≤◌, zero, suc, Bool, true, false, not, ◌&&◌, ◌||◌, ◌==◌, nat_lt, length, get_or, List, [], ◌∷◌, ◌++◌, map, refl, sym, ap, ◌∙◌, arith, Option, Some, None, subst, inl, inr}
 use Rattle.std.specs.Prelude.{Ok, unwrap_or, if◌then◌else◌, pos, bit_and}
 use Rattle.std.specs.Int.{is_power_of_two}
-use Rattle.std.specs.List.{All, AllByRecursion, range_with_len}
+use Rattle.std.specs.List.{All, AllByRecursion, AllPairs, range_with_len}
 use Rattle.std.specs.List.Sorted.{IsNonDecreasingBy}
 use Rattle.std.specs.Ordering.{int_eq}
 use Rattle.std.proofs.lemmas.Bool.{cond_both, cond-true, cond-false, cases_Bool, cases_eq, and_parts, or_parts, eqb-true, ne_eqb, ltb-true, ltb-false}
@@ -13,15 +13,16 @@ use Rattle.lk_tables.specs.declared.heads.Place.TheVariants.{Undef, Common}
 use Rattle.lk_tables.specs.declared.heads.Section.{Section}
 use Rattle.lk_tables.specs.declared.heads.Symbol.{Symbol}
 use Rattle.lk_tables.specs.declared.objects.Reloc.{Reloc}
-use Rattle.lk_tables.specs.Bodies.{is_bad_alignment, is_bad_loaded, is_unlinked, plain_checks, relocates, rela_of, is_bad_rela, rela_checks, group_checks, body_checks, use_checks, all_body_checks, all_use_checks}
+use Rattle.lk_tables.specs.Bodies.{is_bad_alignment, is_bad_loaded, is_unlinked, plain_checks, relocates, rela_of, is_bad_rela, rela_checks, body_checks, use_checks, all_body_checks, all_use_checks}
 use Rattle.lk_base.specs.declared.kinds.TheConstants.{BAD_SECTION, LIMIT, BAD_ALIGNMENT, IFUNC}
 use Rattle.lk_base.specs.RelocKinds.{is_among, is_lower}
-use Rattle.lk_base.specs.declared.abi.TheConstants.{ALIGN_MAX, FILE_MAX, NOBITS_MAX, SHF_WRITE, SHF_EXECINSTR, SHF_LINK_ORDER, SHT_NULL, SHT_NOBITS, SHT_RELA, STT_GNU_IFUNC}
+use Rattle.lk_base.specs.declared.abi.TheConstants.{ALIGN_MAX, FILE_MAX, NOBITS_MAX, SHF_WRITE, SHF_EXECINSTR, SHF_LINK_ORDER, SHT_NULL, SHT_GROUP, SHT_NOBITS, SHT_RELA, STT_GNU_IFUNC}
 use Rattle.lk_tables.specs.Checks.{Check, passes, NoneBroken, from_on, ◌says◌, flaw_at}
+use Rattle.lk_tables.specs.Groups.{is_group, group_checks}
 use Rattle.lk_tables.specs.FileHeader.{section_count, ends_past, place_of}
 use Rattle.lk_tables.specs.Heads.{HeadView, HeadOf, head_of}
-use Rattle.lk_tables.specs.Inside.{IsAlignment, IsLinked, IsRelocWithin, IsCommonWithin, IsBodyInside}
-use Rattle.lk_tables.specs.Objects.{ObjectView, BodyOf, object_of, object_checks, parts_of, relocs_in, relocs_for}
+use Rattle.lk_tables.specs.Inside.{IsAlignment, IsLinked, IsRelocWithin, IsCommonWithin, IsGroupWithin, IsGroupBefore, IsBodyInside}
+use Rattle.lk_tables.specs.Objects.{ObjectView, BodyOf, object_of, object_checks, parts_of, groups_before, relocs_in, relocs_for}
 use Rattle.lk_base.specs.Order.{put_in, stable_order}
 use Rattle.lk_tables.specs.Relocations.{linked_width, rela_count, reloc, target_of, is_past_target, is_bad_addend, entry_checks, in_order, overlap_checks, entries_checks, relocs_of}
 use Rattle.lk_tables.specs.Sections.{section_of, is_null, is_written, written_at, takes_relocs, is_loaded, loaded_types}
@@ -30,6 +31,7 @@ use Rattle.lk_tables.proofs.BodyFacts.{symbol_at, length_symbols, section_inside
 use Rattle.lk_tables.proofs.HeadFacts.{section_at}
 use Rattle.lk_tables.proofs.Passing.{each, both_pass, none_from_ok, ok_from_none, checked_value}
 use Rattle.lk_tables.proofs.Ranges.{found}
+use Rattle.lk_tables.proofs.SoundGroups.{IsSoundGroup, group_at, groups_within, groups_apart}
 use Rattle.lk_tables.proofs.SoundHead.{second_false, not_false, written_type, written_live, null_is, head_is, head_inside}
 use Rattle.lk_base.proofs.StableOrder.{Rises, rises_order}
 
@@ -48,15 +50,16 @@ alignment_of a e =
 
 -- the checks of one section
 body_at : (b : List ℕ) (k : ℕ) → passes (all_body_checks b) ≡ Ok tt → 0 < k → k < section_count b → (section_of b k).sh_type ≢ SHT_NULL →
-    (passes (plain_checks b k (section_of b k)) ≡ Ok tt) × (passes (rela_checks b k) ≡ Ok tt)
+    (passes (plain_checks b k (section_of b k)) ≡ Ok tt) × (passes (rela_checks b k) ≡ Ok tt) × (passes (group_checks b k) ≡ Ok tt)
 unfolding body_checks
 body_at b k e low high live =
     let s = section_of b k in
     let null : is_null k s.sh_type ≡ false = grind (arith, nat_tests) in
-    let lines = plain_checks b k s ++ (rela_checks b k ++ group_checks b k s) in
+    let lines = plain_checks b k s ++ (rela_checks b k ++ group_checks b k) in
     let all = sym (ap passes (cond-false (is_null k s.sh_type) [] lines null)) ∙ each (body_checks b) 0 (section_count b) k e (omega arith) high in
-    let p = both_pass (plain_checks b k s) (rela_checks b k ++ group_checks b k s) (tt {0}) (tt {0}) all in
-    (p.0, (both_pass (rela_checks b k) (group_checks b k s) (tt {0}) (tt {0}) p.1).0)
+    let p = both_pass (plain_checks b k s) (rela_checks b k ++ group_checks b k) (tt {0}) (tt {0}) all in
+    let q = both_pass (rela_checks b k) (group_checks b k) (tt {0}) (tt {0}) p.1 in
+    (p.0, q.0, q.1)
 
 -- of two flags at most one
 apart_of : (x y : ℕ) → (not (x == 0) && not (y == 0)) ≡ false → x ≢ 0 → y ≡ 0
@@ -279,6 +282,18 @@ relocs_at : (b : List ℕ) (object : ObjectView) (k : ℕ) (d : List Reloc) → 
 relocs_at b object k d is lt =
     sym (ap (λ xs. get_or xs k d) (relocs_are b object is) ∙ get_or-map-range_with_len (relocs_for b) 0 (section_count b) k k d lt (omega arith))
 
+-- the groups
+sound_group : (b : List ℕ) (i : ℕ) → passes (all_body_checks b) ≡ Ok tt → i < section_count b → is_group b i ≡ true → IsSoundGroup b i
+unfolding is_group
+sound_group b i e high group =
+    let p = and_parts (nat_lt 0 i) ((section_of b i).sh_type == SHT_GROUP) group in
+    let typed : (section_of b i).sh_type ≡ SHT_GROUP = eqb-true (section_of b i).sh_type SHT_GROUP p.1 in
+    group_at b i group (body_at b i e (ltb-true 0 i p.0) high (λ z. absurd (omega (arith, typed)))).2
+
+groups_are : (b : List ℕ) (object : ObjectView) → BodyOf b object → object.groups ≡ groups_before b (section_count b)
+unfolding parts_of
+groups_are b object is = ap (λ (o : ObjectView). o.groups) is.parts
+
 -- a sound body
 pub body_inside : (b : List ℕ) (head : HeadView) (object : ObjectView) → HeadOf b head → BodyOf b object → length b ≤ FILE_MAX →
     IsBodyInside b head object
@@ -309,6 +324,10 @@ body_inside b head object is of short =
       commons = λ k d lt common.
           let at = symbol_at b head.symbols k d (symbols_are b head is) lt in
           subst IsCommonWithin (sym at) (common_at b k passed.1 (omega (arith, listed)) (ap (λ (s : Symbol). s.place) (sym at) ∙ common));
+      groups = subst (All (IsGroupWithin b (length head.sections))) (sym (groups_are b object of))
+          (groups_within b head (section_count b) is inside (omega arith) (λ i lt group. sound_group b i passed.0 lt group));
+      apart = subst (AllPairs IsGroupBefore) (sym (groups_are b object of))
+          (groups_apart b (section_count b) (λ i lt group. sound_group b i passed.0 lt group));
     }
 
 -- what is read of the bytes of a file says these

@@ -1,6 +1,6 @@
 -- Which symbol a name is bound to (System V gABI, "Symbol Table": a defined symbol of binding GLOBAL is taken before a COMMON one,
 -- and that before a WEAK one; ties go to the first file of the command).
-use Rattle.std.specs.Prelude.{ℕ, ◌^◌, ◌&&◌, ◌==◌, not, nat_lt, bit_and, Bool, false, Option, Some, None, if◌then◌else◌, min, max, List, [], ◌∷◌, ◌++◌, length, map, filter, find, slice_index_or, flat_map}
+use Rattle.std.specs.Prelude.{◌≡◌, ℕ, ◌^◌, ◌&&◌, ◌==◌, not, nat_lt, bit_and, Bool, false, Option, Some, None, if◌then◌else◌, min, max, List, [], ◌∷◌, ◌++◌, length, map, filter, find, slice_index_or, flat_map}
 use Rattle.std.specs.List.{range_with_len}
 use Rattle.std.specs.Str.{bytes_eq}
 use Rattle.lk_base.specs.declared.defects.Defect.{Defect}
@@ -126,6 +126,10 @@ bindings files gone entry = record {
   entry = bound_rank files gone entry;
   commons = map (bound_commons_in files gone) (range_with_len 0 (length files));
 }
+
+-- the names of these files are bound to this
+abbrev pub IsBindingOf : List File → Bindings → Type 0
+IsBindingOf files b = (gone : List Bool) × (entry : List ℕ) × (b ≡ bindings files gone entry)
 
 -- the float ABI (RISC-V ELF psABI, "File Header": e_flags, EF_RISCV_FLOAT_ABI) of each live file, with its number
 pub record FloatAbi : Type 0 where

@@ -4,13 +4,14 @@ use Rattle.std.specs.Prelude.{ℕ, ◌%◌, Bool, not, ◌&&◌, ◌||◌, ◌==
 use Rattle.std.specs.List.{list_any, range_with_len}
 use Rattle.std.specs.Int.{is_power_of_two}
 use Rattle.lk_base.specs.RelocKinds.{is_among}
-use Rattle.lk_base.specs.declared.abi.TheConstants.{ALIGN_MAX, NOBITS_MAX, RELA_SIZE, SHF_WRITE, SHF_EXECINSTR, SHF_MERGE, SHF_LINK_ORDER, SHF_TLS, SHF_COMPRESSED, SHT_RELA, SHT_NOTE, SHT_NOBITS, SHT_REL, SHT_INIT_ARRAY, SHT_FINI_ARRAY, SHT_PREINIT_ARRAY, SHT_GROUP, STT_GNU_IFUNC}
+use Rattle.lk_base.specs.declared.abi.TheConstants.{ALIGN_MAX, NOBITS_MAX, RELA_SIZE, SHF_WRITE, SHF_EXECINSTR, SHF_MERGE, SHF_LINK_ORDER, SHF_TLS, SHF_COMPRESSED, SHT_RELA, SHT_NOBITS, SHT_REL, STT_GNU_IFUNC}
 use Rattle.lk_base.specs.declared.kinds.TheConstants.{BAD_SECTION, COMPRESSED, LIMIT, BAD_ALIGNMENT, IFUNC}
 use Rattle.lk_tables.specs.declared.heads.Section.{Section}
 use Rattle.lk_tables.specs.Checks.{Check, ◌says◌, flaw_at, from_on}
 use Rattle.lk_tables.specs.FileHeader.{place_of, section_count}
 use Rattle.lk_tables.specs.Sections.{section_of, is_null, loaded_types, is_loaded, is_written, takes_relocs}
 use Rattle.lk_tables.specs.Symbols.{symtab_of, symbol_of, symbol_place, symbol_count, is_common, is_undef}
+use Rattle.lk_tables.specs.Groups.{group_checks}
 use Rattle.lk_tables.specs.Relocations.{entries_checks}
 
 -- an alignment that is no power of two, or too great; 0 counts as 1
@@ -24,14 +25,9 @@ is_bad_loaded count s =
     || ((not (bit_and s.flags SHF_WRITE == 0) && not (bit_and s.flags SHF_EXECINSTR == 0))
     || (not (bit_and s.flags SHF_LINK_ORDER == 0) && not (nat_lt s.link count)))
 
--- a written section of a type or with a flag that is not linked yet
-abbrev pub unlinked_types : List ℕ
-unlinked_types = SHT_NOTE ∷ SHT_INIT_ARRAY ∷ SHT_FINI_ARRAY ∷ SHT_PREINIT_ARRAY ∷ []
-
+-- a written section with a flag that is not linked yet
 unfoldable pub is_unlinked : List ℕ → Section → Bool
-is_unlinked b s =
-    is_written b s
-    && (is_among unlinked_types s.sh_type || (not (bit_and s.flags SHF_MERGE == 0) || not (bit_and s.flags SHF_TLS == 0)))
+is_unlinked b s = is_written b s && (not (bit_and s.flags SHF_MERGE == 0) || not (bit_and s.flags SHF_TLS == 0))
 
 -- "Section Header Table": no section is compressed or has relocations without addends; then what is asked of loaded ones
 unfoldable pub plain_checks : List ℕ → ℕ → Section → List Check
@@ -76,15 +72,11 @@ rela_checks b i =
     (is_bad_rela b i (section_of b i) says flaw_at BAD_SECTION i (place_of b i))
     ∷ (if relocates b (section_of b i).info i then entries_checks b i else [])
 
--- "Section Groups": a group is not linked yet
-unfoldable pub group_checks : List ℕ → ℕ → Section → List Check
-group_checks b i s = (s.sh_type == SHT_GROUP says flaw_at BAD_SECTION i (place_of b i)) ∷ []
-
 -- the checks of section i
 unfoldable pub body_checks : List ℕ → ℕ → List Check
 body_checks b i =
     if is_null i (section_of b i).sh_type then []
-    else plain_checks b i (section_of b i) ++ (rela_checks b i ++ group_checks b i (section_of b i))
+    else plain_checks b i (section_of b i) ++ (rela_checks b i ++ group_checks b i)
 
 -- the checks of symbol i, after all sections: a function that chooses a function is not defined here; what a COMMON symbol
 -- asks for, of which the value is the alignment

@@ -2,11 +2,12 @@
 -- A place past the end of a table names something that takes no part in the link.
 use Rattle.std.specs.Prelude.{◌≡◌, ℕ, ◌+◌, ◌^◌, ◌<◌, ◌≤◌, ◌&&◌, ◌==◌, not, nat_lt, pos, Bool, true, false, Ok, if◌then◌else◌, List, [], length, map, take, slice_index_or, sum, count_by, flat_map}
 use Rattle.std.specs.List.{range_with_len}
-use Rattle.lk_base.specs.declared.abi.TheConstants.{STB_LOCAL, STT_NOTYPE, STT_SECTION, SHT_NULL, FILE_MAX, R_RISCV_NONE}
+use Rattle.lk_base.specs.declared.abi.TheConstants.{STB_LOCAL, STT_NOTYPE, SHT_NULL, FILE_MAX, R_RISCV_NONE}
 use Rattle.lk_tables.specs.declared.heads.Section.{Section}
 use Rattle.lk_tables.specs.declared.heads.Symbol.{Symbol}
 use Rattle.lk_tables.specs.declared.heads.Place.TheVariants.{Undef}
 use Rattle.lk_tables.specs.Symbols.{is_common}
+pub use Rattle.lk_tables.specs.Symbols.{is_section_symbol}
 use Rattle.lk_tables.specs.declared.objects.Reloc.{Reloc}
 use Rattle.lk_tables.specs.Heads.{HeadView, fields_of, head_of}
 use Rattle.lk_tables.specs.Objects.{ObjectView, parts_of, object_of}
@@ -64,10 +65,6 @@ symbol_name file i = text_of file.bytes (symbol_at file i).name
 -- section k is written into the executable; section 0 is none
 abbrev pub writes : File → ℕ → Bool
 writes file k = nat_lt 0 k && is_written file.bytes (section_at file k)
-
--- a SECTION symbol stands for its section: a LOCAL symbol of type SECTION
-abbrev pub is_section_symbol : Symbol → Bool
-is_section_symbol s = s.binding == STB_LOCAL && s.sort == STT_SECTION
 
 -- other files see the symbol
 abbrev pub is_visible : Symbol → Bool

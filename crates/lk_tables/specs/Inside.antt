@@ -1,7 +1,7 @@
 -- What holds of a head and of a body in which no check is broken, as facts about their lists: each number, offset and
 -- size lies where it must (System V gABI, "Sections", "Symbol Table", "Relocation").
 use Rattle.std.specs.Prelude.{◌≡◌, ◌≢◌, ℕ, ◌+◌, ◌*◌, ◌^◌, pos, ◌<◌, ◌≤◌, true, is_some, bit_and, List, [], length, slice_index_or}
-use Rattle.std.specs.List.{All}
+use Rattle.std.specs.List.{All, AllPairs}
 use Rattle.std.specs.List.Sorted.{IsNonDecreasingBy}
 use Rattle.lk_tables.specs.declared.heads.Place.{Place}
 use Rattle.lk_tables.specs.declared.heads.Place.TheVariants.{Undef, Absolute, Common, Within}
@@ -15,7 +15,7 @@ use Rattle.lk_base.specs.declared.abi.TheConstants.{ALIGN_MAX, NOBITS_MAX, SHDR_
 use Rattle.lk_tables.specs.FileHeader.{section_count}
 use Rattle.lk_tables.specs.Heads.{HeadView}
 use Rattle.lk_tables.specs.Names.{no_name}
-use Rattle.lk_tables.specs.Objects.{ObjectView}
+use Rattle.lk_tables.specs.Objects.{GroupView, ObjectView}
 use Rattle.lk_tables.specs.Relocations.{width_of, end_of}
 use Rattle.lk_tables.specs.Sections.{is_written, loaded_types, contents_of}
 use Rattle.lk_tables.specs.Symbols.{bindings}
@@ -109,6 +109,17 @@ pub record IsCommonWithin (s : Symbol) : Type 0 where
   pub align : IsAlignment s.value
   pub size : s.size ≤ NOBITS_MAX
 
+-- a group: it is a section, its members are, and its signature stands in the file
+pub record IsGroupWithin (b : List ℕ) (count : ℕ) (g : GroupView) : Type 0 where
+  pub section : (0 < g.section) × (g.section < count)
+  pub members : All (λ k. (0 < k) × (k < count)) g.members
+  pub signature : IsNameWithin (length b) g.signature
+
+-- group g stands before group h, and no section is a member of both
+pub record IsGroupBefore (g h : GroupView) : Type 0 where
+  pub section : g.section < h.section
+  pub members : All (λ k. All (λ m. m ≢ k) g.members) h.members
+
 -- a sound body
 pub record IsBodyInside (b : List ℕ) (head : HeadView) (object : ObjectView) : Type 0 where
   pub counted : length object.relocs ≡ length head.sections
@@ -117,3 +128,5 @@ pub record IsBodyInside (b : List ℕ) (head : HeadView) (object : ObjectView) :
   pub relocs : AreRelocsWithin b head object.relocs
   pub ordered : All (IsNonDecreasingBy (λ r. r.offset)) object.relocs
   pub commons : All (λ s. s.place ≡ Common → IsCommonWithin s) head.symbols
+  pub groups : All (IsGroupWithin b (length head.sections)) object.groups
+  pub apart : AllPairs IsGroupBefore object.groups

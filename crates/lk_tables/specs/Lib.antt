@@ -1,4 +1,3 @@
-pub mod Addresses
 pub mod Binding
 pub mod BindingView
 pub mod Bodies
@@ -9,6 +8,7 @@ pub mod FileHeader
 pub mod FileView
 pub mod Files
 pub mod Gathering
+pub mod Groups
 pub mod Heads
 pub mod Indexed
 pub mod Inside
@@ -26,5 +26,4 @@ pub mod Symbols
 pub mod TablesView
 pub mod Targets
 pub mod Uppers
-pub mod Views
 pub mod Walks

@@ -1,7 +1,8 @@
--- The body of an object file whose head is known: its relocations at their places, and no broken check (System V gABI,
--- "Relocation", "Section Groups").
-use Rattle.std.specs.Prelude.{◌≡◌, ℕ, Bool, Option, Some, None, Result, List, [], ◌++◌, map}
-use Rattle.std.specs.List.{range_with_len}
+-- The body of an object file whose head is known: its groups and its relocations at their places, and no broken check
+-- (System V gABI, "Section Groups", "Relocation").
+use Rattle.std.specs.Prelude.{◌≡◌, ℕ, Bool, ◌==◌, Option, Some, None, Result, List, [], ◌++◌, map}
+use Rattle.std.specs.List.{filter, range_with_len}
+use Rattle.lk_base.specs.declared.abi.TheConstants.{GRP_COMDAT}
 use Rattle.lk_base.specs.declared.defects.Flaw.{Flaw}
 use Rattle.lk_tables.specs.declared.objects.Group.{Group}
 use Rattle.lk_tables.specs.declared.objects.Object.{Object}
@@ -10,6 +11,7 @@ use Rattle.lk_tables.specs.declared.spans.Span.{Span}
 use Rattle.lk_tables.specs.Bodies.{all_body_checks, all_use_checks, rela_of}
 use Rattle.lk_tables.specs.Checks.{Check, checked, NoneBroken}
 use Rattle.lk_tables.specs.FileHeader.{section_count}
+use Rattle.lk_tables.specs.Groups.{is_group, flag_word, members_of, signature_of}
 use Rattle.lk_tables.specs.Relocations.{relocs_of}
 
 -- a group and a body, as lists
@@ -37,9 +39,17 @@ relocs_in b (Some r) = relocs_of b r
 abbrev pub relocs_for : List ℕ → (k : ℕ) → List Reloc
 relocs_for b k = relocs_in b (rela_of b k)
 
--- the relocations of each section; no group is linked yet
+-- the group of section i
+abbrev pub group_of : List ℕ → ℕ → GroupView
+group_of b i = record { section = i; signature = signature_of b i; comdat = flag_word b i == GRP_COMDAT; members = members_of b i }
+
+-- the groups among the sections below i, in order
+abbrev pub groups_before : List ℕ → ℕ → List GroupView
+groups_before b i = map (group_of b) (filter (is_group b) (range_with_len 0 i))
+
+-- the groups in order of their sections, and the relocations of each section
 unfoldable pub parts_of : List ℕ → ObjectView
-parts_of b = record { groups = []; relocs = map (relocs_for b) (range_with_len 0 (section_count b)) }
+parts_of b = record { groups = groups_before b (section_count b); relocs = map (relocs_for b) (range_with_len 0 (section_count b)) }
 
 -- the checks of each section in order, then of each symbol
 unfoldable pub object_checks : List ℕ → List Check

@@ -92,6 +92,10 @@ is_common Absolute = false
 is_common Common = true
 is_common (Within k) = false
 
+-- a SECTION symbol stands for its section: a LOCAL symbol of type SECTION
+abbrev pub is_section_symbol : Symbol → Bool
+is_section_symbol s = s.binding == STB_LOCAL && s.sort == STT_SECTION
+
 abbrev pub bindings : List ℕ
 bindings = STB_LOCAL ∷ STB_GLOBAL ∷ STB_WEAK ∷ STB_GNU_UNIQUE ∷ []
 

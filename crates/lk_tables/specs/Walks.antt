@@ -1,6 +1,8 @@
 -- Lists over the sections, and over the relocations, of the files that take part in a link: in order of file, section and offset.
 use Rattle.std.specs.Prelude.{ℕ, if◌then◌else◌, List, [], length, flat_map}
 use Rattle.std.specs.List.{range_with_len}
+use Rattle.lk_base.specs.declared.defects.Defect.{Defect}
+use Rattle.lk_base.specs.declared.kinds.DefectKind.{DefectKind}
 use Rattle.lk_tables.specs.declared.objects.Reloc.{Reloc}
 use Rattle.lk_tables.specs.Files.{File, file_at, relocs_at}
 
@@ -19,3 +21,7 @@ over_section files give f k = flat_map (give f k) (relocs_at (file_at files f) k
 
 abbrev pub over_relocs : {X : Type 0} → List File → (ℕ → ℕ → Reloc → List X) → List X
 over_relocs files give = over_live files (over_section files give)
+
+-- a defect of relocation r of section k of file f
+abbrev pub reloc_defect : DefectKind → (f k : ℕ) → Reloc → (other : ℕ) → Defect
+reloc_defect kind f k r other = record { kind = kind; file = f; section = k; place = r.offset; symbol = r.symbol; other = other }

@@ -21,4 +21,5 @@ pub struct Binding {
     pub(crate) commons: Vec<Vec<BoundCommon>>,
 
     ghost ordered: { All (IsNonDecreasingBy (λ (c : BoundCommon). c.symbol)) (map (λ list. list.items) commons.items) } by { Prim.hlevel props },
+    ghost numbered: { All (IsNonDecreasingBy (λ (c : BoundCommon). c.section)) (map (λ list. list.items) commons.items) } by { Prim.hlevel props },
 }

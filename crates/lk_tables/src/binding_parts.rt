@@ -19,6 +19,7 @@ impl Binding {
         commons: Vec<Vec<BoundCommon>>,
     ) -> Binding
         requires ordered { All (IsNonDecreasingBy (λ (c : BoundCommon). c.symbol)) (map (λ list. list.items) commons.items) }
+        requires numbered { All (IsNonDecreasingBy (λ (c : BoundCommon). c.section)) (map (λ list. list.items) commons.items) }
         ensures { binding_view result ≡ record { discarded = discarded.items; ranks = ranks.items; entry = entry; commons = map (λ list. list.items) commons.items } }
     {
         Binding {

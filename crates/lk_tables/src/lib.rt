@@ -2,7 +2,6 @@
 //! are bound to; and the definitions of which bytes say it. The readers fill these tables, and each later pass reads them.
 #![tactic(auto)]
 
-mod addresses;
 mod binding;
 mod binding_parts;
 mod bounds;
@@ -27,10 +26,8 @@ mod starts;
 mod tables;
 mod targets;
 mod uppers;
-mod views;
 mod walks;
 
-pub use addresses::Addresses;
 pub use binding::Binding;
 pub use bounds::{Bound, Target};
 pub use classes::{Class, is_in, output_rank};
@@ -52,5 +49,4 @@ pub use starts::{first_symbols, section_count};
 pub use tables::{Heads, Tables};
 pub use targets::{is_undefined, target_in, target_of};
 pub use uppers::Uppers;
-pub use views::View;
-pub use walks::{RelocTest, first_over_relocs};
+pub use walks::{RelocTest, first_over_relocs, reloc_defect};

@@ -1,9 +1,10 @@
 //! What passes read of a file.
 
-ghost use Rattle.std.specs.Prelude.{◌≡◌, ◌==◌, ◌&&◌, nat_lt, is_some};
+ghost use Rattle.std.specs.Prelude.{◌≡◌, ◌==◌, ◌&&◌, nat_lt, is_some, map};
 ghost use Rattle.lk_tables.specs.Files as spec;
 ghost use Rattle.lk_tables.specs.FileView.{file_view};
 ghost use Rattle.lk_tables.specs.Heads.{head_view};
+ghost use Rattle.lk_tables.specs.Objects.{group_view};
 ghost use Rattle.lk_tables.specs.Sections as read;
 ghost use Rattle.lk_tables.specs.Symbols as symbols;
 ghost use Rattle.lk_base.specs.RelocKinds.{is_among};
@@ -11,7 +12,7 @@ ghost use Rattle.lk_base.specs.RelocKinds.{is_among};
 use crate::files::File;
 use crate::heads::{Head, Place, Section, Symbol};
 use crate::names::text_of;
-use crate::objects::Reloc;
+use crate::objects::{Group, Reloc};
 use crate::spans::Span;
 use lk_base::NO_FILE;
 use lk_base::abi::{
@@ -128,6 +129,16 @@ impl<'a> File<'a> {
         };
         match object.relocs.get(index) {
             Some(list) => list.as_slice(),
+            None => &[],
+        }
+    }
+
+    /// Its section groups, in order of their sections; none of a file that takes no part.
+    pub fn groups(&self) -> &[Group]
+        ensures { map group_view result.now ≡ (file_view self.now).object.groups }
+    {
+        match &self.object {
+            Some(object) => object.groups.as_slice(),
             None => &[],
         }
     }

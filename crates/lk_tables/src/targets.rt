@@ -52,6 +52,7 @@ impl Binding {
     pub fn commons(&self, file: usize) -> &[BoundCommon]
         ensures value { result.now ≡ spec.commons_at (binding_view self.now).commons file }
         ensures ordered { IsNonDecreasingBy (λ (c : BoundCommon). c.symbol) result.now }
+        ensures numbered { IsNonDecreasingBy (λ (c : BoundCommon). c.section) result.now }
     {
         match self.commons.get(file) {
             Some(list) => list.as_slice(),

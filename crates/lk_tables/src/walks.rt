@@ -8,12 +8,13 @@ ghost use Rattle.lk_tables.specs.declared.objects.Reloc.{Reloc};
 ghost use Rattle.lk_tables.specs.FileView.{file_view};
 ghost use Rattle.lk_tables.specs.Files.{File, file_at, relocs_at};
 ghost use Rattle.lk_tables.specs.TablesView.{files_of};
+ghost use Rattle.lk_tables.specs.Walks as spec;
 ghost use Rattle.lk_tables.specs.Walks.{over_file, over_live, over_relocs, over_section};
 
 use crate::files::File;
 use crate::objects::Reloc;
 use crate::tables::Tables;
-use lk_base::{Defect, FileNo};
+use lk_base::{Defect, DefectKind, FileNo};
 
 /// A test of single relocations.
 pub trait RelocTest {
@@ -116,6 +117,26 @@ fn first_in_section<T: RelocTest>(
         }
     }
     None
+}
+
+/// A defect of a relocation of a section of a file.
+pub fn reloc_defect(
+    kind: DefectKind,
+    file: FileNo,
+    section: u32,
+    reloc: &Reloc,
+    other: u64,
+) -> Defect
+    ensures { result ≡ spec.reloc_defect kind file section reloc.now other }
+{
+    Defect {
+        kind,
+        file,
+        section,
+        place: reloc.offset,
+        symbol: reloc.symbol,
+        other,
+    }
 }
 
 impl<'a> Tables<'a> {

@@ -6,3 +6,4 @@ pub mod NameOrder
 pub mod Numbered
 pub mod NameWords
 pub mod LeastClaims
+pub mod TextPlaces

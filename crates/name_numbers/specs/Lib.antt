@@ -2,3 +2,4 @@ pub mod Keys
 pub mod Marks
 pub mod Spans
 pub mod Tags
+pub mod Texts

@@ -38,7 +38,7 @@ pub fn number_names<R: Threads + Sync>(
 }
 
 /// Writes to the place of each key that of the first one with the same name. Keys of one name stand side by side.
-fn mark_keys(firsts: &mut [u32], keys: &[Key])
+pub fn mark_keys(firsts: &mut [u32], keys: &[Key])
     requires sorted { IsSorted key_cmp keys.now }
     requires tagged { AreTagged (key_views keys.now) }
     requires within { (v : KeyView) → Contains (key_views keys.now) v → v.at < length firsts.old }

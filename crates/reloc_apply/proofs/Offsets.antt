@@ -13,7 +13,7 @@ use Rattle.lk_tables.specs.declared.commons.BoundCommon.{BoundCommon}
 use Rattle.lk_tables.specs.declared.heads.Place.{Place}
 use Rattle.lk_tables.specs.declared.heads.Place.TheVariants.{Undef, Absolute, Common, Within}
 use Rattle.lk_tables.specs.declared.heads.Symbol.{Symbol}
-use Rattle.lk_tables.specs.Addresses.{IsBindingOf}
+use Rattle.lk_tables.specs.Binding.{IsBindingOf}
 use Rattle.lk_tables.specs.Binding.{Bindings, Offer, bindings, bound_rank, class_of, is_discarded, is_offer, least_rank, live_rank, offer_at, offers, offers_in, rank_bound}
 use Rattle.lk_tables.specs.Symbols.{is_common}
 use Rattle.lk_tables.specs.Files.{AreFew, File, IsSound, file_at, is_section_symbol, no_section, no_symbol, section_at, section_no, symbol_at, symbol_name, symbol_no, writes}
@@ -23,7 +23,7 @@ use Rattle.lk_tables.specs.Targets.{bound, bound_by, defined_by, definition, off
 use Rattle.lk_tables.proofs.ByNumber.{read_by_symbol}
 use Rattle.lk_tables.proofs.FirstNumbers.{first_within}
 use Rattle.lk_tables.proofs.SoundFiles.{inside_body, inside_head}
-use Rattle.reloc_apply.proofs.Sized.{AllSound, each_flat, each_if, one_if}
+use Rattle.reloc_apply.proofs.SoundLists.{AllSound, each_flat, each_if, one_if}
 
 -- what stands in a section stands at such an offset
 abbrev pub IsNear : Bound → Type 0

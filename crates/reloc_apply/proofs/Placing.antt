@@ -10,13 +10,13 @@ use Rattle.std.proofs.lemmas.Bool.{cases_lt}
 use Rattle.std.proofs.lemmas.Bool.Decides.{nat_tests}
 use Rattle.reloc_apply.specs.Image.{piece, over}
 
-inside : (a i b u v : ℕ) → a ≤ i → i < b → (if nat_le a i && nat_lt i b then u else v) ≡ u
+pub inside : (a i b u v : ℕ) → a ≤ i → i < b → (if nat_le a i && nat_lt i b then u else v) ≡ u
 inside a i b u v p q = grind (arith, nat_tests)
 
-under : (a i b u v : ℕ) → i < a → (if nat_le a i && nat_lt i b then u else v) ≡ v
+pub under : (a i b u v : ℕ) → i < a → (if nat_le a i && nat_lt i b then u else v) ≡ v
 under a i b u v p = grind (arith, nat_tests)
 
-past : (a i b u v : ℕ) → b ≤ i → (if nat_le a i && nat_lt i b then u else v) ≡ v
+pub past : (a i b u v : ℕ) → b ≤ i → (if nat_le a i && nat_lt i b then u else v) ≡ v
 past a i b u v p = grind (arith, nat_tests)
 
 -- ys written over xs from a on

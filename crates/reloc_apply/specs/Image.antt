@@ -28,7 +28,7 @@ byte_at pieces place = byte_over 0 pieces place
 unfoldable pub image : List Piece → ℕ → List ℕ
 image pieces size = map (byte_at pieces) (range_with_len 0 size)
 
--- these pieces were laid over a file
-abbrev pub Shows : (before after : List ℕ) → List Piece → Type 0
-Shows before after pieces =
-    (length after ≡ length before) × ((i : ℕ) → i < length before → slice_index after i ≡ byte_over (slice_index before i) pieces i)
+-- these pieces were laid over a block that starts at the file offset `from`
+abbrev pub ShowsFrom : (from : ℕ) → (before after : List ℕ) → List Piece → Type 0
+ShowsFrom from before after pieces =
+    (length after ≡ length before) × ((i : ℕ) → i < length before → slice_index after i ≡ byte_over (slice_index before i) pieces (from + i))

@@ -1,6 +1,7 @@
 pub mod Image
 pub mod PieceView
-pub mod Parts
+pub mod Staying
 pub mod Values
 pub mod Relocated
-pub mod Undefined
+pub mod Sites
+pub mod Founds

@@ -1,22 +1,27 @@
--- What a relocation puts into its place (RISC-V ELF psABI, "Relocations": S, A and P).
-use Rattle.std.specs.Prelude.{ℕ, ◌+◌, ◌==◌, ◌&&◌, ℤ, pos, ◌+ℤ◌, ◌-ℤ◌, Bool, Option, Some, None, option_and_then, if◌then◌else◌, List, find, slice_index}
+-- What a relocation puts into its place (RISC-V ELF psABI, "Relocations": S, A, P and V).
+use Rattle.std.specs.Prelude.{ℕ, ◌==◌, ◌&&◌, ℤ, pos, ◌+ℤ◌, ◌-ℤ◌, Bool, Option, Some, None, option_and_then, if◌then◌else◌, List, find, take, drop}
 use Rattle.lk_base.specs.RelocKinds.{kind_of, is_lower, is_upper}
 use Rattle.lk_base.specs.declared.relocations.Calculation.{Calculation}
-use Rattle.lk_base.specs.declared.relocations.Calculation.TheVariants.{Address, Distance}
+use Rattle.lk_base.specs.declared.relocations.Calculation.TheVariants.{Address, Distance, Increase, Decrease}
 use Rattle.lk_tables.specs.declared.bounds.Target.{Target}
 use Rattle.lk_tables.specs.declared.bounds.Target.TheVariants.{Section, Number, Zero, Linker, Unbound}
 use Rattle.lk_tables.specs.declared.objects.Reloc.{Reloc}
 use Rattle.lk_tables.specs.Binding.{Bindings}
-use Rattle.lk_tables.specs.Files.{File, file_at, relocs_at, section_no}
+use Rattle.lk_tables.specs.Files.{File}
+use Rattle.lk_tables.specs.Sites as sites
+use Rattle.lk_tables.specs.Sites.{relocs_of}
 use Rattle.lk_tables.specs.Targets.{target_of}
+use Rattle.link_sections.specs.Cuts.{new_offset}
+use Rattle.link_sections.specs.LaidOut.{LaidOut, address_in, cuts_at, start_at}
+use Rattle.rv_code.specs.Places.{number_of}
 
--- S, by the sections' addresses
-abbrev pub symbol_in : (sections : List ℕ) → Target → ℕ
-symbol_in sections (Section section offset rest) = slice_index sections section + offset
-symbol_in sections (Number n) = n
-symbol_in sections Zero = 0
-symbol_in sections (Linker n) = 0
-symbol_in sections Unbound = 0
+-- S
+abbrev pub symbol_in : (leaders : List (Option ℕ)) → LaidOut → Target → ℕ
+symbol_in leaders laid (Section section offset rest) = address_in leaders laid section offset
+symbol_in leaders laid (Number n) = n
+symbol_in leaders laid Zero = 0
+symbol_in leaders laid (Linker n) = 0
+symbol_in leaders laid Unbound = 0
 
 -- A: of a section, what is to be added to the byte that is meant
 abbrev pub addend_of : Target → Reloc → ℤ
@@ -26,11 +31,13 @@ addend_of Zero r = r.addend
 addend_of (Linker n) r = r.addend
 addend_of Unbound r = r.addend
 
--- a calculation, from S + A and P
-abbrev pub computed : Calculation → (sum place : ℤ) → Option ℤ
-computed Address sum place = Some sum
-computed Distance sum place = Some (sum -ℤ place)
-computed _ sum place = None
+-- a calculation, from S + A, P and V
+abbrev pub computed : Calculation → (sum place held : ℤ) → Option ℤ
+computed Address sum place held = Some sum
+computed Distance sum place held = Some (sum -ℤ place)
+computed Increase sum place held = Some (held +ℤ sum)
+computed Decrease sum place held = Some (held -ℤ sum)
+computed _ sum place held = None
 
 -- the offset of a label, if it stands in the section of this number
 abbrev pub label_in : (own : ℕ) → Target → Option ℕ
@@ -44,27 +51,34 @@ label_in own Unbound = None
 abbrev pub is_upper_at : ℕ → Reloc → Bool
 is_upper_at offset r = r.offset == offset && is_upper r.kind
 
-module _ (files : List File) (b : Bindings) (sections : List ℕ) where
-  -- the address of section k of file f, and P of its relocation r
-  abbrev pub start_of : (f k : ℕ) → ℕ
-  start_of f k = slice_index sections (section_no files f k)
+-- V: what so many bytes at a place hold, as a number
+abbrev pub held_in : (width at : ℕ) → (bytes : List ℕ) → ℤ
+held_in width at bytes = pos (number_of (take width (drop at bytes)))
 
-  abbrev pub place_of : (f k : ℕ) → Reloc → ℤ
-  place_of f k r = pos (start_of f k) +ℤ pos r.offset
+module _ (files : List File) (b : Bindings) (leaders : List (Option ℕ)) (laid : LaidOut) where
+  -- what relocation r of section n stands for
+  abbrev pub target_in : (n : ℕ) → Reloc → Target
+  target_in n r = target_of files b (sites.place_of files n).file r
+
+  -- the offset of a relocation's place, once the bytes that do not stay are gone, and P
+  abbrev pub offset_of : (n : ℕ) → Reloc → ℕ
+  offset_of n r = new_offset (cuts_at laid n) r.offset
+
+  abbrev pub place_of : (n : ℕ) → Reloc → ℤ
+  place_of n r = pos (start_at laid n) +ℤ pos (offset_of n r)
 
   -- S + A
-  unfoldable pub sum_of : (f : ℕ) → Reloc → ℤ
-  sum_of f r = pos (symbol_in sections (target_of files b f r)) +ℤ addend_of (target_of files b f r) r
+  unfoldable pub sum_of : (n : ℕ) → Reloc → ℤ
+  sum_of n r = pos (symbol_in leaders laid (target_in n r)) +ℤ addend_of (target_in n r) r
 
   -- the value of a relocation that takes it from its own symbol
-  unfoldable pub direct_value : (f k : ℕ) → Reloc → Option ℤ
-  direct_value f k r = computed (kind_of r.kind).calculation (sum_of f r) (place_of f k r)
+  unfoldable pub direct_value : (n : ℕ) → Reloc → (held : ℤ) → Option ℤ
+  direct_value n r held = computed (kind_of r.kind).calculation (sum_of n r) (place_of n r) held
 
   -- the partner of a lower part: the first upper part at its label, in its own section
-  unfoldable pub partner_of : (f k : ℕ) → Reloc → Option Reloc
-  partner_of f k r = option_and_then
-      (λ offset. find (is_upper_at offset) (relocs_at (file_at files f) k)) (label_in (section_no files f k) (target_of files b f r))
+  unfoldable pub partner_of : (n : ℕ) → Reloc → Option Reloc
+  partner_of n r = option_and_then (λ offset. find (is_upper_at offset) (relocs_of files n)) (label_in n (target_in n r))
 
-  -- the value of relocation r of section k of file f: a lower part has that of its partner
-  unfoldable pub value_of : (f k : ℕ) → Reloc → Option ℤ
-  value_of f k r = if is_lower r.kind then option_and_then (direct_value f k) (partner_of f k r) else direct_value f k r
+  -- the value of relocation r of section n, whose place holds a number: a lower part has that of its partner
+  unfoldable pub value_of : (n : ℕ) → Reloc → (held : ℤ) → Option ℤ
+  value_of n r held = if is_lower r.kind then option_and_then (λ p. direct_value n p (pos 0)) (partner_of n r) else direct_value n r held

@@ -1,204 +1,167 @@
-//! Sections with their relocations done. They are written once no relocation has a defect, so no step of it can fail.
+//! All sections that meet a block of the executable, written with their relocations done.
 
-ghost use Rattle.std.specs.Prelude.{◌≡◌, ◌≢◌, ◌+◌, ◌<◌, ◌≤◌, [], ◌∷◌, All, length, take, drop, flat_map, OnErr, OnOk, true};
-ghost use Rattle.std.specs.List.{range_with_len};
-ghost use Rattle.lk_base.specs.Firsts.{Passes};
-ghost use Rattle.lk_base.specs.Reaches.{Takes};
-ghost use Rattle.lk_base.specs.RelocKinds.{HasValue, kind_of};
-ghost use Rattle.lk_base.specs.declared.abi.TheConstants.{SHT_NOBITS};
-ghost use Rattle.lk_tables.specs.Files.{file_at, relocs_at, section_at, writes};
-ghost use Rattle.lk_tables.specs.Sections.{contents_of};
-ghost use Rattle.lk_tables.specs.Views.{binding_in, files_in, sections_in};
-ghost use Rattle.lk_tables.specs.Walks.{over_file, over_section};
-ghost use Rattle.reloc_apply.specs.Image.{Shows};
+ghost use Rattle.std.specs.Prelude.{◌≡◌, ℕ, ◌+◌, ◌-◌, ◌^◌, ◌<◌, ◌≤◌, min, length, OnErr, OnOk, slice_index_or, if◌then◌else◌, Some, None};
+ghost use Rattle.lk_base.specs.Firsts.{IsFirst, Passes};
+ghost use Rattle.lk_base.specs.declared.abi.TheConstants.{IMAGE_BASE};
+ghost use Rattle.lk_tables.specs.Files.{section_total};
+ghost use Rattle.link_sections.specs.Views.{binding_in, files_in, laid_in, leaders_in};
+ghost use Rattle.reloc_apply.specs.Image.{ShowsFrom};
 ghost use Rattle.reloc_apply.specs.Relocated as spec;
-ghost use Rattle.reloc_apply.specs.Values.{value_of};
+ghost use Rattle.reloc_apply.specs.Founds.{AreOneAfterOther, IsFound, no_member};
 
-use crate::checks::first_defect;
-use crate::values::{start_of, value_of};
-use lk_base::abi::{IMAGE_BASE, SHT_NOBITS};
-use lk_base::relocations::kind_of;
-use lk_base::{Defect, FileNo};
-use lk_tables::{File, Reloc, View};
-use rv_code::patch;
+use crate::founds::{Found, earlier};
+use crate::scanning::relocate;
+use crate::sites::site_of;
+use crate::sources::{has_bits, source_of};
+use crate::staying::fill_staying;
+use crate::touching::first_touching;
+use link_sections::{Content, Member, View};
+use lk_base::abi::IMAGE_BASE;
+use lk_base::{Defect, SecNo};
 
-/// Writes all sections into the executable, each at its address less `IMAGE_BASE` and with its relocations done, in order of
-/// file and section. All relocations are tested before the first byte is written: the first defect of one in this order
-/// is the answer, and the executable is then as it was. Takes no memory.
-pub fn apply(out: &mut [u8], view: &View) -> Result<(), Defect>
-    requires { view.now.file_size ≤ length out.old }
-    ensures goes { Passes result (spec.relocation_defects (files_in view.now) (binding_in view.now) (sections_in view.now)) }
-    ensures bytes { OnOk result (Shows out.old out.new (spec.relocated_pieces (files_in view.now) (binding_in view.now) (sections_in view.now))) }
-    ensures kept { OnErr result (out.new ≡ out.old) }
+/// Writes what the sections have in a block of the executable that starts at the file offset `from`, with their relocations done. The
+/// relocations that touch the block are tested before the first byte is written: the first defect of one, in order of file, section and
+/// offset, is the answer, and the block is then as it was. Takes no memory.
+pub fn apply(block: &mut [u8], from: u64, view: &View) -> Result<(), Defect>
+    requires { from + length block.old < 2 ^ 63 }
+    ensures goes { Passes result (spec.touching_defects (files_in view.now) (binding_in view.now) (leaders_in view.now) (laid_in view.now) from (length block.old)) }
+    ensures bytes { OnOk result (ShowsFrom from block.old block.new (spec.relocated_pieces (files_in view.now) (binding_in view.now) (leaders_in view.now) (laid_in view.now))) }
+    ensures kept { OnErr result (block.new ≡ block.old) }
 {
-    if let Some(defect) = first_defect(view) {
+    if let Some(defect) = first_defect(view, from, block.len() as u64) {
         return Err(defect);
     }
-    write_files(out, view);
+    write_block(block, from, view);
     Ok(())
 }
 
-/// Writes the sections of all files.
-#[tactic(auto, unfolding(lk_tables::specs::Walks::over_live))]
-fn write_files(out: &mut [u8], view: &View)
-    requires room { view.now.file_size ≤ length out.old }
-    requires sound { spec.relocation_defects (files_in view.now) (binding_in view.now) (sections_in view.now) ≡ [] }
-    ensures { Shows out.old out.new (spec.relocated_pieces (files_in view.now) (binding_in view.now) (sections_in view.now)) }
+/// Writes what the sections have in a block of the executable that starts at the file offset `from`, with their relocations done, and
+/// tests none. Takes no memory.
+#[tactic(auto, unfolding(crate::specs::Relocated::relocated_pieces))]
+pub fn write_block(block: &mut [u8], from: u64, view: &View)
+    requires { from + length block.old < 2 ^ 63 }
+    ensures { ShowsFrom from block.old block.new (spec.relocated_pieces (files_in view.now) (binding_in view.now) (leaders_in view.now) (laid_in view.now)) }
 {
-    view.tables.is_few();
-    for file in 0..view.tables.file_count() as u32 {
-        write_file(out, view, file);
+    let last = members_before(view, from + block.len() as u64);
+    for k in members_past(view, from)..last {
+        write_member(block, from, view, k);
     }
 }
 
-/// Writes the sections of a file, if it takes part in the link.
-#[tactic(auto, unfolding(lk_tables::specs::Walks::over_file))]
-fn write_file(out: &mut [u8], view: &View, file: FileNo)
-    requires room { view.now.file_size ≤ length out.old }
-    requires file { file < length (files_in view.now) }
-    requires sound { over_file (files_in view.now) (over_section (files_in view.now) (spec.reloc_defects (files_in view.now) (binding_in view.now) (sections_in view.now))) file ≡ [] }
-    ensures { Shows out.old out.new (over_file (files_in view.now) (spec.section_pieces (files_in view.now) (binding_in view.now) (sections_in view.now)) file) }
+/// How many members end at a file offset or before it.
+#[tactic(auto, unfolding(link_sections::specs::LaidOut::layout_view))]
+fn members_past(view: &View, offset: u64) -> usize
+    requires { offset < 2 ^ 63 }
+    ensures bound { result ≤ length (laid_in view.now).members }
+    ensures before { (k : ℕ) → k < result → (slice_index_or (laid_in view.now).members k no_member).start + (slice_index_or (laid_in view.now).members k no_member).size ≤ IMAGE_BASE + offset }
 {
-    view.tables.is_few();
-    let entry = view.tables.file(file);
-    if !entry.is_live() {
-        return;
-    }
-    write_sections(out, view, file, entry.sections().len() as u32);
+    ended_before(view.layout.members.as_slice(), IMAGE_BASE + offset)
 }
 
-/// Writes so many sections of a file.
-fn write_sections(out: &mut [u8], view: &View, file: FileNo, count: u32)
-    requires room { view.now.file_size ≤ length out.old }
-    requires file { file < length (files_in view.now) }
-    requires live { (file_at (files_in view.now) file).live ≡ true }
-    requires count { count ≡ length (file_at (files_in view.now) file).head.sections }
-    requires sound { flat_map (over_section (files_in view.now) (spec.reloc_defects (files_in view.now) (binding_in view.now) (sections_in view.now)) file) (range_with_len 0 count) ≡ [] }
-    ensures { Shows out.old out.new (flat_map (spec.section_pieces (files_in view.now) (binding_in view.now) (sections_in view.now) file) (range_with_len 0 count)) }
+/// How many members start before a file offset.
+#[tactic(auto, unfolding(link_sections::specs::LaidOut::layout_view))]
+fn members_before(view: &View, offset: u64) -> usize
+    requires { offset < 2 ^ 63 }
+    ensures bound { result ≤ length (laid_in view.now).members }
+    ensures after { (k : ℕ) → result ≤ k → k < length (laid_in view.now).members → IMAGE_BASE + offset ≤ (slice_index_or (laid_in view.now).members k no_member).start }
 {
-    for section in 0..count {
-        write_section(out, view, file, section);
-    }
+    begun_before(view.layout.members.as_slice(), IMAGE_BASE + offset)
 }
 
-/// Writes a section, if it is written and has bytes in the file.
-#[tactic(auto, unfolding(crate::specs::Relocated::section_pieces))]
-fn write_section(out: &mut [u8], view: &View, file: FileNo, section: u32)
-    requires room { view.now.file_size ≤ length out.old }
-    requires file { file < length (files_in view.now) }
-    requires live { (file_at (files_in view.now) file).live ≡ true }
-    requires section { section < length (file_at (files_in view.now) file).head.sections }
-    requires sound { over_section (files_in view.now) (spec.reloc_defects (files_in view.now) (binding_in view.now) (sections_in view.now)) file section ≡ [] }
-    ensures { Shows out.old out.new (spec.section_pieces (files_in view.now) (binding_in view.now) (sections_in view.now) file section) }
+/// How many members end at an address or before it, of members that stand one after the other.
+fn ended_before(members: &[Member], address: u64) -> usize
+    requires order { AreOneAfterOther members.now }
+    requires low { address < 2 ^ 64 - 1 }
+    ensures bound { result ≤ length members.now }
+    ensures before { (k : ℕ) → k < result → (slice_index_or members.now k no_member).start + (slice_index_or members.now k no_member).size ≤ address }
 {
-    let entry = view.tables.file(file);
-    if !entry.writes(section as usize) {
-        return;
-    }
-    if entry.section(section as usize).sh_type == SHT_NOBITS {
-        return;
-    }
-    write_bits(out, view, file, section);
+    members.partition_point(|member| end_of(member) < address + 1)
 }
 
-/// Writes a section that has bytes in the file into the executable, with its relocations done.
-fn write_bits(out: &mut [u8], view: &View, file: FileNo, section: u32)
-    requires room { view.now.file_size ≤ length out.old }
-    requires file { file < length (files_in view.now) }
-    requires live { (file_at (files_in view.now) file).live ≡ true }
-    requires section { section < length (file_at (files_in view.now) file).head.sections }
-    requires written { writes (file_at (files_in view.now) file) section ≡ true }
-    requires bits { (section_at (file_at (files_in view.now) file) section).sh_type ≢ SHT_NOBITS }
-    requires sound { over_section (files_in view.now) (spec.reloc_defects (files_in view.now) (binding_in view.now) (sections_in view.now)) file section ≡ [] }
-    ensures { Shows out.old out.new (spec.bits_piece (files_in view.now) (binding_in view.now) (sections_in view.now) file section ∷ []) }
+/// The address after a member, or the greatest of 64 bits.
+fn end_of(member: &Member) -> u64
+    ensures { result ≡ min (member.now.start + member.now.size) (2 ^ 64 - 1) }
 {
-    let bytes = contents(view, file, section);
-    let relocs = relocs_in(view, file, section);
-    if bytes.len() == 0 {
-        relocate(&mut [], view, file, section, relocs);
-        return;
-    }
-    let at = (start_of(view, file, section) - IMAGE_BASE) as usize;
-    let block = &mut out[at..at + bytes.len()];
-    block.copy_from_slice(bytes);
-    relocate(block, view, file, section, relocs);
+    member.start.saturating_add(member.size)
 }
 
-/// The bytes of a written section in its file.
-fn contents<'a>(view: &View<'_, 'a>, file: FileNo, section: u32) -> &'a [u8]
-    requires file { file < length (files_in view.now) }
-    requires live { (file_at (files_in view.now) file).live ≡ true }
-    requires section { section < length (file_at (files_in view.now) file).head.sections }
-    requires written { writes (file_at (files_in view.now) file) section ≡ true }
-    requires bits { (section_at (file_at (files_in view.now) file) section).sh_type ≢ SHT_NOBITS }
-    ensures value { result.now ≡ contents_of (file_at (files_in view.now) file).bytes (section_at (file_at (files_in view.now) file) section) }
-    ensures size { length result.now ≡ (section_at (file_at (files_in view.now) file) section).size }
+/// How many members start before an address, of members that stand one after the other.
+fn begun_before(members: &[Member], address: u64) -> usize
+    requires { AreOneAfterOther members.now }
+    ensures bound { result ≤ length members.now }
+    ensures after { (k : ℕ) → result ≤ k → k < length members.now → address ≤ (slice_index_or members.now k no_member).start }
 {
-    let entry = view.tables.file(file);
-    let header = entry.section(section as usize);
-    cut(entry.bytes(), header.offset as usize, header.size as usize)
+    members.partition_point(|member| member.start < address)
 }
 
-/// So many bytes from a place on.
-fn cut(bytes: &[u8], from: usize, size: usize) -> &[u8]
-    requires { from + size ≤ length bytes.now }
-    ensures value { result.now ≡ take size (drop from bytes.now) }
-    ensures size { length result.now ≡ size }
+/// Writes what a member, by its number, has in the block, if it is a section with bytes in its file.
+#[tactic(auto, unfolding(crate::specs::Relocated::member_pieces))]
+fn write_member(block: &mut [u8], from: u64, view: &View, k: usize)
+    requires block { from + length block.old < 2 ^ 63 }
+    requires member { k < length (laid_in view.now).members }
+    ensures { ShowsFrom from block.old block.new (spec.member_pieces (files_in view.now) (binding_in view.now) (leaders_in view.now) (laid_in view.now) (slice_index_or (laid_in view.now).members k no_member)) }
 {
-    &bytes[from..from + size]
-}
-
-/// The relocations of a section, which lie in it.
-fn relocs_in<'t>(view: &View<'t, '_>, file: FileNo, section: u32) -> &'t [Reloc]
-    requires file { file < length (files_in view.now) }
-    requires live { (file_at (files_in view.now) file).live ≡ true }
-    ensures value { result.now ≡ relocs_at (file_at (files_in view.now) file) section }
-    ensures lies { All (spec.Lies (section_at (file_at (files_in view.now) file) section).size) result.now }
-{
-    view.tables.relocs(file, section)
-}
-
-/// Does relocations of a section.
-fn relocate(bytes: &mut [u8], view: &View, file: FileNo, section: u32, relocs: &[Reloc])
-    requires file { file < length (files_in view.now) }
-    requires live { (file_at (files_in view.now) file).live ≡ true }
-    requires section { section < length (file_at (files_in view.now) file).head.sections }
-    requires lie { All (spec.Lies (length bytes.old)) relocs.now }
-    requires sound { flat_map (spec.reloc_defects (files_in view.now) (binding_in view.now) (sections_in view.now) file section) relocs.now ≡ [] }
-    ensures { bytes.new ≡ spec.relocated (files_in view.now) (binding_in view.now) (sections_in view.now) file section relocs.now bytes.old }
-{
-    for reloc in relocs {
-        relocate_one(bytes, view, file, section, reloc);
-    }
-}
-
-/// Does one relocation of a section. It has its partner, and its field takes the value.
-#[tactic(auto, unfolding(crate::specs::Relocated::reloc_defects))]
-fn relocate_one(bytes: &mut [u8], view: &View, file: FileNo, section: u32, reloc: &Reloc)
-    requires file { file < length (files_in view.now) }
-    requires live { (file_at (files_in view.now) file).live ≡ true }
-    requires section { section < length (file_at (files_in view.now) file).head.sections }
-    requires lies { spec.Lies (length bytes.old) reloc.now }
-    requires sound { spec.reloc_defects (files_in view.now) (binding_in view.now) (sections_in view.now) file section reloc.now ≡ [] }
-    ensures { bytes.new ≡ spec.put_value reloc.now (value_of (files_in view.now) (binding_in view.now) (sections_in view.now) file section reloc.now) bytes.old }
-{
-    let Ok(value) = value_of(view, file, section, reloc) else {
-        unreachable!();
-    };
-    let Some(v) = value else {
+    let Some(section) = section_in(view, k) else {
         return;
     };
-    put(bytes, reloc, v);
+    let source = source_of(view, section);
+    fill_staying(block, from, source.at, source.raw, source.cuts);
+    relocate(block, from, view, &source);
 }
 
-/// Puts a value into its place in the bytes of a section.
-fn put(bytes: &mut [u8], reloc: &Reloc, v: i128)
-    requires value { HasValue reloc.now.kind }
-    requires takes { Takes (kind_of reloc.now.kind).reach v }
-    requires lies { spec.Lies (length bytes.old) reloc.now }
-    ensures { bytes.new ≡ spec.put reloc.now v bytes.old }
+/// The number of a member's section, if it is one with bytes in its file.
+#[tactic(auto, unfolding(link_sections::specs::LaidOut::layout_view))]
+fn section_in(view: &View, k: usize) -> Option<SecNo>
+    requires { k < length (laid_in view.now).members }
+    ensures { result ≡ spec.written_in (files_in view.now) (binding_in view.now) (leaders_in view.now) (laid_in view.now) (slice_index_or (laid_in view.now).members k no_member).content }
 {
-    let from = reloc.offset as usize;
-    let place = &mut bytes[from..from + kind_of(reloc.kind).width as usize];
-    patch(reloc.kind, place, v);
+    match view.layout.members[k].content {
+        Content::Section(section) => with_bits(view, section),
+        Content::Pool(_) => None,
+        Content::Got => None,
+    }
+}
+
+/// The number of a section, if that has bytes in its file.
+fn with_bits(view: &View, section: SecNo) -> Option<SecNo>
+    requires { section < section_total (files_in view.now) }
+    ensures { result ≡ (if spec.has_bits (files_in view.now) (binding_in view.now) (leaders_in view.now) (laid_in view.now) section then Some section else None) }
+{
+    if !has_bits(view, site_of(view.tables, section)) {
+        return None;
+    }
+    Some(section)
+}
+
+/// The first relocation, in order of section and offset, that touches so many bytes of the file from an offset on and can't be done.
+#[tactic(auto, unfolding(crate::specs::Relocated::touching_defects))]
+fn first_defect(view: &View, from: u64, len: u64) -> Option<Defect>
+    requires { from + len < 2 ^ 63 }
+    ensures { IsFirst (spec.touching_defects (files_in view.now) (binding_in view.now) (leaders_in view.now) (laid_in view.now) from len) result }
+{
+    let last = members_before(view, from + len);
+    let mut least = None;
+    for k in members_past(view, from)..last {
+        least = earlier(least, found_in(view, k, from, len));
+    }
+    match least {
+        Some(found) => Some(found.defect),
+        None => None,
+    }
+}
+
+/// The first such relocation of a member, by its number.
+fn found_in(view: &View, k: usize, from: u64, len: u64) -> Option<Found>
+    requires block { from + len < 2 ^ 63 }
+    requires member { k < length (laid_in view.now).members }
+    ensures { IsFound (spec.section_touching (files_in view.now) (binding_in view.now) (leaders_in view.now) (laid_in view.now) from len)
+        (spec.written_in (files_in view.now) (binding_in view.now) (leaders_in view.now) (laid_in view.now) (slice_index_or (laid_in view.now).members k no_member).content) result }
+{
+    let Some(section) = section_in(view, k) else {
+        return None;
+    };
+    let Some(defect) = first_touching(view, &source_of(view, section), from, len) else {
+        return None;
+    };
+    Some(Found { section, defect })
 }

@@ -9,7 +9,7 @@ mod places;
 mod reaches;
 
 pub use instructions::{cj, jal, nops};
-pub use places::patch;
+pub use places::{patch, patch_bits};
 pub use reaches::fits;
 
 #[cfg(test)]

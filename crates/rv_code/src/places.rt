@@ -76,3 +76,15 @@ pub fn patch(kind: u32, place: &mut [u8], v: i128)
     let new = put_value(line.format, old, v);
     write_number(place, new);
 }
+
+/// Puts a value into the place of a kind of relocation, and of one that its field does not take the bits that the field has.
+pub fn patch_bits(kind: u32, place: &mut [u8], v: i128)
+    requires value { HasValue kind }
+    requires width { length place.old ≡ (kind_of kind).width }
+    ensures { place.new ≡ patched (kind_of kind).field v place.old }
+{
+    let line = kind_of(kind);
+    let old = LittleEndian::read_uint(place, place.len());
+    let new = put_value(line.format, old, v);
+    write_number(place, new);
+}

@@ -30,6 +30,11 @@ count_rises file i (suc n) le =
     (λ (not_one : is_common (symbol_at file (i + n)).place ≡ false). omega (arith, none_more file (i + n) (omega arith) not_one, ap (commons_before file) e))
     (cases_Bool (is_common (symbol_at file (i + n)).place))
 
+pub before_rises : (file : File) (i j : ℕ) → i ≤ j → j ≤ length file.head.symbols → commons_before file i ≤ commons_before file j
+before_rises file i j le within =
+    let e : i + (j - i) ≡ j = omega arith in
+    omega (arith, count_rises file i (j - i) (omega arith), ap (commons_before file) e)
+
 pub before_most : (file : File) (i : ℕ) → i < length file.head.symbols → is_common (symbol_at file i).place ≡ true → commons_before file i < commons_before file (length file.head.symbols)
 before_most file i lt is =
     let n : ℕ = length file.head.symbols - (i + 1) in

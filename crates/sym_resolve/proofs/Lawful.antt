@@ -14,7 +14,7 @@ use Rattle.lk_base.specs.declared.defects.LinkStop.{LinkStop}
 use Rattle.lk_tables.specs.declared.binding.Binding.{Binding}
 use Rattle.lk_tables.specs.declared.commons.BoundCommon.{BoundCommon}
 use Rattle.lk_tables.specs.Symbols.{is_common}
-use Rattle.lk_tables.specs.Files.{File, common_no, file_at, no_file, symbol_at, symbol_name, symbol_total}
+use Rattle.lk_tables.specs.Files.{File, common_no, commons_before, file_at, no_file, symbol_at, symbol_name, symbol_total}
 use Rattle.lk_tables.specs.Binding.{Bindings, Offer, offers, bound_rank, rank_bound, demands, greatest_size, greatest_align, bound_common_at, bound_commons_in, bindings}
 use Rattle.lk_tables.specs.BindingView.{binding_view}
 use Rattle.lk_tables.specs.NameNumbers.{name_number}
@@ -30,6 +30,7 @@ use Rattle.name_numbers.proofs.Runs.{in_map}
 use Rattle.sym_resolve.proofs.Meaning.{common_of}
 use Rattle.name_numbers.proofs.LeastClaims.{least_most}
 use Rattle.sym_resolve.proofs.Ends.{offer, bound_law, each_bound}
+use Rattle.sym_resolve.proofs.CommonNumbers.{before_rises}
 use Rattle.sym_resolve.proofs.CommonRoom.{size_is_most, align_is_most}
 
 -- one rank is bound, if it is not none
@@ -100,6 +101,39 @@ commons_rise files row commons is =
     nondecreasing (in_file files (common_by files row) f)
     (rise_in_file files f (λ i. is_common (symbol_at (file_at files f) i).place && rank_by files row f i == rank_of 1 f i)
     (λ i. common_of f i (common_no files f i) (room_at rooms (name_number files f i)).size (room_at rooms (name_number files f i)).align) (λ i. refl))))
+
+-- entries whose symbols rise are in order of their sections, too: COMMON symbols are numbered in order of symbols
+in_order_of_sections : (files : List File) (f : ℕ) (cs : List BoundCommon) → IsStrictlyIncreasing (map (λ c. c.symbol) cs) →
+    All (λ c. (c.section ≡ common_no files f c.symbol) × (c.symbol < length (file_at files f).head.symbols)) cs →
+    IsNonDecreasingBy (λ (c : BoundCommon). c.section) cs
+in_order_of_sections files f cs up own = IsNonDecreasingBy-from_all_adjacent (λ (c : BoundCommon). c.section) cs (λ k d lt.
+    let file = file_at files f in
+    let long = length-map cs (λ (c : BoundCommon). c.symbol) in
+    let here = get_or-map (λ (c : BoundCommon). c.symbol) cs k d 0 (omega arith) in
+    let next = get_or-map (λ (c : BoundCommon). c.symbol) cs (k + 1) d 0 lt in
+    let less = up k (omega arith) in
+    let a = get_or cs k d in
+    let b = get_or cs (k + 1) d in
+    let first = own k d (omega arith) in
+    let second = own (k + 1) d lt in
+    let later : a.symbol ≤ b.symbol = omega (arith, here, next, less) in
+    let rises : commons_before file a.symbol ≤ commons_before file b.symbol = before_rises file a.symbol b.symbol later (omega (arith, second.1)) in
+    omega (arith, first.0, second.0, rises))
+
+-- the lists that are put into a binding are in order of sections
+pub commons_numbered : (files : List File) (row : List ℕ) (commons : List (List BoundCommon)) → commons ≡ map (in_file files (common_by files row)) (range_with_len 0 (length files)) → All (IsNonDecreasingBy (λ (c : BoundCommon). c.section)) commons
+unfolding common_by common_from
+commons_numbered files row commons is =
+    let Rises : List BoundCommon → Type 0 = IsNonDecreasingBy (λ (c : BoundCommon). c.section) in
+    let P : List (List BoundCommon) → Type 0 = All Rises in
+    let rooms = rooms_asked files in
+    let test = λ (f i : ℕ). is_common (symbol_at (file_at files f) i).place && rank_by files row f i == rank_of 1 f i in
+    let entry = λ (f i : ℕ). common_of f i (common_no files f i) (room_at rooms (name_number files f i)).size (room_at rooms (name_number files f i)).align in
+    subst P (sym is) (each_row Rises (in_file files (common_by files row)) 0 (length files) (λ f.
+    let Own : BoundCommon → Type 0 = λ c. (c.section ≡ common_no files f c.symbol) × (c.symbol < length (file_at files f).head.symbols) in
+    in_order_of_sections files f (in_file files (common_by files row) f)
+    (rise_in_file files f (test f) (entry f) (λ i. refl))
+    (all_in_file Own files (common_by files row) f (λ i live lt. all_if Own (test f i) (entry f i) (λ _. (refl, lt))))))
 
 module _ (files : List File) (gone : List Bool) where
   abbrev entry_of : (f i : ℕ) → BoundCommon

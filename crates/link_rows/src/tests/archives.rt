@@ -10,7 +10,7 @@ use super::libraries::{
     ONE_MEMBER, PACKED_FIRST, PACKED_LAST, SEVEN_MEMBERS, START_ALONE, STRONG_ALONE, WEAK_FIRST,
     WITH_TEXT,
 };
-use super::{FIRST_LINK, Link, Refusal};
+use super::{FIRST_LINK, Link, Refusal, Store};
 
 /// Forms of archives, and an archive before the object that asks.
 pub const READ: [Link; 4] = [
@@ -146,6 +146,7 @@ pub const CHAINS: [Link; 2] = [
 pub const WRONG_MEMBERS: [Refusal; 8] = [
     Refusal {
         words: &["rvld", "-s", "both.o", "lib.a"],
+        store: Store::Objects,
         libraries: &[SEVEN_MEMBERS],
         status: 1,
         line: "rvld: F20 Duplicate file=lib.a(one.o) section=0 place=1 name=n other=lib.a(seven.o)\n",
@@ -153,6 +154,7 @@ pub const WRONG_MEMBERS: [Refusal; 8] = [
     },
     Refusal {
         words: &["rvld", "-s", "a.o", "lib.a"],
+        store: Store::Objects,
         libraries: &[CUT_MEMBER],
         status: 1,
         line: "rvld: F02 BadHeader file=lib.a(two.o) section=0 place=63 name= other=0\n",
@@ -160,6 +162,7 @@ pub const WRONG_MEMBERS: [Refusal; 8] = [
     },
     Refusal {
         words: &["rvld", "-s", "m.o", "lib.a"],
+        store: Store::Objects,
         libraries: &[LONG_CUT_MEMBER],
         status: 1,
         line: "rvld: F02 BadHeader file=lib.a(cut_to_63_bytes_.o) section=0 place=63 name= other=0\n",
@@ -167,6 +170,7 @@ pub const WRONG_MEMBERS: [Refusal; 8] = [
     },
     Refusal {
         words: &["rvld", "-s", "m.o", "lib.a"],
+        store: Store::Objects,
         libraries: &[PACKED_FIRST],
         status: 1,
         line: "rvld: F05 Compressed file=lib.a(packed.o) section=1 place=200 name= other=0\n",
@@ -174,6 +178,7 @@ pub const WRONG_MEMBERS: [Refusal; 8] = [
     },
     Refusal {
         words: &["rvld", "-s", "m.o", "lib.a"],
+        store: Store::Objects,
         libraries: &[DOUBLE_FIRST],
         status: 1,
         line: "rvld: F16 FlagsClash file=lib.a(double.o) section=0 place=4 name= other=0\n",
@@ -181,6 +186,7 @@ pub const WRONG_MEMBERS: [Refusal; 8] = [
     },
     Refusal {
         words: &["rvld", "-s", "h.o", "lib.a"],
+        store: Store::Objects,
         libraries: &[START_ALONE],
         status: 1,
         line: "rvld: F21 NoEntry file=- section=0 place=0 name=_start other=0\n",
@@ -188,6 +194,7 @@ pub const WRONG_MEMBERS: [Refusal; 8] = [
     },
     Refusal {
         words: &["rvld", "-s", "lib.a"],
+        store: Store::Objects,
         libraries: &[START_ALONE],
         status: 1,
         line: "rvld: F21 NoEntry file=- section=0 place=0 name=_start other=0\n",
@@ -195,6 +202,7 @@ pub const WRONG_MEMBERS: [Refusal; 8] = [
     },
     Refusal {
         words: &["rvld", "-s", "m.o", "lib.a"],
+        store: Store::Objects,
         libraries: &[CALLER_ALONE],
         status: 1,
         line: "rvld: F22 Undefined file=lib.a(caller.o) section=1 place=0 name=m other=0\n",
@@ -206,6 +214,7 @@ pub const WRONG_MEMBERS: [Refusal; 8] = [
 pub const WRONG_ARCHIVES: [Refusal; 9] = [
     Refusal {
         words: &["rvld", "-s", "a.o", "lib.a"],
+        store: Store::Objects,
         libraries: &[NO_MEMBERS_BYTES],
         status: 1,
         line: "rvld: F07 Thin file=lib.a section=0 place=0 name= other=0\n",
@@ -213,6 +222,7 @@ pub const WRONG_ARCHIVES: [Refusal; 9] = [
     },
     Refusal {
         words: &["rvld", "-s", "a.o", "lib.a"],
+        store: Store::Objects,
         libraries: &[CUT_HEADER],
         status: 1,
         line: "rvld: F06 BadArchive file=lib.a section=0 place=8 name= other=0\n",
@@ -220,6 +230,7 @@ pub const WRONG_ARCHIVES: [Refusal; 9] = [
     },
     Refusal {
         words: &["rvld", "-s", "a.o", "lib.a"],
+        store: Store::Objects,
         libraries: &[NO_SIZE],
         status: 1,
         line: "rvld: F06 BadArchive file=lib.a section=0 place=524 name= other=0\n",
@@ -227,6 +238,7 @@ pub const WRONG_ARCHIVES: [Refusal; 9] = [
     },
     Refusal {
         words: &["rvld", "-s", "a.o", "lib.a"],
+        store: Store::Objects,
         libraries: &[NO_TABLE],
         status: 1,
         line: "rvld: F06 BadArchive file=lib.a section=0 place=524 name= other=0\n",
@@ -234,6 +246,7 @@ pub const WRONG_ARCHIVES: [Refusal; 9] = [
     },
     Refusal {
         words: &["rvld", "-s", "a.o", "lib.a"],
+        store: Store::Objects,
         libraries: &[NO_END],
         status: 1,
         line: "rvld: F06 BadArchive file=lib.a section=0 place=524 name= other=0\n",
@@ -241,6 +254,7 @@ pub const WRONG_ARCHIVES: [Refusal; 9] = [
     },
     Refusal {
         words: &["rvld", "-s", "a.o", "lib.a"],
+        store: Store::Objects,
         libraries: &[CUT_DATA],
         status: 1,
         line: "rvld: F06 BadArchive file=lib.a section=0 place=524 name= other=0\n",
@@ -248,6 +262,7 @@ pub const WRONG_ARCHIVES: [Refusal; 9] = [
     },
     Refusal {
         words: &["rvld", "-s", "a.o", "lib.a"],
+        store: Store::Objects,
         libraries: &[BSD_FIRST],
         status: 1,
         line: "rvld: F18 BsdName file=lib.a section=0 place=8 name= other=0\n",
@@ -255,6 +270,7 @@ pub const WRONG_ARCHIVES: [Refusal; 9] = [
     },
     Refusal {
         words: &["rvld", "-s", "a.o", "lib.a"],
+        store: Store::Objects,
         libraries: &[BSD_LAST],
         status: 1,
         line: "rvld: F18 BsdName file=lib.a section=0 place=524 name= other=0\n",
@@ -262,6 +278,7 @@ pub const WRONG_ARCHIVES: [Refusal; 9] = [
     },
     Refusal {
         words: &["rvld", "-s", "a.o", "lib.a"],
+        store: Store::Objects,
         libraries: &[NO_SLASH],
         status: 1,
         line: "rvld: F18 BsdName file=lib.a section=0 place=524 name= other=0\n",

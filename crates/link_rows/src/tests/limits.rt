@@ -4,7 +4,7 @@ ghost use Rattle.lk_base.specs.Limits.{IsWithinStandard};
 
 use super::images::{COMMON_OF_8, FIRST, TWO_FILES};
 use super::libraries::{Library, ONE_MEMBER};
-use super::{WORKERS, files_of, words_of};
+use super::{Store, WORKERS, files_of, words_of};
 use crate::{Image, image_of};
 use link_command::command_of;
 use link_driver::{Inputs, Linked, OpenGate, link};
@@ -279,7 +279,7 @@ fn is_bounded<R: Threads + Sync>(
     let Some(command) = command_of(alloc, words.as_slice())? else {
         return Ok(false);
     };
-    let files = files_of(alloc, bounded.libraries)?;
+    let files = files_of(alloc, Store::Objects, bounded.libraries)?;
     let inputs = inputs_of(alloc, command.inputs.names(), files.as_slice())?;
     let limits = within_standard(&bounded.limits);
     let answer = link(rt, alloc, &command, &inputs, &limits, &OpenGate);

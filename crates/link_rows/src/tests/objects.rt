@@ -1,6 +1,6 @@
 //! The objects of the examples.
 
-use crate::{Object, Reloc, Section, Symbol};
+use crate::{Object, Reloc, Section, SectionLink, Symbol};
 
 /// An input: its name, its object, and how many of the object's bytes it has at most.
 #[derive(Clone, Copy)]
@@ -21,6 +21,9 @@ pub const RETURN: Section = Section {
     size: 0,
     bytes: b"\x67\x80\0\0",
     relocs: &[],
+    link: SectionLink::Number(0),
+    info: 0,
+    entsize: 0,
 };
 
 /// `.text` of one `ebreak`.
@@ -164,7 +167,7 @@ const BIG: Object = Object {
             align: 8,
             size: 0x8000_0000,
             bytes: b"",
-            relocs: &[],
+            ..RETURN
         },
     ],
     symbols: &[START],
@@ -349,7 +352,7 @@ pub const ASKED_M: Symbol = Symbol {
 };
 
 /// A jump at the beginning to `n`.
-const ASKER: Object = Object {
+pub const ASKER: Object = Object {
     flags: 0,
     sections: &[Section {
         bytes: b"\xef\0\0\0\x67\x80\0\0",
@@ -363,7 +366,7 @@ const ASKER: Object = Object {
 };
 
 /// Jumps to `n` and to `m`.
-const ASKER_OF_BOTH: Object = Object {
+pub const ASKER_OF_BOTH: Object = Object {
     flags: 0,
     sections: &[Section {
         bytes: b"\xef\0\0\0\xef\0\0\0\x67\x80\0\0",

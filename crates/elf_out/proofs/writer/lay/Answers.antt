@@ -1,15 +1,15 @@
-use Rattle.reloc_apply.specs.Image.{piece}
-use Rattle.reloc_apply.specs.PieceView.{piece_of}
-use Rattle.reloc_apply.specs.Relocated.{relocated_pieces}
-use Rattle.lk_tables.specs.Views.{binding_in, files_in, sections_in}
+use Rattle.link_sections.specs.Views.{binding_in, files_in, laid_in, leaders_in}
+use Rattle.elf_out.specs.Executable.{end_pieces, headers, pieces}
 use Rattle.elf_out.proofs.Laying.{shows_all}
+use Rattle.reloc_apply.specs.Image.{piece}
+use Rattle.reloc_apply.specs.Relocated.{relocated_pieces}
 use Rattle.elf_out.proofs.writer.lay.Goals as goal
 
-pub returns-clause-bytes : goal.returns-clause-bytes
-returns-clause-bytes c =
-    let view = c.args.view.now in
-    shows_all (piece 0 c.args.headers.now) (piece_of c.args.names.now) (piece_of c.args.table.now)
-    (relocated_pieces (files_in view) (binding_in view) (sections_in view))
-    c.args.out.now c.fill_piece.new.block c.apply.new.out c.fill_piece-2.new.block c.fill_piece-3.new.block
-    c.fill_piece.auto.block c.fill_piece-2.auto.block c.fill_piece-3.auto.block
-    c.fill_piece.ensures c.in_ok-apply.ensures.bytes c.fill_piece-2.ensures c.fill_piece-3.ensures
+pub returns : goal.returns
+unfolding pieces
+returns c =
+    let v = c.args.view.now in
+    shows_all c.args.from (piece 0 (headers (files_in v) (binding_in v) (leaders_in v) (laid_in v)))
+    (relocated_pieces (files_in v) (binding_in v) (leaders_in v) (laid_in v)) (end_pieces (laid_in v))
+    c.args.block.now c.lay_headers.new.block c.write_block.new.block c.lay_ends.new.block
+    c.lay_headers.ensures c.write_block.ensures c.lay_ends.ensures

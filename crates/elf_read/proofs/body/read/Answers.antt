@@ -4,6 +4,7 @@ use Rattle.std.proofs.lemmas.List.{with_items_is}
 use Rattle.std.proofs.lemmas.Result.{err_from_is_err_and}
 use Rattle.lk_tables.specs.Bodies.{all_body_checks, all_use_checks}
 use Rattle.lk_tables.specs.Objects.{object_of, object_checks, parts_of}
+use Rattle.elf_read.proofs.GroupLists.{taken_start}
 use Rattle.elf_read.proofs.RelocLists.{marks_start, lists_start, lists_end}
 use Rattle.lk_tables.proofs.Passing.{first_fails, second_decides, fails_as, checked_passed, checked_failed}
 use Rattle.elf_read.proofs.body.read.Goals as goal
@@ -19,6 +20,12 @@ read_sections-requires-clause-lists c =
     let k = c.reopen-file.result in
     ap (map (λ list. list.items)) c.as_mut_slice-2.ensures.value ∙ c.in_ok-lists.ensures
     ∙ ap (λ n. replicate n []) k.counted ∙ lists_start k.bytes.now
+
+pub read_sections-requires-clause-taken : goal.read_sections-requires-clause-taken
+read_sections-requires-clause-taken c =
+    let k = c.reopen-file.result in
+    c.as_mut_slice-3.ensures.value ∙ c.in_ok-taken.ensures.items_if_clones_equal (λ y k. k)
+    ∙ ap (λ n. replicate n false) k.counted ∙ taken_start k.bytes.now
 
 pub returns-in_err-read_sections : goal.returns-in_err-read_sections
 unfolding object_of object_checks
@@ -49,4 +56,5 @@ returns c =
     let whole : object_of b ≡ Ok (parts_of b) =
     second_decides (all_body_checks b) (all_use_checks b) (parts_of b) passed
     ∙ checked_passed (all_use_checks b) (tt {0}) (parts_of b) (tt {0}) (sym last) in
-    whole ∙ sym (rw (kept, lists, c.new.ensures.items) refl)
+    let groups = rw c.reopen-file.ensures at c.in_ok-read_sections.ensures.groups in
+    whole ∙ sym (rw (kept, lists, groups) refl)

@@ -1,11 +1,9 @@
-use Rattle.std.proofs.Common.{◌≡◌, [], arith, rules}
-use Rattle.layout.specs.Order.{outputs_of}
-use Rattle.layout.specs.Parts.{parts_of}
-use Rattle.layout.proofs.Outputs.{rows_are}
+use Rattle.std.proofs.Common.{arith}
+use Rattle.layout.proofs.HeadSteps.{rows_end, rows_next}
 use Rattle.layout.proofs.order.rows_in.Goals as goal
 
-pub loop-i-init : goal.loop-i-init
-unfolding outputs_of
-loop-i-init c =
-    let none : c.new-known.result.keys ≡ [] = search rules in
-    rw (c.new-rows.ensures.items, none) (record { few = omega arith; all = rows_are c.args.class [] 0 (parts_of c.args.members.now) })
+pub loop-i-preserved : goal.loop-i-preserved
+loop-i-preserved c = rows_next c.loop-i.i c.args.items.now _ c.args.heads.now _ _ (omega arith) c.requires.heads c.in_ok-push_all.ensures c.loop-i.invariant
+
+pub returns : goal.returns
+returns c = rows_end c.loop-i.i c.args.items.now _ (omega arith) c.loop-i.invariant

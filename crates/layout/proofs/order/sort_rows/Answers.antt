@@ -1,8 +1,13 @@
-use Rattle.std.proofs.Common.{rules}
+use Rattle.std.proofs.Common.{rules, refl}
 use Rattle.std.proofs.lemmas.List.Sorted.{IsNonDecreasingBy-from_sort_by_key, answers_always}
 use Rattle.lk_base.proofs.StableOrder.{sorted_is}
 use Rattle.layout.specs.Order.{key_of}
 use Rattle.layout.proofs.order.sort_rows.Goals as goal
+
+pub returns-then-is_ordered : goal.returns-then-is_ordered
+returns-then-is_ordered c =
+    sorted_is key_of c.args.rows.now.items c.args.rows.now.items
+    (rw (c.as_slice.ensures.value) at (c.is_ordered.ensures) (c.if-is_ordered.true)) (λ z. refl)
 
 pub returns : goal.returns
 returns c =

@@ -1,26 +1,54 @@
-use Rattle.std.proofs.Common.{rules}
-use Rattle.layout.specs.Parts.{parts_of}
-use Rattle.layout.proofs.Passed.{within_limits}
-use Rattle.layout.proofs.Seen.{apart_seen, disjoint_seen, inside_seen, rising_seen, segments_seen, spots_seen}
+use Rattle.std.proofs.Common.{ap, sym, ◌∙◌, subst}
+use Rattle.std.proofs.lemmas.Result.{err_from_is_err_and}
+use Rattle.lk_tables.specs.BindingView.{binding_view}
+use Rattle.lk_tables.specs.TablesView.{files_of}
+use Rattle.link_sections.specs.SizesView.{sizes_of}
+use Rattle.layout.specs.Layout.{layout_of, limit_defects}
+use Rattle.link_sections.specs.Sound.{IsSound}
+use Rattle.layout.proofs.Laying.{stops_first, then_limits}
+use Rattle.layout.proofs.Seen.{rising_seen}
+use Rattle.layout.proofs.Sized.{all_sound}
+use Rattle.layout.proofs.SizeBounds.{all_apart}
+use Rattle.layout.proofs.Sounds.{sound_laid, within_limits}
 use Rattle.layout.proofs.placing.place.Goals as goal
 
-pub returns-in-Ok-clause-within : goal.returns-in-Ok-clause-within
-returns-in-Ok-clause-within c = within_limits _ _ (search rules)
+pub returns-in_err-layout-clause-goes : goal.returns-in_err-layout-clause-goes
+returns-in_err-layout-clause-goes c =
+    let files = files_of c.args.tables.now in
+    let laid = layout_of files (binding_view c.args.binding.now) c.args.pools.now.pools.items c.args.got.now.words c.args.leaders.now (sizes_of c.args.sizes.now) in
+    let p = err_from_is_err_and c.from_residual.result c.from_residual.ensures.1 in
+    rw (p.1, p.2) (stops_first c.args.limits.now files laid c.in_err-layout.field-0.0 c.in_err-layout.ensures.goes)
 
-pub returns-in-Ok-clause-apart : goal.returns-in-Ok-clause-apart
-returns-in-Ok-clause-apart c = apart_seen c.in_ok-layout.layout (parts_of c.args.members.now) c.in_ok-layout.ensures.found c.requires.sized
+pub returns-in-Ok-clause-goes : goal.returns-in-Ok-clause-goes
+returns-in-Ok-clause-goes c =
+    let files = files_of c.args.tables.now in
+    let laid = layout_of files (binding_view c.args.binding.now) c.args.pools.now.pools.items c.args.got.now.words c.args.leaders.now (sizes_of c.args.sizes.now) in
+    then_limits c.args.limits.now files laid c.in_ok-layout.ensures.goes ∙ ap (limit_defects c.args.limits.now) (sym c.in_ok-layout.ensures.found) ∙ c.in-Ok.ensures
+
+pub returns-clause-goes : goal.returns-clause-goes
+returns-clause-goes c =
+    let files = files_of c.args.tables.now in
+    let laid = layout_of files (binding_view c.args.binding.now) c.args.pools.now.pools.items c.args.got.now.words c.args.leaders.now (sizes_of c.args.sizes.now) in
+    (c.in-Err.ensures.0, then_limits c.args.limits.now files laid c.in_ok-layout.ensures.goes ∙ ap (limit_defects c.args.limits.now) (sym c.in_ok-layout.ensures.found) ∙ c.in-Err.ensures.1)
+
+pub returns-in-Ok-clause-sound : goal.returns-in-Ok-clause-sound
+returns-in-Ok-clause-sound c few =
+    let files = files_of c.args.tables.now in
+    let b = binding_view c.args.binding.now in
+    let sizes = sizes_of c.args.sizes.now in
+    let laid = layout_of files b c.args.pools.now.pools.items c.args.got.now.words c.args.leaders.now sizes in
+    let none = then_limits c.args.limits.now files laid c.in_ok-layout.ensures.goes ∙ ap (limit_defects c.args.limits.now) (sym c.in_ok-layout.ensures.found) ∙ c.in-Ok.ensures in
+    subst (IsSound files b c.args.leaders.now) (sym c.in_ok-layout.ensures.found)
+    (sound_laid c.args.limits.now files b c.args.pools.now.pools.items c.args.got.now.words c.args.leaders.now sizes (all_sound c.args.tables.now) c.requires.leaders c.requires.sizes
+    (all_apart c.args.sizes.now.rows c.args.sizes.now.sound) c.in_ok-layout.ensures.sized c.in_ok-layout.ensures.room few none)
+
+pub returns-in-Ok-clause-within : goal.returns-in-Ok-clause-within
+returns-in-Ok-clause-within c = within_limits c.args.limits.now _ c.in-Ok.ensures
 
 pub returns-in-Ok-clause-rising : goal.returns-in-Ok-clause-rising
-returns-in-Ok-clause-rising c = rising_seen c.in_ok-layout.layout c.args.members.now c.in_ok-layout.ensures.found c.requires.few c.requires.sized
-
-pub returns-in-Ok-clause-spots : goal.returns-in-Ok-clause-spots
-returns-in-Ok-clause-spots c = spots_seen c.in_ok-layout.layout c.args.members.now c.in_ok-layout.ensures.found c.requires.few c.requires.sized
-
-pub returns-in-Ok-clause-inside : goal.returns-in-Ok-clause-inside
-returns-in-Ok-clause-inside c = inside_seen c.in_ok-layout.layout c.args.members.now c.in_ok-layout.ensures.found c.requires.few c.requires.sized
-
-pub returns-in-Ok-clause-segments : goal.returns-in-Ok-clause-segments
-returns-in-Ok-clause-segments c = segments_seen c.in_ok-layout.layout c.args.members.now c.in_ok-layout.ensures.found c.requires.few c.requires.sized
-
-pub returns-in-Ok-clause-disjoint : goal.returns-in-Ok-clause-disjoint
-returns-in-Ok-clause-disjoint c = disjoint_seen c.in_ok-layout.layout c.args.members.now c.in_ok-layout.ensures.found c.requires.few c.requires.sized
+returns-in-Ok-clause-rising c =
+    let files = files_of c.args.tables.now in
+    let b = binding_view c.args.binding.now in
+    let sizes = sizes_of c.args.sizes.now in
+    rising_seen c.in_ok-layout.layout files b c.args.pools.now.pools.items c.args.got.now.words c.args.leaders.now sizes c.requires.leaders c.requires.sizes
+    (all_apart c.args.sizes.now.rows c.args.sizes.now.sound) c.in_ok-layout.ensures.sized c.in_ok-layout.ensures.room c.in_ok-layout.ensures.found

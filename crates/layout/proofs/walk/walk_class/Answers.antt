@@ -1,25 +1,35 @@
-use Rattle.std.proofs.Common.{◌≡◌, ◌<◌, length, arith, ◌∙◌, sym, append-nil}
+use Rattle.std.proofs.Common.{◌≡◌, ◌<◌, length, map, arith, ◌∙◌, sym, append-nil}
 use Rattle.std.proofs.lemmas.Bool.Decides.{nat_tests}
 use Rattle.std.proofs.lemmas.List.Elements.{All-drop}
-use Rattle.layout.specs.Order.{IsFit}
-use Rattle.layout.specs.Parts.{parts_of}
-use Rattle.layout.specs.Walk.{views}
-use Rattle.layout.proofs.Cuts.{cut_is, next_end, next_sections, next_stands, nothing_left}
+use Rattle.link_sections.specs.LaidOut.{output_view}
+use Rattle.link_sections.specs.SizesView.{sizes_of}
+use Rattle.layout.specs.ItemViews.{items_view}
+use Rattle.layout.specs.Walk.{IsReady}
+use Rattle.layout.proofs.Splitting.{next_end, next_members, next_sections, next_stands, nothing_left, runs_is}
+use Rattle.layout.proofs.Weights.{weight_split}
 use Rattle.layout.proofs.walk.walk_class.Goals as goal
 
 pub loop-rest-preserved : goal.loop-rest-preserved
 loop-rest-preserved c =
     let some : 0 < length c.loop-rest.rest.now = grind (arith, nat_tests) in
-    let e = cut_is c.loop-rest.rest.now c.split_at.result.0.now c.split_at.result.1.now c.run_len.result c.run_len.ensures.value
+    let sizes = sizes_of c.args.from.now.sizes.now in
+    let e = runs_is c.loop-rest.rest.now c.split_at.result.0.now c.split_at.result.1.now c.run_len.result c.run_len.ensures.value
     c.split_at.ensures.front c.split_at.ensures.back in
+    let w = weight_split c.loop-rest.rest.now c.split_at.result.0.now c.split_at.result.1.now c.run_len.result c.split_at.ensures.front c.split_at.ensures.back in
+    let at = c.loop-rest.at in
+    let end = c.in_ok-at.at in
+    let inv = c.loop-rest.invariant in
     record {
-      len = c.in_ok-at.ensures.len ∙ c.loop-rest.invariant.len;
-      fit = rw (c.in_ok-at.ensures.len, c.split_at.ensures.back) (All-drop (IsFit (length c.loop-rest.starts.items)) c.run_len.result c.loop-rest.rest.now c.loop-rest.invariant.fit);
-      bound = omega (arith, c.in_ok-at.ensures.bound);
-      end = next_end c.loop-rest.at c.in_ok-at.at _ _ _ e c.in_ok-at.ensures.end ∙ c.loop-rest.invariant.end;
-      outputs = next_sections (parts_of c.args.members.now) c.args.class c.loop-rest.at c.in_ok-at.at _ _ _ _ _ e c.in_ok-at.ensures.end c.in_ok-at.ensures.outputs
-          ∙ c.loop-rest.invariant.outputs;
-      all = next_stands c.loop-rest.at c.in_ok-at.at _ _ _ _ _ e c.in_ok-at.ensures.end c.in_ok-at.ensures.starts ∙ c.loop-rest.invariant.all;
+      sections = c.in_ok-at.ensures.sections ∙ inv.sections;
+      pools = c.in_ok-at.ensures.pools ∙ inv.pools;
+      ready = rw (c.in_ok-at.ensures.sections, c.in_ok-at.ensures.pools, c.split_at.ensures.back)
+          (All-drop (IsReady sizes (length c.loop-rest.places.starts.items) (length c.loop-rest.places.pools.items)) c.run_len.result c.loop-rest.rest.now inv.ready);
+      extra = c.in_ok-at.ensures.extra;
+      bound = omega (arith, c.in_ok-at.ensures.bound, w, inv.bound);
+      end = next_end sizes at end _ _ _ e c.in_ok-at.ensures.end ∙ inv.end;
+      those = next_sections sizes at end _ _ _ e c.in_ok-at.ensures.end (items_view c.args.from.now.items.now) c.args.class _ _ c.in_ok-at.ensures.outputs ∙ inv.those;
+      follow = next_members sizes at end _ _ _ e c.in_ok-at.ensures.end _ _ c.in_ok-at.ensures.members ∙ inv.follow;
+      all = next_stands sizes at end _ _ _ e c.in_ok-at.ensures.end _ _ c.in_ok-at.ensures.stands ∙ inv.all;
     }
 
 pub returns-clause-end : goal.returns-clause-end
@@ -30,9 +40,14 @@ returns-clause-end c =
 pub returns-clause-outputs : goal.returns-clause-outputs
 returns-clause-outputs c =
     let none : length c.loop-rest.rest.now ≡ 0 = grind (arith, nat_tests) in
-    sym (append-nil (views c.loop-rest.outputs.items)) ∙ rw (nothing_left _ none) at c.loop-rest.invariant.outputs
+    sym (append-nil (map output_view c.loop-rest.outputs.items)) ∙ rw (nothing_left _ none) at c.loop-rest.invariant.those
 
-pub returns-clause-starts : goal.returns-clause-starts
-returns-clause-starts c =
+pub returns-clause-members : goal.returns-clause-members
+returns-clause-members c =
+    let none : length c.loop-rest.rest.now ≡ 0 = grind (arith, nat_tests) in
+    sym (append-nil c.loop-rest.members.items) ∙ rw (nothing_left _ none) at c.loop-rest.invariant.follow
+
+pub returns-clause-stands : goal.returns-clause-stands
+returns-clause-stands c =
     let none : length c.loop-rest.rest.now ≡ 0 = grind (arith, nat_tests) in
     rw (nothing_left _ none) at c.loop-rest.invariant.all

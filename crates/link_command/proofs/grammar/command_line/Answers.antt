@@ -11,5 +11,6 @@ returns c =
     let one = c.in_ok-arg.ensures.shape c.output_option.ensures.local ∙ ap₂ with_rule c.new.ensures.app c.output_option.ensures.rule in
     let two = c.in_ok-arg-2.ensures.shape c.entry_option.ensures.local ∙ ap₂ with_rule one c.entry_option.ensures.rule in
     let three = c.in_ok-arg-3.ensures.shape c.threads_option.ensures.local ∙ ap₂ with_rule two c.threads_option.ensures.rule in
-    let four = c.in_ok-arg-4.ensures.shape c.strip_option.ensures.local ∙ ap₂ with_rule three c.strip_option.ensures.rule in
-    IfOk-weaker c.arg-5.result _ _ (λ m h. h.shape c.files_argument.ensures.local ∙ ap₂ with_rule four c.files_argument.ensures.rule) c.arg-5.ensures
+    let four = c.in_ok-arg-4.ensures.shape c.gc_option.ensures.local ∙ ap₂ with_rule three c.gc_option.ensures.rule in
+    let five = c.in_ok-arg-5.ensures.shape c.strip_option.ensures.local ∙ ap₂ with_rule four c.strip_option.ensures.rule in
+    IfOk-weaker c.arg-6.result _ _ (λ m h. h.shape c.files_argument.ensures.local ∙ ap₂ with_rule five c.files_argument.ensures.rule) c.arg-6.ensures

@@ -1,6 +1,7 @@
 use Rattle.std.proofs.Common.{ℕ, List, length, subst, sym}
 use Rattle.std.specs.declared.ops.Range.{Range}
-use Rattle.lk_tables.specs.Addresses.{symbol_address}
+use Rattle.link_sections.specs.Addresses.{symbol_address}
+use Rattle.link_sections.specs.LaidOut.{layout_view}
 use Rattle.lk_tables.specs.BindingView.{binding_view}
 use Rattle.lk_tables.specs.Files.{by_symbol}
 use Rattle.lk_tables.specs.TablesView.{files_of}
@@ -13,12 +14,12 @@ pub over_shares-found-requires-clause-accepts : goal.over_shares-found-requires-
 over_shares-found-requires-clause-accepts g c = λ κs within w p lt at.
     let n = length (files_of c.args.tables.now) in
     let P : List (Range ℕ) → Type 0 = λ ps. Tiles 0 n ps in
-    (c.requires.bound, (c.requires.low, piece_within n c.as_slice.result.now w p (subst P (sym c.as_slice.ensures.value) c.in_ok-pieces.ensures.tiles) lt at))
+    (c.requires.bound, (c.requires.room, piece_within n c.as_slice.result.now w p (subst P (sym c.as_slice.ensures.value) c.in_ok-pieces.ensures.tiles) lt at))
 
 pub returns-in-Ok : goal.returns-in-Ok
 unfolding by_symbol
 returns-in-Ok g c =
     let files = files_of c.args.tables.now in
     let P : List (Range ℕ) → Type 0 = λ ps. Tiles 0 (length files) ps in
-    joined_run (symbol_row files (symbol_address files (binding_view c.args.binding.now) c.args.sections.now)) _ (length files) c.as_slice.result.now c.over_shares-found.result
+    joined_run (symbol_row files (symbol_address files (binding_view c.args.binding.now) c.args.leaders.now (layout_view c.args.layout.now))) _ (length files) c.as_slice.result.now c.over_shares-found.result
     c.in-Ok.list c.over_shares-found.ensures (λ p s h. h.1) (subst P (sym c.as_slice.ensures.value) c.in_ok-pieces.ensures.tiles) c.in-Ok.is

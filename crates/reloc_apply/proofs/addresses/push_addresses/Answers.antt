@@ -1,5 +1,6 @@
 use Rattle.std.proofs.Common.{ap, arith, length}
-use Rattle.lk_tables.specs.Addresses.{symbol_address}
+use Rattle.link_sections.specs.Addresses.{symbol_address}
+use Rattle.link_sections.specs.LaidOut.{layout_view}
 use Rattle.lk_tables.specs.BindingView.{binding_view}
 use Rattle.lk_tables.specs.Files.{File}
 use Rattle.lk_tables.specs.TablesView.{files_of}
@@ -19,5 +20,5 @@ overflow_cast-symbol c =
 
 pub loop-symbol-preserved : goal.loop-symbol-preserved
 loop-symbol-preserved c =
-    row_step (symbol_address (files_of c.args.tables.now) (binding_view c.args.binding.now) c.args.sections.now c.args.file) c.loop-symbol.symbol
+    row_step (symbol_address (files_of c.args.tables.now) (binding_view c.args.binding.now) c.args.leaders.now (layout_view c.args.layout.now) c.args.file) c.loop-symbol.symbol
     c.args.found.now.items c.loop-symbol.found.items c.push.new.self.items c.symbol_address.result c.loop-symbol.invariant c.in_ok-push.ensures.items c.symbol_address.ensures

@@ -1,7 +1,7 @@
 use Rattle.std.proofs.Common.{◌∙◌, ◌==◌, List, ap, find}
 use Rattle.lk_tables.specs.declared.objects.Reloc.{Reloc}
-use Rattle.lk_tables.specs.Files.{file_at, relocs_at}
-use Rattle.lk_tables.specs.Views.{files_in}
+use Rattle.lk_tables.specs.Sites.{relocs_of}
+use Rattle.link_sections.specs.Views.{files_in}
 use Rattle.reloc_apply.proofs.UpperParts.{upper_found}
 use Rattle.reloc_apply.proofs.values.find_upper.Goals as goal
 
@@ -9,4 +9,4 @@ pub returns : goal.returns
 returns c =
     c.find_at.ensures
     ∙ ap (λ (list : List Reloc). find (λ r. r.offset == c.args.offset) list) c.uppers_in.ensures.value
-    ∙ upper_found c.args.offset (relocs_at (file_at (files_in c.args.view.now) c.args.file) c.args.section)
+    ∙ upper_found c.args.offset (relocs_of (files_in c.args.view.now) c.args.site.section)

@@ -1,0 +1,6 @@
+pub mod Beaten
+pub mod FirstStays
+pub mod GroupLists
+pub mod Marking
+pub mod Members
+pub mod Sections

@@ -1,0 +1,74 @@
+-- Loops that mark members.
+use Rattle.std.proofs.Common.{◌≡◌, ℕ, ◌+◌, ◌<◌, ◌≤◌, nat_lt, Bool, true, false, List, [], ◌∷◌, ◌++◌, length, take, get_or, set, All, refl, sym, ap, ◌∙◌, subst, arith}
+use Rattle.std.specs.Prelude.{flat_map}
+use Rattle.std.specs.List.{range_with_len}
+use Rattle.std.proofs.lemmas.List.{get_or-map, length-map}
+use Rattle.std.proofs.lemmas.Bool.{cond-true, cond-false, lt-ltb, le-ltb}
+use Rattle.lk_base.proofs.Loops.{flat_step}
+use Rattle.lk_tables.specs.declared.files.File.{File as LentFile}
+use Rattle.lk_tables.specs.declared.heads.Section.{Section}
+use Rattle.lk_tables.specs.FileView.{file_view, file_views}
+use Rattle.lk_tables.specs.Files.{File, file_at, section_no}
+use Rattle.lk_tables.proofs.FirstNumbers.{file_read}
+use Rattle.comdat.specs.declared.groups.ComdatGroup.{ComdatGroup}
+use Rattle.comdat.specs.Claims.{group_at, no_comdat}
+use Rattle.comdat.specs.Comdats.{comdat_view, comdat_views}
+use Rattle.comdat.specs.Discarded.{Comdat}
+use Rattle.comdat.specs.Marks.{IsOfFiles, beaten, beaten_at, marked, member_no, members_of}
+use Rattle.comdat.proofs.GroupLists.{take_flat}
+use Rattle.comdat.proofs.Marking.{marked_next}
+
+-- the sections of a file that was read
+pub sections_read : (lent : List LentFile) (files : List File) (f : ℕ) (x : LentFile) → file_views lent ≡ files → f < length files → x ≡ get_or lent f x → x.head.sections.items ≡ (file_at files f).head.sections
+sections_read lent files f x is lt read =
+    let less : f < length lent = omega (arith, ap length is, length-map lent file_view) in
+    ap (λ (y : File). y.head.sections) (file_read lent f x less read ∙ ap (λ l. file_at l f) is)
+
+-- one member more: a section, or none
+pub member_next : (files : List File) (f : ℕ) (items : List ℕ) (i d : ℕ) (start old new : List Bool) → i < length items → new ≡ marked old (member_no files f (get_or items i d)) →
+    old ≡ marked start (flat_map (member_no files f) (take i items)) → new ≡ marked start (flat_map (member_no files f) (take (i + 1) items))
+member_next files f items i d start old new lt is before =
+    let ss = flat_map (member_no files f) (take i items) in
+    let ts = member_no files f (get_or items i d) in
+    marked_next start old new ss ts (flat_map (member_no files f) (take (i + 1) items)) before is (sym (take_flat (member_no files f) items i d [] ss (ss ++ ts) lt refl refl))
+
+pub member_marked : (files : List File) (f m s : ℕ) (sections : List Section) (old new : List Bool) → sections ≡ (file_at files f).head.sections → m < length sections → s ≡ section_no files f m → new ≡ set old s true → new ≡ marked old (member_no files f m)
+member_marked files f m s sections old new read lt number is =
+    let count = length (file_at files f).head.sections in
+    is ∙ ap (λ k. set old k true) number ∙ ap (marked old) (sym (cond-true (nat_lt m count) (section_no files f m ∷ []) [] (lt-ltb m count (omega (arith, ap length read)))))
+
+pub member_passed : (files : List File) (f m : ℕ) (sections : List Section) (old new : List Bool) → sections ≡ (file_at files f).head.sections → length sections ≤ m → new ≡ old → new ≡ marked old (member_no files f m)
+member_passed files f m sections old new read past is =
+    let count = length (file_at files f).head.sections in
+    is ∙ ap (marked old) (sym (cond-false (nat_lt m count) (section_no files f m ∷ []) [] (le-ltb m count (omega (arith, ap length read)))))
+
+-- one group more: its members are marked, or none
+pub group_next : (files : List File) (groups : List Comdat) (ns row : List ℕ) (j : ℕ) (start old new : List Bool) → new ≡ marked old (beaten_at files groups ns row j) →
+    old ≡ marked start (flat_map (beaten_at files groups ns row) (range_with_len 0 j)) → new ≡ marked start (flat_map (beaten_at files groups ns row) (range_with_len 0 (j + 1)))
+group_next files groups ns row j start old new is before =
+    let g = beaten_at files groups ns row in
+    let ss = flat_map g (range_with_len 0 j) in
+    marked_next start old new ss (g j) (flat_map g (range_with_len 0 (j + 1))) before is (sym (flat_step g j ss (ss ++ g j) refl refl))
+
+module _ (files : List File) (groups : List ComdatGroup) (ns row : List ℕ) (j : ℕ) (blank : ComdatGroup) (lt : j < length groups) where
+  abbrev read_group : Comdat
+  read_group = comdat_view (get_or groups j blank)
+
+  group_read : group_at (comdat_views groups) j ≡ read_group
+  group_read = get_or-map comdat_view groups j blank no_comdat lt
+
+  pub group_of_files : All (IsOfFiles files) (comdat_views groups) → IsOfFiles files read_group
+  group_of_files each =
+      let P : Comdat → Type 0 = IsOfFiles files in
+      subst P group_read (each j no_comdat (omega (arith, length-map groups comdat_view)))
+
+  pub group_marked : (b : Bool) (old new : List Bool) → b ≡ beaten read_group (get_or ns j 0) row → b ≡ true → new ≡ marked old (members_of files read_group) → new ≡ marked old (beaten_at files (comdat_views groups) ns row j)
+  group_marked b old new is goes marks =
+      let own : beaten (group_at (comdat_views groups) j) (get_or ns j 0) row ≡ true = ap (λ g. beaten g (get_or ns j 0) row) group_read ∙ sym is ∙ goes in
+      marks ∙ ap (λ g. marked old (members_of files g)) (sym group_read)
+      ∙ ap (marked old) (sym (cond-true (beaten (group_at (comdat_views groups) j) (get_or ns j 0) row) (members_of files (group_at (comdat_views groups) j)) [] own))
+
+  pub group_passed : (b : Bool) (old new : List Bool) → b ≡ beaten read_group (get_or ns j 0) row → b ≡ false → new ≡ old → new ≡ marked old (beaten_at files (comdat_views groups) ns row j)
+  group_passed b old new is stays same =
+      let own : beaten (group_at (comdat_views groups) j) (get_or ns j 0) row ≡ false = ap (λ g. beaten g (get_or ns j 0) row) group_read ∙ sym is ∙ stays in
+      same ∙ ap (marked old) (sym (cond-false (beaten (group_at (comdat_views groups) j) (get_or ns j 0) row) (members_of files (group_at (comdat_views groups) j)) [] own))

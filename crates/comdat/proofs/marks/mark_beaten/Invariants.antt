@@ -1,0 +1,11 @@
+use Rattle.std.proofs.Common.{◌≡◌}
+use Rattle.std.specs.Prelude.{flat_map}
+use Rattle.std.specs.List.{range_with_len}
+use Rattle.lk_tables.specs.TablesView.{files_of}
+use Rattle.comdat.specs.Comdats.{comdat_views}
+use Rattle.comdat.specs.Marks.{beaten_at, marked}
+use Rattle.comdat.proofs.marks.mark_beaten.Given as goal
+
+abbrev pub invariant-loop-j : goal.invariant-loop-j
+invariant-loop-j l =
+    l.marks.items ≡ marked l.initial.marks.items (flat_map (beaten_at (files_of l.tables) (comdat_views l.groups) l.numbers l.row) (range_with_len 0 l.j))

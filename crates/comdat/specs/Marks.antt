@@ -1,0 +1,35 @@
+-- Marks for sections of groups, by number.
+use Rattle.std.specs.Prelude.{◌≡◌, ℕ, ◌<◌, ◌==◌, not, nat_lt, Bool, true, if◌then◌else◌, List, [], ◌∷◌, length, flat_map, slice_index, slice_set}
+use Rattle.std.specs.List.{range_with_len}
+use Rattle.lk_tables.specs.Files.{File, file_at, section_no}
+use Rattle.comdat.specs.Claims.{group_at}
+use Rattle.comdat.specs.Discarded.{Comdat, rank}
+
+-- the group is of one of these files, which takes part
+pub record IsOfFiles (files : List File) (g : Comdat) : Type 0 where
+  pub within : g.file < length files
+  pub live : (file_at files g.file).live ≡ true
+
+-- the marks after the sections of these numbers are marked
+abbrev pub marked : List Bool → List ℕ → List Bool
+marked marks [] = marks
+marked marks (s ∷ ss) = marked (slice_set marks s true) ss
+
+-- the number of a member that is a section of its file, and of all members of a group
+abbrev pub member_no : List File → (f m : ℕ) → List ℕ
+member_no files f m = if nat_lt m (length (file_at files f).head.sections) then section_no files f m ∷ [] else []
+
+unfoldable pub members_of : List File → Comdat → List ℕ
+members_of files g = flat_map (member_no files g.file) g.members
+
+-- the least rank of a word is not the group's
+abbrev pub beaten : Comdat → (number : ℕ) → List ℕ → Bool
+beaten g number row = not (slice_index row number == rank g)
+
+-- the members of the groups of which this holds
+abbrev pub beaten_at : List File → List Comdat → (numbers row : List ℕ) → ℕ → List ℕ
+beaten_at files groups numbers row j =
+    if beaten (group_at groups j) (slice_index numbers j) row then members_of files (group_at groups j) else []
+
+unfoldable pub beaten_members : List File → List Comdat → (numbers row : List ℕ) → List ℕ
+beaten_members files groups numbers row = flat_map (beaten_at files groups numbers row) (range_with_len 0 (length groups))

@@ -1,0 +1,171 @@
+-- The bytes of sections stand whole in a file in which their members stand one after the other.
+use Rattle.std.proofs.Common.{◌≡◌, ℕ, suc, ◌+◌, ◌-◌, ◌*◌, ◌<◌, ◌≤◌, true, Option, Some, None, Bool, false, List, [], ◌∷◌, ◌++◌, length, flat_map, take, drop, slice_index, slice_index_or, refl, ap, sym, ◌∙◌, arith, subst}
+use Rattle.std.specs.Prelude.{if◌then◌else◌}
+use Rattle.std.specs.List.{All}
+use Rattle.std.proofs.lemmas.Bool.Decides.{nat_tests}
+use Rattle.std.proofs.lemmas.List.{ext_get_or, get_or-take, get_or-drop, length-take-le, length-drop}
+use Rattle.std.proofs.lemmas.List.Elements.{All-nil, All-cons, All-head, All-tail}
+use Rattle.lk_base.specs.Arithmetic.{up}
+use Rattle.lk_base.specs.declared.abi.TheConstants.{IMAGE_BASE, SHDR_SIZE}
+use Rattle.lk_tables.specs.Binding.{Bindings}
+use Rattle.lk_tables.specs.Files.{File}
+use Rattle.link_sections.specs.declared.members.Content.TheVariants.{Section}
+use Rattle.link_sections.specs.declared.members.Member.{Member}
+use Rattle.link_sections.specs.LaidOut.{LaidOut}
+use Rattle.link_sections.specs.Sound.{IsSound}
+use Rattle.elf_out.specs.Executable.{end_pieces, file_length, header_count, names_offset, table_offset}
+use Rattle.elf_out.specs.Headers.{section_headers, section_names}
+use Rattle.elf_out.specs.Standing.{SectionsStand, StandsWhole}
+use Rattle.elf_out.proofs.Laying.{image_byte, image_length, over_append}
+use Rattle.reloc_apply.specs.Image.{Piece, byte_over, image, over, piece}
+use Rattle.reloc_apply.specs.Relocated.{has_bits, member_pieces, relocated_pieces, section_bytes, written_in, written_pieces}
+
+-- each member ends before the next one starts
+abbrev pub AreInOrder : List Member → Type 0
+AreInOrder ms = (i : ℕ) (d : Member) → i + 1 < length ms → (slice_index_or ms i d).start + (slice_index_or ms i d).size ≤ (slice_index_or ms (i + 1) d).start
+
+-- so do those after the first one
+rest_in_order : (m : Member) (ms : List Member) → AreInOrder (m ∷ ms) → AreInOrder ms
+rest_in_order m ms order = λ i d lt.
+    let e : suc i + 1 ≡ suc (i + 1) = omega arith in
+    let P : ℕ → Type 0 = λ k. (slice_index_or ms i d).start + (slice_index_or ms i d).size ≤ (slice_index_or (m ∷ ms) k d).start in
+    subst P e (order (suc i) d (omega (arith, lt)))
+
+-- all those after a member start at its end or later
+later : (end : ℕ) (ms : List Member) → AreInOrder ms → ((d : Member) → 0 < length ms → end ≤ (slice_index_or ms 0 d).start)
+    → All (λ m. end ≤ m.start) ms
+later end [] order first = All-nil (λ (m : Member). end ≤ m.start)
+later end (m ∷ ms) order first =
+    let own : end ≤ m.start = first m (omega arith) in
+    All-cons (λ (k : Member). end ≤ k.start) m ms own
+    (later end ms (rest_in_order m ms order) (λ d some. let next : m.start + m.size ≤ (slice_index_or ms 0 d).start = order 0 d (omega (arith, some)) in omega (arith, own, next)))
+
+pub all_later : (m : Member) (ms : List Member) → AreInOrder (m ∷ ms) → All (λ k. m.start + m.size ≤ k.start) ms
+all_later m ms order =
+    later (m.start + m.size) ms (rest_in_order m ms order) (λ d some. order 0 d (omega (arith, some)))
+
+-- a piece that starts after a place is nothing there, and one that has it is its byte
+before_piece : (at : ℕ) (bytes : List ℕ) (u place : ℕ) → place < at → over (piece at bytes) u place ≡ u
+before_piece at bytes u place lt = grind (arith, nat_tests)
+
+in_piece : (at : ℕ) (bytes : List ℕ) (u place : ℕ) → at ≤ place → place < at + length bytes → over (piece at bytes) u place ≡ slice_index bytes (place - at)
+in_piece at bytes u place le lt = grind (arith, nat_tests)
+
+module _ (files : List File) (b : Bindings) (leaders : List (Option ℕ)) (laid : LaidOut) where
+  abbrev pub pieces_by : Member → List Piece
+  pieces_by m = member_pieces files b leaders laid m
+
+  -- members that start after a place write nothing there
+  silent_option : (start place u : ℕ) (o : Option ℕ) → place < start - IMAGE_BASE
+      → byte_over u (written_pieces files b leaders laid start o) place ≡ u
+  silent_option start place u None lt = refl
+  silent_option start place u (Some n) lt = before_piece (start - IMAGE_BASE) (section_bytes files b leaders laid n) u place lt
+
+  silent_member : (m : Member) (place u : ℕ) → place < m.start - IMAGE_BASE → byte_over u (pieces_by m) place ≡ u
+  unfolding member_pieces
+  silent_member m place u lt = silent_option m.start place u (written_in files b leaders laid m.content) lt
+
+  silent : (ms : List Member) (end place u : ℕ) → All (λ m. end ≤ m.start) ms → place < end - IMAGE_BASE
+      → byte_over u (flat_map pieces_by ms) place ≡ u
+  silent [] end place u all lt = refl
+  silent (m ∷ ms) end place u all lt =
+      let own : end ≤ m.start = All-head (λ (k : Member). end ≤ k.start) m ms all in
+      over_append u place (pieces_by m) (flat_map pieces_by ms)
+      ∙ ap (λ v. byte_over v (flat_map pieces_by ms) place) (silent_member m place u (omega (arith, own, lt)))
+      ∙ silent ms end place u (All-tail (λ (k : Member). end ≤ k.start) m ms all) lt
+
+  -- the bytes of a member are as many as it has
+  abbrev pub IsSized : Member → Type 0
+  IsSized m = (n : ℕ) → m.content ≡ Section n → has_bits files b leaders laid n ≡ true → length (section_bytes files b leaders laid n) ≡ m.size
+
+  -- at each place of a member these members leave its byte
+  abbrev pub IsShown : (ms : List Member) → Member → Type 0
+  IsShown ms m = (n : ℕ) → m.content ≡ Section n → has_bits files b leaders laid n ≡ true → (u place : ℕ)
+      → m.start - IMAGE_BASE ≤ place → place < m.start - IMAGE_BASE + m.size
+      → byte_over u (flat_map pieces_by ms) place ≡ slice_index (section_bytes files b leaders laid n) (place - (m.start - IMAGE_BASE))
+
+  written : (n : ℕ) (test : Bool) → test ≡ true → (if test then Some n else None) ≡ Some n
+  written n true is = refl
+  written n false is = let no : ⊥ = cc in absurd no
+
+  pieces_are : (m : Member) (n : ℕ) → m.content ≡ Section n → has_bits files b leaders laid n ≡ true
+      → pieces_by m ≡ piece (m.start - IMAGE_BASE) (section_bytes files b leaders laid n) ∷ []
+  unfolding member_pieces
+  pieces_are m n is bits =
+      ap (λ c. written_pieces files b leaders laid m.start (written_in files b leaders laid c)) is
+      ∙ ap (written_pieces files b leaders laid m.start) (written n (has_bits files b leaders laid n) bits)
+
+  first_shown : (m : Member) (ms : List Member) → IMAGE_BASE ≤ m.start → AreInOrder (m ∷ ms) → IsSized m → IsShown (m ∷ ms) m
+  first_shown m ms low order sized = λ n is bits u place le lt.
+      let at = m.start - IMAGE_BASE in
+      let bytes = section_bytes files b leaders laid n in
+      let long : length bytes ≡ m.size = sized n is bits in
+      over_append u place (pieces_by m) (flat_map pieces_by ms)
+      ∙ ap (λ ps. byte_over (byte_over u ps place) (flat_map pieces_by ms) place) (pieces_are m n is bits)
+      ∙ silent ms (m.start + m.size) place (over (piece at bytes) u place) (all_later m ms order) (omega (arith, low, lt))
+      ∙ in_piece at bytes u place le (omega (arith, long, lt))
+
+  more_shown : (k : Member) (ms : List Member) (m : Member) → IsShown ms m → IsShown (k ∷ ms) m
+  more_shown k ms m shown = λ n is bits u place le lt.
+      over_append u place (pieces_by k) (flat_map pieces_by ms) ∙ shown n is bits (byte_over u (pieces_by k) place) place le lt
+
+  pub all_shown : (ms : List Member) → All (λ m. IMAGE_BASE ≤ m.start) ms → AreInOrder ms → All IsSized ms → All (IsShown ms) ms
+  all_shown [] low order sized = All-nil (IsShown [])
+  all_shown (m ∷ ms) low order sized =
+      All-cons (IsShown (m ∷ ms)) m ms
+      (first_shown m ms (All-head (λ (k : Member). IMAGE_BASE ≤ k.start) m ms low) order (All-head IsSized m ms sized))
+      (λ i d lt. more_shown m ms (slice_index_or ms i d)
+      (all_shown ms (All-tail (λ (k : Member). IMAGE_BASE ≤ k.start) m ms low) (rest_in_order m ms order) (All-tail IsSized m ms sized) i d lt))
+
+  -- in a file with headers before them and two pieces after them
+  whole_byte : (head names table : Piece) (ms : List Member) (m : Member) (n i : ℕ) → IsShown ms m → m.content ≡ Section n
+      → has_bits files b leaders laid n ≡ true → i < m.size
+      → m.start - IMAGE_BASE + m.size ≤ names.at → m.start - IMAGE_BASE + m.size ≤ table.at
+      → byte_over 0 (head ∷ flat_map pieces_by ms ++ (names ∷ table ∷ [])) (m.start - IMAGE_BASE + i)
+      ≡ slice_index (section_bytes files b leaders laid n) i
+  whole_byte head names table ms m n i shown is bits lt before_names before_table =
+      let place = m.start - IMAGE_BASE + i in
+      let back : place - (m.start - IMAGE_BASE) ≡ i = omega arith in
+      let under : ℕ = byte_over (over head 0 place) (flat_map pieces_by ms) place in
+      over_append (over head 0 place) place (flat_map pieces_by ms) (names ∷ table ∷ [])
+      ∙ ap (λ u. over table u place) (before_piece names.at names.bytes under place (omega (arith, lt, before_names)))
+      ∙ before_piece table.at table.bytes under place (omega (arith, lt, before_table))
+      ∙ shown n is bits (over head 0 place) place (omega arith) (omega (arith, lt))
+      ∙ ap (slice_index (section_bytes files b leaders laid n)) back
+
+  pub stands_whole : (head names table : Piece) (size : ℕ) (ms : List Member) (m : Member) → IsShown ms m → IsSized m
+      → m.start - IMAGE_BASE + m.size ≤ names.at → m.start - IMAGE_BASE + m.size ≤ table.at → m.start - IMAGE_BASE + m.size ≤ size
+      → StandsWhole files b leaders laid (image (head ∷ flat_map pieces_by ms ++ (names ∷ table ∷ [])) size) m
+  stands_whole head names table size ms m shown sized before_names before_table before_end = λ n is bits.
+      let ps : List Piece = head ∷ flat_map pieces_by ms ++ (names ∷ table ∷ []) in
+      let at = m.start - IMAGE_BASE in
+      let long : length (section_bytes files b leaders laid n) ≡ m.size = sized n is bits in
+      let rest : length (drop at (image ps size)) ≡ size - at = length-drop at (image ps size) ∙ ap (λ k. k - at) (image_length ps size) in
+      let wide : length (take m.size (drop at (image ps size))) ≡ m.size =
+      length-take-le m.size (drop at (image ps size)) (omega (arith, rest, before_end)) in
+      ext_get_or 0 (take m.size (drop at (image ps size))) (section_bytes files b leaders laid n) (wide ∙ sym long)
+      (λ i lt. let within : i < m.size = omega (arith, wide, lt) in
+      get_or-take m.size (drop at (image ps size)) i 0 within ∙ get_or-drop at (image ps size) i 0
+      ∙ image_byte ps size (at + i) (omega (arith, within, before_end))
+      ∙ whole_byte head names table ms m n i shown is bits within before_names before_table)
+
+-- the section headers follow the names
+up_least : (x : ℕ) → x ≤ up x 8
+unfolding up
+up_least x = omega arith
+
+-- in the executable of a sound layout
+pub sections_stand : (files : List File) (b : Bindings) (leaders : List (Option ℕ)) (laid : LaidOut) (heads : List ℕ)
+    → IsSound files b leaders laid → All (IsSized files b leaders laid) laid.members
+    → SectionsStand files b leaders laid (image (piece 0 heads ∷ relocated_pieces files b leaders laid ++ end_pieces laid) (file_length laid))
+unfolding relocated_pieces file_length
+sections_stand files b leaders laid heads sound sized = λ i d lt.
+    let m : Member = slice_index_or laid.members i d in
+    let low : All (λ (k : Member). IMAGE_BASE ≤ k.start) laid.members = λ j e at. omega (arith, sound.low j e at) in
+    let shown : All (IsShown files b leaders laid laid.members) laid.members = all_shown files b leaders laid laid.members low sound.order sized in
+    let end : m.start + m.size ≤ laid.bounds.file_end = sound.inside i d lt in
+    let above : IMAGE_BASE ≤ m.start = low i d lt in
+    let after : names_offset laid + length (section_names laid.outputs) ≤ table_offset laid = up_least (names_offset laid + length (section_names laid.outputs)) in
+    stands_whole files b leaders laid (piece 0 heads) (piece (names_offset laid) (section_names laid.outputs))
+    (piece (table_offset laid) (section_headers laid.outputs (names_offset laid))) (table_offset laid + SHDR_SIZE * header_count laid) laid.members m
+    (shown i d lt) (sized i d lt) (omega (arith, end, above)) (omega (arith, end, above, after)) (omega (arith, end, above, after))

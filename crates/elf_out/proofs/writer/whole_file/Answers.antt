@@ -1,0 +1,14 @@
+use Rattle.std.proofs.Common.{◌∙◌, ap, drop, length, replicate}
+use Rattle.link_sections.specs.Views.{binding_in, files_in, laid_in, leaders_in}
+use Rattle.elf_out.specs.Executable.{executable, file_length, pieces}
+use Rattle.elf_out.proofs.Laying.{whole}
+use Rattle.elf_out.proofs.writer.whole_file.Goals as goal
+
+pub returns : goal.returns
+unfolding executable
+returns g c =
+    let v = c.args.view.now in
+    let end = c.in_ok-ends.ensures.end in
+    whole (file_length (laid_in v)) c.in_ok-out.out.len (pieces (files_in v) (binding_in v) (leaders_in v) (laid_in v))
+    c.deref_mut.result.now c.fill.new.out (drop (length c.fill.new.out) c.in_ok-out.out.items) (c.in_ok-out.ensures.len ∙ end)
+    (c.deref_mut.ensures.value ∙ c.in_ok-out.ensures.items_if_clones_equal (λ y h. h) ∙ ap (λ k. replicate k 0) end) c.fill.ensures

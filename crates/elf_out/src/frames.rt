@@ -1,0 +1,138 @@
+//! What a block of the file has beside the sections: the headers, which stand before them, the names and the section headers, which
+//! stand after them. What does not meet the block is not made.
+
+ghost use Rattle.std.specs.Prelude.{◌≡◌, ◌+◌, ◌<◌, ◌≤◌, ◌^◌, ◌∷◌, [], length, map, IfOk};
+ghost use Rattle.link_sections.specs.LaidOut.{output_view};
+ghost use Rattle.link_sections.specs.Views.{binding_in, files_in, laid_in, leaders_in};
+ghost use Rattle.elf_out.specs.Ends.{AreEnds};
+ghost use Rattle.elf_out.specs.Executable as spec;
+ghost use Rattle.elf_out.specs.Frames.{IsFrame, StandsFor};
+ghost use Rattle.elf_out.specs.Headers.{section_headers, section_names};
+ghost use Rattle.reloc_apply.specs.Image.{piece, ShowsFrom};
+
+use crate::ends::Ends;
+use crate::sections::{header_table, name_bytes};
+use crate::segments::{headers_before, segment_count};
+use link_sections::{Output, View};
+use lk_base::abi::{EHDR_SIZE, PHDR_SIZE};
+use reloc_apply::{Piece, fill_piece};
+use std::alloc::{AllocError, Global};
+
+/// The headers, the names and the section headers, or nothing in place of one that does not meet the block.
+#[derive(Drop)]
+pub struct Frame {
+    pub headers: Vec<u8>,
+    /// The file offset of the names.
+    pub names_at: u64,
+    pub names: Vec<u8>,
+    /// The file offset of the section headers.
+    pub table_at: u64,
+    pub table: Vec<u8>,
+}
+
+/// What a block has that starts at one file offset and ends at another.
+pub fn frame_in(
+    alloc: Global,
+    view: &View,
+    ends: &Ends,
+    from: u64,
+    to: u64,
+) -> Result<Frame, AllocError>
+    requires { AreEnds (laid_in view.now) ends.now }
+    ensures { IfOk result (λ frame. IsFrame (files_in view.now) (binding_in view.now) (leaders_in view.now) (laid_in view.now) from to frame) }
+{
+    let headers = headers_in(alloc, view, ends, from, to)?;
+    let names = names_in(alloc, view.layout.outputs.as_slice(), ends, from, to)?;
+    let table = table_in(alloc, view.layout.outputs.as_slice(), ends, from, to)?;
+    Ok(Frame {
+        headers,
+        names_at: ends.names_at,
+        names,
+        table_at: ends.table_at,
+        table,
+    })
+}
+
+/// The file header and the program headers, unless the block starts after them.
+fn headers_in(
+    alloc: Global,
+    view: &View,
+    ends: &Ends,
+    from: u64,
+    to: u64,
+) -> Result<Vec<u8>, AllocError>
+    requires { AreEnds (laid_in view.now) ends.now }
+    ensures { IfOk result (λ v. StandsFor from to (piece 0 v.items) (piece 0 (spec.headers (files_in view.now) (binding_in view.now) (leaders_in view.now) (laid_in view.now)))) }
+{
+    if from >= EHDR_SIZE + PHDR_SIZE * segment_count(&view.layout.bounds) as u64 {
+        return Ok(Vec::new(alloc));
+    }
+    headers_before(alloc, view, ends.table_at)
+}
+
+/// The names, unless the block ends before them or starts after them.
+fn names_in(
+    alloc: Global,
+    outputs: &[Output],
+    ends: &Ends,
+    from: u64,
+    to: u64,
+) -> Result<Vec<u8>, AllocError>
+    requires size { ends.now.names_size ≡ length (section_names (map output_view outputs.now)) }
+    requires small { ends.now.names_at + ends.now.names_size < 2 ^ 63 }
+    ensures { IfOk result (λ v. StandsFor from to (piece ends.now.names_at v.items) (piece ends.now.names_at (section_names (map output_view outputs.now)))) }
+{
+    if to <= ends.names_at || from >= ends.names_at + ends.names_size {
+        return Ok(Vec::new(alloc));
+    }
+    name_bytes(alloc, outputs)
+}
+
+/// The section headers, unless the block ends before them.
+fn table_in(
+    alloc: Global,
+    outputs: &[Output],
+    ends: &Ends,
+    from: u64,
+    to: u64,
+) -> Result<Vec<u8>, AllocError>
+    requires size { ends.now.names_size ≡ length (section_names (map output_view outputs.now)) }
+    requires small { ends.now.names_size < 2 ^ 63 }
+    ensures { IfOk result (λ v. StandsFor from to (piece ends.now.table_at v.items) (piece ends.now.table_at (section_headers (map output_view outputs.now) ends.now.names_at))) }
+{
+    if to <= ends.table_at {
+        return Ok(Vec::new(alloc));
+    }
+    header_table(alloc, outputs, ends.names_at, ends.names_size)
+}
+
+/// Copies the headers into a block that starts at a file offset.
+pub fn lay_headers(block: &mut [u8], from: u64, view: &View, frame: &Frame)
+    requires room { from + length block.old < 2 ^ 63 }
+    requires frame { IsFrame (files_in view.now) (binding_in view.now) (leaders_in view.now) (laid_in view.now) from (from + length block.old) frame.now }
+    ensures { ShowsFrom from block.old block.new (piece 0 (spec.headers (files_in view.now) (binding_in view.now) (leaders_in view.now) (laid_in view.now)) ∷ []) }
+{
+    let headers = Piece {
+        at: 0,
+        bytes: frame.headers.as_slice(),
+    };
+    fill_piece(block, from, &headers);
+}
+
+/// Copies the names and the section headers.
+pub fn lay_ends(block: &mut [u8], from: u64, view: &View, frame: &Frame)
+    requires room { from + length block.old < 2 ^ 63 }
+    requires frame { IsFrame (files_in view.now) (binding_in view.now) (leaders_in view.now) (laid_in view.now) from (from + length block.old) frame.now }
+    ensures { ShowsFrom from block.old block.new (spec.end_pieces (laid_in view.now)) }
+{
+    let names = Piece {
+        at: frame.names_at,
+        bytes: frame.names.as_slice(),
+    };
+    let table = Piece {
+        at: frame.table_at,
+        bytes: frame.table.as_slice(),
+    };
+    fill_piece(block, from, &names);
+    fill_piece(block, from, &table);
+}

@@ -1,0 +1,10 @@
+//! Lists by number, one after the other in one buffer: what each section has of edges, upper parts, cuts or pieces is read
+//! in constant time, and a list takes no memory of its own.
+#![tactic(auto)]
+
+mod rows;
+
+pub use rows::Rows;
+
+#[cfg(test)]
+mod tests;

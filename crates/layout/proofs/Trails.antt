@@ -1,0 +1,117 @@
+-- The whole walk: where all members stand, and those of output sections that are not empty.
+use Rattle.std.proofs.Common.{◌≡◌, ℕ, zero, suc, ◌+◌, ◌-◌, ◌^◌, ◌<◌, ◌≤◌, List, [], ◌∷◌, ◌++◌, set, replicate, sym, ◌∙◌, All, append_assoc, arith}
+use Rattle.std.proofs.lemmas.List.Elements.{All-nil, All-head, All-tail, All-cons, All-append}
+use Rattle.lk_base.specs.declared.abi.TheConstants.{ALIGN_MAX}
+use Rattle.link_sections.specs.declared.layouts.Bounds.{Bounds}
+use Rattle.link_sections.specs.declared.members.Content.{Content}
+use Rattle.link_sections.specs.declared.members.Content.TheVariants.{Section, Pool as IsPool, Got}
+use Rattle.link_sections.specs.declared.members.Member.{Member}
+use Rattle.link_sections.specs.Cuts.{Cut}
+use Rattle.layout.specs.Items.{Item}
+use Rattle.layout.specs.Layout.{Trail, after_tls_bits, no_trail, tls_cursor, trail_of, with_bits, with_zeros}
+use Rattle.layout.specs.Order.{Orders}
+use Rattle.layout.specs.Spots.{AreRising}
+use Rattle.layout.specs.Walk.{Stands, all_put, cursor_at, members_along, put, runs, stands_along}
+use Rattle.layout.proofs.Chain.{AreBounds}
+use Rattle.layout.proofs.Cursors.{RowFits}
+use Rattle.layout.proofs.Members.{Near, both_along}
+use Rattle.layout.proofs.Rising.{AllFit, class_moves, tls_most}
+use Rattle.layout.proofs.Runs.{each_run}
+use Rattle.layout.proofs.Splitting.{put_append}
+
+-- all members, class by class
+abbrev pub all_stands : List (List Cut) → Orders → Bounds → List Member
+all_stands sizes o b = stands_along sizes (cursor_at b.headers_end) (runs o.r)
+    ++ (stands_along sizes (cursor_at b.rx_start) (runs o.rx)
+    ++ (stands_along sizes (tls_cursor sizes o b.rw_start b.tls_align) (runs o.tls_bits)
+    ++ (stands_along sizes (after_tls_bits sizes o b.rw_start b.tls_align) (runs o.tls_nobits)
+    ++ (stands_along sizes (cursor_at b.tls_bits_end) (runs o.rw_bits)
+    ++ stands_along sizes (cursor_at b.bits_end) (runs o.rw_nobits)))))
+
+-- those with bytes in the file, of output sections that are not empty
+abbrev pub all_members : List (List Cut) → Orders → Bounds → List Member
+all_members sizes o b = members_along sizes (cursor_at b.headers_end) (runs o.r)
+    ++ (members_along sizes (cursor_at b.rx_start) (runs o.rx)
+    ++ (members_along sizes (tls_cursor sizes o b.rw_start b.tls_align) (runs o.tls_bits)
+    ++ members_along sizes (cursor_at b.tls_bits_end) (runs o.rw_bits)))
+
+pub trail_stands : (sizes : List (List Cut)) (parts : List Item) (o : Orders) (b : Bounds) (t : Trail)
+    → (trail_of sizes parts o b t).stands ≡ all_put (all_stands sizes o b) t.stands
+unfolding trail_of with_bits with_zeros
+trail_stands sizes parts o b t =
+    let r = stands_along sizes (cursor_at b.headers_end) (runs o.r) in
+    let x = stands_along sizes (cursor_at b.rx_start) (runs o.rx) in
+    let tb = stands_along sizes (tls_cursor sizes o b.rw_start b.tls_align) (runs o.tls_bits) in
+    let tn = stands_along sizes (after_tls_bits sizes o b.rw_start b.tls_align) (runs o.tls_nobits) in
+    let wb = stands_along sizes (cursor_at b.tls_bits_end) (runs o.rw_bits) in
+    let wn = stands_along sizes (cursor_at b.bits_end) (runs o.rw_nobits) in
+    sym (put_append r (x ++ (tb ++ (tn ++ (wb ++ wn)))) t.stands ∙ put_append x (tb ++ (tn ++ (wb ++ wn))) (all_put r t.stands)
+    ∙ put_append tb (tn ++ (wb ++ wn)) (all_put x (all_put r t.stands)) ∙ put_append tn (wb ++ wn) (all_put tb (all_put x (all_put r t.stands)))
+    ∙ put_append wb wn (all_put tn (all_put tb (all_put x (all_put r t.stands)))))
+
+pub trail_members : (sizes : List (List Cut)) (parts : List Item) (o : Orders) (b : Bounds) (sections pools : ℕ)
+    → (trail_of sizes parts o b (no_trail sections pools)).members ≡ all_members sizes o b
+unfolding trail_of with_bits with_zeros
+trail_members sizes parts o b sections pools = simp append_assoc
+
+-- where they stand: from the headers on, and not much after the end of the last class
+near_more : (from to later : ℕ) (ms : List Member) → to ≤ later → All (Near from to) ms → (first : ℕ) → first ≤ from → All (Near first later) ms
+near_more from to later ms le all first first_le = λ k d lt. record { first = omega (arith, (all k d lt).first, first_le); low = omega (arith, (all k d lt).low, le) }
+
+pub stands_near : (sizes : List (List Cut)) (o : Orders) (b : Bounds) → AllFit sizes o → AreBounds sizes o b → AreRising b
+    → All (Near b.headers_end (2 ^ 63 - 2 ^ 31)) (all_stands sizes o b)
+stands_near sizes o b fit is up =
+    let m = class_moves sizes o b fit is in
+    let extra : b.tls_align ≤ ALIGN_MAX = omega (arith, is.tls_align, tls_most sizes o fit) in
+    let last : ℕ = 2 ^ 63 - 2 ^ 31 in
+    let P : Member → Type 0 = Near b.headers_end last in
+    let r : All P (stands_along sizes (cursor_at b.headers_end) (runs o.r)) =
+    (both_along sizes b.headers_end last (cursor_at b.headers_end) (runs o.r) (omega arith) (omega arith)
+    (omega (arith, is.r_end, up.rx_rounded, up.rx, up.rw_rounded, up.tls_bits, up.bits, up.nobits, up.room)) (each_run (RowFits sizes) o.r fit.r)).0 in
+    let x : All P (stands_along sizes (cursor_at b.rx_start) (runs o.rx)) =
+    (both_along sizes b.headers_end last (cursor_at b.rx_start) (runs o.rx) (omega arith) (omega (arith, up.r, up.rx_rounded))
+    (omega (arith, is.rx_end, up.rw_rounded, up.tls_bits, up.bits, up.nobits, up.room)) (each_run (RowFits sizes) o.rx fit.rx)).0 in
+    let tb : All P (stands_along sizes (tls_cursor sizes o b.rw_start b.tls_align) (runs o.tls_bits)) =
+    (both_along sizes b.headers_end last (tls_cursor sizes o b.rw_start b.tls_align) (runs o.tls_bits) extra (omega (arith, up.r, up.rx_rounded, up.rx, up.rw_rounded))
+    (omega (arith, is.tls_bits_end, up.bits, up.nobits, up.room)) (each_run (RowFits sizes) o.tls_bits fit.tls_bits)).0 in
+    let tn : All P (stands_along sizes (after_tls_bits sizes o b.rw_start b.tls_align) (runs o.tls_nobits)) =
+    (both_along sizes b.headers_end last (after_tls_bits sizes o b.rw_start b.tls_align) (runs o.tls_nobits) m.tls_bits.extra
+    (omega (arith, is.tls_bits_end, up.r, up.rx_rounded, up.rx, up.rw_rounded, up.tls_bits)) (omega (arith, is.tls_end, up.tls_room))
+    (each_run (RowFits sizes) o.tls_nobits fit.tls_nobits)).0 in
+    let wb : All P (stands_along sizes (cursor_at b.tls_bits_end) (runs o.rw_bits)) =
+    (both_along sizes b.headers_end last (cursor_at b.tls_bits_end) (runs o.rw_bits) (omega arith) (omega (arith, up.r, up.rx_rounded, up.rx, up.rw_rounded, up.tls_bits))
+    (omega (arith, is.bits_end, up.nobits, up.room)) (each_run (RowFits sizes) o.rw_bits fit.rw_bits)).0 in
+    let wn : All P (stands_along sizes (cursor_at b.bits_end) (runs o.rw_nobits)) =
+    (both_along sizes b.headers_end last (cursor_at b.bits_end) (runs o.rw_nobits) (omega arith)
+    (omega (arith, up.r, up.rx_rounded, up.rx, up.rw_rounded, up.tls_bits, up.bits)) (omega (arith, is.nobits_end, up.room))
+    (each_run (RowFits sizes) o.rw_nobits fit.rw_nobits)).0 in
+    All-append P _ _ r (All-append P _ _ x (All-append P _ _ tb (All-append P _ _ tn (All-append P _ _ wb wn))))
+
+-- what holds of 0 and of each start holds of each address that is put
+put_holds : (P : ℕ → Type 0) (content : Content) (start : ℕ) (s : Stands) → P start → All P s.starts → All P (put content start s).starts
+put_holds P (Section n) start s one all = all_set P s.starts n start one all
+  where
+    all_set : (P : ℕ → Type 0) (xs : List ℕ) (n x : ℕ) → P x → All P xs → All P (set xs n x)
+    all_set P [] n x one all = λ k d lt. absurd (omega (arith, lt))
+    all_set P (y ∷ ys) zero x one all = All-cons P x ys one (All-tail P y ys all)
+    all_set P (y ∷ ys) (suc n) x one all = All-cons P y (set ys n x) (All-head P y ys all) (all_set P ys n x one (All-tail P y ys all))
+put_holds P (IsPool p) start s one all = all
+put_holds P Got start s one all = all
+
+pub all_hold : (P : ℕ → Type 0) (ms : List Member) (s : Stands) → All (λ m. P m.start) ms → All P s.starts → All P (all_put ms s).starts
+all_hold P [] s each all = all
+all_hold P (m ∷ ms) s each all =
+    all_hold P ms (put m.content m.start s) (All-tail (λ (x : Member). P x.start) m ms each)
+    (put_holds P m.content m.start s (All-head (λ (x : Member). P x.start) m ms each) all)
+
+pub all_zeros : (P : ℕ → Type 0) (n : ℕ) → P 0 → All P (replicate n 0)
+all_zeros P zero one = All-nil P
+all_zeros P (suc n) one = All-cons P 0 (replicate n 0) one (all_zeros P n one)
+
+pub starts_low : (sizes : List (List Cut)) (parts : List Item) (o : Orders) (b : Bounds) (sections pools : ℕ) → AllFit sizes o → AreBounds sizes o b → AreRising b
+    → All (λ start. start + 2 ^ 30 < 2 ^ 63) (trail_of sizes parts o b (no_trail sections pools)).stands.starts
+starts_low sizes parts o b sections pools fit is up =
+    let near = stands_near sizes o b fit is up in
+    rw (trail_stands sizes parts o b (no_trail sections pools))
+    (all_hold (λ start. start + 2 ^ 30 < 2 ^ 63) (all_stands sizes o b) (no_trail sections pools).stands (λ k d lt. omega (arith, (near k d lt).low))
+    (all_zeros (λ start. start + 2 ^ 30 < 2 ^ 63) sections (omega arith)))

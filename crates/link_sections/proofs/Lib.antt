@@ -1,0 +1,5 @@
+pub mod BoundStays
+pub mod CutRows
+pub mod CutSums
+mod RowSteps
+mod NoCuts

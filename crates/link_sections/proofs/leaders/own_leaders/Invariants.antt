@@ -1,0 +1,7 @@
+use Rattle.std.proofs.Common.{◌≡◌, Some, None, if◌then◌else◌, map}
+use Rattle.std.specs.List.{range_with_len}
+use Rattle.link_sections.specs.Leaders as spec
+use Rattle.link_sections.proofs.leaders.own_leaders.Given as goal
+
+abbrev pub invariant-loop-section : goal.invariant-loop-section
+invariant-loop-section l = l.leaders.items ≡ map (λ n. if spec.is_kept l.kept n then Some n else None) (range_with_len 0 l.section)

@@ -1,0 +1,69 @@
+-- A layout as plain lists.
+use Rattle.std.specs.Prelude.{ℕ, ◌+◌, Option, List, [], map, slice_index, slice_index_or}
+use Rattle.lk_tables.specs.declared.classes.Class.{Class}
+use Rattle.link_sections.specs.declared.layouts.Bounds.{Bounds}
+use Rattle.link_sections.specs.declared.layouts.Layout.{Layout}
+use Rattle.link_sections.specs.declared.layouts.Output.{Output}
+use Rattle.link_sections.specs.declared.members.Member.{Member}
+use Rattle.link_sections.specs.Cuts.{Cut, new_offset}
+use Rattle.link_sections.specs.Leaders.{leader_of}
+use Rattle.link_sections.specs.SizesView.{sizes_of}
+
+-- an output section that is not empty
+pub record OutputSection : Type 0 where
+  pub name : List ℕ
+  pub class : Class
+  pub sh_type : ℕ
+  pub flags : ℕ
+  pub address : ℕ
+  pub size : ℕ
+  pub align : ℕ
+  pub count : ℕ
+
+abbrev pub output_view : Output → OutputSection
+output_view o = record {
+  name = o.name.now;
+  class = o.class;
+  sh_type = o.sh_type;
+  flags = o.flags;
+  address = o.address;
+  size = o.size;
+  align = o.align;
+  count = o.count;
+}
+
+-- where everything stands: the output sections that are not empty; their members with bytes in the file, and those without; by number the
+-- first address of each section that is its own leader; those of pools and of the linker's table; by number where sections lose bytes
+pub record LaidOut : Type 0 where
+  pub outputs : List OutputSection
+  pub members : List Member
+  pub zeros : List Member
+  pub starts : List ℕ
+  pub pools : List ℕ
+  pub got : ℕ
+  pub cuts : List (List Cut)
+  pub bounds : Bounds
+
+unfoldable pub layout_view : Layout → LaidOut
+layout_view l = record {
+  outputs = map output_view l.outputs.items;
+  members = l.members.items;
+  zeros = l.zeros.items;
+  starts = l.starts.items;
+  pools = l.pools.items;
+  got = l.got;
+  cuts = sizes_of l.sizes;
+  bounds = l.bounds;
+}
+
+-- by section number
+abbrev pub start_at : LaidOut → (section : ℕ) → ℕ
+start_at laid section = slice_index laid.starts section
+
+abbrev pub cuts_at : LaidOut → (section : ℕ) → List Cut
+cuts_at laid section = slice_index_or laid.cuts section []
+
+-- the address of an offset of a section: it stands where its leader does
+unfoldable pub address_in : (leaders : List (Option ℕ)) → LaidOut → (section offset : ℕ) → ℕ
+address_in leaders laid section offset =
+    start_at laid (leader_of leaders section) + new_offset (cuts_at laid (leader_of leaders section)) offset

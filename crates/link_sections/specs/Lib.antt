@@ -1,0 +1,12 @@
+pub mod Addresses
+pub mod Cuts
+pub mod CutsView
+pub mod Edges
+pub mod InputSections
+pub mod InputViews
+pub mod LaidOut
+pub mod Leaders
+pub mod Pools
+pub mod SizesView
+pub mod Sound
+pub mod Views

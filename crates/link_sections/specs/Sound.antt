@@ -1,0 +1,38 @@
+-- What holds of a layout of a link, for those who write by it.
+use Rattle.std.specs.Prelude.{◌≡◌, ℕ, ◌+◌, ◌<◌, ◌≤◌, ◌^◌, true, Option, List, length, slice_index_or, All}
+use Rattle.lk_base.specs.declared.abi.TheConstants.{EHDR_SIZE, IMAGE_BASE}
+use Rattle.lk_base.specs.RelocKinds.{kind_of}
+use Rattle.lk_tables.specs.Binding.{Bindings}
+use Rattle.lk_tables.specs.Files.{File, section_total}
+use Rattle.lk_tables.specs.Sites.{relocs_of}
+use Rattle.link_sections.specs.declared.members.Content.TheVariants.{Section}
+use Rattle.link_sections.specs.declared.members.Member.{Member}
+use Rattle.link_sections.specs.Cuts.{AreApart, new_offset}
+use Rattle.link_sections.specs.InputSections.{input_at, may_stay_at}
+use Rattle.link_sections.specs.LaidOut.{LaidOut, cuts_at, start_at}
+use Rattle.link_sections.specs.Leaders.{leads}
+
+-- a member that is section n: that one leads itself and may be kept, it stands where the layout says, and its cuts and the places of its
+-- relocations lie in it
+pub record IsSectionMember (files : List File) (b : Bindings) (leaders : List (Option ℕ)) (laid : LaidOut) (n : ℕ) (m : Member) : Type 0 where
+  pub number : n < section_total files
+  pub stays : may_stay_at files b n ≡ true
+  pub own : leads leaders n ≡ true
+  pub start : m.start ≡ start_at laid n
+  pub size : m.size ≡ new_offset (cuts_at laid n) (input_at files b n).size
+  pub cuts : All (λ c. c.at + c.whole ≤ (input_at files b n).size) (cuts_at laid n)
+  pub relocs : All (λ r. new_offset (cuts_at laid n) r.offset + (kind_of r.kind).width ≤ m.size) (relocs_of files n)
+
+-- the members with bytes stand one after the other, from the headers on, within the file
+pub record IsSound (files : List File) (b : Bindings) (leaders : List (Option ℕ)) (laid : LaidOut) : Type 0 where
+  pub sections : All (λ m. (n : ℕ) → m.content ≡ Section n → IsSectionMember files b leaders laid n m) laid.members
+  pub low : All (λ m. IMAGE_BASE + EHDR_SIZE ≤ m.start) laid.members
+  pub above : All (λ m. laid.bounds.headers_end ≤ m.start) laid.members
+  pub inside : All (λ m. m.start + m.size ≤ laid.bounds.file_end) laid.members
+  pub order : (i : ℕ) (d : Member) → i + 1 < length laid.members →
+      (slice_index_or laid.members i d).start + (slice_index_or laid.members i d).size ≤ (slice_index_or laid.members (i + 1) d).start
+  pub headers : IMAGE_BASE + EHDR_SIZE ≤ laid.bounds.file_end
+  pub small : laid.bounds.file_end < IMAGE_BASE + 2 ^ 31
+  pub few : length laid.outputs + 2 < 65536
+  pub room : (n : ℕ) → start_at laid n + 2 ^ 33 < 2 ^ 64
+  pub apart : All AreApart laid.cuts

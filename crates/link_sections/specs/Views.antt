@@ -1,0 +1,20 @@
+-- The tables of a link together as plain lists.
+use Rattle.std.specs.Prelude.{ℕ, Option, List}
+use Rattle.lk_tables.specs.Binding.{Bindings}
+use Rattle.lk_tables.specs.BindingView.{binding_view}
+use Rattle.lk_tables.specs.Files.{File}
+use Rattle.lk_tables.specs.TablesView.{files_of}
+use Rattle.link_sections.specs.declared.views.View.{View}
+use Rattle.link_sections.specs.LaidOut.{LaidOut, layout_view}
+
+abbrev pub files_in : View → List File
+files_in view = files_of view.tables.now
+
+abbrev pub binding_in : View → Bindings
+binding_in view = binding_view view.binding.now
+
+abbrev pub leaders_in : View → List (Option ℕ)
+leaders_in view = view.leaders.now
+
+abbrev pub laid_in : View → LaidOut
+laid_in view = layout_view view.layout.now

@@ -1,0 +1,27 @@
+//! What the passes know of the sections of a link, by their numbers: what each is by its header, which are kept, which section is written
+//! in the place of each, where a section loses bytes, and where everything stands.
+#![tactic(auto)]
+
+mod addresses;
+mod cuts;
+mod edges;
+mod got;
+mod input_sections;
+mod layouts;
+mod leaders;
+mod members;
+mod pools;
+mod sizes;
+mod views;
+
+pub use addresses::Addresses;
+pub use cuts::Cut;
+pub use edges::Edges;
+pub use got::Got;
+pub use input_sections::{InputSection, all_kept, input_in, input_section, may_stay};
+pub use layouts::{Bounds, Layout, Output};
+pub use leaders::{leads, own_leaders};
+pub use members::{Content, Member};
+pub use pools::{Pool, Pools};
+pub use sizes::{Sizes, new_offset};
+pub use views::View;

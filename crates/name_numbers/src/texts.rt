@@ -1,0 +1,49 @@
+//! Any texts by number.
+
+ghost use Rattle.std.specs.Prelude.{◌≡◌, ◌<◌, ◌^◌, length, IfOk};
+ghost use Rattle.name_numbers.specs.Keys.{key_views};
+ghost use Rattle.name_numbers.specs.Texts.{lent_texts, text_keys, text_numbers};
+
+use crate::keys::{Key, TaggedName};
+use crate::numbers::mark_keys;
+use crate::sorting::sort_keys;
+use crate::tags::tag_of;
+use std::alloc::{AllocError, Global};
+use std::thread::Threads;
+
+/// For each text the index of the first that is equal to it. One worker sorts by itself; more are as many as the machine has
+/// processors.
+pub fn number_texts<R: Threads + Sync>(
+    rt: &R,
+    alloc: Global,
+    texts: &[&[u8]],
+    workers: u32,
+) -> Result<Vec<u32>, AllocError>
+    requires { length texts.now < 2 ^ 31 }
+    ensures { IfOk result (λ list. list.items ≡ text_numbers (lent_texts texts.now)) }
+{
+    let mut keys = keys_of_texts(alloc, texts)?;
+    let mut numbers = vec![in alloc; 0; texts.len()]?;
+    sort_keys(rt, keys.as_mut_slice(), workers);
+    mark_keys(numbers.as_mut_slice(), keys.as_slice());
+    Ok(numbers)
+}
+
+/// The keys of texts, each with its index.
+fn keys_of_texts<'a>(alloc: Global, texts: &[&'a [u8]]) -> Result<Vec<Key<'a>>, AllocError>
+    requires { length texts.now < 2 ^ 31 }
+    ensures { IfOk result (λ keys. key_views keys.items ≡ text_keys (lent_texts texts.now)) }
+{
+    let mut keys = Vec::with_capacity(alloc, texts.len())?;
+    for i in 0..texts.len() {
+        let text = texts[i];
+        keys.push(Key {
+            name: TaggedName {
+                tag: tag_of(text),
+                text,
+            },
+            at: i as u32,
+        })?;
+    }
+    Ok(keys)
+}

@@ -1,0 +1,183 @@
+-- Relocations of a section done in order in a window, and their places written into a block.
+use Rattle.std.proofs.Common.{◌≡◌, ℕ, ◌+◌, ◌-◌, ◌<◌, ◌≤◌, List, length, take, get_or, slice_index, refl, sym, ap, ◌∙◌, arith, subst, Option, ℤ, pos}
+use Rattle.std.specs.List.{All}
+use Rattle.lk_base.proofs.TableLines.{width_few}
+use Rattle.lk_tables.specs.declared.objects.Reloc.{Reloc}
+use Rattle.lk_tables.specs.Files.{no_reloc}
+use Rattle.lk_tables.specs.Sites.{relocs_of}
+use Rattle.link_sections.specs.CutsView.{cut_views}
+use Rattle.link_sections.specs.Cuts.{Cut}
+use Rattle.link_sections.specs.declared.views.View.{View}
+use Rattle.link_sections.specs.Views.{binding_in, files_in, laid_in, leaders_in}
+use Rattle.reloc_apply.specs.declared.sources.Source.{Source}
+use Rattle.reloc_apply.specs.Image.{over, piece}
+use Rattle.reloc_apply.specs.Relocated.{bytes_after, contents_at, put, section_bytes, staying_at, value_at}
+use Rattle.reloc_apply.specs.Sites.{IsFresh, IsMadeFrom, IsOver, Shows, bytes_by, first_bytes, offset_by}
+use Rattle.reloc_apply.specs.Staying.{staying}
+use Rattle.reloc_apply.specs.Values.{held_in, value_of}
+use Rattle.rv_code.specs.Places.{number_of}
+use Rattle.reloc_apply.proofs.BytesAfter.{AllFit, after_fresh, after_last, after_length, after_next, whole_length}
+use Rattle.reloc_apply.proofs.States.{Fits, at_of, put_after, width_of}
+use Rattle.reloc_apply.proofs.WindowSteps.{over_put, over_same, over_twice, window_held}
+
+-- what holds of a section once the first k of its relocations are done: the window stands at an offset
+pub record IsScanned (view : View) (s : Source) (k from at : ℕ) (window before block : List ℕ) : Type 0 where
+  pub size : length window ≡ 8
+  pub shows : Shows (bytes_by view s k) at window
+  pub fresh : IsFresh (first_bytes view s) (bytes_by view s k) (at + 8)
+  pub rises : (j : ℕ) → k ≤ j → j < length s.relocs.now → at ≤ offset_by view s (get_or s.relocs.now j no_reloc)
+  pub same : length block ≡ length before
+  pub over : IsOver from s.at (bytes_by view s k) before block
+
+module _ (view : View) (s : Source) (is : IsMadeFrom view s) where
+  abbrev pub first : List ℕ
+  first = staying_at (files_in view) (binding_in view) (leaders_in view) (laid_in view) s.site.section
+
+  abbrev pub after : ℕ → List ℕ
+  after k = bytes_after (files_in view) (binding_in view) (leaders_in view) (laid_in view) s.site.section k
+
+  abbrev pub reloc : ℕ → Reloc
+  reloc k = get_or s.relocs.now k no_reloc
+
+  abbrev pub place : ℕ → ℕ
+  place k = at_of (files_in view) (binding_in view) (leaders_in view) (laid_in view) s.site.section (reloc k)
+
+  abbrev pub width : ℕ → ℕ
+  width k = width_of (files_in view) (binding_in view) (leaders_in view) (laid_in view) s.site.section (reloc k)
+
+  pub first_is : first ≡ staying (cut_views s.cuts.now) 0 s.raw.now
+  unfolding staying_at
+  first_is =
+      ap (λ (cs : List Cut). staying cs 0 (contents_at (files_in view) (binding_in view) (leaders_in view) (laid_in view) s.site.section)) (sym is.cuts) ∙ ap (staying (cut_views s.cuts.now) 0) (sym is.raw)
+
+  same_reloc : (k : ℕ) → get_or (relocs_of (files_in view) s.site.section) k no_reloc ≡ reloc k
+  same_reloc k = ap (λ (l : List Reloc). get_or l k no_reloc) (sym is.relocs)
+
+  pub fit : AllFit (files_in view) (binding_in view) (leaders_in view) (laid_in view) s.site.section
+  fit = subst (λ (rs : List Reloc). All (Fits (files_in view) (binding_in view) (leaders_in view) (laid_in view) s.site.section first) rs) is.relocs is.places
+
+  count : length (relocs_of (files_in view) s.site.section) ≡ length s.relocs.now
+  count = ap (λ (l : List Reloc). length l) (sym is.relocs)
+
+  pub fits_at : (k : ℕ) → k < length s.relocs.now → place k + width k ≤ length first
+  fits_at k lt = is.places k no_reloc lt
+
+  pub rise : (i j : ℕ) → i ≤ j → j < length s.relocs.now → place i ≤ place j
+  rise i j le lt = is.rising i j no_reloc le lt
+
+  pub next_is : (k : ℕ) → k < length s.relocs.now → after (k + 1) ≡ put (files_in view) (binding_in view) (leaders_in view) (laid_in view) s.site.section (reloc k) (after k)
+  next_is k lt =
+      after_next (files_in view) (binding_in view) (leaders_in view) (laid_in view) s.site.section k (omega (arith, lt, count))
+      ∙ ap (λ (r : Reloc). put (files_in view) (binding_in view) (leaders_in view) (laid_in view) s.site.section r (after k)) (same_reloc k)
+
+  pub long : (k : ℕ) → length (after k) ≡ length first
+  long k = after_length (files_in view) (binding_in view) (leaders_in view) (laid_in view) s.site.section fit k
+
+  pub fresh_from : (k q : ℕ) → ((j : ℕ) → j < k → j < length s.relocs.now → place j + width j ≤ q) → slice_index (after k) q ≡ slice_index first q
+  fresh_from k q past =
+      after_fresh (files_in view) (binding_in view) (leaders_in view) (laid_in view) s.site.section fit k q (λ j less lt.
+      let P : Reloc → Type 0 = λ r. at_of (files_in view) (binding_in view) (leaders_in view) (laid_in view) s.site.section r + width_of (files_in view) (binding_in view) (leaders_in view) (laid_in view) s.site.section r ≤ q in
+      subst P (sym (same_reloc j)) (past j less (omega (arith, lt, count))))
+
+  pub last_from : (k q : ℕ) → ((j : ℕ) → k ≤ j → j < length s.relocs.now → q < place j) →
+      slice_index (section_bytes (files_in view) (binding_in view) (leaders_in view) (laid_in view) s.site.section) q ≡ slice_index (after k) q
+  last_from k q ahead =
+      after_last (files_in view) (binding_in view) (leaders_in view) (laid_in view) s.site.section fit k q (λ j le lt.
+      let P : Reloc → Type 0 = λ r. q < at_of (files_in view) (binding_in view) (leaders_in view) (laid_in view) s.site.section r in
+      subst P (sym (same_reloc j)) (ahead j le (omega (arith, lt, count))))
+
+  pub scan_start : (start from at : ℕ) (window block : List ℕ) → at ≡ place start → length window ≡ 8 → start < length s.relocs.now →
+      ((j : ℕ) → j < start → place j + width j ≤ place start) → IsOver from s.at (after start) block block →
+      Shows (staying (cut_views s.cuts.now) 0 s.raw.now) at window → IsScanned view s start from at window block block
+  scan_start start from at window block at_is size some clear shown shows =
+      let P : List ℕ → Type 0 = λ xs. Shows xs at window in
+      let held = subst P (sym first_is) shows in
+      let fresh : (q : ℕ) → at ≤ q → slice_index (after start) q ≡ slice_index first q =
+      λ q le. fresh_from start q (λ j less lt. let own = clear j less in omega (arith, own, le, at_is)) in
+      record {
+        size = size;
+        shows = λ j lt. held j lt ∙ sym (fresh (at + j) (omega arith));
+        fresh = λ q le. fresh q (omega (arith, le));
+        rises = λ j le lt. omega (arith, rise start j le lt, at_is);
+        same = refl;
+        over = shown;
+      }
+
+  pub scan_next : (k from at at2 : ℕ) (window window2 before block block2 : List ℕ) → k < length s.relocs.now → IsScanned view s k from at window before block →
+      at2 ≡ place k → length window2 ≡ length window → length block2 ≡ length block →
+      ((state : List ℕ) → Shows state at window → IsFresh first state (at + 8) → length state ≡ length first →
+      Shows (put (files_in view) (binding_in view) (leaders_in view) (laid_in view) s.site.section (reloc k) state) at2 window2) →
+      IsOver from (s.at + place k) (take (width k) window2) block block2 → IsScanned view s (k + 1) from at2 window2 before block2
+  scan_next k from at at2 window window2 before block block2 lt scanned at_is size same shows over_is =
+      let few = width_few (reloc k).kind in
+      let fits : Fits (files_in view) (binding_in view) (leaders_in view) (laid_in view) s.site.section (after k) (reloc k) = omega (arith, fits_at k lt, long k) in
+      let next = next_is k lt in
+      let shown = shows (after k) scanned.shows scanned.fresh (long k) in
+      let P : List ℕ → Type 0 = λ xs. Shows xs at2 window2 in
+      let here : (q : ℕ) → at2 + 8 ≤ q → slice_index (after (k + 1)) q ≡ slice_index first q =
+      λ q le.
+      ap (λ xs. slice_index xs q) next
+      ∙ put_after (files_in view) (binding_in view) (leaders_in view) (laid_in view) s.site.section (reloc k) (after k) q fits (omega (arith, le, few, at_is))
+      ∙ scanned.fresh q (omega (arith, le, at_is, scanned.rises k (omega arith) lt)) in
+      let Q : ℕ → Type 0 = λ p. (j : ℕ) → j < length window2 → slice_index window2 j ≡ slice_index (put (files_in view) (binding_in view) (leaders_in view) (laid_in view) s.site.section (reloc k) (after k)) (p + j) in
+      record {
+        size = size ∙ scanned.size;
+        shows = subst P (sym next) shown;
+        fresh = here;
+        rises = λ j le less. omega (arith, rise k j (omega (arith, le)) less, at_is);
+        same = same ∙ scanned.same;
+        over = λ i less.
+            over_is i (omega (arith, less, scanned.same))
+            ∙ ap (λ u. over (piece (s.at + place k) (take (width k) window2)) u (from + i)) (scanned.over i less)
+            ∙ over_put (files_in view) (binding_in view) (leaders_in view) (laid_in view) s.site.section (reloc k) (after k) window2 s.at (slice_index before i) (from + i) few (size ∙ scanned.size) fits
+            (subst Q at_is shown)
+            ∙ ap (λ xs. over (piece s.at xs) (slice_index before i) (from + i)) (sym next);
+      }
+
+  -- a block that has the bytes that stay, as far as no relocation before reaches it
+  pub reached_from : (start from : ℕ) (block : List ℕ) → ((j : ℕ) → j < start → s.at + (place j + width j) ≤ from) →
+      IsOver from s.at first block block → IsOver from s.at (after start) block block
+  reached_from start from block clear shown = λ i lt.
+      shown i lt
+      ∙ over_same s.at first (after start) (slice_index block i) (from + i) (sym (long start))
+      (λ le. sym (fresh_from start (from + i - s.at) (λ j less within. let own = clear j less in omega (arith, own))))
+
+  -- and none after reaches it
+  pub reached_to : (k from end : ℕ) (before block : List ℕ) → from + length before ≡ end → ((j : ℕ) → k ≤ j → j < length s.relocs.now → end ≤ s.at + place j) →
+      IsOver from s.at (after k) before block → IsOver from s.at (section_bytes (files_in view) (binding_in view) (leaders_in view) (laid_in view) s.site.section) before block
+  reached_to k from end before block end_is ahead shown = λ i lt.
+      shown i lt
+      ∙ over_same s.at (after k) (section_bytes (files_in view) (binding_in view) (leaders_in view) (laid_in view) s.site.section) (slice_index before i) (from + i)
+      (long k ∙ sym (whole_length (files_in view) (binding_in view) (leaders_in view) (laid_in view) s.site.section fit))
+      (λ le. sym (last_from k (from + i - s.at) (λ j least within. let own = ahead j least within in omega (arith, own, le, lt, end_is))))
+
+  -- the bytes that stay were laid over the block before
+  pub both_over : (from : ℕ) (before mid block : List ℕ) → length mid ≡ length before → IsOver from s.at first before mid →
+      IsOver from s.at (section_bytes (files_in view) (binding_in view) (leaders_in view) (laid_in view) s.site.section) mid block →
+      IsOver from s.at (section_bytes (files_in view) (binding_in view) (leaders_in view) (laid_in view) s.site.section) before block
+  both_over from before mid block same one two = λ i lt.
+      two i (omega (arith, lt, same))
+      ∙ ap (λ u. over (piece s.at (section_bytes (files_in view) (binding_in view) (leaders_in view) (laid_in view) s.site.section)) u (from + i)) (one i lt)
+      ∙ over_twice s.at first (section_bytes (files_in view) (binding_in view) (leaders_in view) (laid_in view) s.site.section) (slice_index before i) (from + i)
+      (sym (whole_length (files_in view) (binding_in view) (leaders_in view) (laid_in view) s.site.section fit))
+
+  -- the bytes that stay lie over what they were laid over
+  pub laid_once : (from : ℕ) (before mid : List ℕ) → length mid ≡ length before → IsOver from s.at first before mid → IsOver from s.at first mid mid
+  laid_once from before mid same one = λ i lt.
+      let less : i < length before = omega (arith, lt, same) in
+      one i less ∙ sym (over_twice s.at first first (slice_index before i) (from + i) refl)
+      ∙ ap (λ u. over (piece s.at first) u (from + i)) (sym (one i less))
+
+  -- the value of a relocation by a window that stands at its place
+  pub value_is : (k held : ℕ) (window : List ℕ) → k < length s.relocs.now → length window ≡ 8 →
+      ((j : ℕ) → j < 8 → slice_index window j ≡ slice_index (after k) (place k + j)) → held ≡ number_of (take (width k) window) →
+      value_of (files_in view) (binding_in view) (leaders_in view) (laid_in view) s.site.section (reloc k) (pos held)
+      ≡ value_at (files_in view) (binding_in view) (leaders_in view) (laid_in view) s.site.section k
+  unfolding value_at
+  value_is k held window lt size shows held_is =
+      let fits : place k + width k ≤ length (after k) = omega (arith, fits_at k lt, long k) in
+      let give : Reloc → ℕ → Option ℤ = λ r v. value_of (files_in view) (binding_in view) (leaders_in view) (laid_in view) s.site.section r (pos v) in
+      ap (give (reloc k)) (held_is ∙ ap number_of (window_held window (after k) (place k) (width k) (width_few (reloc k).kind) size fits shows))
+      ∙ ap (λ (r : Reloc). value_of (files_in view) (binding_in view) (leaders_in view) (laid_in view) s.site.section r
+      (held_in (width_of (files_in view) (binding_in view) (leaders_in view) (laid_in view) s.site.section r) (at_of (files_in view) (binding_in view) (leaders_in view) (laid_in view) s.site.section r) (after k)))
+      (sym (same_reloc k))

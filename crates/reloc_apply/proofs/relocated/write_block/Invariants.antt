@@ -1,0 +1,10 @@
+use Rattle.std.proofs.Common.{flat_map, take}
+use Rattle.link_sections.specs.Views.{binding_in, files_in, laid_in, leaders_in}
+use Rattle.reloc_apply.specs.Image.{ShowsFrom}
+use Rattle.reloc_apply.specs.Relocated.{member_pieces}
+use Rattle.reloc_apply.proofs.relocated.write_block.Given as goal
+
+abbrev pub invariant-loop-k : goal.invariant-loop-k
+invariant-loop-k l =
+    ShowsFrom l.from l.fn.block l.block
+    (flat_map (member_pieces (files_in l.view) (binding_in l.view) (leaders_in l.view) (laid_in l.view)) (take l.k (laid_in l.view).members))

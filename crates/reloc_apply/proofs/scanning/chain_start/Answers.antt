@@ -1,0 +1,20 @@
+use Rattle.std.proofs.Common.{◌+◌, ◌-◌, arith, inl, inr, get_or}
+use Rattle.std.proofs.lemmas.Bool.{cases_lt}
+use Rattle.lk_base.proofs.TableLines.{width_few}
+use Rattle.lk_tables.specs.Files.{no_reloc}
+use Rattle.reloc_apply.proofs.ScanSteps.{rise}
+use Rattle.reloc_apply.proofs.scanning.chain_start.Goals as goal
+
+pub returns-then-offset-limit-clause-clear : goal.returns-then-offset-limit-clause-clear
+returns-then-offset-limit-clause-clear c = λ j lt.
+    let at = c.args.k - 1 - c.loop-back.back in
+    let r = get_or c.args.source.now.relocs.now j no_reloc in
+    let far = c.if-offset-limit.true in
+    let own = c.offset_of-offset.ensures.value in
+    let limit = c.offset_of-limit.ensures.value in
+    elim (cases_lt (j + c.loop-back.back) c.args.k) [
+      | inl low ↦
+          let up = rise c.args.view.now c.args.source.now c.requires.source j at (omega (arith, low)) (omega (arith, c.requires.reloc)) in
+          omega (arith, up, far, own, limit, width_few r.kind)
+      | inr high ↦ c.loop-back.invariant.clear j high lt
+    ]

@@ -1,0 +1,71 @@
+-- A section by its number, and what its bytes in the executable are made from.
+use Rattle.std.specs.Prelude.{◌≡◌, ℕ, ◌+◌, ◌-◌, ◌<◌, ◌≤◌, ◌^◌, Option, List, length, slice_index, All}
+use Rattle.std.specs.List.Sorted.{IsNonDecreasingBy}
+use Rattle.lk_base.specs.RelocKinds.{kind_of}
+use Rattle.lk_base.specs.declared.abi.TheConstants.{IMAGE_BASE}
+use Rattle.lk_tables.specs.declared.objects.Reloc.{Reloc}
+use Rattle.lk_tables.specs.Binding.{Bindings}
+use Rattle.lk_tables.specs.Files.{File, section_total}
+use Rattle.lk_tables.specs.Sites.{IsPlaceOf, place_of, relocs_of}
+use Rattle.link_sections.specs.declared.views.View.{View}
+use Rattle.link_sections.specs.CutsView.{AreCuts, cut_views}
+use Rattle.link_sections.specs.LaidOut.{LaidOut, cuts_at, start_at}
+use Rattle.link_sections.specs.Views.{binding_in, files_in, laid_in, leaders_in}
+use Rattle.reloc_apply.specs.declared.sites.Site.{Site}
+use Rattle.reloc_apply.specs.declared.sources.Source.{Source}
+use Rattle.reloc_apply.specs.Image.{over, piece}
+use Rattle.reloc_apply.specs.Relocated.{bytes_after, contents_at, staying_at}
+use Rattle.reloc_apply.specs.Values.{offset_of}
+
+-- the place is that of the section's number
+pub record IsSite (files : List File) (site : Site) : Type 0 where
+  pub number : site.section < section_total files
+  pub place : site.place ≡ place_of files site.section
+  pub law : IsPlaceOf files site.section site.place
+
+-- what is lent is the section's, which stands low in the file, with its cuts and the places of its relocations in it
+pub record IsSource (files : List File) (b : Bindings) (leaders : List (Option ℕ)) (laid : LaidOut) (s : Source) : Type 0 where
+  pub site : IsSite files s.site
+  pub at : s.at ≡ start_at laid s.site.section - IMAGE_BASE
+  pub raw : s.raw.now ≡ contents_at files b leaders laid s.site.section
+  pub cuts : cut_views s.cuts.now ≡ cuts_at laid s.site.section
+  pub relocs : s.relocs.now ≡ relocs_of files s.site.section
+  pub sound : AreCuts s.cuts.now
+  pub within : All (λ c. c.at + c.whole ≤ length s.raw.now) (cut_views s.cuts.now)
+  pub low : s.at < 2 ^ 32
+  pub short : length s.raw.now < 2 ^ 33
+  pub places : All (λ r. offset_of files b leaders laid s.site.section r + (kind_of r.kind).width ≤ length (staying_at files b leaders laid s.site.section)) s.relocs.now
+  pub size : length (staying_at files b leaders laid s.site.section) < 2 ^ 32
+  pub rising : IsNonDecreasingBy (offset_of files b leaders laid s.site.section) s.relocs.now
+
+-- the same words by a view of the tables
+abbrev pub IsIn : View → Site → Type 0
+IsIn view site = IsSite (files_in view) site
+
+abbrev pub IsMadeFrom : View → Source → Type 0
+IsMadeFrom view s = IsSource (files_in view) (binding_in view) (leaders_in view) (laid_in view) s
+
+abbrev pub offset_by : View → Source → Reloc → ℕ
+offset_by view s r = offset_of (files_in view) (binding_in view) (leaders_in view) (laid_in view) s.site.section r
+
+abbrev pub end_by : View → Source → Reloc → ℕ
+end_by view s r = offset_by view s r + (kind_of r.kind).width
+
+abbrev pub first_bytes : View → Source → List ℕ
+first_bytes view s = staying_at (files_in view) (binding_in view) (leaders_in view) (laid_in view) s.site.section
+
+abbrev pub bytes_by : View → Source → (k : ℕ) → List ℕ
+bytes_by view s k = bytes_after (files_in view) (binding_in view) (leaders_in view) (laid_in view) s.site.section k
+
+-- a window holds what stands from an offset on in these bytes; past their end 0
+abbrev pub Shows : (bytes : List ℕ) → (at : ℕ) → (window : List ℕ) → Type 0
+Shows bytes at window = (j : ℕ) → j < length window → slice_index window j ≡ slice_index bytes (at + j)
+
+-- from an offset on the bytes are as they were at first
+abbrev pub IsFresh : (first bytes : List ℕ) → (from : ℕ) → Type 0
+IsFresh first bytes from = (place : ℕ) → from ≤ place → slice_index bytes place ≡ slice_index first place
+
+-- a block that starts at the file offset `from` has these bytes, as far as it meets them, and else what another has
+abbrev pub IsOver : (from at : ℕ) → (bytes before after : List ℕ) → Type 0
+IsOver from at bytes before after =
+    (i : ℕ) → i < length before → slice_index after i ≡ over (piece at bytes) (slice_index before i) (from + i)

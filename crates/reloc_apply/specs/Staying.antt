@@ -1,0 +1,34 @@
+-- The bytes of a section that stay (RISC-V ELF psABI, "Linker Relaxation").
+use Rattle.std.specs.Prelude.{ℕ, ◌+◌, ◌-◌, zero, suc, false, slice_index_or, if◌then◌else◌, List, [], ◌∷◌, ◌++◌, map, take, drop}
+use Rattle.std.specs.List.{range_with_len}
+use Rattle.link_sections.specs.Cuts.{Cut, new_offset}
+use Rattle.rv_code.specs.Instructions.{nop_byte}
+
+-- so many bytes of nops
+abbrev pub nops : (count : ℕ) → List ℕ
+nops count = map (nop_byte count) (range_with_len 0 count)
+
+-- what stays of a cut: its first bytes, or nops if it is an alignment
+abbrev pub kept_bytes : Cut → (raw : List ℕ) → List ℕ
+kept_bytes c raw = if c.is_align then nops c.kept else take c.kept (drop c.at raw)
+
+-- from an offset on, in order
+abbrev pub staying : List Cut → (from : ℕ) → (raw : List ℕ) → List ℕ
+staying [] from raw = drop from raw
+staying (c ∷ cs) from raw = take (c.at - from) (drop from raw) ++ (kept_bytes c raw ++ staying cs (c.at + c.whole) raw)
+
+-- a byte of nops by its place among them
+abbrev pub nop_at : (count i : ℕ) → ℕ
+nop_at count i = nop_byte count i
+
+-- where the cut before cut k ends: its old offset, and its new one; 0 before the first
+abbrev pub no_cut : Cut
+no_cut = record { at = 0; whole = 0; kept = 0; is_align = false }
+
+abbrev pub old_before : List Cut → ℕ → ℕ
+old_before cuts zero = 0
+old_before cuts (suc j) = (slice_index_or cuts j no_cut).at + (slice_index_or cuts j no_cut).whole
+
+abbrev pub new_before : List Cut → ℕ → ℕ
+new_before cuts zero = 0
+new_before cuts (suc j) = new_offset cuts (slice_index_or cuts j no_cut).at + (slice_index_or cuts j no_cut).kept

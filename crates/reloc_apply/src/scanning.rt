@@ -1,0 +1,268 @@
+//! Relocations of a section done in order, in a window of eight bytes: what stands at a place is in it once the relocations before are
+//! done, whether a block has all of the place or not. Takes no memory.
+
+ghost use Rattle.std.specs.Prelude.{◌≡◌, ℕ, ◌+◌, ◌^◌, ◌<◌, ◌≤◌, ◌++◌, true, pos, length, take, drop, slice_index, slice_index_or, All, IfSome, List};
+ghost use Rattle.lk_base.specs.RelocKinds.{HasValue, kind_of};
+ghost use Rattle.lk_tables.specs.Files.{no_reloc};
+ghost use Rattle.lk_tables.specs.Sites.{relocs_of};
+ghost use Rattle.link_sections.specs.CutsView.{AreCuts, cut_views};
+ghost use Rattle.link_sections.specs.Views.{binding_in, files_in, laid_in, leaders_in};
+ghost use Rattle.reloc_apply.specs.Relocated.{filled, is_laid, put, section_bytes, value_at};
+ghost use Rattle.reloc_apply.specs.Sites.{IsFresh, IsIn, IsMadeFrom, IsOver, Shows, bytes_by, end_by, first_bytes, offset_by};
+ghost use Rattle.reloc_apply.specs.Staying.{staying};
+ghost use Rattle.reloc_apply.specs.Values as spec;
+ghost use Rattle.rv_code.specs.Places.{number_of};
+
+use crate::image::{Piece, fill_piece};
+use crate::sites::Site;
+use crate::sources::{Source, source_of};
+use crate::staying::fill_staying;
+use crate::values::{offset_of, value_of};
+use byteorder::{ByteOrder, LittleEndian};
+use link_sections::{Cut, View};
+use lk_base::SecNo;
+use lk_base::relocations::kind_of;
+use lk_tables::Reloc;
+use rv_code::patch_bits;
+
+/// The value of a relocation, by its number in its section's order of offset, if it has one: its kind has one, and a lower part has
+/// its partner. Takes no memory.
+pub fn value(view: &View, section: SecNo, reloc: usize) -> Option<i128>
+    requires laid { is_laid (files_in view.now) (binding_in view.now) (leaders_in view.now) (laid_in view.now) section ≡ true }
+    requires reloc { reloc < length (relocs_of (files_in view.now) section) }
+    ensures { result ≡ value_at (files_in view.now) (binding_in view.now) (leaders_in view.now) (laid_in view.now) section reloc }
+{
+    value_by(view, &source_of(view, section), reloc)
+}
+
+/// The same by what the section is made from.
+fn value_by(view: &View, source: &Source, reloc: usize) -> Option<i128>
+    requires source { IsMadeFrom view.now source.now }
+    requires reloc { reloc < length source.now.relocs.now }
+    ensures { result ≡ value_at (files_in view.now) (binding_in view.now) (leaders_in view.now) (laid_in view.now) source.now.site.section reloc }
+{
+    let own = &source.relocs[reloc];
+    let first = chain_start(view, source, reloc);
+    let mut window = [0u8; 8];
+    let at = scan(&mut [], 0, view, source, first, reloc, &mut window);
+    let offset = offset_of(view, source.site.section, own);
+    slide(&mut window, at, source.raw, source.cuts, offset);
+    value_in(view, source.site, own, held_in(&window, own))
+}
+
+/// V: the number that a place holds of which the window holds the bytes.
+fn held_in(window: &[u8], reloc: &Reloc) -> u64
+    requires { length window.now ≡ 8 }
+    ensures { result ≡ number_of (take (kind_of reloc.now.kind).width window.now) }
+{
+    let width = kind_of(reloc.kind).width as usize;
+    if width == 0 {
+        return 0;
+    }
+    LittleEndian::read_uint(window, width)
+}
+
+/// The value of a relocation whose place holds a number, if it has one.
+#[tactic(auto, unfolding(crate::specs::Values::value_of))]
+fn value_in(view: &View, site: Site, reloc: &Reloc, held: u64) -> Option<i128>
+    requires { IsIn view.now site }
+    ensures value { result ≡ spec.value_of (files_in view.now) (binding_in view.now) (leaders_in view.now) (laid_in view.now) site.section reloc.now (pos held) }
+    ensures kind { IfSome result (λ _. HasValue reloc.now.kind) }
+{
+    match value_of(view, site, reloc, held) {
+        Ok(value) => value,
+        Err(_) => None,
+    }
+}
+
+/// Does the relocations of a section that reach a block which starts at the file offset `from`.
+pub fn relocate(block: &mut [u8], from: u64, view: &View, source: &Source)
+    requires block { from + length block.old < 2 ^ 63 }
+    requires source { IsMadeFrom view.now source.now }
+    requires shown { IsOver from source.now.at (first_bytes view.now source.now) block.old block.old }
+    ensures { IsOver from source.now.at (section_bytes (files_in view.now) (binding_in view.now) (leaders_in view.now) (laid_in view.now) source.now.site.section) block.old block.new }
+{
+    let near = first_near(view, source, from);
+    let last = first_after(view, source, from + block.len() as u64);
+    if last <= near {
+        return;
+    }
+    let first = chain_start(view, source, near);
+    let mut window = [0u8; 8];
+    scan(block, from, view, source, first, last, &mut window);
+}
+
+/// How many relocations of a section come before the first whose place may reach the file offset `from`.
+pub fn first_near(view: &View, source: &Source, from: u64) -> usize
+    requires { IsMadeFrom view.now source.now }
+    ensures bound { result ≤ length source.now.relocs.now }
+    ensures before { (k : ℕ) → k < result → source.now.at + end_by view.now source.now (slice_index_or source.now.relocs.now k no_reloc) ≤ from }
+{
+    count_below(
+        view,
+        source,
+        from.saturating_sub(source.at).saturating_sub(7),
+    )
+}
+
+/// How many relocations of a section have places that start before the file offset `end`.
+pub fn first_after(view: &View, source: &Source, end: u64) -> usize
+    requires { IsMadeFrom view.now source.now }
+    ensures bound { result ≤ length source.now.relocs.now }
+    ensures after { (k : ℕ) → result ≤ k → k < length source.now.relocs.now → end ≤ source.now.at + offset_by view.now source.now (slice_index_or source.now.relocs.now k no_reloc) }
+{
+    count_below(view, source, end.saturating_sub(source.at))
+}
+
+/// How many relocations of a section have places that start before an offset.
+fn count_below(view: &View, source: &Source, limit: u64) -> usize
+    requires { IsMadeFrom view.now source.now }
+    ensures bound { result ≤ length source.now.relocs.now }
+    ensures before { (k : ℕ) → k < result → offset_by view.now source.now (slice_index_or source.now.relocs.now k no_reloc) < limit }
+    ensures next { (k : ℕ) → result ≤ k → k < length source.now.relocs.now → limit ≤ offset_by view.now source.now (slice_index_or source.now.relocs.now k no_reloc) }
+{
+    source.relocs.partition_point(|reloc| offset_of(view, source.site.section, reloc) < limit)
+}
+
+/// The relocation from which those up to number k are done: no place before its own reaches past its start.
+fn chain_start(view: &View, source: &Source, k: usize) -> usize
+    requires source { IsMadeFrom view.now source.now }
+    requires reloc { k < length source.now.relocs.now }
+    ensures bound { result ≤ k }
+    ensures clear { (j : ℕ) → j < result → end_by view.now source.now (slice_index_or source.now.relocs.now j no_reloc)
+        ≤ offset_by view.now source.now (slice_index_or source.now.relocs.now result no_reloc) }
+{
+    let mut first = k;
+    for back in 0..k {
+        let other = &source.relocs[k - 1 - back];
+        let offset = offset_of(view, source.site.section, other);
+        let limit = offset_of(view, source.site.section, &source.relocs[first]);
+        if offset + 8 <= limit {
+            return first;
+        }
+        if offset + kind_of(other.kind).width > limit {
+            first = k - 1 - back;
+        }
+    }
+    first
+}
+
+/// Does the relocations of a section from number `first` on and before number `last`, and writes their places into the block as far as
+/// it has them. Answers the offset at which the window is left.
+fn scan(
+    block: &mut [u8],
+    from: u64,
+    view: &View,
+    source: &Source,
+    first: usize,
+    last: usize,
+    window: &mut [u8],
+) -> u64
+    requires block { from + length block.old < 2 ^ 63 }
+    requires source { IsMadeFrom view.now source.now }
+    requires order { first ≤ last }
+    requires last { last ≤ length source.now.relocs.now }
+    requires some { first < length source.now.relocs.now }
+    requires clear { (j : ℕ) → j < first → end_by view.now source.now (slice_index_or source.now.relocs.now j no_reloc)
+        ≤ offset_by view.now source.now (slice_index_or source.now.relocs.now first no_reloc) }
+    requires shown { IsOver from source.now.at (bytes_by view.now source.now first) block.old block.old }
+    requires window { length window.old ≡ 8 }
+    ensures over { IsOver from source.now.at (bytes_by view.now source.now last) block.old block.new }
+    ensures shows { Shows (bytes_by view.now source.now last) result window.new }
+    ensures fresh { IsFresh (first_bytes view.now source.now) (bytes_by view.now source.now last) (result + 8) }
+    ensures rises { (k : ℕ) → last ≤ k → k < length source.now.relocs.now → result ≤ offset_by view.now source.now (slice_index_or source.now.relocs.now k no_reloc) }
+{
+    let mut at = offset_of(view, source.site.section, &source.relocs[first]);
+    fresh(window, source.raw, source.cuts, at);
+    for k in first..last {
+        at = step(block, from, view, source, window, at, &source.relocs[k]);
+    }
+    at
+}
+
+/// Does one relocation of a section, with the window that was at an offset. Answers the offset of its place.
+fn step(
+    block: &mut [u8],
+    from: u64,
+    view: &View,
+    source: &Source,
+    window: &mut [u8],
+    at: u64,
+    reloc: &Reloc,
+) -> u64
+    requires block { from + length block.old < 2 ^ 63 }
+    requires source { IsMadeFrom view.now source.now }
+    requires fits { end_by view.now source.now reloc.now ≤ length (first_bytes view.now source.now) }
+    requires rises { at ≤ offset_by view.now source.now reloc.now }
+    requires window { length window.old ≡ 8 }
+    ensures at { result ≡ offset_by view.now source.now reloc.now }
+    ensures bytes { (state : List ℕ) → Shows state at window.old → IsFresh (first_bytes view.now source.now) state (at + 8) → length state ≡ length (first_bytes view.now source.now)
+        → Shows (put (files_in view.now) (binding_in view.now) (leaders_in view.now) (laid_in view.now) source.now.site.section reloc.now state) result window.new }
+    ensures over { IsOver from (source.now.at + offset_by view.now source.now reloc.now) (take (kind_of reloc.now.kind).width window.new) block.old block.new }
+{
+    let offset = offset_of(view, source.site.section, reloc);
+    slide(window, at, source.raw, source.cuts, offset);
+    put_in(view, source.site, reloc, window);
+    let place = Piece {
+        at: source.at + offset,
+        bytes: &window[..kind_of(reloc.kind).width as usize],
+    };
+    fill_piece(block, from, &place);
+    offset
+}
+
+/// Puts the value of a relocation into the window that stands at its place.
+fn put_in(view: &View, site: Site, reloc: &Reloc, window: &mut [u8])
+    requires site { IsIn view.now site }
+    requires window { length window.old ≡ 8 }
+    ensures { window.new ≡ filled reloc.now (spec.value_of (files_in view.now) (binding_in view.now) (leaders_in view.now) (laid_in view.now) site.section reloc.now (pos (number_of (take (kind_of reloc.now.kind).width window.old)))) (take (kind_of reloc.now.kind).width window.old) ++ drop (kind_of reloc.now.kind).width window.old }
+{
+    let held = held_in(window, reloc);
+    let place = &mut window[..kind_of(reloc.kind).width as usize];
+    fill_place(view, site, reloc, held, place);
+}
+
+/// Puts the value of a relocation into its place, which holds a number.
+fn fill_place(view: &View, site: Site, reloc: &Reloc, held: u64, place: &mut [u8])
+    requires site { IsIn view.now site }
+    requires width { length place.old ≡ (kind_of reloc.now.kind).width }
+    ensures { place.new ≡ filled reloc.now (spec.value_of (files_in view.now) (binding_in view.now) (leaders_in view.now) (laid_in view.now) site.section reloc.now (pos held)) place.old }
+{
+    let Some(v) = value_in(view, site, reloc, held) else {
+        return;
+    };
+    patch_bits(reloc.kind, place, v);
+}
+
+/// Fills a window with the bytes of a section that stay, from an offset on, with no relocation done.
+fn fresh(window: &mut [u8], raw: &[u8], cuts: &[Cut], at: u64)
+    requires window { length window.old ≤ 8 }
+    requires cuts { AreCuts cuts.now }
+    requires within { All (λ c. c.at + c.whole ≤ length raw.now) (cut_views cuts.now) }
+    requires short { length raw.now < 2 ^ 33 }
+    requires low { at < 2 ^ 34 }
+    ensures { Shows (staying (cut_views cuts.now) 0 raw.now) at window.new }
+{
+    window.fill(0);
+    fill_staying(window, at, 0, raw, cuts);
+}
+
+/// Moves a window on from an offset to another; from the end of what it held on no relocation is done yet.
+fn slide(window: &mut [u8], from: u64, raw: &[u8], cuts: &[Cut], to: u64)
+    requires window { length window.old ≡ 8 }
+    requires cuts { AreCuts cuts.now }
+    requires within { All (λ c. c.at + c.whole ≤ length raw.now) (cut_views cuts.now) }
+    requires short { length raw.now < 2 ^ 33 }
+    requires low { to < 2 ^ 33 }
+    requires rises { from ≤ to }
+    ensures { (state : List ℕ) → Shows state from window.old → IsFresh (staying (cut_views cuts.now) 0 raw.now) state (from + 8) → Shows state to window.new }
+{
+    let step = to - from;
+    if step >= 8 {
+        fresh(window, raw, cuts, to);
+        return;
+    }
+    let step = step as usize;
+    window.rotate_left(step);
+    fresh(&mut window[8 - step..], raw, cuts, from + 8);
+}

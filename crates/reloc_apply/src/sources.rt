@@ -1,0 +1,75 @@
+//! What the bytes of a section in the executable are made from.
+
+ghost use Rattle.std.specs.Prelude.{◌≡◌, ◌<◌, ◌≢◌, true, take, drop, length, ◌+◌, ◌≤◌};
+ghost use Rattle.lk_base.specs.declared.abi.TheConstants.{SHT_NOBITS};
+ghost use Rattle.lk_tables.specs.Files.{section_total};
+ghost use Rattle.link_sections.specs.CutsView.{AreCuts, cut_views};
+ghost use Rattle.link_sections.specs.LaidOut.{cuts_at, start_at};
+ghost use Rattle.link_sections.specs.Views.{binding_in, files_in, laid_in, leaders_in};
+ghost use Rattle.reloc_apply.specs.Relocated.{contents_at, has_bits, is_laid};
+ghost use Rattle.reloc_apply.specs.Sites.{IsSite, IsSource};
+
+use crate::addresses::number_at;
+use crate::sites::{Site, relocs_at, site_of};
+use link_sections::{Cut, View, input_in};
+use lk_base::SecNo;
+use lk_base::abi::{IMAGE_BASE, SHT_NOBITS};
+use lk_tables::Reloc;
+
+/// A section with bytes in its file, which stand in the executable.
+#[derive(Clone, Copy)]
+pub struct Source<'t, 'a> {
+    pub site: Site,
+    /// The file offset of its first byte in the executable.
+    pub at: u64,
+    /// Its bytes in its own file.
+    pub raw: &'a [u8],
+    /// Where it loses bytes.
+    pub cuts: &'t [Cut],
+    /// Its relocations, in order of offset.
+    pub relocs: &'t [Reloc],
+}
+
+/// That of a section, by its number.
+#[tactic(auto, unfolding(link_sections::specs::LaidOut::layout_view))]
+pub fn source_of<'t, 'a>(view: &View<'t, 'a>, section: SecNo) -> Source<'t, 'a>
+    requires { is_laid (files_in view.now) (binding_in view.now) (leaders_in view.now) (laid_in view.now) section ≡ true }
+    ensures source { IsSource (files_in view.now) (binding_in view.now) (leaders_in view.now) (laid_in view.now) result }
+    ensures section { result.site.section ≡ section }
+{
+    let site = site_of(view.tables, section);
+    Source {
+        site,
+        at: number_at(view.layout.starts.as_slice(), section as usize) - IMAGE_BASE,
+        raw: contents(view, site),
+        cuts: view.layout.sizes.cuts(section),
+        relocs: relocs_at(view.tables, site),
+    }
+}
+
+/// The bytes of a section in its file.
+fn contents<'a>(view: &View<'_, 'a>, site: Site) -> &'a [u8]
+    requires site { IsSite (files_in view.now) site }
+    requires laid { is_laid (files_in view.now) (binding_in view.now) (leaders_in view.now) (laid_in view.now) site.section ≡ true }
+    ensures { result.now ≡ contents_at (files_in view.now) (binding_in view.now) (leaders_in view.now) (laid_in view.now) site.section }
+{
+    let entry = view.tables.file(site.place.file);
+    let header = entry.section(site.place.index as usize);
+    cut(entry.bytes(), header.offset as usize, header.size as usize)
+}
+
+/// So many bytes from a place on.
+fn cut(bytes: &[u8], from: usize, size: usize) -> &[u8]
+    requires { from + size ≤ length bytes.now }
+    ensures { result.now ≡ take size (drop from bytes.now) }
+{
+    &bytes[from..from + size]
+}
+
+/// Whether a section has bytes in its file.
+pub fn has_bits(view: &View, site: Site) -> bool
+    requires { IsSite (files_in view.now) site }
+    ensures { result ≡ has_bits (files_in view.now) (binding_in view.now) (leaders_in view.now) (laid_in view.now) site.section }
+{
+    input_in(view.tables, view.binding, site.place.file, site.place.index).sh_type != SHT_NOBITS
+}

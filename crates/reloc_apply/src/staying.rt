@@ -1,0 +1,143 @@
+//! The bytes of a section that stay, written into a block of a file.
+
+ghost use Rattle.std.specs.Prelude.{◌≡◌, ℕ, ◌+◌, ◌-◌, ◌<◌, ◌≤◌, ◌^◌, All, length, slice_index, slice_index_or, take, drop, min};
+ghost use Rattle.link_sections.specs.CutsView.{AreCuts, cut_view, cut_views};
+ghost use Rattle.reloc_apply.specs.Image.{over, piece};
+ghost use Rattle.reloc_apply.specs.Staying as spec;
+
+use crate::image::{Piece, fill_piece};
+use link_sections::Cut;
+
+/// Copies what the bytes of a section that stay have in the block that starts at the file offset `from`, if their first one stands at
+/// the file offset `at`.
+pub fn fill_staying(block: &mut [u8], from: u64, at: u64, raw: &[u8], cuts: &[Cut])
+    requires block { from + length block.old < 2 ^ 63 }
+    requires end { at + length raw.now < 2 ^ 63 }
+    requires cuts { AreCuts cuts.now }
+    requires within { All (λ c. c.at + c.whole ≤ length raw.now) (cut_views cuts.now) }
+    ensures { (i : ℕ) → i < length block.old → slice_index block.new i ≡ over (piece at (spec.staying (cut_views cuts.now) 0 raw.now)) (slice_index block.old i) (from + i) }
+{
+    let mut k = first_cut(cuts, from.saturating_sub(at));
+    let (mut old, mut new) = ends_before(cuts, k);
+    let end = from + block.len() as u64;
+    while k < cuts.len() {
+        if end <= at + new {
+            return;
+        }
+        let cut = cuts[k];
+        fill_part(block, from, at + new, raw, old, cut.at);
+        fill_kept(block, from, at + cut.new_at, raw, &cut);
+        old = cut.at + cut.whole;
+        new = cut.new_at + cut.kept;
+        k += 1;
+    }
+    fill_part(block, from, at + new, raw, old, raw.len() as u64);
+}
+
+/// A cut that starts at or before a new offset, after which the next one does not; the first if there is none.
+fn first_cut(cuts: &[Cut], offset: u64) -> usize
+    requires { AreCuts cuts.now }
+    ensures within { result ≤ length cuts.now }
+    ensures before { (d : _) → 0 < result → (slice_index_or cuts.now result d).new_at ≤ offset }
+    ensures some { 0 < result → result < length cuts.now }
+{
+    let n = cuts.partition_point(|cut| cut.new_at <= offset);
+    if n == 0 {
+        return 0;
+    }
+    n - 1
+}
+
+/// Where the cut before one ends: its old offset and its new one; 0 before the first.
+fn ends_before(cuts: &[Cut], k: usize) -> (u64, u64)
+    requires within { k ≤ length cuts.now }
+    requires cuts { AreCuts cuts.now }
+    requires small { All (λ c. c.at + c.whole < 2 ^ 63) (cut_views cuts.now) }
+    ensures old { result.0 ≡ spec.old_before (cut_views cuts.now) k }
+    ensures new { result.1 ≡ spec.new_before (cut_views cuts.now) k }
+{
+    if k == 0 {
+        return (0, 0);
+    }
+    let cut = cuts[k - 1];
+    (cut.at + cut.whole, cut.new_at + cut.kept)
+}
+
+/// Copies what the bytes of a section from one offset up to another have in a block.
+fn fill_part(block: &mut [u8], from: u64, at: u64, raw: &[u8], start: u64, end: u64)
+    requires block { from + length block.old < 2 ^ 64 }
+    requires order { start ≤ end }
+    requires within { end ≤ length raw.now }
+    requires small { at + (end - start) < 2 ^ 64 }
+    ensures bytes { (i : ℕ) → i < length block.old → slice_index block.new i ≡ over (piece at (take (end - start) (drop start raw.now))) (slice_index block.old i) (from + i) }
+    ensures same { length block.new ≡ length block.old }
+{
+    let part = Piece {
+        at,
+        bytes: part_of(raw, start as usize, end as usize),
+    };
+    fill_piece(block, from, &part);
+}
+
+/// The bytes from one offset up to another.
+fn part_of(raw: &[u8], start: usize, end: usize) -> &[u8]
+    requires order { start ≤ end }
+    requires within { end ≤ length raw.now }
+    ensures value { result.now ≡ take (end - start) (drop start raw.now) }
+    ensures size { length result.now ≡ end - start }
+{
+    &raw[start..end]
+}
+
+/// Copies what a cut keeps: its first bytes, or nops if it is an alignment.
+fn fill_kept(block: &mut [u8], from: u64, at: u64, raw: &[u8], cut: &Cut)
+    requires block { from + length block.old < 2 ^ 64 }
+    requires kept { cut.now.kept ≤ cut.now.whole }
+    requires within { cut.now.at + cut.now.whole ≤ length raw.now }
+    requires small { at + cut.now.kept < 2 ^ 64 }
+    ensures bytes { (i : ℕ) → i < length block.old → slice_index block.new i ≡ over (piece at (spec.kept_bytes (cut_view cut.now) raw.now)) (slice_index block.old i) (from + i) }
+    ensures same { length block.new ≡ length block.old }
+{
+    if cut.is_align {
+        fill_nops(block, from, at, cut.kept);
+    } else {
+        fill_part(block, from, at, raw, cut.at, cut.at + cut.kept);
+    }
+}
+
+/// Writes what so many bytes of nops have in a block.
+fn fill_nops(block: &mut [u8], from: u64, at: u64, count: u64)
+    requires block { from + length block.old < 2 ^ 64 }
+    requires small { at + count < 2 ^ 64 }
+    ensures bytes { (i : ℕ) → i < length block.old → slice_index block.new i ≡ over (piece at (spec.nops count)) (slice_index block.old i) (from + i) }
+    ensures same { length block.new ≡ length block.old }
+{
+    for i in 0..block.len() {
+        block[i] = nop_over(block[i], at, count, from + i as u64);
+    }
+}
+
+/// The byte at a place if so many bytes of nops stand at an offset, and this byte elsewhere.
+fn nop_over(before: u8, at: u64, count: u64, place: u64) -> u8
+    requires { at + count < 2 ^ 64 }
+    ensures { result ≡ over (piece at (spec.nops count)) before place }
+{
+    if place < at {
+        return before;
+    }
+    if at + count <= place {
+        return before;
+    }
+    nop_byte(count, place - at)
+}
+
+/// A byte of so many bytes of nops.
+fn nop_byte(count: u64, i: u64) -> u8
+    requires { i < count }
+    ensures { result ≡ spec.nop_at count i }
+{
+    if i % 4 != 0 {
+        return 0;
+    }
+    if count - i >= 4 { 0x13 } else { 0x01 }
+}

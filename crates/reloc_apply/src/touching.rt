@@ -1,0 +1,64 @@
+//! The relocations that touch a block, tested.
+
+ghost use Rattle.std.specs.Prelude.{◌≡◌, ℕ, ◌+◌, ◌^◌, ◌<◌, ◌≤◌, [], length, flat_map, if◌then◌else◌};
+ghost use Rattle.lk_base.specs.Firsts.{IsFirst};
+ghost use Rattle.lk_tables.specs.declared.objects.Reloc.{Reloc};
+ghost use Rattle.link_sections.specs.Views.{binding_in, files_in, laid_in, leaders_in};
+ghost use Rattle.reloc_apply.specs.Relocated as spec;
+ghost use Rattle.reloc_apply.specs.Sites.{IsMadeFrom};
+
+use crate::checks::check_reloc;
+use crate::scanning::{first_after, first_near};
+use crate::sources::Source;
+use crate::values::offset_of;
+use link_sections::View;
+use lk_base::Defect;
+use lk_base::relocations::kind_of;
+use lk_tables::Reloc;
+
+/// The first relocation of a section that touches `len` bytes of the file from an offset on, and can't be done.
+pub fn first_touching(view: &View, source: &Source, from: u64, len: u64) -> Option<Defect>
+    requires block { from + len < 2 ^ 63 }
+    requires source { IsMadeFrom view.now source.now }
+    ensures { IsFirst (flat_map (λ (r : Reloc). if spec.touches (files_in view.now) (binding_in view.now) (leaders_in view.now) (laid_in view.now) from len source.now.site.section r then spec.reloc_defects (files_in view.now) (binding_in view.now) (leaders_in view.now) (laid_in view.now) source.now.site.section r else []) source.now.relocs.now) result }
+{
+    let last = first_after(view, source, from + len);
+    for k in first_near(view, source, from)..last {
+        if let Some(defect) = check_touching(view, source, &source.relocs[k], from, len) {
+            return Some(defect);
+        }
+    }
+    None
+}
+
+/// The defect of one relocation, if it touches them.
+fn check_touching(
+    view: &View,
+    source: &Source,
+    reloc: &Reloc,
+    from: u64,
+    len: u64,
+) -> Option<Defect>
+    requires block { from + len < 2 ^ 63 }
+    requires source { IsMadeFrom view.now source.now }
+    ensures { IsFirst (if spec.touches (files_in view.now) (binding_in view.now) (leaders_in view.now) (laid_in view.now) from len source.now.site.section reloc.now then spec.reloc_defects (files_in view.now) (binding_in view.now) (leaders_in view.now) (laid_in view.now) source.now.site.section reloc.now else []) result }
+{
+    if !touches(view, source, reloc, from, len) {
+        return None;
+    }
+    check_reloc(view, source.site, reloc)
+}
+
+/// Whether the place of a relocation and those bytes have one in common.
+#[tactic(auto, unfolding(crate::specs::Relocated::touches))]
+fn touches(view: &View, source: &Source, reloc: &Reloc, from: u64, len: u64) -> bool
+    requires block { from + len < 2 ^ 63 }
+    requires source { IsMadeFrom view.now source.now }
+    ensures { result ≡ spec.touches (files_in view.now) (binding_in view.now) (leaders_in view.now) (laid_in view.now) from len source.now.site.section reloc.now }
+{
+    let at = source
+        .at
+        .saturating_add(offset_of(view, source.site.section, reloc));
+    let end = at.saturating_add(kind_of(reloc.kind).width);
+    at.max(from) < end.min(from + len)
+}

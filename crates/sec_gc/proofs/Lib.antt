@@ -1,0 +1,5 @@
+mod Listed
+pub mod Reaching
+mod Rooted
+mod Searching
+mod Visiting

@@ -1,0 +1,112 @@
+//! The same sections are kept by one worker, by two and by 64.
+
+ghost use Rattle.std.specs.Prelude.{◌≡◌, ◌+◌, ◌<◌, All, length, IfOk, OnOk};
+ghost use Rattle.link_sections.specs.Edges.{ends_of};
+
+use crate::keep;
+use flat_rows::Rows;
+use link_sections::Edges;
+use lk_base::SecNo;
+use std::alloc::{AllocError, Global};
+use std::test::Fail;
+use std::thread::Threads;
+use work_split::OpenGate;
+
+/// Adds the ends of one of five sections.
+fn push_row(rows: &mut Rows<SecNo>, row: &[SecNo]) -> Result<(), AllocError>
+    requires row { All (λ end. end < 5) row.now }
+    requires rows { All (All (λ end. end < 5)) rows.old }
+    ensures rows { OnOk result (All (All (λ end. end < 5)) rows.new) }
+    ensures longer { OnOk result (length rows.new ≡ length rows.old + 1) }
+{
+    rows.push(row)?;
+    Ok(())
+}
+
+/// The edges of five sections.
+fn five(
+    alloc: Global,
+    first: &[SecNo],
+    second: &[SecNo],
+    third: &[SecNo],
+    fourth: &[SecNo],
+    fifth: &[SecNo],
+) -> Result<Edges, AllocError>
+    requires first { All (λ end. end < 5) first.now }
+    requires second { All (λ end. end < 5) second.now }
+    requires third { All (λ end. end < 5) third.now }
+    requires fourth { All (λ end. end < 5) fourth.now }
+    requires fifth { All (λ end. end < 5) fifth.now }
+    ensures { IfOk result (λ edges. length (ends_of edges) ≡ 5) }
+{
+    let mut rows = Rows::empty(alloc)?;
+    push_row(&mut rows, first)?;
+    push_row(&mut rows, second)?;
+    push_row(&mut rows, third)?;
+    push_row(&mut rows, fourth)?;
+    push_row(&mut rows, fifth)?;
+    Ok(Edges::from_rows(rows))
+}
+
+/// Whether these are kept, by one worker, by two and by 64.
+fn keeps<R: Threads + Sync>(
+    rt: &R,
+    alloc: Global,
+    roots: &[SecNo],
+    edges: &Edges,
+    kept: &[bool],
+) -> Result<bool, AllocError>
+    requires { All (λ r. r < length (ends_of edges.now)) roots.now }
+{
+    Ok(
+        keep(rt, alloc, roots, edges, 1, &OpenGate)?.as_slice() == kept
+            && keep(rt, alloc, roots, edges, 2, &OpenGate)?.as_slice() == kept
+            && keep(rt, alloc, roots, edges, 64, &OpenGate)?.as_slice() == kept,
+    )
+}
+
+// Sections 3 and 4 refer to each other, and nothing refers to them.
+#[test]
+fn a_chain_and_two_that_refer_to_each_other(rt: HostRuntime) -> Result<(), Fail> {
+    let alloc = rt.alloc();
+    let edges = five(alloc, &[1], &[2], &[0], &[4], &[3])?;
+    assert!(rt; keeps(&rt, alloc, &[0], &edges, &[true, true, true, false, false])?);
+    Ok(())
+}
+
+// Two sections lead to a third in 3,000 edges each, so that the workers share the round; the third leads to a fourth, and a fifth to
+// the first.
+#[test]
+fn a_star_of_many_edges(rt: HostRuntime) -> Result<(), Fail> {
+    let alloc = rt.alloc();
+    let many = vec![in alloc; 2u32; 3000]?;
+    let edges = five(alloc, &many, &many, &[3], &[], &[0])?;
+    assert!(rt;
+        keeps(
+            &rt,
+            alloc,
+            &[1, 0],
+            &edges,
+            &[true, true, true, true, false]
+        )?
+    );
+    assert!(rt;
+        keeps(
+            &rt,
+            alloc,
+            &[3],
+            &edges,
+            &[false, false, false, true, false]
+        )?
+    );
+    assert!(rt;
+        keeps(
+            &rt,
+            alloc,
+            &[],
+            &edges,
+            &[false, false, false, false, false]
+        )?
+    );
+    Ok(())
+}

@@ -1,0 +1,5 @@
+pub mod Closing
+pub mod Joining
+pub mod Runs
+pub mod Unbound
+pub mod Within

@@ -1,0 +1,135 @@
+-- The ends of all sections are section numbers.
+use Rattle.std.proofs.Common.{◌≡◌, ℕ, zero, suc, ◌+◌, ◌<◌, ◌==◌, ◌&&◌, Bool, true, false, not, List, [], ◌∷◌, ◌++◌, length, map, flat_map, All, refl, arith}
+use Rattle.std.specs.Prelude.{if◌then◌else◌}
+use Rattle.std.specs.List.{range_with_len}
+use Rattle.std.proofs.lemmas.Bool.{and_parts, ltb-true}
+use Rattle.std.proofs.lemmas.List.Elements.{All-nil, All-cons, All-head, All-tail, All-append, All-filter, All-map}
+use Rattle.lk_base.specs.declared.abi.TheConstants.{STB_WEAK}
+use Rattle.link_sections.specs.InputSections.{is_own, may_stay}
+use Rattle.lk_base.specs.RelocKinds.{goes_by_got, names_a_symbol}
+use Rattle.lk_tables.specs.declared.bounds.Bound.{Bound}
+use Rattle.lk_tables.specs.declared.bounds.Bound.TheVariants.{InSection, Number, Linker, Nobody}
+use Rattle.lk_tables.specs.declared.bounds.Target.TheVariants as targets
+use Rattle.lk_tables.specs.declared.heads.Symbol.{Symbol}
+use Rattle.lk_tables.specs.declared.objects.Reloc.{Reloc}
+use Rattle.lk_tables.specs.Binding.{IsBindingOf}
+use Rattle.lk_tables.specs.Binding.{Bindings}
+use Rattle.lk_tables.specs.Files.{AreFew, File, by_section, commons_before, file_at, is_section_symbol, relocs_at, section_at, section_count, section_no, section_total, symbol_at}
+use Rattle.lk_tables.specs.Objects.{GroupView}
+use Rattle.lk_tables.specs.Targets.{bound, target_by, target_of}
+use Rattle.lk_tables.proofs.BoundWithin.{IsWithin, bound_within}
+use Rattle.lk_tables.proofs.BoundHas.{each_flat, each_if, either, one_if}
+use Rattle.lk_tables.proofs.FirstNumbers.{section_within}
+use Rattle.lk_tables.proofs.LiveFiles.{counted}
+use Rattle.sec_graph.specs.declared.pairs.Pair.{Pair}
+use Rattle.sec_graph.specs.Graph.{chain, edges, ends_in, is_linked, joined_in, link_at, links_in, member_at, pair, pairs_from, ring, ring_in, section_in, target_in, targets_in}
+
+-- the sections of a live file have numbers below the total
+pub own_below : (files : List File) (f k : ℕ) → f < length files → (file_at files f).live ≡ true → k < length (file_at files f).head.sections →
+    section_no files f k < section_total files
+own_below files f k lt live below = omega (arith, counted (file_at files f) live, section_within files f lt)
+
+-- each target is in a section with such a number
+one_section : (total section : ℕ) → section < total → All (λ n. n < total) (section ∷ [])
+one_section total section lt = All-cons (λ n. n < total) section [] lt (All-nil (λ n. n < total))
+
+target_below : (files : List File) (found : Bound) (file : File) (s : Symbol) (r : Reloc) → IsWithin files found →
+    All (λ n. n < section_total files) (section_in (target_by found file s r))
+target_below files (InSection section offset) file s r lt =
+    let one = one_section (section_total files) section lt in
+    either (λ t. All (λ n. n < section_total files) (section_in t)) (is_section_symbol s && not (goes_by_got r.kind)) _ _ one one
+target_below files (Number n) file s r lt = All-nil (λ n. n < section_total files)
+target_below files (Linker n) file s r lt = All-nil (λ n. n < section_total files)
+target_below files Nobody file s r lt =
+    let none = All-nil (λ n. n < section_total files) in
+    either (λ t. All (λ n. n < section_total files) (section_in t)) (s.binding == STB_WEAK) targets.Zero targets.Unbound none none
+
+targets_below : (files : List File) (b : Bindings) (f : ℕ) (rs : List Reloc) → IsBindingOf files b → AreFew files → f < length files → (file_at files f).live ≡ true →
+    All (λ n. n < section_total files) (flat_map (target_in files b f) rs)
+unfolding target_in target_of
+targets_below files b f [] is few lt live = All-nil (λ n. n < section_total files)
+targets_below files b f (r ∷ rs) is few lt live =
+    let P : ℕ → Type 0 = λ n. n < section_total files in
+    All-append P (target_in files b f r) (flat_map (target_in files b f) rs)
+    (each_if P (names_a_symbol r.kind) (section_in (target_of files b f r)) (λ names.
+    target_below files (bound files b f r.symbol) (file_at files f) (symbol_at (file_at files f) r.symbol) r (bound_within files b f r.symbol is few lt live)))
+    (targets_below files b f rs is few lt live)
+
+-- and what sections of a file lead to
+abbrev EndsBelow : (total : ℕ) → Pair → Type 0
+EndsBelow total p = p.to < total
+
+links_below : (files : List File) (b : Bindings) (f : ℕ) → f < length files → (file_at files f).live ≡ true → All (EndsBelow (section_total files)) (links_in files b f)
+unfolding link_at
+links_below files b f lt live =
+    each_flat (EndsBelow (section_total files)) (link_at files b f) 0 (length (file_at files f).head.sections) (λ j below.
+    let s = section_at (file_at files f) j in
+    one_if (EndsBelow (section_total files)) (is_linked (file_at files f) s && may_stay files b f j) (pair (section_no files f s.link) (section_no files f j))
+    (λ is. own_below files f j lt live (omega (arith, below))))
+
+chain_below : (total m : ℕ) (ns : List ℕ) (first : ℕ) → first < total → All (λ n. n < total) ns → All (EndsBelow total) (chain m ns first)
+chain_below total m [] first lt all = All-cons (EndsBelow total) (pair m first) [] lt (All-nil (EndsBelow total))
+chain_below total m (n ∷ ns) first lt all =
+    let P : ℕ → Type 0 = λ n. n < total in
+    All-cons (EndsBelow total) (pair m n) (chain n ns first) (All-head P n ns all) (chain_below total n ns first lt (All-tail P n ns all))
+
+ring_below : (total : ℕ) (ms : List ℕ) → All (λ n. n < total) ms → All (EndsBelow total) (ring ms)
+ring_below total [] all = All-nil (EndsBelow total)
+ring_below total (m ∷ ms) all =
+    let P : ℕ → Type 0 = λ n. n < total in
+    chain_below total m ms m (All-head P m ms all) (All-tail P m ms all)
+
+members_below : (files : List File) (b : Bindings) (f : ℕ) (ms : List ℕ) → f < length files → (file_at files f).live ≡ true →
+    All (λ n. n < section_total files) (flat_map (member_at files b f) ms)
+unfolding member_at
+members_below files b f [] lt live = All-nil (λ n. n < section_total files)
+members_below files b f (m ∷ ms) lt live =
+    let P : ℕ → Type 0 = λ n. n < section_total files in
+    All-append P (member_at files b f m) (flat_map (member_at files b f) ms)
+    (one_if P (is_own files b f m && may_stay files b f m) (section_no files f m) (λ is.
+    own_below files f m lt live (ltb-true m (length (file_at files f).head.sections) (and_parts _ _ is).0)))
+    (members_below files b f ms lt live)
+
+rings_below : (files : List File) (b : Bindings) (f : ℕ) (gs : List GroupView) → f < length files → (file_at files f).live ≡ true →
+    All (EndsBelow (section_total files)) (flat_map (ring_in files b f) gs)
+rings_below files b f [] lt live = All-nil (EndsBelow (section_total files))
+rings_below files b f (g ∷ gs) lt live =
+    All-append (EndsBelow (section_total files)) (ring_in files b f g) (flat_map (ring_in files b f) gs)
+    (ring_below (section_total files) (flat_map (member_at files b f) g.members) (members_below files b f g.members lt live))
+    (rings_below files b f gs lt live)
+
+-- a file with a section number takes part
+pub live_from : (file : File) (k : ℕ) → k < section_count file → file.live ≡ true
+live_from file k lt = by_live file.live lt
+  where
+    by_live : (d : Bool) → k < (if d then length file.head.sections + commons_before file (length file.head.symbols) else 0) → d ≡ true
+    by_live true less = refl
+    by_live false less = absurd (omega (arith, less))
+
+ends_below : (files : List File) (b : Bindings) (f k : ℕ) → IsBindingOf files b → AreFew files → f < length files → k < section_count (file_at files f) →
+    All (λ n. n < section_total files) (ends_in files b f k)
+unfolding ends_in
+ends_below files b f k is few lt below =
+    let P : ℕ → Type 0 = λ n. n < section_total files in
+    let live = live_from (file_at files f) k below in
+    let total = section_total files in
+    let from = pairs_from (section_no files f k) (joined_in files b f) in
+    each_if P (may_stay files b f k) (targets_in files b f k ++ map (λ (p : Pair). p.to) from) (λ stays.
+    All-append P (targets_in files b f k) (map (λ (p : Pair). p.to) from)
+    (targets_below files b f (relocs_at (file_at files f) k) is few lt live)
+    (All-map P (λ (p : Pair). p.to) from (All-filter (λ (p : Pair). p.from == section_no files f k) (EndsBelow total) (joined_in files b f)
+    (All-append (EndsBelow total) (links_in files b f) (flat_map (ring_in files b f) (file_at files f).object.groups)
+    (links_below files b f lt live) (rings_below files b f (file_at files f).object.groups lt live)))))
+
+map_each : {X : Type 0} (P : X → Type 0) (f : ℕ → X) (from n : ℕ) → ((k : ℕ) → k < from + n → P (f k)) → All P (map f (range_with_len from n))
+map_each P f from zero each = All-nil P
+map_each P f from (suc n) each =
+    All-cons P (f from) (map f (range_with_len (from + 1) n)) (each from (omega arith)) (map_each P f (from + 1) n (λ k lt. each k (omega (arith, lt))))
+
+pub edges_below : (files : List File) (b : Bindings) → IsBindingOf files b → AreFew files → All (All (λ n. n < section_total files)) (edges files b)
+unfolding edges by_section
+edges_below files b is few =
+    let P : List ℕ → Type 0 = λ ns. All (λ n. n < section_total files) ns in
+    each_flat P (λ f. map (ends_in files b f) (range_with_len 0 (section_count (file_at files f)))) 0 (length files) (λ f lt.
+    map_each P (ends_in files b f) 0 (section_count (file_at files f)) (λ k below.
+    ends_below files b f k is few (omega (arith, lt)) (omega (arith, below))))

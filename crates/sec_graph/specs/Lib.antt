@@ -1,0 +1,4 @@
+pub mod Graph
+pub mod Kept
+pub mod Rows
+pub mod Undefined
