@@ -1,5 +1,6 @@
 //! The entries of a relocation section (System V gABI, "Relocation"; RISC-V ELF psABI, "Relocations"). They are tested in file
-//! order, and mostly stand in order of offset already; else they are sorted. Then no call's bytes may meet another entry's.
+//! order, and mostly stand in order of offset already; else they are sorted. Then the bytes of no call and of no alignment may meet
+//! another entry's.
 
 ghost use Rattle.std.specs.Prelude.{◌≡◌, ◌+◌, ◌<◌, ◌≤◌, ◌^◌, length, map, unwrap_or, IfOk, IfSome, IsFalse, [], true};
 ghost use Rattle.std.specs.List.{All, range_with_len};
@@ -16,9 +17,9 @@ use crate::header::{ends_past, flaw};
 use crate::sound_file::SoundFile;
 use lk_base::abi::{RELA_SIZE, SHT_NOBITS};
 use lk_base::kinds::{BAD_RELOC, RELOC_KIND};
-use lk_base::relocations::{is_linked, is_lower, kind_of, moves_bytes};
+use lk_base::relocations::{is_linked, is_lower, moves_bytes};
 use lk_base::{Flaw, ReadFault};
-use lk_tables::{Reloc, Section};
+use lk_tables::{Reloc, Section, is_alignment, place_width};
 use std::alloc::{AllocError, Global};
 
 /// A relocation with the number of its entry.
@@ -124,7 +125,7 @@ fn read_entry(
     if file.symbols.len() <= reloc.symbol as usize {
         return Err(flaw(BAD_RELOC, index, place));
     }
-    let Some(width) = linked_width(reloc.kind) else {
+    let Some(width) = linked_width(&reloc) else {
         return Err(Flaw {
             kind: RELOC_KIND,
             section: index,
@@ -138,33 +139,42 @@ fn read_entry(
     Ok(reloc)
 }
 
-/// How many bytes the relocations of a kind change, if it is linked.
+/// How many bytes a relocation changes, if its kind is linked.
 #[tactic(auto, unfolding(lk_tables::specs::Relocations::linked_width))]
-fn linked_width(kind: u32) -> Option<u64>
-    ensures { result ≡ read.linked_width kind }
+fn linked_width(reloc: &Reloc) -> Option<u64>
+    ensures { result ≡ read.linked_width reloc.now }
 {
-    if !is_linked(kind) {
+    if !is_linked(reloc.kind) {
         return None;
     }
-    Some(kind_of(kind).width)
+    Some(place_width(reloc))
 }
 
 /// Whether a relocation's bytes end past its section, or the section has none in the file.
 #[tactic(auto, unfolding(lk_tables::specs::Relocations::is_past_target))]
 fn is_past_target(target: &Section, reloc: &Reloc, width: u64) -> bool
-    requires { width ≡ unwrap_or (read.linked_width reloc.now.kind) 0 }
+    requires { width ≡ unwrap_or (read.linked_width reloc.now) 0 }
     ensures value { result ≡ read.is_past_target [] target.now reloc.now }
     ensures fits { IsFalse result → reloc.now.offset + width < 2 ^ 64 }
 {
     target.sh_type == SHT_NOBITS || ends_past(target.size, reloc.offset, width)
 }
 
-/// Whether a relocation that takes its value from another has an addend of its own.
+/// Whether an alignment has no even number of bytes, or a relocation that takes its value from another an addend of its own.
 #[tactic(auto, unfolding(lk_tables::specs::Relocations::is_bad_addend))]
 fn is_bad_addend(reloc: &Reloc) -> bool
     ensures { result ≡ read.is_bad_addend reloc.now }
 {
-    reloc.addend != 0 && is_lower(reloc.kind)
+    (is_alignment(reloc) && is_bad_padding(reloc.addend))
+        || (reloc.addend != 0 && is_lower(reloc.kind))
+}
+
+/// Whether nops have fewer bytes than none, or half a nop.
+#[tactic(auto, unfolding(lk_tables::specs::Relocations::is_bad_padding))]
+fn is_bad_padding(addend: i64) -> bool
+    ensures { result ≡ read.is_bad_padding addend }
+{
+    addend < 0 || addend.unsigned_abs() % 2 != 0
 }
 
 /// Whether relocations stand in order of offset.
@@ -239,7 +249,7 @@ fn extent_of(reloc: &Reloc) -> Extent
 {
     Extent {
         from: reloc.offset,
-        end: reloc.offset + linked_width(reloc.kind).unwrap_or(0),
+        end: reloc.offset + linked_width(reloc).unwrap_or(0),
         moves: moves_bytes(reloc.kind),
     }
 }

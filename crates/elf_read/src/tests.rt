@@ -144,8 +144,9 @@ const ROWS: [Row; 56] = [
     (428, 6, BAD_SECTION, 2, 384, 0),
     // The relocations at 80 and 104.
     (92, 3, BAD_RELOC, 2, 80, 0),
-    (88, 16, RELOC_KIND, 2, 80, 16),
-    (88, 51, RELOC_KIND, 2, 80, 51),
+    // Numbers that are no kind.
+    (88, 46, RELOC_KIND, 2, 80, 46),
+    (88, 255, RELOC_KIND, 2, 80, 255),
     // .text has no bytes in the file.
     (324, 8, BAD_RELOC, 2, 80, 0),
     (80, 13, BAD_RELOC, 2, 80, 0),

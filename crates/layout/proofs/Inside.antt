@@ -29,13 +29,13 @@ empty_first row rows e = by (row.size == 0) (list_all (λ row. row.size == 0) ro
     by true b is e = (grind (arith, nat_tests), e)
     by false b is e = cc
 
-none_each : (rows : List Row) → is_empty rows ≡ true → All (λ row. row.size ≡ 0) rows
+pub none_each : (rows : List Row) → is_empty rows ≡ true → All (λ row. row.size ≡ 0) rows
 none_each [] e = All-nil (λ row. row.size ≡ 0)
 none_each (row ∷ rows) e =
     let both = empty_first row rows e in
     All-cons (λ row. row.size ≡ 0) row rows both.0 (none_each rows both.1)
 
-each_none : (o : List Row) → All (λ row. row.size ≡ 0) o → is_empty o ≡ true
+pub each_none : (o : List Row) → All (λ row. row.size ≡ 0) o → is_empty o ≡ true
 unfolding is_empty
 each_none [] all = refl
 each_none (row ∷ rows) all =
@@ -59,7 +59,7 @@ in_class : (b : Bool) (sizes : List (List Cut)) (first limit : ℕ) (c : Cursor)
 in_class true sizes first limit c rows e extra le end fit = rw (none_class sizes c rows e) (All-nil (Within first limit))
 in_class false sizes first limit c rows e extra le end fit = (both_along sizes first limit c (runs rows) extra le (end e) (each_run (RowFits sizes) rows fit)).1
 
-last_counts : (p q s : Bool) (r x t w : ℕ) → x ≤ t → t ≤ w
+pub last_counts : (p q s : Bool) (r x t w : ℕ) → x ≤ t → t ≤ w
     → (s ≡ false → x ≤ (if not p then w else if not q then t else if not s then x else r))
     × ((q ≡ false → t ≤ (if not p then w else if not q then t else if not s then x else r))
     × (p ≡ false → w ≤ (if not p then w else if not q then t else if not s then x else r)))

@@ -68,7 +68,7 @@ pool_is files b total leaders p (pool ∷ pools) n s le = by (pool.first == n) (
     }) (All-nil (IsOf files b total leaders))
     by false later = later
 
-all_flat : (P : Item → Type 0) (f : ℕ → List Item) (a n : ℕ) → ((k : ℕ) → All P (f k)) → All P (flat_map f (range_with_len a n))
+pub all_flat : (P : Item → Type 0) (f : ℕ → List Item) (a n : ℕ) → ((k : ℕ) → All P (f k)) → All P (flat_map f (range_with_len a n))
 all_flat P f a zero each = All-nil P
 all_flat P f a (suc n) each = All-append P (f a) (flat_map f (range_with_len (a + 1) n)) (each a) (all_flat P f (a + 1) n each)
 

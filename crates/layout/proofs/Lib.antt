@@ -13,7 +13,6 @@ pub mod Members
 pub mod NextPool
 pub mod PlacedMembers
 pub mod Rising
-pub mod RowNumbers
 pub mod RowsOfCuts
 pub mod Runs
 pub mod ShortCuts
@@ -31,3 +30,7 @@ pub mod MemberFacts
 pub mod Inside
 pub mod Sounds
 pub mod Seen
+pub mod ViewedItems
+pub mod Segments
+pub mod Apart
+pub mod Aligned

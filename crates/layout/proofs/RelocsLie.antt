@@ -16,7 +16,7 @@ use Rattle.lk_tables.specs.Sections.{contents_of}
 use Rattle.lk_tables.specs.Sites.{relocs_of}
 use Rattle.lk_tables.proofs.Owners.{place_is, place_law}
 use Rattle.lk_tables.proofs.SoundFiles.{inside_body}
-use Rattle.lk_tables.proofs.Widths.{width_is}
+use Rattle.lk_tables.proofs.Widths.{width_least}
 use Rattle.link_sections.specs.Cuts.{AreApart, Cut, kept_before, new_offset, whole_before}
 use Rattle.link_sections.specs.InputSections.{input_at, input_of, is_own}
 use Rattle.link_sections.proofs.CutSums.{new_rises}
@@ -28,7 +28,7 @@ abbrev pub Lies : (size : ℕ) → Reloc → Type 0
 Lies size r = r.offset + (kind_of r.kind).width ≤ size
 
 lies_one : (b : List ℕ) (symbols : ℕ) (s : Section) (r : Reloc) → IsRelocWithin b symbols s r → Lies s.size r
-lies_one b symbols s r within = omega (arith, within.fits, width_is (contents_of b s) r within.kind)
+lies_one b symbols s r within = omega (arith, within.fits, width_least (contents_of b s) r within.kind)
 
 no_relocs : (size : ℕ) (list : List Reloc) → list ≡ [] → All (Lies size) list
 no_relocs size list none = λ k d lt. let past : length list ≡ 0 = ap length none in absurd (omega arith)

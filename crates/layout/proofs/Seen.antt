@@ -1,37 +1,86 @@
--- What holds of the layout of a link holds of each layout that is seen as it.
-use Rattle.std.proofs.Common.{◌≡◌, ℕ, ◌+◌, ◌^◌, ◌<◌, Option, List, length, All, refl, ap, sym, ◌∙◌, subst}
+-- What holds of the layout of a link, and so of each layout that is seen as it.
+use Rattle.std.proofs.Common.{◌≡◌, ℕ, ◌+◌, ◌^◌, ◌<◌, Option, List, length, All, refl, sym, subst}
 use Rattle.lk_tables.specs.Binding.{Bindings}
 use Rattle.lk_tables.specs.Files.{File, section_total}
+use Rattle.link_sections.specs.declared.layouts.Bounds.{Bounds}
 use Rattle.link_sections.specs.declared.layouts.Layout.{Layout}
 use Rattle.link_sections.specs.declared.pools.Pool.{Pool}
-use Rattle.link_sections.specs.Cuts.{AreApart, Cut}
-use Rattle.link_sections.specs.LaidOut.{LaidOut, layout_view}
-use Rattle.layout.specs.Items.{AreLeaders, IsSized, items}
-use Rattle.layout.specs.Layout.{FitSizes, all_weight, bounds_of, laid_by, laid_of, layout_of}
+use Rattle.link_sections.specs.Cuts.{AreApart as AreCutsApart, Cut}
+use Rattle.link_sections.specs.LaidOut.{LaidOut, OutputSection, layout_view}
+use Rattle.layout.specs.Items.{AreLeaders, IsSized, Item, items}
+use Rattle.layout.specs.Layout.{FitSizes, all_weight, bounds_of, laid_by, laid_of, layout_of, no_trail, trail_of}
 use Rattle.layout.specs.Order.{Orders, orders_of}
-use Rattle.layout.specs.Spots.{AreRising}
-use Rattle.layout.proofs.Chain.{bounds_are}
+use Rattle.layout.specs.Spots.{AreApart, AreRising, HaveAlignments, HaveSegments, IsWithinClass, without_tls_zeros}
+use Rattle.layout.proofs.Aligned.{IsAligned, align_rows, aligned_members, aligned_zeros}
+use Rattle.layout.proofs.Apart.{outputs_apart, outputs_within, trail_outputs}
+use Rattle.layout.proofs.Chain.{AreBounds, bounds_are}
 use Rattle.layout.proofs.ItemFacts.{ready_of}
 use Rattle.layout.proofs.Rising.{AllFit, all_fit, rising}
+use Rattle.layout.proofs.Segments.{segments}
+use Rattle.layout.proofs.Trails.{trail_members}
+
+-- the laws of a layout
+pub record HasLaws (files : List File) (b : Bindings) (laid : LaidOut) : Type 0 where
+  pub rising : AreRising laid.bounds
+  pub segments : HaveSegments laid.bounds
+  pub apart : AreApart laid.bounds.headers_end (without_tls_zeros laid.outputs)
+  pub inside : All (IsWithinClass laid.bounds) laid.outputs
+  pub aligned : HaveAlignments files b laid
+
+laws_by : (files : List File) (b : Bindings) (leaders : List (Option ℕ)) (sizes : List (List Cut)) (parts : List Item) (o : Orders) (bounds : Bounds) (pools : ℕ) → AllFit sizes o
+    → AreBounds sizes o bounds → AreRising bounds → All (IsAligned files b) (trail_of sizes parts o bounds (no_trail (section_total files) pools)).members
+    → All (IsAligned files b) (trail_of sizes parts o bounds (no_trail (section_total files) pools)).zeros
+    → HasLaws files b (laid_by leaders sizes (section_total files) bounds (trail_of sizes parts o bounds (no_trail (section_total files) pools)))
+unfolding laid_by
+laws_by files b leaders sizes parts o bounds pools fit is rises members zeros =
+    let outputs = trail_outputs sizes parts o bounds (section_total files) pools in
+    let P : List OutputSection → Type 0 = λ l. AreApart bounds.headers_end (without_tls_zeros l) in
+    let Q : List OutputSection → Type 0 = λ l. All (IsWithinClass bounds) l in
+    record {
+      rising = rises;
+      segments = segments sizes o bounds fit is rises;
+      apart = subst P (sym outputs) (outputs_apart sizes parts o bounds fit is rises);
+      inside = subst Q (sym outputs) (outputs_within sizes parts o bounds fit is rises);
+      aligned = record { members = members; zeros = zeros };
+    }
+
+laws_laid : (files : List File) (b : Bindings) (pools : List Pool) (words : ℕ) (leaders : List (Option ℕ)) (sizes : List (List Cut)) → AreLeaders files b leaders
+    → FitSizes files b sizes → All AreCutsApart sizes → All IsSized (items files b pools words leaders)
+    → all_weight (orders_of (items files b pools words leaders)) + 2 ^ 32 < 2 ^ 63 → HasLaws files b (layout_of files b pools words leaders sizes)
+unfolding layout_of laid_of
+laws_laid files b pools words leaders sizes are fit apart sized room =
+    let parts : List Item = items files b pools words leaders in
+    let o : Orders = orders_of parts in
+    let bounds : Bounds = bounds_of sizes o in
+    let rows : AllFit sizes o = all_fit sizes (section_total files) (length pools) o apart (ready_of files b pools words leaders sizes are fit sized) in
+    let is : AreBounds sizes o bounds = bounds_are sizes o in
+    let aligned = align_rows files b pools words leaders in
+    let members = subst (All (IsAligned files b)) (sym (trail_members sizes parts o bounds (section_total files) (length pools))) (aligned_members files b sizes o bounds aligned) in
+    laws_by files b leaders sizes parts o bounds (length pools) rows is (rising sizes o bounds rows room is) members
+    (aligned_zeros files b sizes parts o bounds (section_total files) (length pools) aligned)
 
 bounds_seen : (layout : Layout) → (layout_view layout).bounds ≡ layout.bounds
 unfolding layout_view
 bounds_seen layout = refl
 
-bounds_laid : (files : List File) (b : Bindings) (pools : List Pool) (words : ℕ) (leaders : List (Option ℕ)) (sizes : List (List Cut))
-    → (layout_of files b pools words leaders sizes).bounds ≡ bounds_of sizes (orders_of (items files b pools words leaders))
-unfolding layout_of laid_of laid_by
-bounds_laid files b pools words leaders sizes = refl
+-- the same of its bounds as the code has them
+pub record IsLawful (files : List File) (b : Bindings) (layout : Layout) : Type 0 where
+  pub rising : AreRising layout.bounds
+  pub segments : HaveSegments layout.bounds
+  pub apart : AreApart layout.bounds.headers_end (without_tls_zeros (layout_view layout).outputs)
+  pub inside : All (IsWithinClass layout.bounds) (layout_view layout).outputs
+  pub aligned : HaveAlignments files b (layout_view layout)
 
-pub bounds_of_layout : (layout : Layout) (files : List File) (b : Bindings) (pools : List Pool) (words : ℕ) (leaders : List (Option ℕ)) (sizes : List (List Cut))
-    → layout_view layout ≡ layout_of files b pools words leaders sizes → layout.bounds ≡ bounds_of sizes (orders_of (items files b pools words leaders))
-bounds_of_layout layout files b pools words leaders sizes is =
-    sym (bounds_seen layout) ∙ ap (λ (l : LaidOut). l.bounds) is ∙ bounds_laid files b pools words leaders sizes
-
-pub rising_seen : (layout : Layout) (files : List File) (b : Bindings) (pools : List Pool) (words : ℕ) (leaders : List (Option ℕ)) (sizes : List (List Cut)) → AreLeaders files b leaders
-    → FitSizes files b sizes → All AreApart sizes → All IsSized (items files b pools words leaders)
-    → all_weight (orders_of (items files b pools words leaders)) + 2 ^ 32 < 2 ^ 63 → layout_view layout ≡ layout_of files b pools words leaders sizes → AreRising layout.bounds
-rising_seen layout files b pools words leaders sizes are fit apart sized room is =
-    let o : Orders = orders_of (items files b pools words leaders) in
-    let rows : AllFit sizes o = all_fit sizes (section_total files) (length pools) o apart (ready_of files b pools words leaders sizes are fit sized) in
-    subst AreRising (sym (bounds_of_layout layout files b pools words leaders sizes is)) (rising sizes o (bounds_of sizes o) rows room (bounds_are sizes o))
+pub laws_seen : (layout : Layout) (files : List File) (b : Bindings) (pools : List Pool) (words : ℕ) (leaders : List (Option ℕ)) (sizes : List (List Cut)) → AreLeaders files b leaders
+    → FitSizes files b sizes → All AreCutsApart sizes → All IsSized (items files b pools words leaders)
+    → all_weight (orders_of (items files b pools words leaders)) + 2 ^ 32 < 2 ^ 63 → layout_view layout ≡ layout_of files b pools words leaders sizes → IsLawful files b layout
+laws_seen layout files b pools words leaders sizes are fit apart sized room is =
+    let laws : HasLaws files b (layout_view layout) = subst (HasLaws files b) (sym is) (laws_laid files b pools words leaders sizes are fit apart sized room) in
+    let same = bounds_seen layout in
+    record {
+      rising = subst AreRising same laws.rising;
+      segments = subst HaveSegments same laws.segments;
+      apart = subst (λ (x : Bounds). AreApart x.headers_end (without_tls_zeros (layout_view layout).outputs)) same laws.apart;
+      inside = subst (λ x. All (IsWithinClass x) (layout_view layout).outputs) same laws.inside;
+      aligned = laws.aligned;
+    }

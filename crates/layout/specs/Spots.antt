@@ -1,7 +1,15 @@
 -- Where the output sections of a layout stand, within its bounds.
-use Rattle.std.specs.Prelude.{◌+◌, ◌*◌, ◌^◌, ◌<◌, ◌≤◌}
+use Rattle.std.specs.Prelude.{◌≡◌, ℕ, ◌+◌, ◌*◌, ◌%◌, ◌^◌, ◌<◌, ◌≤◌, IsTrue, Bool, true, false, not, List, [], ◌∷◌, filter, All}
 use Rattle.lk_base.specs.declared.abi.TheConstants.{EHDR_SIZE, IMAGE_BASE, PHDR_SIZE}
+use Rattle.lk_tables.specs.Binding.{Bindings}
+use Rattle.lk_tables.specs.Files.{File}
+use Rattle.lk_tables.specs.declared.classes.Class.{Class}
+use Rattle.lk_tables.specs.declared.classes.Class.TheVariants.{R, Rx, TlsBits, TlsNobits, RwBits, RwNobits}
 use Rattle.link_sections.specs.declared.layouts.Bounds.{Bounds}
+use Rattle.link_sections.specs.declared.members.Content.TheVariants.{Section}
+use Rattle.link_sections.specs.InputSections.{input_at}
+use Rattle.link_sections.specs.LaidOut.{LaidOut, OutputSection}
+use Rattle.layout.specs.Layout.{count_of}
 
 -- the bounds in order: the classes one after the other, where RW bits starts with thread-local nobits; and the file and the image, which
 -- end where a class does
@@ -21,3 +29,69 @@ pub record AreRising (b : Bounds) : Type 0 where
   pub image_most : b.image_end ≤ b.nobits_end
   pub room : b.nobits_end + 2 ^ 31 < 2 ^ 63
   pub tls_room : b.tls_end + 2 ^ 31 < 2 ^ 63
+
+-- the headers, and the segments that have bytes: each ends within the file, and with its zeros within the image; the thread-local one
+-- starts at a multiple of its alignment
+pub record HaveSegments (b : Bounds) : Type 0 where
+  pub headers : b.headers ≡ 2 + count_of b.has_rx + count_of b.has_rw + count_of b.has_tls
+  pub headers_end : b.headers_end ≡ IMAGE_BASE + (EHDR_SIZE + PHDR_SIZE * b.headers)
+  pub rx : IsTrue b.has_rx → b.rx_end ≤ b.file_end
+  pub tls_bits : IsTrue b.has_tls_bits → (b.tls_start ≤ b.tls_bits_end) × (b.tls_bits_end ≤ b.file_end)
+  pub tls : IsTrue b.has_tls → (b.rw_start ≤ b.tls_start) × ((b.tls_start ≤ b.tls_end) × (b.tls_start % b.tls_align ≡ 0))
+  pub bits : b.tls_bits_end < b.bits_end → b.bits_end ≤ b.file_end
+  pub rw : IsTrue b.has_rw → b.nobits_end ≤ b.image_end
+
+-- the cursors before and after a class, and the end of the file or of the image, in which its bytes lie; those of thread-local nobits lie
+-- in none, since RW bits starts again where they start
+abbrev pub class_start : Class → Bounds → ℕ
+class_start R b = b.headers_end
+class_start Rx b = b.rx_start
+class_start TlsBits b = b.rw_start
+class_start TlsNobits b = b.tls_bits_end
+class_start RwBits b = b.tls_bits_end
+class_start RwNobits b = b.bits_end
+
+abbrev pub class_end : Class → Bounds → ℕ
+class_end R b = b.r_end
+class_end Rx b = b.rx_end
+class_end TlsBits b = b.tls_bits_end
+class_end TlsNobits b = b.tls_end
+class_end RwBits b = b.bits_end
+class_end RwNobits b = b.nobits_end
+
+abbrev pub bytes_end : Class → Bounds → ℕ
+bytes_end R b = b.file_end
+bytes_end Rx b = b.file_end
+bytes_end TlsBits b = b.file_end
+bytes_end TlsNobits b = b.tls_end
+bytes_end RwBits b = b.file_end
+bytes_end RwNobits b = b.image_end
+
+-- an output section's bytes lie within its class
+pub record IsWithinClass (b : Bounds) (s : OutputSection) : Type 0 where
+  pub from : class_start s.class b ≤ s.address
+  pub to : s.address + s.size ≤ class_end s.class b
+  pub inside : s.address + s.size ≤ bytes_end s.class b
+
+-- output sections one after the other from an address on: none starts below the end of the one before
+abbrev pub AreApart : ℕ → List OutputSection → Type 0
+AreApart from [] = Unit {0}
+AreApart from (s ∷ ss) = (from ≤ s.address) × AreApart (s.address + s.size) ss
+
+-- thread-local nobits share their addresses with RW bits
+abbrev pub is_tls_nobits : Class → Bool
+is_tls_nobits R = false
+is_tls_nobits Rx = false
+is_tls_nobits TlsBits = false
+is_tls_nobits TlsNobits = true
+is_tls_nobits RwBits = false
+is_tls_nobits RwNobits = false
+
+-- all others
+abbrev pub without_tls_zeros : List OutputSection → List OutputSection
+without_tls_zeros outputs = filter (λ s. not (is_tls_nobits s.class)) outputs
+
+-- each member that is a section starts at a multiple of its alignment
+pub record HaveAlignments (files : List File) (b : Bindings) (laid : LaidOut) : Type 0 where
+  pub members : All (λ m. (n : ℕ) → m.content ≡ Section n → m.start % (input_at files b n).align ≡ 0) laid.members
+  pub zeros : All (λ m. (n : ℕ) → m.content ≡ Section n → m.start % (input_at files b n).align ≡ 0) laid.zeros

@@ -1,8 +1,8 @@
 //! The layout of a link: the classes one after the other, and the limits.
 
-ghost use Rattle.std.specs.Prelude.{◌≡◌, ℕ, ◌+◌, ◌*◌, ◌<◌, ◌≤◌, ◌∷◌, [], ◌++◌, ◌^◌, All, length, map, max, IfOk, OnOk, not, ◌&&◌, if◌then◌else◌};
+ghost use Rattle.std.specs.Prelude.{◌≡◌, ℕ, ◌+◌, ◌*◌, ◌<◌, ◌≤◌, ◌∷◌, [], ◌++◌, ◌^◌, All, length, map, max, IfOk, OnOk, not, ◌&&◌, if◌then◌else◌, true};
 ghost use Rattle.std.specs.List.{sum_by};
-ghost use Rattle.lk_base.specs.declared.abi.TheConstants.{ALIGN_MAX};
+ghost use Rattle.lk_base.specs.declared.abi.TheConstants.{ALIGN_MAX, NOBITS_MAX};
 ghost use Rattle.lk_base.specs.Arithmetic.{up};
 ghost use Rattle.lk_base.specs.Firsts.{Goes, Passes};
 ghost use Rattle.lk_base.specs.Limits.{IsWithinStandard};
@@ -14,10 +14,10 @@ ghost use Rattle.link_sections.specs.LaidOut.{layout_view};
 ghost use Rattle.link_sections.specs.SizesView.{sizes_of};
 ghost use Rattle.link_sections.specs.Sound.{IsSound};
 ghost use Rattle.layout.specs.Items.{AreLeaders, HaveFirsts, IsSized, items};
-ghost use Rattle.layout.specs.ItemViews.{items_view};
+ghost use Rattle.layout.specs.ItemViews.{item_view, items_view};
 ghost use Rattle.layout.specs.Layout as spec;
 ghost use Rattle.layout.specs.Order.{orders_in, orders_of};
-ghost use Rattle.layout.specs.Spots.{AreRising};
+ghost use Rattle.layout.specs.Spots.{AreApart, AreRising, HaveAlignments, HaveSegments, IsWithinClass, without_tls_zeros};
 ghost use Rattle.layout.specs.Walk as walk;
 
 use crate::cut_rows::lay_rows;
@@ -55,6 +55,10 @@ pub fn place<'a>(
     ensures sound { IsWithinStandard limits.now → IfOk result (λ layout. IsSound (files_of tables.now) (binding_view binding.now) leaders.now (layout_view layout)) }
     ensures within { IfOk result (λ layout. spec.IsWithin limits.now (layout_view layout)) }
     ensures rising { IfOk result (λ layout. AreRising layout.bounds) }
+    ensures segments { IfOk result (λ layout. HaveSegments layout.bounds) }
+    ensures apart { IfOk result (λ layout. AreApart layout.bounds.headers_end (without_tls_zeros (layout_view layout).outputs)) }
+    ensures inside { IfOk result (λ layout. All (IsWithinClass layout.bounds) (layout_view layout).outputs) }
+    ensures aligned { IfOk result (λ layout. HaveAlignments (files_of tables.now) (binding_view binding.now) (layout_view layout)) }
 {
     let layout = lay_out(alloc, tables, binding, pools, got, leaders, sizes)?;
     match check_limits(&layout, limits) {
@@ -250,11 +254,11 @@ fn count_of(test: bool) -> u64
     0
 }
 
-/// A cursor where no output section takes more than its own alignment.
-fn cursor_at(at: u64) -> Cursor
-    ensures { result ≡ walk.cursor_at at }
+/// A cursor, where the next output section that is not empty takes an alignment beside its own.
+fn cursor(at: u64, extra: u64) -> Cursor
+    ensures { result ≡ record { at = at; extra = extra } }
 {
-    Cursor { at, extra: 1 }
+    Cursor { at, extra }
 }
 
 #[tactic(auto, unfolding(crate::specs::Layout::has_rx))]
@@ -356,34 +360,19 @@ fn walk_all<'a>(
 {
     let headers = headers_of(o);
     let headers_end = IMAGE_BASE + (EHDR_SIZE + PHDR_SIZE * headers);
-    let r_end = walk_bits(from, cursor_at(headers_end), Class::R, &o.r, walked)?.at;
+    let r_end = walk_bits(from, cursor(headers_end, 1), Class::R, &o.r, walked)?.at;
     let rx_start = up(r_end, PAGE);
-    let rx_end = walk_bits(from, cursor_at(rx_start), Class::Rx, &o.rx, walked)?.at;
+    let rx_end = walk_bits(from, cursor(rx_start, 1), Class::Rx, &o.rx, walked)?.at;
     let rw_start = up(rx_end, PAGE);
     let tls_align = tls_align_of(o);
-    let tls = Cursor {
-        at: rw_start,
-        extra: tls_align,
-    };
+    let tls = cursor(rw_start, tls_align);
     let tls_bits = walk_bits(from, tls, Class::TlsBits, &o.tls_bits, walked)?;
     let tls_end = walk_zeros(from, tls_bits, Class::TlsNobits, &o.tls_nobits, walked)?.at;
     let tls_bits_end = tls_bits.at;
-    let bits_end = walk_bits(
-        from,
-        cursor_at(tls_bits_end),
-        Class::RwBits,
-        &o.rw_bits,
-        walked,
-    )?
-    .at;
-    let nobits_end = walk_zeros(
-        from,
-        cursor_at(bits_end),
-        Class::RwNobits,
-        &o.rw_nobits,
-        walked,
-    )?
-    .at;
+    let written = cursor(tls_bits_end, 1);
+    let bits_end = walk_bits(from, written, Class::RwBits, &o.rw_bits, walked)?.at;
+    let zeros = cursor(bits_end, 1);
+    let nobits_end = walk_zeros(from, zeros, Class::RwNobits, &o.rw_nobits, walked)?.at;
     let file_end = last_end(o, r_end, rx_end, tls_bits_end, bits_end);
     Ok(Bounds {
         has_rx: has_rx(o),
@@ -405,4 +394,331 @@ fn walk_all<'a>(
         file_end,
         image_end: image_end_of(o, file_end, nobits_end),
     })
+}
+
+#[cfg(test)]
+mod tests {
+    use super::*;
+    use crate::cutting::{check_cuts, lay_cuts};
+    use flat_rows::Rows;
+    use link_sections::{Content, Cut};
+    use lk_base::kinds::NOPS_SHORT;
+    use lk_tables::SectionPlace;
+    use std::test::Fail;
+
+    /// A section of a link.
+    fn section(
+        number: u32,
+        name: &'static [u8],
+        sh_type: u32,
+        flags: u64,
+        size: u64,
+        align: u64,
+    ) -> Item<'static> {
+        Item {
+            content: Content::Section(number),
+            name,
+            sh_type,
+            flags,
+            size,
+            align,
+        }
+    }
+
+    /// The linker's table, without words.
+    fn table() -> Item<'static> {
+        Item {
+            content: Content::Got,
+            name: b".got",
+            sh_type: 1,
+            flags: 3,
+            size: 0,
+            align: 8,
+        }
+    }
+
+    /// Whether an item can be laid out among so many sections.
+    fn is_there(item: &Item, sections: usize) -> bool
+        ensures sized { result ≡ true → IsSized (item_view item.now) }
+        ensures there { result ≡ true → spec.IsThere [] sections 0 (item_view item.now) }
+        ensures small { result ≡ true → item.now.size ≤ NOBITS_MAX }
+    {
+        if item.align < 1 || 0x10_0000 < item.align || 0x1_0000_0000 < item.size {
+            return false;
+        }
+        match item.content {
+            Content::Section(n) => (n as usize) < sections,
+            Content::Pool(_) => false,
+            Content::Got => true,
+        }
+    }
+
+    fn are_there(items: &[Item], sections: usize) -> bool
+        ensures sized { result ≡ true → All IsSized (items_view items.now) }
+        ensures there { result ≡ true → All (spec.IsThere [] sections 0) (items_view items.now) }
+        ensures small { result ≡ true → All (λ (item : _). item.size ≤ NOBITS_MAX) (items_view items.now) }
+    {
+        for item in items {
+            if !is_there(item, sections) {
+                return false;
+            }
+        }
+        true
+    }
+
+    /// The layout of items, where no section loses bytes.
+    fn laid_items<'a>(
+        alloc: Global,
+        items: &[Item<'a>],
+        sections: usize,
+    ) -> Result<Layout<'a>, LinkStop> {
+        if 1000 < items.len() || !are_there(items, sections) {
+            return Err(LinkStop::Memory);
+        }
+        let sizes = Sizes::of(Rows::empty(alloc)?);
+        let (walked, bounds) = walk_items(alloc, items, &sizes, sections, 0)?;
+        Ok(Layout {
+            outputs: walked.outputs,
+            members: walked.members,
+            zeros: walked.zeros,
+            starts: walked.places.starts,
+            pools: walked.places.pools,
+            got: walked.places.got,
+            sizes,
+            bounds,
+        })
+    }
+
+    /// The same, unless it passes a limit.
+    fn laid_within<'a>(
+        alloc: Global,
+        items: &[Item<'a>],
+        sections: usize,
+        limits: &Limits,
+    ) -> Result<Layout<'a>, LinkStop> {
+        let layout = laid_items(alloc, items, sections)?;
+        match check_limits(&layout, limits) {
+            Ok(()) => Ok(layout),
+            Err(defect) => Err(LinkStop::Defect(defect)),
+        }
+    }
+
+    fn laid_out<'a>(
+        alloc: Global,
+        items: &[Item<'a>],
+        sections: usize,
+    ) -> Result<Layout<'a>, LinkStop> {
+        laid_within(alloc, items, sections, &Limits::standard())
+    }
+
+    /// An output section as it is to be.
+    #[derive(Drop)]
+    struct Expected {
+        name: &'static [u8],
+        sh_type: u32,
+        flags: u64,
+        address: u64,
+        size: u64,
+        align: u64,
+    }
+
+    fn output(
+        name: &'static [u8],
+        sh_type: u32,
+        flags: u64,
+        address: u64,
+        size: u64,
+        align: u64,
+    ) -> Expected {
+        Expected {
+            name,
+            sh_type,
+            flags,
+            address,
+            size,
+            align,
+        }
+    }
+
+    fn check(
+        rt: &impl std::process::Abort,
+        layout: &Layout,
+        starts: &[u64],
+        rows: &[Expected],
+        headers: u64,
+        image_end: u64,
+    ) {
+        assert_eq!(rt; layout.starts.as_slice(), starts);
+        assert_eq!(rt; layout.outputs.len(), rows.len());
+        for (output, row) in layout.outputs.iter().zip(rows.iter()) {
+            assert_eq!(rt; output.name, row.name);
+            assert_eq!(rt; output.sh_type, row.sh_type);
+            assert_eq!(rt; output.flags, row.flags);
+            assert_eq!(rt; output.address, row.address);
+            assert_eq!(rt; output.size, row.size);
+            assert_eq!(rt; output.align, row.align);
+        }
+        assert_eq!(rt; layout.bounds.headers, headers);
+        assert_eq!(rt; layout.bounds.image_end, image_end);
+    }
+
+    #[test]
+    fn text_alone(rt: HostRuntime) -> Result<(), Fail> {
+        let items = [section(0, b".text", 1, 6, 8, 4), table()];
+        let layout = laid_out(rt.alloc(), &items, 1)?;
+        let rows = [output(b".text", 1, 6, 0x11000, 8, 4)];
+        check(&rt, &layout, &[0x11000], &rows, 3, 0x11008);
+        assert_eq!(rt; layout.got, 0x12000);
+        Ok(())
+    }
+
+    /// The first thread-local output section starts at the greatest alignment of all of them; those without bits do not move the cursor,
+    /// nor does the empty table.
+    #[test]
+    fn each_class(rt: HostRuntime) -> Result<(), Fail> {
+        let items = [
+            section(0, b".tbss", 8, 0x403, 32, 0x4000),
+            section(1, b".bss", 8, 3, 16, 16),
+            section(2, b".data", 1, 3, 8, 4),
+            section(3, b".tdata", 1, 0x403, 4, 4),
+            section(4, b".text", 1, 6, 4, 4),
+            section(5, b".rodata", 1, 2, 5, 8),
+            table(),
+        ];
+        let layout = laid_out(rt.alloc(), &items, 6)?;
+        let rows = [
+            output(b".rodata", 1, 2, 0x10158, 5, 8),
+            output(b".text", 1, 6, 0x11000, 4, 4),
+            output(b".tdata", 1, 0x403, 0x14000, 4, 4),
+            output(b".tbss", 8, 0x403, 0x18000, 32, 0x4000),
+            output(b".data", 1, 3, 0x14004, 8, 4),
+            output(b".bss", 8, 3, 0x14010, 16, 16),
+        ];
+        let starts = [0x18000, 0x14010, 0x14004, 0x14000, 0x11000, 0x10158];
+        check(&rt, &layout, &starts, &rows, 5, 0x14020);
+        assert_eq!(rt; layout.got, 0x14008);
+        assert_eq!(rt; layout.members.len(), 4);
+        assert_eq!(rt; layout.zeros.len(), 2);
+        // Where the file ends, before the section with no bytes in it.
+        assert_eq!(rt; layout.bounds.file_end, 0x1400c);
+        assert_eq!(rt; layout.bounds.tls_start, 0x14000);
+        assert_eq!(rt; layout.bounds.tls_end, 0x18020);
+        assert_eq!(rt; layout.bounds.tls_align, 0x4000);
+        Ok(())
+    }
+
+    #[test]
+    fn priorities_and_the_linkers_table(rt: HostRuntime) -> Result<(), Fail> {
+        let items = [
+            section(0, b".got", 1, 3, 4, 4),
+            section(1, b".init_array", 1, 3, 8, 8),
+            section(2, b".init_array.00005", 1, 3, 8, 8),
+            section(3, b".init_array.3", 1, 3, 8, 8),
+            table(),
+        ];
+        let layout = laid_out(rt.alloc(), &items, 4)?;
+        let rows = [
+            output(b".init_array", 1, 3, 0x11000, 24, 8),
+            output(b".got", 1, 3, 0x11018, 8, 8),
+        ];
+        let starts = [0x11018, 0x11010, 0x11008, 0x11000];
+        check(&rt, &layout, &starts, &rows, 3, 0x11020);
+        assert_eq!(rt; layout.got, 0x11020);
+        Ok(())
+    }
+
+    #[test]
+    fn too_big(rt: HostRuntime) {
+        let items = [
+            section(0, b".bss", 8, 3, 0x8000_0000, 8),
+            section(1, b".text", 1, 6, 4, 4),
+            table(),
+        ];
+        match laid_out(rt.alloc(), &items, 2) {
+            Ok(_) => assert!(rt; false, "a layout past the limit"),
+            Err(stop) => {
+                let defect = Defect::linkwide(TOO_BIG, 2147491840, 0);
+                assert_eq!(rt; stop, LinkStop::Defect(defect));
+            }
+        }
+    }
+
+    #[test]
+    fn too_many(rt: HostRuntime) -> Result<(), Fail> {
+        let items = [
+            section(0, b".text", 1, 6, 4, 4),
+            section(1, b".rodata", 1, 2, 5, 8),
+        ];
+        let mut limits = Limits::standard();
+        limits.outputs = 2;
+        let layout = laid_within(rt.alloc(), &items, 2, &limits)?;
+        assert_eq!(rt; layout.outputs.len(), 2);
+        limits.outputs = 1;
+        // The count comes first, even if the image is too large as well.
+        limits.image = 1;
+        match laid_within(rt.alloc(), &items, 2, &limits) {
+            Ok(_) => assert!(rt; false, "a layout past the limit"),
+            Err(stop) => {
+                let defect = count_defect(2);
+                assert_eq!(rt; stop, LinkStop::Defect(defect));
+            }
+        }
+        Ok(())
+    }
+
+    /// An alignment of so many bytes at an offset of a section of 14 bytes.
+    fn alignment(at: u64, whole: u64) -> Cut
+        requires at { at < 8 }
+        requires whole { whole ≤ 6 }
+        ensures { result ≡ record { at = at; whole = whole; kept = whole; is_align = true; new_at = at } }
+    {
+        Cut {
+            at,
+            whole,
+            kept: whole,
+            is_align: true,
+            new_at: at,
+        }
+    }
+
+    /// What a section of 14 bytes keeps of an alignment, and what is refused of it.
+    fn laid(
+        alloc: Global,
+        start: u64,
+        at: u64,
+        whole: u64,
+    ) -> Result<(u64, Result<(), Defect>), LinkStop>
+        requires start { start < 2 ^ 20 }
+        requires at { at < 8 }
+        requires whole { whole ≤ 6 }
+    {
+        let mut laid = Vec::new(alloc);
+        let size = lay_cuts(alloc, start, 14, &[alignment(at, whole)], &mut laid)?;
+        let place = SectionPlace { file: 2, index: 3 };
+        Ok((size, check_cuts(place, &laid)))
+    }
+
+    #[test]
+    fn alignments(rt: HostRuntime) -> Result<(), Fail> {
+        // At 0x11002 six bytes are missing to a multiple of 8; at 0x11000 none.
+        let (size, defect) = laid(rt.alloc(), 0x11000, 2, 6)?;
+        assert_eq!(rt; size, 14);
+        assert_eq!(rt; defect, Ok(()));
+        let (size, defect) = laid(rt.alloc(), 0x10ffe, 2, 6)?;
+        assert_eq!(rt; size, 8);
+        assert_eq!(rt; defect, Ok(()));
+        // Four bytes are not enough where six are needed.
+        let (size, defect) = laid(rt.alloc(), 0x11000, 2, 4)?;
+        assert_eq!(rt; size, 16);
+        let short = Defect {
+            kind: NOPS_SHORT,
+            file: 2,
+            section: 3,
+            place: 2,
+            symbol: 0,
+            other: 6,
+        };
+        assert_eq!(rt; defect, Err(short));
+        Ok(())
+    }
 }

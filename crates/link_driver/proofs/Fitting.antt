@@ -1,4 +1,4 @@
--- A link whose kept sections lead themselves, and in which no section loses bytes, can be laid out.
+-- A link whose kept sections lead themselves, and whose sections lose bytes only where they may, can be laid out.
 use Rattle.std.proofs.Common.{◌≡◌, ℕ, ◌+◌, ◌<◌, ◌≤◌, ◌==◌, Bool, true, false, List, [], length, map, get_or, refl, sym, ap, ◌∙◌, subst, arith, inl, inr, Some}
 use Rattle.std.specs.Prelude.{◌⊎◌, Option, None, replicate, if◌then◌else◌}
 use Rattle.std.specs.List.{All, range_with_len}
@@ -17,27 +17,10 @@ use Rattle.link_sections.specs.InputSections.{input_at}
 use Rattle.link_sections.specs.Cuts.{Cut}
 use Rattle.link_sections.specs.Leaders.{is_kept, leader_at, leads, own_leaders}
 use Rattle.link_driver.specs.Tables.{MayStay}
+use Rattle.relax.specs.Sizes.{FitSections}
 
--- the cuts of a section that has none
-no_row : (total n : ℕ) → get_or {A = List Cut} (replicate total []) n [] ≡ []
-no_row total n = elim (cases_lt n total) [
-  | inl lt ↦ get_or-replicate total n [] [] lt
-  | inr past ↦ get_or_past {X = List Cut} (replicate total []) n [] (omega (arith, past, length-replicate {A = List Cut} total []))
-]
-
-all_in : (P : Cut → Type 0) (row : List Cut) → row ≡ [] → All P row
-all_in P row none = let Q : List Cut → Type 0 = λ l. All P l in subst Q (sym none) (All-nil P)
-
-pub sizes_fit : (files : List File) (b : Bindings) (sizes : List (List Cut)) → sizes ≡ replicate (section_total files) [] → FitSizes files b sizes
-sizes_fit files b sizes none = record {
-  count = ap length none ∙ length-replicate (section_total files) [];
-  within = λ n lt. all_in (λ c. c.at + c.whole ≤ (input_at files b n).size) (get_or sizes n []) (row n);
-  clear = λ n lt k d less wide. let r : Reloc = get_or (relocs_of files n) k d in
-      all_in (λ c. (c.at + c.whole ≤ r.offset) ⊎ (r.offset + (kind_of r.kind).width ≤ c.at)) (get_or sizes n []) (row n);
-}
-  where
-    row : (n : ℕ) → get_or sizes n [] ≡ []
-    row n = ap (λ l. get_or l n []) none ∙ no_row (section_total files) n
+pub sizes_fit : (files : List File) (b : Bindings) (sizes : List (List Cut)) → FitSections files sizes → FitSizes files b sizes
+sizes_fit files b sizes fit = record { count = fit.count; within = fit.within b; clear = fit.clear }
 
 -- the leader of a section that is kept or not
 own_at : (kept : List Bool) (n : ℕ) → n < length kept → leader_at (own_leaders kept) n ≡ (if is_kept kept n then Some n else None)

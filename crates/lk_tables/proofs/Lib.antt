@@ -10,6 +10,7 @@ pub mod Owners
 pub mod Passing
 pub mod Putting
 pub mod Ranges
+pub mod RelocsApart
 pub mod SoundHead
 pub mod SoundBody
 pub mod Widths

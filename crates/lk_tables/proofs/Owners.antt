@@ -1,5 +1,5 @@
 -- The file of a section's number, and what is written of a file.
-use Rattle.std.proofs.Common.{◌≡◌, ℕ, ◌+◌, ◌-◌, ◌<◌, ◌≤◌, ◌&&◌, Bool, true, false, List, length, refl, ap, ◌∙◌, arith, nat_lt, unwrap_or, inl, inr}
+use Rattle.std.proofs.Common.{◌≡◌, ℕ, zero, suc, ◌+◌, ◌-◌, ◌<◌, ◌≤◌, ◌&&◌, Bool, true, false, List, length, refl, sym, ap, ◌∙◌, subst, arith, nat_lt, unwrap_or, inl, inr}
 use Rattle.std.specs.Prelude.{Option}
 use Rattle.std.proofs.lemmas.Bool.{cases_lt, le-ltb, lt-ltb}
 use Rattle.std.proofs.lemmas.List.{get_or_past}
@@ -62,6 +62,21 @@ split_owner files section p within split =
       from = split.below (p - 1) (omega arith) (omega arith);
       below = omega (arith, split.above p (omega arith) most, ap (first_section files) next);
     }
+
+-- each number of a section has an owner
+owner_below : (files : List File) (section m : ℕ) → m ≤ length files → section < first_section files m → (f : ℕ) × IsOwner files section f
+owner_below files section zero le lt = absurd (omega arith)
+owner_below files section (suc m) le lt = elim (cases_lt section (first_section files m)) [
+  | inl below ↦ owner_below files section m (omega arith) below
+  | inr from ↦
+      let e : m + 1 ≡ suc m = omega arith in
+      (m, record { file = omega arith; from = from; below = omega (arith, lt, ap (first_section files) e) })
+]
+
+pub place_of_number : (files : List File) (section : ℕ) → section < section_total files → IsPlaceOf files section (place_of files section)
+place_of_number files section lt =
+    let owner = owner_below files section (length files) (omega arith) lt in
+    subst (IsPlaceOf files section) (sym (place_is files section owner.0 owner.1)) (place_law files section owner.0 owner.1)
 
 -- what is written is a section of the file's table
 unwritten : (b : List ℕ) → is_written b no_section ≡ false

@@ -1,6 +1,6 @@
 -- What holds of the lists of a body in which no check is broken.
-use Rattle.std.proofs.Common.{◌≡◌, ◌≢◌, ℕ, ◌+◌, ◌<◌, ◌≤◌, zero, suc, Bool, true, false, not, ◌&&◌, ◌||◌, ◌==◌, nat_lt, length, get_or, List, [], ◌∷◌, ◌++◌, map, refl, sym, ap, ◌∙◌, arith, Option, Some, None, subst, inl, inr}
-use Rattle.std.specs.Prelude.{Ok, unwrap_or, if◌then◌else◌, pos, bit_and}
+use Rattle.std.proofs.Common.{◌≡◌, ◌≢◌, ℕ, ◌+◌, ◌%◌, ◌<◌, ◌≤◌, zero, suc, Bool, true, false, not, ◌&&◌, ◌||◌, ◌==◌, nat_lt, length, get_or, List, [], ◌∷◌, ◌++◌, map, refl, sym, ap, ◌∙◌, arith, Option, Some, None, subst, inl, inr}
+use Rattle.std.specs.Prelude.{Ok, unwrap_or, if◌then◌else◌, ℤ, pos, negsuc, unsigned_abs, int_lt, bit_and}
 use Rattle.std.specs.Int.{is_power_of_two}
 use Rattle.std.specs.List.{All, AllByRecursion, AllPairs, range_with_len}
 use Rattle.std.specs.List.Sorted.{IsNonDecreasingBy}
@@ -21,16 +21,17 @@ use Rattle.lk_tables.specs.Checks.{Check, passes, NoneBroken, from_on, ◌says�
 use Rattle.lk_tables.specs.Groups.{is_group, group_checks}
 use Rattle.lk_tables.specs.FileHeader.{section_count, ends_past, place_of}
 use Rattle.lk_tables.specs.Heads.{HeadView, HeadOf, head_of}
-use Rattle.lk_tables.specs.Inside.{IsAlignment, IsLinked, IsRelocWithin, IsCommonWithin, IsGroupWithin, IsGroupBefore, IsBodyInside}
+use Rattle.lk_tables.specs.Inside.{IsAlignment, IsLinked, IsPadding, IsRelocBefore, IsRelocWithin, IsCommonWithin, IsGroupWithin, IsGroupBefore, IsBodyInside}
 use Rattle.lk_tables.specs.Objects.{ObjectView, BodyOf, object_of, object_checks, parts_of, groups_before, relocs_in, relocs_for}
 use Rattle.lk_base.specs.Order.{put_in, stable_order}
-use Rattle.lk_tables.specs.Relocations.{linked_width, rela_count, reloc, target_of, is_past_target, is_bad_addend, entry_checks, in_order, overlap_checks, entries_checks, relocs_of}
-use Rattle.lk_tables.specs.Sections.{section_of, is_null, is_written, written_at, takes_relocs, is_loaded, loaded_types}
+use Rattle.lk_tables.specs.Relocations.{end_of, width_of, rela_count, reloc, target_of, target_bytes, is_alignment, is_past_target, is_bad_addend, is_bad_padding, entry_checks, in_order, overlap_checks, entries_checks, relocs_of}
+use Rattle.lk_tables.specs.Sections.{section_of, is_null, is_written, written_at, takes_relocs, is_loaded, loaded_types, contents_of}
 use Rattle.lk_tables.specs.Symbols.{symtab_of, symbol_of, symbol_count, symbol_place, is_common, is_undef}
 use Rattle.lk_tables.proofs.BodyFacts.{symbol_at, length_symbols, section_inside, sections_pass, sections_are, symbols_are}
 use Rattle.lk_tables.proofs.HeadFacts.{section_at}
 use Rattle.lk_tables.proofs.Passing.{each, both_pass, none_from_ok, ok_from_none, checked_value}
 use Rattle.lk_tables.proofs.Ranges.{found}
+use Rattle.lk_tables.proofs.RelocsApart.{relocs_apart}
 use Rattle.lk_tables.proofs.SoundGroups.{IsSoundGroup, group_at, groups_within, groups_apart}
 use Rattle.lk_tables.proofs.SoundHead.{second_false, not_false, written_type, written_live, null_is, head_is, head_inside}
 use Rattle.lk_base.proofs.StableOrder.{Rises, rises_order}
@@ -102,6 +103,17 @@ linked_at b head k is short e low high written =
     linked_from b k (section_of b k) (body_at b k e low high live).0 written
     (λ bits. omega (arith, section_inside b k (sections_pass b head is) low high live bits))
 
+-- the addend of an alignment that has passed
+some_padding : (addend : ℤ) → int_lt addend (pos 0) ≡ false → addend ≡ pos (unsigned_abs addend)
+some_padding (pos n) e = refl
+some_padding (negsuc n) e = cc
+
+padding_of : (addend : ℤ) → is_bad_padding addend ≡ false → IsPadding addend
+unfolding is_bad_padding
+padding_of addend e =
+    let p = or_parts (int_lt addend (pos 0)) (not (unsigned_abs addend % 2 == 0)) e in
+    record { some = some_padding addend p.0; even = eqb-true (unsigned_abs addend % 2) 0 (not_false _ p.1) }
+
 -- one relocation, from the checks of its entry
 within_of : (b : List ℕ) (n i j : ℕ) → n ≡ symbol_count b → passes (entry_checks b i j) ≡ Ok tt → is_written b (target_of b i) ≡ true →
     IsRelocWithin b n (target_of b i) (reloc b i j)
@@ -110,16 +122,18 @@ within_of b n i j counted e written =
     let r = reloc b i j in
     let s = target_of b i in
     let lines : NoneBroken (entry_checks b i j) = none_from_ok (entry_checks b i j) (tt {0}) (tt {0}) e in
-    let p = or_parts (s.sh_type == SHT_NOBITS) (ends_past s.size r.offset (unwrap_or (linked_width r.kind) 0)) lines.1.1.0 in
+    let c = target_bytes b i in
+    let p = or_parts (s.sh_type == SHT_NOBITS) (ends_past s.size r.offset (unwrap_or (width_of c r) 0)) lines.1.1.0 in
+    let q = or_parts (is_alignment r && is_bad_padding r.addend) (not (int_eq r.addend (pos 0)) && is_lower r.kind) lines.1.1.1.0 in
     record {
       written = written;
       bits = λ z. let no : ⊥ = grind (arith, nat_tests, p.0) in no;
       symbol = grind (arith, nat_tests, lines.0);
       kind = not_false _ lines.1.0;
-      fits = ltb-false s.size (r.offset + unwrap_or (linked_width r.kind) 0) p.1;
+      fits = ltb-false s.size (end_of c r) p.1;
       addend = λ lower.
-          (Decides-int_eq r.addend (pos 0)).0
-          (not_false _ (first_false (not (int_eq r.addend (pos 0))) (is_lower r.kind) lines.1.1.1.0 lower));
+          (Decides-int_eq r.addend (pos 0)).0 (not_false _ (first_false (not (int_eq r.addend (pos 0))) (is_lower r.kind) q.1 lower));
+      padding = λ align. padding_of r.addend (second_false (is_alignment r) (is_bad_padding r.addend) q.0 align);
     }
 
 -- what holds of each of a range holds of each in stable order, and of what is read from each
@@ -200,37 +214,41 @@ taken_written b k e =
 abbrev header_line : List ℕ → ℕ → List Check
 header_line b r = (is_bad_rela b r (section_of b r) says flaw_at BAD_SECTION r (place_of b r)) ∷ []
 
--- the entries of a relocation section that has passed
-entries_pass : (b : List ℕ) (k r : ℕ) → passes (rela_checks b r) ≡ Ok tt → relocates b k r ≡ true → (j : ℕ) → j < rela_count b r → passes (entry_checks b r j) ≡ Ok tt
+-- the entries of a relocation section that has passed: each, and all in order
+entries_pass : (b : List ℕ) (k r : ℕ) → passes (rela_checks b r) ≡ Ok tt → relocates b k r ≡ true →
+    ((j : ℕ) → j < rela_count b r → passes (entry_checks b r j) ≡ Ok tt) × (passes (overlap_checks b r [] (in_order b r)) ≡ Ok tt)
 unfolding rela_checks entries_checks
-entries_pass b k r e is j lt =
+entries_pass b k r e is =
     let lines = if relocates b (section_of b r).info r then entries_checks b r else [] in
     let here : relocates b (section_of b r).info r ≡ true = ap (λ i. relocates b i r) (is_rela_of b k r is).target ∙ is in
     let all = sym (ap passes (cond-true (relocates b (section_of b r).info r) (entries_checks b r) [] here))
     ∙ (both_pass (header_line b r) lines (tt {0}) (tt {0}) e).1 in
-    let singly = (both_pass (from_on (entry_checks b r) 0 (rela_count b r)) (overlap_checks b r [] (in_order b r)) (tt {0}) (tt {0}) all).0 in
-    each (entry_checks b r) 0 (rela_count b r) j singly (omega arith) lt
+    let both = both_pass (from_on (entry_checks b r) 0 (rela_count b r)) (overlap_checks b r [] (in_order b r)) (tt {0}) (tt {0}) all in
+    (λ j lt. each (entry_checks b r) 0 (rela_count b r) j both.0 (omega arith) lt, both.1)
 
 -- the relocations of section k
 record AreWithin (b : List ℕ) (n k : ℕ) (list : List Reloc) : Type 0 where
   each : All (IsRelocWithin b n (section_of b k)) list
   rises : IsNonDecreasingBy (λ (r : Reloc). r.offset) list
+  apart : AllPairs (IsRelocBefore (contents_of b (section_of b k))) list
   first : k ≡ 0 → list ≡ []
 
 from_rela : (b : List ℕ) (n k : ℕ) (found_is : Option ℕ) → n ≡ symbol_count b → passes (all_body_checks b) ≡ Ok tt →
     ((r : ℕ) → found_is ≡ Some r → (relocates b k r ≡ true) × (r < section_count b)) → AreWithin b n k (relocs_in b found_is)
 from_rela b n k None counted e is =
-    record { each = All-nil (IsRelocWithin b n (section_of b k)); rises = λ i j d le lt. absurd (omega arith); first = λ z. refl }
+    record { each = All-nil (IsRelocWithin b n (section_of b k)); rises = λ i j d le lt. absurd (omega arith); apart = λ i j d lt high. absurd (omega arith); first = λ z. refl }
 from_rela b n k (Some r) counted e is =
     let at = is r refl in
     let of = is_rela_of b k r at.0 in
     let written = taken_written b k of.taken in
     let checks = (body_at b r e of.low at.1 (λ z. absurd (omega (arith, of.typed)))).1 in
+    let passed = entries_pass b k r checks at.0 in
     record {
       each = relocs_within b (IsRelocWithin b n (section_of b k)) r (λ j lt.
           subst (λ (i : ℕ). IsRelocWithin b n (section_of b i) (reloc b r j)) of.target
-          (within_of b n r j counted (entries_pass b k r checks at.0 j lt) (ap (λ i. is_written b (section_of b i)) of.target ∙ written.1)));
+          (within_of b n r j counted (passed.0 j lt) (ap (λ i. is_written b (section_of b i)) of.target ∙ written.1)));
       rises = relocs_rise b r;
+      apart = subst (λ (i : ℕ). AllPairs (IsRelocBefore (contents_of b (section_of b i))) (relocs_of b r)) of.target (relocs_apart b r passed.1);
       first = λ z. absurd (omega (arith, written.0));
     }
 
@@ -321,6 +339,9 @@ body_inside b head object is of short =
           let high : k < section_count b = omega (arith, lists) in
           subst (λ (s : Section). All (IsRelocWithin b (length head.symbols) s) (get_or object.relocs k d)) (section k s high) (list k d high).each;
       ordered = λ k d lt. (list k d (omega (arith, lists))).rises;
+      relocs_apart = λ k d lt s.
+          let high : k < section_count b = omega (arith, lists) in
+          subst (λ (s : Section). AllPairs (IsRelocBefore (contents_of b s)) (get_or object.relocs k d)) (section k s high) (list k d high).apart;
       commons = λ k d lt common.
           let at = symbol_at b head.symbols k d (symbols_are b head is) lt in
           subst IsCommonWithin (sym at) (common_at b k passed.1 (omega (arith, listed)) (ap (λ (s : Symbol). s.place) (sym at) ∙ common));

@@ -144,7 +144,7 @@ rising n i j d lt high =
     let second : get_or (range_with_len 0 n) j d ≡ 0 + j = get_or-range_with_len 0 n j d (omega (arith, len)) in
     omega (arith, len, first, second)
 
-pairs_map : {Y : Type 0} (R : Y → Y → Type 0) (f : ℕ → Y) (xs : List ℕ) → AllPairs (λ x y. R (f x) (f y)) xs → AllPairs R (map f xs)
+pub pairs_map : {Y : Type 0} (R : Y → Y → Type 0) (f : ℕ → Y) (xs : List ℕ) → AllPairs (λ x y. R (f x) (f y)) xs → AllPairs R (map f xs)
 pairs_map R f xs all i j d lt high =
     let len : length (map f xs) ≡ length xs = length-map xs f in
     let first : get_or (map f xs) i d ≡ f (get_or xs i 0) = get_or-map f xs i 0 d (omega (arith, len)) in

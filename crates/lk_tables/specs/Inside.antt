@@ -1,6 +1,6 @@
 -- What holds of a head and of a body in which no check is broken, as facts about their lists: each number, offset and
 -- size lies where it must (System V gABI, "Sections", "Symbol Table", "Relocation").
-use Rattle.std.specs.Prelude.{◌≡◌, ◌≢◌, ℕ, ◌+◌, ◌*◌, ◌^◌, pos, ◌<◌, ◌≤◌, true, is_some, bit_and, List, [], length, slice_index_or}
+use Rattle.std.specs.Prelude.{◌≡◌, ◌≢◌, ℕ, ◌+◌, ◌*◌, ◌^◌, ◌%◌, ℤ, pos, unsigned_abs, ◌<◌, ◌≤◌, ◌||◌, true, is_some, bit_and, List, [], length, slice_index_or}
 use Rattle.std.specs.List.{All, AllPairs}
 use Rattle.std.specs.List.Sorted.{IsNonDecreasingBy}
 use Rattle.lk_tables.specs.declared.heads.Place.{Place}
@@ -10,13 +10,13 @@ use Rattle.lk_tables.specs.declared.heads.Symbol.{Symbol}
 use Rattle.lk_tables.specs.declared.objects.Reloc.{Reloc}
 use Rattle.lk_tables.specs.declared.spans.Span.{Span}
 use Rattle.std.specs.Int.{is_power_of_two}
-use Rattle.lk_base.specs.RelocKinds.{is_among, is_lower}
+use Rattle.lk_base.specs.RelocKinds.{is_among, is_lower, moves_bytes}
 use Rattle.lk_base.specs.declared.abi.TheConstants.{ALIGN_MAX, NOBITS_MAX, SHDR_SIZE, SYM_SIZE, SHF_WRITE, SHF_EXECINSTR, SHF_LINK_ORDER, SHT_NOBITS, STB_LOCAL, STT_NOTYPE}
 use Rattle.lk_tables.specs.FileHeader.{section_count}
 use Rattle.lk_tables.specs.Heads.{HeadView}
 use Rattle.lk_tables.specs.Names.{no_name}
 use Rattle.lk_tables.specs.Objects.{GroupView, ObjectView}
-use Rattle.lk_tables.specs.Relocations.{width_of, end_of}
+use Rattle.lk_tables.specs.Relocations.{width_of, end_of, has_bytes, is_alignment}
 use Rattle.lk_tables.specs.Sections.{is_written, loaded_types, contents_of}
 use Rattle.lk_tables.specs.Symbols.{bindings}
 
@@ -90,6 +90,11 @@ pub record IsLinked (count : ℕ) (s : Section) : Type 0 where
   pub apart : bit_and s.flags SHF_WRITE ≢ 0 → bit_and s.flags SHF_EXECINSTR ≡ 0
   pub follows : bit_and s.flags SHF_LINK_ORDER ≢ 0 → s.link < count
 
+-- the addend of an alignment: an even number of bytes
+pub record IsPadding (addend : ℤ) : Type 0 where
+  pub some : addend ≡ pos (unsigned_abs addend)
+  pub even : unsigned_abs addend % 2 ≡ 0
+
 -- a relocation of section s, which is written and has bytes in the file
 pub record IsRelocWithin (b : List ℕ) (symbols : ℕ) (s : Section) (r : Reloc) : Type 0 where
   pub written : is_written b s ≡ true
@@ -98,11 +103,21 @@ pub record IsRelocWithin (b : List ℕ) (symbols : ℕ) (s : Section) (r : Reloc
   pub kind : is_some (width_of (contents_of b s) r) ≡ true
   pub fits : end_of (contents_of b s) r ≤ s.size
   pub addend : is_lower r.kind ≡ true → r.addend ≡ pos 0
+  pub padding : is_alignment r ≡ true → IsPadding r.addend
 
 -- the relocations of each section by its number
 abbrev pub AreRelocsWithin : List ℕ → HeadView → List (List Reloc) → Type 0
 AreRelocsWithin b head relocs =
     AllNumbered (λ k list. (d : Section) → All (IsRelocWithin b (length head.symbols) (slice_index_or head.sections k d)) list) relocs
+
+-- p comes before q in order of offset: where bytes after one of the two may move, the bytes of p end before those of q
+abbrev pub IsRelocBefore : (contents : List ℕ) → (p q : Reloc) → Type 0
+IsRelocBefore contents p q =
+    has_bytes contents p ≡ true → has_bytes contents q ≡ true → (moves_bytes p.kind || moves_bytes q.kind) ≡ true → end_of contents p ≤ q.offset
+
+abbrev pub AreRelocsApart : List ℕ → HeadView → List (List Reloc) → Type 0
+AreRelocsApart b head relocs =
+    AllNumbered (λ k list. (d : Section) → AllPairs (IsRelocBefore (contents_of b (slice_index_or head.sections k d))) list) relocs
 
 -- a COMMON symbol: its value is its alignment
 pub record IsCommonWithin (s : Symbol) : Type 0 where
@@ -127,6 +142,7 @@ pub record IsBodyInside (b : List ℕ) (head : HeadView) (object : ObjectView) :
   pub first : (d : List Reloc) → slice_index_or object.relocs 0 d ≡ []
   pub relocs : AreRelocsWithin b head object.relocs
   pub ordered : All (IsNonDecreasingBy (λ r. r.offset)) object.relocs
+  pub relocs_apart : AreRelocsApart b head object.relocs
   pub commons : All (λ s. s.place ≡ Common → IsCommonWithin s) head.symbols
   pub groups : All (IsGroupWithin b (length head.sections)) object.groups
   pub apart : AllPairs IsGroupBefore object.groups

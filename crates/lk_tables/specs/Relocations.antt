@@ -1,12 +1,14 @@
 -- The relocations of a section and the checks of their entries (System V gABI, "Relocation"; RISC-V ELF psABI,
 -- "Relocations").
-use Rattle.std.specs.Prelude.{ℕ, ◌+◌, ◌*◌, ◌/◌, pos, Bool, not, ◌&&◌, ◌||◌, ◌==◌, nat_lt, nat_le, Option, Some, None, is_some, unwrap_or, if◌then◌else◌, List, [], ◌∷◌, ◌++◌, map}
+use Rattle.std.specs.Prelude.{ℕ, ◌+◌, ◌*◌, ◌/◌, ◌%◌, ℤ, pos, unsigned_abs, int_lt, Bool, true, false, not, ◌&&◌, ◌||◌, ◌==◌, nat_lt, nat_le, Option, Some, None, is_some, unwrap_or, if◌then◌else◌, List, [], ◌∷◌, ◌++◌, map}
 use Rattle.std.specs.List.{list_any, range_with_len}
 use Rattle.std.specs.Ordering.{int_eq}
 use Rattle.lk_base.specs.Order.{stable_order}
 use Rattle.lk_base.specs.RelocKinds.{kind_of, is_linked, is_lower, moves_bytes}
 use Rattle.lk_base.specs.declared.abi.TheConstants.{RELA_SIZE, SHT_NOBITS}
 use Rattle.lk_base.specs.declared.defects.Flaw.{Flaw}
+use Rattle.lk_base.specs.declared.relocations.Calculation.{Calculation}
+use Rattle.lk_base.specs.declared.relocations.Calculation.TheVariants.{Padding}
 use Rattle.lk_base.specs.declared.kinds.TheConstants.{BAD_RELOC, RELOC_KIND}
 use Rattle.lk_tables.specs.declared.objects.Reloc.{Reloc}
 use Rattle.lk_tables.specs.declared.heads.Section.{Section}
@@ -16,13 +18,25 @@ use Rattle.lk_tables.specs.FileHeader.{ends_past}
 use Rattle.lk_tables.specs.Sections.{section_of, contents_of}
 use Rattle.lk_tables.specs.Symbols.{symbol_count}
 
--- how many bytes the relocations of a kind change, if it is linked
-unfoldable pub linked_width : ℕ → Option ℕ
-linked_width kind = if is_linked kind then Some (kind_of kind).width else None
+abbrev pub is_padding : Calculation → Bool
+is_padding Padding = true
+is_padding _ = false
 
--- how many a relocation changes in a section of these contents, on which no kind that is linked depends
+-- its place is nops for an alignment
+unfoldable pub is_alignment : Reloc → Bool
+is_alignment r = is_padding (kind_of r.kind).calculation
+
+-- how many bytes its place has: the nops of an alignment are as many as its addend
+unfoldable pub place_width : Reloc → ℕ
+place_width r = if is_alignment r then unsigned_abs r.addend else (kind_of r.kind).width
+
+-- the same, if its kind is linked
+unfoldable pub linked_width : Reloc → Option ℕ
+linked_width r = if is_linked r.kind then Some (place_width r) else None
+
+-- the same in a section of these contents, on which no kind that is linked depends
 abbrev pub width_of : (contents : List ℕ) → Reloc → Option ℕ
-width_of contents r = linked_width r.kind
+width_of contents r = linked_width r
 
 -- the end of its bytes in the section
 abbrev pub end_of : (contents : List ℕ) → Reloc → ℕ
@@ -49,9 +63,13 @@ target_bytes b i = contents_of b (target_of b i)
 unfoldable pub is_past_target : (contents : List ℕ) → Section → Reloc → Bool
 is_past_target contents target r = target.sh_type == SHT_NOBITS || ends_past target.size r.offset (unwrap_or (width_of contents r) 0)
 
--- a lower part takes its value from the relocation at its label, and has no addend of its own
+-- fewer bytes of nops than none, or half a nop
+unfoldable pub is_bad_padding : (addend : ℤ) → Bool
+is_bad_padding addend = int_lt addend (pos 0) || not (unsigned_abs addend % 2 == 0)
+
+-- an alignment that cannot be; a lower part takes its value from the relocation at its label, and has no addend of its own
 unfoldable pub is_bad_addend : Reloc → Bool
-is_bad_addend r = not (int_eq r.addend (pos 0)) && is_lower r.kind
+is_bad_addend r = (is_alignment r && is_bad_padding r.addend) || (not (int_eq r.addend (pos 0)) && is_lower r.kind)
 
 abbrev pub unknown_kind : (section place kind : ℕ) → Flaw
 unknown_kind section place kind = record { kind = RELOC_KIND; section = section; place = place; other = kind }

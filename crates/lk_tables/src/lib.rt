@@ -2,6 +2,7 @@
 //! are bound to; and the definitions of which bytes say it. The readers fill these tables, and each later pass reads them.
 #![tactic(auto)]
 
+mod alignments;
 mod binding;
 mod binding_parts;
 mod bounds;
@@ -28,6 +29,7 @@ mod targets;
 mod uppers;
 mod walks;
 
+pub use alignments::{is_alignment, place_width};
 pub use binding::Binding;
 pub use bounds::{Bound, Target};
 pub use classes::{Class, is_in, output_rank};

@@ -1,1 +1,3 @@
-pub mod NoCuts
+mod Fitting
+mod Kept
+mod RowSteps

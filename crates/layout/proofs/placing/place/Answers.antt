@@ -6,7 +6,7 @@ use Rattle.link_sections.specs.SizesView.{sizes_of}
 use Rattle.layout.specs.Layout.{layout_of, limit_defects}
 use Rattle.link_sections.specs.Sound.{IsSound}
 use Rattle.layout.proofs.Laying.{stops_first, then_limits}
-use Rattle.layout.proofs.Seen.{rising_seen}
+use Rattle.layout.proofs.Seen.{laws_seen}
 use Rattle.layout.proofs.Sized.{all_sound}
 use Rattle.layout.proofs.SizeBounds.{all_apart}
 use Rattle.layout.proofs.Sounds.{sound_laid, within_limits}
@@ -47,8 +47,30 @@ returns-in-Ok-clause-within c = within_limits c.args.limits.now _ c.in-Ok.ensure
 
 pub returns-in-Ok-clause-rising : goal.returns-in-Ok-clause-rising
 returns-in-Ok-clause-rising c =
-    let files = files_of c.args.tables.now in
-    let b = binding_view c.args.binding.now in
-    let sizes = sizes_of c.args.sizes.now in
-    rising_seen c.in_ok-layout.layout files b c.args.pools.now.pools.items c.args.got.now.words c.args.leaders.now sizes c.requires.leaders c.requires.sizes
-    (all_apart c.args.sizes.now.rows c.args.sizes.now.sound) c.in_ok-layout.ensures.sized c.in_ok-layout.ensures.room c.in_ok-layout.ensures.found
+    (laws_seen c.in_ok-layout.layout (files_of c.args.tables.now) (binding_view c.args.binding.now) c.args.pools.now.pools.items c.args.got.now.words c.args.leaders.now
+    (sizes_of c.args.sizes.now) c.requires.leaders c.requires.sizes (all_apart c.args.sizes.now.rows c.args.sizes.now.sound) c.in_ok-layout.ensures.sized
+    c.in_ok-layout.ensures.room c.in_ok-layout.ensures.found).rising
+
+pub returns-in-Ok-clause-segments : goal.returns-in-Ok-clause-segments
+returns-in-Ok-clause-segments c =
+    (laws_seen c.in_ok-layout.layout (files_of c.args.tables.now) (binding_view c.args.binding.now) c.args.pools.now.pools.items c.args.got.now.words c.args.leaders.now
+    (sizes_of c.args.sizes.now) c.requires.leaders c.requires.sizes (all_apart c.args.sizes.now.rows c.args.sizes.now.sound) c.in_ok-layout.ensures.sized
+    c.in_ok-layout.ensures.room c.in_ok-layout.ensures.found).segments
+
+pub returns-in-Ok-clause-apart : goal.returns-in-Ok-clause-apart
+returns-in-Ok-clause-apart c =
+    (laws_seen c.in_ok-layout.layout (files_of c.args.tables.now) (binding_view c.args.binding.now) c.args.pools.now.pools.items c.args.got.now.words c.args.leaders.now
+    (sizes_of c.args.sizes.now) c.requires.leaders c.requires.sizes (all_apart c.args.sizes.now.rows c.args.sizes.now.sound) c.in_ok-layout.ensures.sized
+    c.in_ok-layout.ensures.room c.in_ok-layout.ensures.found).apart
+
+pub returns-in-Ok-clause-inside : goal.returns-in-Ok-clause-inside
+returns-in-Ok-clause-inside c =
+    (laws_seen c.in_ok-layout.layout (files_of c.args.tables.now) (binding_view c.args.binding.now) c.args.pools.now.pools.items c.args.got.now.words c.args.leaders.now
+    (sizes_of c.args.sizes.now) c.requires.leaders c.requires.sizes (all_apart c.args.sizes.now.rows c.args.sizes.now.sound) c.in_ok-layout.ensures.sized
+    c.in_ok-layout.ensures.room c.in_ok-layout.ensures.found).inside
+
+pub returns-in-Ok-clause-aligned : goal.returns-in-Ok-clause-aligned
+returns-in-Ok-clause-aligned c =
+    (laws_seen c.in_ok-layout.layout (files_of c.args.tables.now) (binding_view c.args.binding.now) c.args.pools.now.pools.items c.args.got.now.words c.args.leaders.now
+    (sizes_of c.args.sizes.now) c.requires.leaders c.requires.sizes (all_apart c.args.sizes.now.rows c.args.sizes.now.sound) c.in_ok-layout.ensures.sized
+    c.in_ok-layout.ensures.room c.in_ok-layout.ensures.found).aligned

@@ -1,5 +1,3 @@
-use Rattle.std.proofs.Common.{◌∙◌}
-use Rattle.relax.proofs.NoCuts.{no_cuts_at_all}
 use Rattle.lk_tables.specs.BindingView.{binding_view}
 use Rattle.lk_tables.specs.TablesView.{files_of}
 use Rattle.link_sections.specs.SizesView.{sizes_of}
@@ -12,4 +10,4 @@ place-requires-clause-leaders c = leaders_lead (files_of c.args.tables.now) (bin
 pub place-requires-clause-sizes : goal.place-requires-clause-sizes
 place-requires-clause-sizes c =
     sizes_fit (files_of c.args.tables.now) (binding_view c.args.binding.now) (sizes_of c.in_ok-sizes.sizes)
-    (c.in_ok-sizes.ensures ∙ no_cuts_at_all c.args.tables.now)
+    c.in_ok-sizes.ensures.fit

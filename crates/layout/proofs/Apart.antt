@@ -1,0 +1,195 @@
+-- The output sections of a layout stand one after the other, each within its class.
+use Rattle.std.proofs.Common.{◌≡◌, ℕ, ◌≤◌, List, [], ◌∷◌, ◌++◌, Bool, true, false, not, if◌then◌else◌, refl, ap, sym, ◌∙◌, All, append_assoc, append-nil, arith}
+use Rattle.std.proofs.lemmas.List.Elements.{All-nil, All-cons, All-append}
+use Rattle.lk_base.specs.declared.abi.TheConstants.{ALIGN_MAX}
+use Rattle.lk_tables.specs.declared.classes.Class.{Class}
+use Rattle.lk_tables.specs.declared.classes.Class.TheVariants.{R, Rx, TlsBits, TlsNobits, RwBits, RwNobits}
+use Rattle.link_sections.specs.declared.layouts.Bounds.{Bounds}
+use Rattle.link_sections.specs.Cuts.{Cut}
+use Rattle.link_sections.specs.LaidOut.{OutputSection}
+use Rattle.layout.specs.declared.order.Row.{Row}
+use Rattle.layout.specs.declared.walk.Cursor.{Cursor}
+use Rattle.layout.specs.Items.{Item}
+use Rattle.layout.specs.Layout.{after_tls_bits, last_end, no_trail, tls_cursor, trail_of, with_bits, with_zeros}
+use Rattle.layout.specs.Order.{Orders}
+use Rattle.layout.specs.Spots.{AreApart, AreRising, IsWithinClass, bytes_end, class_end, class_start, is_tls_nobits, without_tls_zeros}
+use Rattle.layout.specs.Walk.{after, cursor_at, end_along, is_empty, past, runs, section_in, section_of, sections_along, start_of}
+use Rattle.layout.proofs.Chain.{AreBounds}
+use Rattle.layout.proofs.Cursors.{Moves, RowFits, after_moves, least_along, past_least, start_least}
+use Rattle.layout.proofs.Inside.{each_none, last_counts, none_each}
+use Rattle.layout.proofs.Rising.{AllFit, class_moves, tls_most}
+use Rattle.layout.proofs.Runs.{EachRun, each_run}
+
+-- the output sections of each class, one class after the other
+abbrev pub all_sections : List (List Cut) → List Item → Orders → Bounds → List OutputSection
+all_sections sizes parts o b = sections_along sizes parts R (cursor_at b.headers_end) (runs o.r)
+    ++ (sections_along sizes parts Rx (cursor_at b.rx_start) (runs o.rx)
+    ++ (sections_along sizes parts TlsBits (tls_cursor sizes o b.rw_start b.tls_align) (runs o.tls_bits)
+    ++ (sections_along sizes parts TlsNobits (after_tls_bits sizes o b.rw_start b.tls_align) (runs o.tls_nobits)
+    ++ (sections_along sizes parts RwBits (cursor_at b.tls_bits_end) (runs o.rw_bits)
+    ++ sections_along sizes parts RwNobits (cursor_at b.bits_end) (runs o.rw_nobits)))))
+
+pub trail_outputs : (sizes : List (List Cut)) (parts : List Item) (o : Orders) (b : Bounds) (sections pools : ℕ)
+    → (trail_of sizes parts o b (no_trail sections pools)).outputs ≡ all_sections sizes parts o b
+unfolding trail_of with_bits with_zeros
+trail_outputs sizes parts o b sections pools = simp append_assoc
+
+-- one output section before those after it
+step : (e : Bool) (sizes : List (List Cut)) (parts : List Item) (class : Class) (c : Cursor) (from : ℕ) (o : List Row) (later : List OutputSection)
+    → is_empty o ≡ e → from ≤ c.at → All (RowFits sizes) o → ((f : ℕ) → f ≤ (if e then c else cursor_at (past sizes (start_of c o) o)).at → AreApart f later)
+    → AreApart from ((if e then [] else section_of parts class o (start_of c o) (past sizes (start_of c o) o) ∷ []) ++ later)
+unfolding section_of
+step true sizes parts class c from o later e le fit k = k from le
+step false sizes parts class c from o later e le fit k =
+    let start : c.at ≤ start_of c o = start_least c o in
+    let end : start_of c o ≤ past sizes (start_of c o) o = past_least sizes (start_of c o) o fit in
+    (omega arith, k _ (omega arith))
+
+step_in : (sizes : List (List Cut)) (parts : List Item) (class : Class) (c : Cursor) (from : ℕ) (o : List Row) (later : List OutputSection) → from ≤ c.at → All (RowFits sizes) o
+    → ((f : ℕ) → f ≤ (after sizes c o).at → AreApart f later) → AreApart from (section_in sizes parts class c o ++ later)
+unfolding section_in after
+step_in sizes parts class c from o later le fit k = step (is_empty o) sizes parts class c from o later refl le fit k
+
+along : (sizes : List (List Cut)) (parts : List Item) (class : Class) (c : Cursor) (from : ℕ) (os : List (List Row)) (later : List OutputSection) → from ≤ c.at
+    → EachRun (RowFits sizes) os → ((f : ℕ) → f ≤ (end_along sizes c os).at → AreApart f later) → AreApart from (sections_along sizes parts class c os ++ later)
+along sizes parts class c from [] later le fit k = k from le
+along sizes parts class c from (o ∷ os) later le fit k =
+    rw (append_assoc (section_in sizes parts class c o) (sections_along sizes parts class (after sizes c o) os) later)
+    (step_in sizes parts class c from o _ le fit.0 (λ f follows. along sizes parts class (after sizes c o) f os later follows fit.1 k))
+
+-- a class is kept whole, or left out
+keep_by : (e : Bool) (parts : List Item) (class : Class) (o : List Row) (start end : ℕ) (later : List OutputSection) → is_tls_nobits class ≡ false
+    → without_tls_zeros ((if e then [] else section_of parts class o start end ∷ []) ++ later) ≡ (if e then [] else section_of parts class o start end ∷ []) ++ without_tls_zeros later
+unfolding section_of
+keep_by true parts class o start end later stays = refl
+keep_by false parts class o start end later stays = rw stays refl
+
+drop_by : (e : Bool) (parts : List Item) (o : List Row) (start end : ℕ) (later : List OutputSection)
+    → without_tls_zeros ((if e then [] else section_of parts TlsNobits o start end ∷ []) ++ later) ≡ without_tls_zeros later
+unfolding section_of
+drop_by true parts o start end later = refl
+drop_by false parts o start end later = refl
+
+keep_along : (sizes : List (List Cut)) (parts : List Item) (class : Class) (c : Cursor) (os : List (List Row)) (later : List OutputSection) → is_tls_nobits class ≡ false
+    → without_tls_zeros (sections_along sizes parts class c os ++ later) ≡ sections_along sizes parts class c os ++ without_tls_zeros later
+unfolding section_in
+keep_along sizes parts class c [] later stays = refl
+keep_along sizes parts class c (o ∷ os) later stays =
+    let s : List OutputSection = if is_empty o then [] else section_of parts class o (start_of c o) (past sizes (start_of c o) o) ∷ [] in
+    let rest : List OutputSection = sections_along sizes parts class (after sizes c o) os in
+    ap without_tls_zeros (append_assoc s rest later)
+    ∙ keep_by (is_empty o) parts class o (start_of c o) (past sizes (start_of c o) o) (rest ++ later) stays
+    ∙ ap (λ l. s ++ l) (keep_along sizes parts class (after sizes c o) os later stays) ∙ sym (append_assoc s rest (without_tls_zeros later))
+
+drop_along : (sizes : List (List Cut)) (parts : List Item) (c : Cursor) (os : List (List Row)) (later : List OutputSection)
+    → without_tls_zeros (sections_along sizes parts TlsNobits c os ++ later) ≡ without_tls_zeros later
+unfolding section_in
+drop_along sizes parts c [] later = refl
+drop_along sizes parts c (o ∷ os) later =
+    let s : List OutputSection = if is_empty o then [] else section_of parts TlsNobits o (start_of c o) (past sizes (start_of c o) o) ∷ [] in
+    let rest : List OutputSection = sections_along sizes parts TlsNobits (after sizes c o) os in
+    ap without_tls_zeros (append_assoc s rest later)
+    ∙ drop_by (is_empty o) parts o (start_of c o) (past sizes (start_of c o) o) (rest ++ later) ∙ drop_along sizes parts (after sizes c o) os later
+
+pub outputs_apart : (sizes : List (List Cut)) (parts : List Item) (o : Orders) (b : Bounds) → AllFit sizes o → AreBounds sizes o b → AreRising b
+    → AreApart b.headers_end (without_tls_zeros (all_sections sizes parts o b))
+outputs_apart sizes parts o b fit is rises =
+    let tn : List OutputSection = sections_along sizes parts TlsNobits (after_tls_bits sizes o b.rw_start b.tls_align) (runs o.tls_nobits) in
+    let wb : List OutputSection = sections_along sizes parts RwBits (cursor_at b.tls_bits_end) (runs o.rw_bits) in
+    let wn : List OutputSection = sections_along sizes parts RwNobits (cursor_at b.bits_end) (runs o.rw_nobits) in
+    let x : List OutputSection = sections_along sizes parts Rx (cursor_at b.rx_start) (runs o.rx) in
+    let tb : List OutputSection = sections_along sizes parts TlsBits (tls_cursor sizes o b.rw_start b.tls_align) (runs o.tls_bits) in
+    let r : List OutputSection = sections_along sizes parts R (cursor_at b.headers_end) (runs o.r) in
+    let last : without_tls_zeros wn ≡ wn ++ [] =
+    ap without_tls_zeros (sym (append-nil wn)) ∙ keep_along sizes parts RwNobits (cursor_at b.bits_end) (runs o.rw_nobits) [] refl in
+    let whole : without_tls_zeros (all_sections sizes parts o b) ≡ r ++ (x ++ (tb ++ (wb ++ (wn ++ [])))) =
+    keep_along sizes parts R (cursor_at b.headers_end) (runs o.r) (x ++ (tb ++ (tn ++ (wb ++ wn)))) refl
+    ∙ ap (λ l. r ++ l) (keep_along sizes parts Rx (cursor_at b.rx_start) (runs o.rx) (tb ++ (tn ++ (wb ++ wn))) refl
+    ∙ ap (λ l. x ++ l) (keep_along sizes parts TlsBits (tls_cursor sizes o b.rw_start b.tls_align) (runs o.tls_bits) (tn ++ (wb ++ wn)) refl
+    ∙ ap (λ l. tb ++ l) (drop_along sizes parts (after_tls_bits sizes o b.rw_start b.tls_align) (runs o.tls_nobits) (wb ++ wn)
+    ∙ keep_along sizes parts RwBits (cursor_at b.tls_bits_end) (runs o.rw_bits) wn refl ∙ ap (λ l. wb ++ l) last))) in
+    rw whole
+    (along sizes parts R (cursor_at b.headers_end) b.headers_end (runs o.r) _ (omega arith) (each_run (RowFits sizes) o.r fit.r)
+    (λ f a. along sizes parts Rx (cursor_at b.rx_start) f (runs o.rx) _ (omega (arith, a, is.r_end, rises.rx_rounded)) (each_run (RowFits sizes) o.rx fit.rx)
+    (λ f' a'. along sizes parts TlsBits (tls_cursor sizes o b.rw_start b.tls_align) f' (runs o.tls_bits) _ (omega (arith, a', is.rx_end, rises.rw_rounded)) (each_run (RowFits sizes) o.tls_bits fit.tls_bits)
+    (λ f'' a''. along sizes parts RwBits (cursor_at b.tls_bits_end) f'' (runs o.rw_bits) _ (omega (arith, a'', is.tls_bits_end)) (each_run (RowFits sizes) o.rw_bits fit.rw_bits)
+    (λ g c. along sizes parts RwNobits (cursor_at b.bits_end) g (runs o.rw_nobits) [] (omega (arith, c, is.bits_end)) (each_run (RowFits sizes) o.rw_nobits fit.rw_nobits)
+    (λ _ _. tt))))))
+
+-- within its class
+within_step : (e : Bool) (sizes : List (List Cut)) (b : Bounds) (parts : List Item) (class : Class) (c : Cursor) (o : List Row) → is_empty o ≡ e → class_start class b ≤ c.at
+    → (if e then c else cursor_at (past sizes (start_of c o) o)).at ≤ class_end class b → class_end class b ≤ bytes_end class b → All (RowFits sizes) o
+    → All (IsWithinClass b) (if e then [] else section_of parts class o (start_of c o) (past sizes (start_of c o) o) ∷ [])
+unfolding section_of
+within_step true sizes b parts class c o e from to space fit = All-nil (IsWithinClass b)
+within_step false sizes b parts class c o e from to space fit =
+    let start : c.at ≤ start_of c o = start_least c o in
+    let end : start_of c o ≤ past sizes (start_of c o) o = past_least sizes (start_of c o) o fit in
+    All-cons (IsWithinClass b) _ [] (record { from = omega arith; to = omega arith; inside = omega arith }) (All-nil (IsWithinClass b))
+
+within_in : (sizes : List (List Cut)) (b : Bounds) (parts : List Item) (class : Class) (c : Cursor) (o : List Row) → class_start class b ≤ c.at
+    → (after sizes c o).at ≤ class_end class b → class_end class b ≤ bytes_end class b → All (RowFits sizes) o → All (IsWithinClass b) (section_in sizes parts class c o)
+unfolding section_in after
+within_in sizes b parts class c o from to space fit = within_step (is_empty o) sizes b parts class c o refl from to space fit
+
+within_along : (sizes : List (List Cut)) (b : Bounds) (parts : List Item) (class : Class) (c : Cursor) (os : List (List Row)) → c.extra ≤ ALIGN_MAX → class_start class b ≤ c.at
+    → (end_along sizes c os).at ≤ class_end class b → class_end class b ≤ bytes_end class b → EachRun (RowFits sizes) os
+    → All (IsWithinClass b) (sections_along sizes parts class c os)
+within_along sizes b parts class c [] extra from to space fit = All-nil (IsWithinClass b)
+within_along sizes b parts class c (o ∷ os) extra from to space fit =
+    let moves : Moves c (after sizes c o) _ = after_moves sizes c o extra fit.0 in
+    let later : (after sizes c o).at ≤ (end_along sizes (after sizes c o) os).at = least_along sizes (after sizes c o) os moves.extra fit.1 in
+    All-append (IsWithinClass b) (section_in sizes parts class c o) (sections_along sizes parts class (after sizes c o) os)
+    (within_in sizes b parts class c o from (omega arith) space fit.0)
+    (within_along sizes b parts class (after sizes c o) os moves.extra (omega (arith, moves.least, from)) to space fit.1)
+
+none_in : (sizes : List (List Cut)) (parts : List Item) (class : Class) (c : Cursor) (o : List Row) → is_empty o ≡ true → section_in sizes parts class c o ≡ []
+unfolding section_in
+none_in sizes parts class c o e = rw e refl
+
+none_along : (sizes : List (List Cut)) (parts : List Item) (class : Class) (c : Cursor) (os : List (List Row)) → EachRun (λ row. row.size ≡ 0) os
+    → sections_along sizes parts class c os ≡ []
+none_along sizes parts class c [] all = refl
+none_along sizes parts class c (o ∷ os) all =
+    rw (none_in sizes parts class c o (each_none o all.0)) (none_along sizes parts class (after sizes c o) os all.1)
+
+within_class : (e : Bool) (sizes : List (List Cut)) (b : Bounds) (parts : List Item) (class : Class) (c : Cursor) (rows : List Row) → is_empty rows ≡ e → c.extra ≤ ALIGN_MAX
+    → class_start class b ≤ c.at → (end_along sizes c (runs rows)).at ≤ class_end class b → (is_empty rows ≡ false → class_end class b ≤ bytes_end class b)
+    → All (RowFits sizes) rows → All (IsWithinClass b) (sections_along sizes parts class c (runs rows))
+within_class true sizes b parts class c rows e extra from to space fit =
+    rw (none_along sizes parts class c (runs rows) (each_run (λ row. row.size ≡ 0) rows (none_each rows e))) (All-nil (IsWithinClass b))
+within_class false sizes b parts class c rows e extra from to space fit =
+    within_along sizes b parts class c (runs rows) extra from to (space e) (each_run (RowFits sizes) rows fit)
+
+nobits_by : (z : Bool) (w n : ℕ) → z ≡ false → n ≤ (if not z then n else w)
+nobits_by true w n e = cc
+nobits_by false w n e = omega arith
+
+pub outputs_within : (sizes : List (List Cut)) (parts : List Item) (o : Orders) (b : Bounds) → AllFit sizes o → AreBounds sizes o b → AreRising b
+    → All (IsWithinClass b) (all_sections sizes parts o b)
+outputs_within sizes parts o b fit is rises =
+    let P : OutputSection → Type 0 = IsWithinClass b in
+    let file : b.file_end ≡ last_end o b.r_end b.rx_end b.tls_bits_end b.bits_end = is.file_end in
+    let counts = last_counts (is_empty o.rw_bits) (is_empty o.tls_bits) (is_empty o.rx) b.r_end b.rx_end b.tls_bits_end b.bits_end
+    (omega (arith, rises.rw_rounded, rises.tls_bits)) rises.bits in
+    let extra : b.tls_align ≤ ALIGN_MAX = omega (arith, is.tls_align, tls_most sizes o fit) in
+    let moves = class_moves sizes o b fit is in
+    let image : b.image_end ≡ (if not (is_empty o.rw_nobits) then b.nobits_end else b.file_end) = is.image_end in
+    let r : All P (sections_along sizes parts R (cursor_at b.headers_end) (runs o.r)) =
+    within_class (is_empty o.r) sizes b parts R (cursor_at b.headers_end) o.r refl (omega arith) (omega arith) (omega (arith, is.r_end)) (λ full. rises.file_least) fit.r in
+    let x : All P (sections_along sizes parts Rx (cursor_at b.rx_start) (runs o.rx)) =
+    within_class (is_empty o.rx) sizes b parts Rx (cursor_at b.rx_start) o.rx refl (omega arith) (omega arith) (omega (arith, is.rx_end))
+    (λ full. omega (arith, file, counts.0 full)) fit.rx in
+    let tb : All P (sections_along sizes parts TlsBits (tls_cursor sizes o b.rw_start b.tls_align) (runs o.tls_bits)) =
+    within_class (is_empty o.tls_bits) sizes b parts TlsBits (tls_cursor sizes o b.rw_start b.tls_align) o.tls_bits refl extra (omega arith) (omega (arith, is.tls_bits_end))
+    (λ full. omega (arith, file, counts.1.0 full)) fit.tls_bits in
+    let tn : All P (sections_along sizes parts TlsNobits (after_tls_bits sizes o b.rw_start b.tls_align) (runs o.tls_nobits)) =
+    within_class (is_empty o.tls_nobits) sizes b parts TlsNobits (after_tls_bits sizes o b.rw_start b.tls_align) o.tls_nobits refl moves.tls_bits.extra
+    (omega (arith, is.tls_bits_end)) (omega (arith, is.tls_end)) (λ full. omega arith) fit.tls_nobits in
+    let wb : All P (sections_along sizes parts RwBits (cursor_at b.tls_bits_end) (runs o.rw_bits)) =
+    within_class (is_empty o.rw_bits) sizes b parts RwBits (cursor_at b.tls_bits_end) o.rw_bits refl (omega arith) (omega arith) (omega (arith, is.bits_end))
+    (λ full. omega (arith, file, counts.1.1 full)) fit.rw_bits in
+    let wn : All P (sections_along sizes parts RwNobits (cursor_at b.bits_end) (runs o.rw_nobits)) =
+    within_class (is_empty o.rw_nobits) sizes b parts RwNobits (cursor_at b.bits_end) o.rw_nobits refl (omega arith) (omega arith) (omega (arith, is.nobits_end))
+    (λ full. omega (arith, image, nobits_by (is_empty o.rw_nobits) b.file_end b.nobits_end full)) fit.rw_nobits in
+    All-append P _ _ r (All-append P _ _ x (All-append P _ _ tb (All-append P _ _ tn (All-append P _ _ wb wn))))
