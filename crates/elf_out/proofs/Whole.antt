@@ -1,22 +1,27 @@
 -- The bytes of sections stand whole in a file in which their members stand one after the other.
-use Rattle.std.proofs.Common.{◌≡◌, ℕ, suc, ◌+◌, ◌-◌, ◌*◌, ◌<◌, ◌≤◌, true, Option, Some, None, Bool, false, List, [], ◌∷◌, ◌++◌, length, flat_map, take, drop, slice_index, slice_index_or, refl, ap, sym, ◌∙◌, arith, subst}
+use Rattle.std.proofs.Common.{◌≡◌, ◌≢◌, ◌==◌, not, ℕ, suc, ◌+◌, ◌-◌, ◌*◌, ◌<◌, ◌≤◌, true, Option, Some, None, Bool, false, List, [], ◌∷◌, ◌++◌, length, flat_map, take, drop, slice_index, slice_index_or, refl, ap, sym, ◌∙◌, arith, subst}
 use Rattle.std.specs.Prelude.{if◌then◌else◌}
 use Rattle.std.specs.List.{All}
+use Rattle.std.proofs.lemmas.Bool.{eq-eqb, eqb-true}
 use Rattle.std.proofs.lemmas.Bool.Decides.{nat_tests}
 use Rattle.std.proofs.lemmas.List.{ext_get_or, get_or-take, get_or-drop, length-take-le, length-drop}
 use Rattle.std.proofs.lemmas.List.Elements.{All-nil, All-cons, All-head, All-tail}
 use Rattle.lk_base.specs.Arithmetic.{up}
-use Rattle.lk_base.specs.declared.abi.TheConstants.{IMAGE_BASE, SHDR_SIZE}
+use Rattle.lk_base.specs.declared.abi.TheConstants.{IMAGE_BASE, SHDR_SIZE, SHT_NOBITS}
 use Rattle.lk_tables.specs.Binding.{Bindings}
 use Rattle.lk_tables.specs.Files.{File}
-use Rattle.link_sections.specs.declared.members.Content.TheVariants.{Section}
+use Rattle.link_sections.specs.declared.members.Content.{Content}
+use Rattle.link_sections.specs.declared.members.Content.TheVariants.{Section, Pool, Got}
 use Rattle.link_sections.specs.declared.members.Member.{Member}
-use Rattle.link_sections.specs.LaidOut.{LaidOut}
-use Rattle.link_sections.specs.Sound.{IsSound}
+use Rattle.link_sections.specs.InputSections.{input_at}
+use Rattle.link_sections.specs.LaidOut.{LaidOut, start_at}
+use Rattle.link_sections.specs.Sound.{IsSectionMember, IsSound, is_section}
 use Rattle.elf_out.specs.Executable.{end_pieces, file_length, header_count, names_offset, table_offset}
 use Rattle.elf_out.specs.Headers.{section_headers, section_names}
-use Rattle.elf_out.specs.Standing.{SectionsStand, StandsWhole}
+use Rattle.elf_out.specs.Standing.{SectionsStand}
 use Rattle.elf_out.proofs.Laying.{image_byte, image_length, over_append}
+use Rattle.reloc_apply.proofs.LaidFacts.{any_at}
+use Rattle.reloc_apply.specs.Founds.{no_member}
 use Rattle.reloc_apply.specs.Image.{Piece, byte_over, image, over, piece}
 use Rattle.reloc_apply.specs.Relocated.{has_bits, member_pieces, relocated_pieces, section_bytes, written_in, written_pieces}
 
@@ -133,9 +138,14 @@ module _ (files : List File) (b : Bindings) (leaders : List (Option ℕ)) (laid 
       ∙ shown n is bits (over head 0 place) place (omega arith) (omega (arith, lt))
       ∙ ap (slice_index (section_bytes files b leaders laid n)) back
 
+  -- a member that is a section with bytes has them at its place
+  abbrev pub HasBytes : (file : List ℕ) → Member → Type 0
+  HasBytes file m = (n : ℕ) → m.content ≡ Section n → has_bits files b leaders laid n ≡ true
+      → take m.size (drop (m.start - IMAGE_BASE) file) ≡ section_bytes files b leaders laid n
+
   pub stands_whole : (head names table : Piece) (size : ℕ) (ms : List Member) (m : Member) → IsShown ms m → IsSized m
       → m.start - IMAGE_BASE + m.size ≤ names.at → m.start - IMAGE_BASE + m.size ≤ table.at → m.start - IMAGE_BASE + m.size ≤ size
-      → StandsWhole files b leaders laid (image (head ∷ flat_map pieces_by ms ++ (names ∷ table ∷ [])) size) m
+      → HasBytes (image (head ∷ flat_map pieces_by ms ++ (names ∷ table ∷ [])) size) m
   stands_whole head names table size ms m shown sized before_names before_table before_end = λ n is bits.
       let ps : List Piece = head ∷ flat_map pieces_by ms ++ (names ∷ table ∷ []) in
       let at = m.start - IMAGE_BASE in
@@ -154,12 +164,12 @@ up_least : (x : ℕ) → x ≤ up x 8
 unfolding up
 up_least x = omega arith
 
--- in the executable of a sound layout
-pub sections_stand : (files : List File) (b : Bindings) (leaders : List (Option ℕ)) (laid : LaidOut) (heads : List ℕ)
+-- each member in the executable of a sound layout
+members_stand : (files : List File) (b : Bindings) (leaders : List (Option ℕ)) (laid : LaidOut) (heads : List ℕ)
     → IsSound files b leaders laid → All (IsSized files b leaders laid) laid.members
-    → SectionsStand files b leaders laid (image (piece 0 heads ∷ relocated_pieces files b leaders laid ++ end_pieces laid) (file_length laid))
+    → All (HasBytes files b leaders laid (image (piece 0 heads ∷ relocated_pieces files b leaders laid ++ end_pieces laid) (file_length laid))) laid.members
 unfolding relocated_pieces file_length
-sections_stand files b leaders laid heads sound sized = λ i d lt.
+members_stand files b leaders laid heads sound sized = λ i d lt.
     let m : Member = slice_index_or laid.members i d in
     let low : All (λ (k : Member). IMAGE_BASE ≤ k.start) laid.members = λ j e at. omega (arith, sound.low j e at) in
     let shown : All (IsShown files b leaders laid laid.members) laid.members = all_shown files b leaders laid laid.members low sound.order sized in
@@ -169,3 +179,32 @@ sections_stand files b leaders laid heads sound sized = λ i d lt.
     stands_whole files b leaders laid (piece 0 heads) (piece (names_offset laid) (section_names laid.outputs))
     (piece (table_offset laid) (section_headers laid.outputs (names_offset laid))) (table_offset laid + SHDR_SIZE * header_count laid) laid.members m
     (shown i d lt) (sized i d lt) (omega (arith, end, above)) (omega (arith, end, above, after)) (omega (arith, end, above, after))
+
+-- what a member is that passes
+section_is : (n : ℕ) (c : Content) → is_section n c ≡ true → c ≡ Section n
+section_is n (Section m) is = ap Section (eqb-true m n is)
+section_is n (Pool p) is = let none : ⊥ = cc in absurd none
+section_is n Got is = let none : ⊥ = cc in absurd none
+
+-- a test that fails
+is_not : (x y : ℕ) → not (x == y) ≡ true → x ≢ y
+is_not x y is = λ same.
+    let off : false ≡ true = sym (ap not (eq-eqb x y same)) ∙ is in
+    let none : ⊥ = cc in
+    none
+
+-- each section in the executable of a sound layout
+pub sections_stand : (files : List File) (b : Bindings) (leaders : List (Option ℕ)) (laid : LaidOut) (heads : List ℕ)
+    → IsSound files b leaders laid → All (IsSized files b leaders laid) laid.members
+    → SectionsStand files b leaders laid (image (piece 0 heads ∷ relocated_pieces files b leaders laid ++ end_pieces laid) (file_length laid))
+sections_stand files b leaders laid heads sound sized = λ n lt own bits some.
+    let file : List ℕ = image (piece 0 heads ∷ relocated_pieces files b leaders laid ++ end_pieces laid) (file_length laid) in
+    let listed = sound.listed n lt own (is_not (input_at files b n).sh_type SHT_NOBITS bits) some in
+    let any = any_at (λ (m : Member). is_section n m.content) laid.members no_member listed in
+    let m : Member = slice_index_or laid.members any.0 no_member in
+    let is : m.content ≡ Section n = section_is n m.content any.2 in
+    let section : IsSectionMember files b leaders laid n m = sound.sections any.0 no_member any.1 n is in
+    let long : length (section_bytes files b leaders laid n) ≡ m.size = sized any.0 no_member any.1 n is bits in
+    ap (λ k. take k (drop (start_at laid n - IMAGE_BASE) file)) long
+    ∙ ap (λ at. take m.size (drop (at - IMAGE_BASE) file)) (sym section.start)
+    ∙ members_stand files b leaders laid heads sound sized any.0 no_member any.1 n is bits

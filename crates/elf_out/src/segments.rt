@@ -132,7 +132,8 @@ pub fn headers_before(alloc: Global, view: &View, table: u64) -> Result<Vec<u8>,
     Ok(out)
 }
 
-/// The file header and the program headers of an executable, which stand at its start.
+/// The file header and the program headers of an executable, which stand at its start: the bytes from offset 0 to the end of the program
+/// headers (System V gABI, "ELF Header", "Program Header"). The only error is out of memory.
 pub fn headers(alloc: Global, view: &View) -> Result<Vec<u8>, AllocError>
     ensures { IfOk result (λ v. v.items ≡ spec.headers (files_in view.now) (binding_in view.now) (leaders_in view.now) (laid_in view.now)) }
 {

@@ -27,6 +27,7 @@ pub mod Laying
 pub mod Marks
 pub mod RelocsLie
 pub mod MemberFacts
+pub mod Listed
 pub mod Inside
 pub mod Sounds
 pub mod Seen

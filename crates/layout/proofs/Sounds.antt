@@ -1,12 +1,12 @@
 -- A layout that is not refused is sound.
-use Rattle.std.proofs.Common.{◌≡◌, ℕ, zero, suc, ◌+◌, ◌-◌, ◌^◌, ◌<◌, ◌≤◌, ◌⊎◌, nat_lt, nat_le, Bool, true, false, if◌then◌else◌, Option, List, [], ◌∷◌, ◌++◌, get_or, length, map, flat_map, refl, ap, sym, ◌∙◌, All, inl, inr, subst, arith}
+use Rattle.std.proofs.Common.{◌≡◌, ◌≢◌, ℕ, zero, suc, ◌+◌, ◌-◌, ◌^◌, ◌<◌, ◌≤◌, ◌⊎◌, nat_lt, nat_le, Bool, true, false, if◌then◌else◌, Option, List, [], ◌∷◌, ◌++◌, get_or, length, map, flat_map, refl, ap, sym, ◌∙◌, All, inl, inr, subst, arith}
 use Rattle.std.specs.List.{range_with_len}
 use Rattle.std.proofs.lemmas.Bool.{cases_lt}
 use Rattle.std.proofs.lemmas.Bool.Decides.{nat_tests}
 use Rattle.std.proofs.lemmas.List.{length-replicate}
 use Rattle.std.proofs.lemmas.List.Elements.{All-nil, All-head, All-tail, All-cons}
 use Rattle.std.proofs.Math.ListN.{get_or-eq_default}
-use Rattle.lk_base.specs.declared.abi.TheConstants.{EHDR_SIZE, IMAGE_BASE}
+use Rattle.lk_base.specs.declared.abi.TheConstants.{EHDR_SIZE, IMAGE_BASE, SHT_NOBITS}
 use Rattle.lk_base.specs.declared.defects.Defect.{Defect}
 use Rattle.lk_base.specs.declared.limits.Limits.{Limits}
 use Rattle.lk_base.specs.Limits.{IsWithinStandard}
@@ -23,7 +23,7 @@ use Rattle.link_sections.specs.Cuts.{AreApart, Cut, new_offset}
 use Rattle.link_sections.specs.InputSections.{input_at}
 use Rattle.link_sections.specs.LaidOut.{LaidOut, cuts_at, start_at}
 use Rattle.link_sections.specs.Leaders.{leads}
-use Rattle.link_sections.specs.Sound.{IsSectionMember, IsSound}
+use Rattle.link_sections.specs.Sound.{IsSectionMember, IsSound, is_listed}
 use Rattle.layout.specs.Cutting.{laid_cut, laid_cuts, short_defects}
 use Rattle.layout.specs.Items.{AreLeaders, IsSized, Item, items}
 use Rattle.layout.specs.Layout.{FitSizes, IsWithin, Trail, all_cuts, all_weight, bounds_of, cut_defects, cuts_of, laid_by, laid_of, layout_defects, layout_of, limit_defects, no_trail, trail_of}
@@ -34,6 +34,7 @@ use Rattle.layout.proofs.Chain.{AreBounds, bounds_are}
 use Rattle.layout.proofs.Inside.{members_inside, members_order, order_at}
 use Rattle.layout.proofs.ItemFacts.{ready_of, stays_of}
 use Rattle.layout.proofs.LaidCuts.{laid_apart, laid_are, laid_rest}
+use Rattle.layout.proofs.Listed.{all_listed}
 use Rattle.layout.proofs.Marks.{found_at, in_members, stands_once}
 use Rattle.layout.proofs.MemberFacts.{IsMade, all_made, link_rows, part_all}
 use Rattle.layout.proofs.RelocsLie.{IsClear, lies_of, lies_still}
@@ -162,6 +163,11 @@ starts_are sizes o b s starts total is count once =
     part_all (λ (m : Member). (n : ℕ) → m.content ≡ Section n → n < total → get_or starts n 0 ≡ m.start) sizes o b
     (λ k d lt n same low. ap (λ l. get_or l n 0) is ∙ found_at n (all_stands sizes o b) s k d lt same (once n) (omega (arith, count, low)))
 
+-- each section that leads itself and has bytes in its file is one of these members
+abbrev pub AreListed : List File → Bindings → List (Option ℕ) → List Member → Type 0
+AreListed files b leaders members = (n : ℕ) → n < section_total files → leads leaders n ≡ true → (input_at files b n).sh_type ≢ SHT_NOBITS
+    → 0 < (input_at files b n).size → is_listed n members ≡ true
+
 -- what a layout has of its walk
 pub record IsWalk (files : List File) (leaders : List (Option ℕ)) (sizes : List (List Cut)) (o : Orders) (laid : LaidOut) : Type 0 where
   pub members : laid.members ≡ all_members sizes o laid.bounds
@@ -172,8 +178,9 @@ pub record IsWalk (files : List File) (leaders : List (Option ℕ)) (sizes : Lis
 pub sound_walk : (limits : Limits) (files : List File) (b : Bindings) (leaders : List (Option ℕ)) (sizes : List (List Cut)) (o : Orders) (laid : LaidOut) → AllSound files
     → AreLeaders files b leaders → FitSizes files b sizes → All AreApart sizes → AllFit sizes o → AreBounds sizes o laid.bounds → AreRising laid.bounds
     → All (IsMade files b leaders sizes) (all_members sizes o laid.bounds) → ((n : ℕ) → in_members n (all_stands sizes o laid.bounds) ≤ 1)
-    → IsWalk files leaders sizes o laid → IsWithinStandard limits → layout_defects limits files laid ≡ [] → IsSound files b leaders laid
-sound_walk limits files b leaders sizes o laid sound are fit apart rows is up made once walk few none =
+    → AreListed files b leaders (all_members sizes o laid.bounds) → IsWalk files leaders sizes o laid → IsWithinStandard limits → layout_defects limits files laid ≡ []
+    → IsSound files b leaders laid
+sound_walk limits files b leaders sizes o laid sound are fit apart rows is up made once listed walk few none =
     let total : ℕ = section_total files in
     let both = no_defects limits files laid none in
     let limit = limits_hold limits laid both.1 in
@@ -202,6 +209,7 @@ sound_walk limits files b leaders sizes o laid sound are fit apart rows is up ma
     (subst AreApart (sym (cuts_are_at n number)) (row_is_apart n number)) in
     record {
       sections = subst (All P) (sym walk.members) sections;
+      listed = subst (AreListed files b leaders) (sym walk.members) listed;
       low = subst (All (λ (m : Member). IMAGE_BASE + EHDR_SIZE ≤ m.start)) (sym walk.members) (λ k d lt. omega (arith, (inside k d lt).first, up.first));
       above = subst (All (λ (m : Member). laid.bounds.headers_end ≤ m.start)) (sym walk.members) (λ k d lt. (inside k d lt).first);
       inside = subst (All (λ (m : Member). m.start + m.size ≤ laid.bounds.file_end)) (sym walk.members) (λ k d lt. (inside k d lt).last);
@@ -265,4 +273,5 @@ sound_laid limits files b pools words leaders sizes sound are fit apart sized ro
     sound_walk limits files b leaders sizes o (laid_by leaders sizes (section_total files) bounds t) sound are fit apart rows
     (subst (AreBounds sizes o) (sym same) is) (subst AreRising (sym same) up) (subst (λ k. All (IsMade files b leaders sizes) (all_members sizes o k)) (sym same) made)
     (λ n. stands_once files b pools words leaders sizes (laid_by leaders sizes (section_total files) bounds t).bounds n)
+    (λ n. all_listed files b pools words leaders sizes (laid_by leaders sizes (section_total files) bounds t).bounds n)
     (walk_laid files leaders sizes parts o bounds (length pools) rows is up) few none

@@ -57,27 +57,26 @@ pub fn items_of<'a>(
     let mut items = Vec::new(alloc);
     let mut next = 0;
     for section in 0..tables.section_count() as u32 {
-        push_section(&mut items, tables, binding, pools, leaders, section)?;
+        push_section(&mut items, tables, binding, leaders, section)?;
         next = push_pool(&mut items, tables, binding, pools.pools(), next, section)?;
     }
     items.push(got_item(got))?;
     Ok(items)
 }
 
-/// A section, if it leads itself.
+/// A section, if it leads itself. One that is merged leads none.
 #[tactic(auto, unfolding(crate::specs::Items::own_item))]
 fn push_section<'a>(
     items: &mut Vec<Item<'a>>,
     tables: &Tables<'a>,
     binding: &Binding,
-    pools: &Pools,
     leaders: &[Option<SecNo>],
     section: SecNo,
 ) -> Result<(), AllocError>
     requires { section < section_total (files_of tables.now) }
     ensures { OnOk result (items_view items.new.items ≡ items_view items.old.items ++ spec.own_item leaders.now section (input_at (files_of tables.now) (binding_view binding.now) section)) }
 {
-    if !leads(leaders, section as usize) || pools.is_merged(section) {
+    if !leads(leaders, section as usize) {
         return Ok(());
     }
     items.push(section_item(section, &input_section(tables, binding, section)))?;

@@ -1,5 +1,6 @@
 pub mod BoundStays
 pub mod CutRows
 pub mod CutSums
-mod RowSteps
+pub mod MergedAt
 mod NoCuts
+mod RowSteps

@@ -1,11 +1,17 @@
 pub mod Addresses
 pub mod Cuts
 pub mod CutsView
+pub mod Distinct
 pub mod Edges
+pub mod FoldItems
 pub mod InputSections
 pub mod InputViews
 pub mod LaidOut
 pub mod Leaders
+pub mod MergeSections
+pub mod Merging
+pub mod PieceTargets
+pub mod PoolViews
 pub mod Pools
 pub mod SizesView
 pub mod Sound

@@ -1,16 +1,28 @@
 -- What holds of a layout of a link, for those who write by it.
-use Rattle.std.specs.Prelude.{◌≡◌, ℕ, ◌+◌, ◌<◌, ◌≤◌, ◌^◌, true, Option, List, length, slice_index_or, All}
-use Rattle.lk_base.specs.declared.abi.TheConstants.{EHDR_SIZE, IMAGE_BASE}
+use Rattle.std.specs.Prelude.{◌≡◌, ◌≢◌, ℕ, ◌+◌, ◌<◌, ◌≤◌, ◌^◌, ◌==◌, Bool, true, false, Option, List, length, slice_index_or, All}
+use Rattle.std.specs.List.{list_any}
+use Rattle.lk_base.specs.declared.abi.TheConstants.{EHDR_SIZE, IMAGE_BASE, SHT_NOBITS}
 use Rattle.lk_base.specs.RelocKinds.{kind_of}
 use Rattle.lk_tables.specs.Binding.{Bindings}
 use Rattle.lk_tables.specs.Files.{File, section_total}
 use Rattle.lk_tables.specs.Sites.{relocs_of}
-use Rattle.link_sections.specs.declared.members.Content.TheVariants.{Section}
+use Rattle.link_sections.specs.declared.members.Content.{Content}
+use Rattle.link_sections.specs.declared.members.Content.TheVariants.{Section, Pool, Got}
 use Rattle.link_sections.specs.declared.members.Member.{Member}
 use Rattle.link_sections.specs.Cuts.{AreApart, new_offset}
 use Rattle.link_sections.specs.InputSections.{input_at, may_stay_at}
 use Rattle.link_sections.specs.LaidOut.{LaidOut, cuts_at, start_at}
 use Rattle.link_sections.specs.Leaders.{leads}
+
+-- whether a member is section n
+abbrev pub is_section : (n : ℕ) → Content → Bool
+is_section n (Section m) = m == n
+is_section n (Pool p) = false
+is_section n Got = false
+
+-- whether one of these members is
+abbrev pub is_listed : (n : ℕ) → List Member → Bool
+is_listed n members = list_any (λ m. is_section n m.content) members
 
 -- a member that is section n: that one leads itself and may be kept, it stands where the layout says, and its cuts and the places of its
 -- relocations lie in it
@@ -23,9 +35,12 @@ pub record IsSectionMember (files : List File) (b : Bindings) (leaders : List (O
   pub cuts : All (λ c. c.at + c.whole ≤ (input_at files b n).size) (cuts_at laid n)
   pub relocs : All (λ r. new_offset (cuts_at laid n) r.offset + (kind_of r.kind).width ≤ m.size) (relocs_of files n)
 
--- the members with bytes stand one after the other, from the headers on, within the file
+-- the members with bytes stand one after the other, from the headers on, within the file; each section that leads itself and has bytes in its
+-- file is one of them
 pub record IsSound (files : List File) (b : Bindings) (leaders : List (Option ℕ)) (laid : LaidOut) : Type 0 where
   pub sections : All (λ m. (n : ℕ) → m.content ≡ Section n → IsSectionMember files b leaders laid n m) laid.members
+  pub listed : (n : ℕ) → n < section_total files → leads leaders n ≡ true → (input_at files b n).sh_type ≢ SHT_NOBITS → 0 < (input_at files b n).size
+      → is_listed n laid.members ≡ true
   pub low : All (λ m. IMAGE_BASE + EHDR_SIZE ≤ m.start) laid.members
   pub above : All (λ m. laid.bounds.headers_end ≤ m.start) laid.members
   pub inside : All (λ m. m.start + m.size ≤ laid.bounds.file_end) laid.members

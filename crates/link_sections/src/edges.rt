@@ -20,7 +20,8 @@ pub struct Edges {
 impl Edges {
     ghost use Rattle.link_sections.specs.Edges.{ends_of};
 
-    /// The edges of lists of ends, by section number.
+    /// The edges of lists of ends, by section number: one list for each section, and each end is the number of one. The only error is
+    /// out of memory.
     pub fn of(alloc: Global, lists: Vec<Vec<SecNo>>) -> Result<Edges, AllocError>
         requires within { All (λ (list : _). All (λ end. end < length lists.items) list.items) lists.items }
         requires few { length lists.items < 2 ^ 32 }

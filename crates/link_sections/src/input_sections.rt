@@ -121,8 +121,9 @@ fn common_of(commons: &[BoundCommon], section: usize) -> Option<BoundCommon>
     Some(*common)
 }
 
-/// Whether the section of an index of a file may be kept: it is written and was not discarded with its group, or it is the room of a
-/// COMMON symbol that is bound. Takes no memory.
+/// Whether the section of an index of a file that takes part may be kept: it is written and was not discarded with its group, or it is
+/// the room of a COMMON symbol that is bound. A file that takes no part has no section numbers, so the answer says nothing of its
+/// sections. Takes no memory.
 #[tactic(auto, unfolding(crate::specs::InputSections::may_stay))]
 pub fn may_stay(tables: &Tables, binding: &Binding, file: FileNo, index: u32) -> bool
     requires { file < length (files_of tables.now) }
@@ -137,7 +138,7 @@ pub fn may_stay(tables: &Tables, binding: &Binding, file: FileNo, index: u32) ->
 }
 
 /// By section number, what a link keeps that collects nothing: the written sections that were not discarded, and the room of each
-/// COMMON symbol that is bound.
+/// COMMON symbol that is bound. The only error is out of memory.
 pub fn all_kept(alloc: Global, tables: &Tables, binding: &Binding) -> Result<Vec<bool>, AllocError>
     ensures { IfOk result (λ kept. kept.items ≡ spec.all_kept (files_of tables.now) (binding_view binding.now)) }
 {

@@ -6,7 +6,8 @@ ghost use Rattle.link_sections.specs.Leaders as spec;
 use lk_base::SecNo;
 use std::alloc::{AllocError, Global};
 
-/// The leaders of a link that folds nothing: by section number, each kept section itself.
+/// The leaders of a link that folds nothing: by section number, each kept section itself, and none for each other. The only error is out
+/// of memory.
 #[tactic(auto, unfolding(crate::specs::Leaders::own_leaders))]
 pub fn own_leaders(alloc: Global, kept: &[bool]) -> Result<Vec<Option<SecNo>>, AllocError>
     requires { length kept.now ≤ 2 ^ 28 }

@@ -1,6 +1,6 @@
 //! Where the sections of a link lose bytes, by section number.
 
-ghost use Rattle.std.specs.Prelude.{◌≡◌, ℕ, true, ◌+◌, ◌-◌, ◌<◌, ◌≤◌, min, slice_index_or, [], All};
+ghost use Rattle.std.specs.Prelude.{◌≡◌, ◌↔◌, ℕ, true, ◌+◌, ◌-◌, ◌<◌, ◌≤◌, min, slice_index_or, [], All};
 ghost use Rattle.std.proofs.Props.{props};
 ghost use Rattle.link_sections.specs.CutsView.{AreCuts, cut_views};
 ghost use Rattle.link_sections.specs.Cuts.{new_offset};
@@ -36,7 +36,7 @@ impl Sizes {
 
     /// Whether no section loses bytes.
     pub fn is_empty(&self) -> bool
-        ensures { result ≡ true → (section : ℕ) → slice_index_or self.now.rows section [] ≡ [] }
+        ensures { result ≡ true ↔ ((section : ℕ) → slice_index_or self.now.rows section [] ≡ []) }
     {
         self.rows.items().len() == 0
     }

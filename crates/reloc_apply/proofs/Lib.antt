@@ -22,4 +22,6 @@ pub mod StayingSteps
 pub mod Sums
 pub mod TouchingSteps
 pub mod UpperParts
+pub mod ValueKinds
+pub mod ValuePlaces
 pub mod WindowSteps

@@ -1,6 +1,6 @@
 -- What a relocation puts into its place (RISC-V ELF psABI, "Relocations": S, A, P and V).
-use Rattle.std.specs.Prelude.{ℕ, ◌==◌, ◌&&◌, ℤ, pos, ◌+ℤ◌, ◌-ℤ◌, Bool, Option, Some, None, option_and_then, if◌then◌else◌, List, find, take, drop}
-use Rattle.lk_base.specs.RelocKinds.{kind_of, is_lower, is_upper}
+use Rattle.std.specs.Prelude.{ℕ, ◌==◌, ◌&&◌, ◌||◌, not, ℤ, pos, ◌+ℤ◌, ◌-ℤ◌, Bool, Option, Some, None, is_some, option_and_then, if◌then◌else◌, List, find, take, drop}
+use Rattle.lk_base.specs.RelocKinds.{kind_of, has_value, is_lower, is_upper}
 use Rattle.lk_base.specs.declared.relocations.Calculation.{Calculation}
 use Rattle.lk_base.specs.declared.relocations.Calculation.TheVariants.{Address, Distance, Increase, Decrease}
 use Rattle.lk_tables.specs.declared.bounds.Target.{Target}
@@ -82,3 +82,7 @@ module _ (files : List File) (b : Bindings) (leaders : List (Option ℕ)) (laid 
   -- the value of relocation r of section n, whose place holds a number: a lower part has that of its partner
   unfoldable pub value_of : (n : ℕ) → Reloc → (held : ℤ) → Option ℤ
   value_of n r held = if is_lower r.kind then option_and_then (λ p. direct_value n p (pos 0)) (partner_of n r) else direct_value n r held
+
+  -- relocation r of section n has a value: its kind puts one into a place, and a lower part has its partner
+  unfoldable pub gives_value : (n : ℕ) → Reloc → Bool
+  gives_value n r = has_value r.kind && (not (is_lower r.kind) || is_some (partner_of n r))

@@ -25,8 +25,9 @@ use std::ops::Range;
 use std::thread::Threads;
 use work_split::{Gate, over_shares, pieces_by_weight};
 
-/// The address of each symbol of the files that take part, by number, once the layout has given each section its start. The symbols are
-/// shared among so many workers, by files.
+/// The address of each symbol once the layout has given each section its start. The list has one entry for each symbol of all files, by
+/// symbol number: 0 for those of a file that takes no part, for a symbol of the linker's own, and for one that stands for nothing. The
+/// symbols are shared among so many workers, by files. The only error is out of memory.
 pub fn find_addresses<R: Threads + Sync, G: Gate>(
     rt: &R,
     alloc: Global,

@@ -1,37 +1,45 @@
 //! Relocations of a section done in order, in a window of eight bytes: what stands at a place is in it once the relocations before are
 //! done, whether a block has all of the place or not. Takes no memory.
 
-ghost use Rattle.std.specs.Prelude.{◌≡◌, ℕ, ◌+◌, ◌^◌, ◌<◌, ◌≤◌, ◌++◌, true, pos, length, take, drop, slice_index, slice_index_or, All, IfSome, List};
+ghost use Rattle.std.specs.Prelude.{◌≡◌, ℕ, ◌+◌, ◌^◌, ◌<◌, ◌≤◌, ◌++◌, true, pos, length, take, drop, slice_index, slice_index_or, is_some, All, IfSome, List};
 ghost use Rattle.lk_base.specs.RelocKinds.{HasValue, kind_of};
-ghost use Rattle.lk_tables.specs.Files.{no_reloc};
+ghost use Rattle.lk_tables.specs.Files.{no_reloc, section_total};
 ghost use Rattle.lk_tables.specs.Sites.{relocs_of};
 ghost use Rattle.link_sections.specs.CutsView.{AreCuts, cut_views};
+ghost use Rattle.link_sections.specs.Leaders.{leads};
 ghost use Rattle.link_sections.specs.Views.{binding_in, files_in, laid_in, leaders_in};
-ghost use Rattle.reloc_apply.specs.Relocated.{filled, is_laid, put, section_bytes, value_at};
+ghost use Rattle.reloc_apply.specs.Relocated.{filled, put, section_bytes, value_at};
 ghost use Rattle.reloc_apply.specs.Sites.{IsFresh, IsIn, IsMadeFrom, IsOver, Shows, bytes_by, end_by, first_bytes, offset_by};
 ghost use Rattle.reloc_apply.specs.Staying.{staying};
 ghost use Rattle.reloc_apply.specs.Values as spec;
 ghost use Rattle.rv_code.specs.Places.{number_of};
 
 use crate::image::{Piece, fill_piece};
-use crate::sites::Site;
+use crate::sites::{Site, relocs_at, site_of};
 use crate::sources::{Source, source_of};
 use crate::staying::fill_staying;
 use crate::values::{offset_of, value_of};
 use byteorder::{ByteOrder, LittleEndian};
 use link_sections::{Cut, View};
 use lk_base::SecNo;
-use lk_base::relocations::kind_of;
+use lk_base::relocations::{has_value, kind_of};
 use lk_tables::Reloc;
 use rv_code::patch_bits;
 
-/// The value of a relocation, by its number in its section's order of offset, if it has one: its kind has one, and a lower part has
-/// its partner. Takes no memory.
+/// The value of relocation number `reloc` of a section, in order of offset. The section leads itself, so that its bytes stand in its own
+/// place, and has a relocation of that number. None exactly where the kind puts no value into a place, or a lower part has no partner.
+/// Takes no memory.
 pub fn value(view: &View, section: SecNo, reloc: usize) -> Option<i128>
-    requires laid { is_laid (files_in view.now) (binding_in view.now) (leaders_in view.now) (laid_in view.now) section ≡ true }
+    requires number { section < section_total (files_in view.now) }
+    requires own { leads (leaders_in view.now) section ≡ true }
     requires reloc { reloc < length (relocs_of (files_in view.now) section) }
-    ensures { result ≡ value_at (files_in view.now) (binding_in view.now) (leaders_in view.now) (laid_in view.now) section reloc }
+    ensures value { result ≡ value_at (files_in view.now) (binding_in view.now) (leaders_in view.now) (laid_in view.now) section reloc }
+    ensures some { is_some result ≡ spec.gives_value (files_in view.now) (binding_in view.now) (leaders_in view.now) (laid_in view.now) section (slice_index_or (relocs_of (files_in view.now) section) reloc no_reloc) }
 {
+    let own = relocs_at(view.tables, site_of(view.tables, section))[reloc];
+    if !has_value(own.kind) {
+        return None;
+    }
     value_by(view, &source_of(view, section), reloc)
 }
 

@@ -17,8 +17,9 @@ use lk_tables::{Binding, Bound, Tables, section_count};
 use std::alloc::{AllocError, Global};
 
 /// The numbers of the sections that garbage collection keeps whatever refers to them: first the entry's, if it stands in a section;
-/// then, in order, those that may stay and have functions to call at the start or the end, are notes, or are flagged GNU_RETAIN. The
-/// entry's may stand in the list once more.
+/// then, in order of number, those that may stay and are arrays of functions or notes by their type, are named `.init` or `.fini`, or are
+/// flagged GNU_RETAIN. The entry's may be the room of a COMMON symbol, and may stand in the list once more. The only error is out of
+/// memory.
 #[tactic(auto, unfolding(crate::specs::Roots::roots))]
 pub fn roots(alloc: Global, tables: &Tables, binding: &Binding) -> Result<Vec<SecNo>, AllocError>
     requires bound { IsBindingOf (files_of tables.now) (binding_view binding.now) }

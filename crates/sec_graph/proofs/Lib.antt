@@ -1,4 +1,5 @@
 pub mod Closing
+pub mod FoldOrder
 pub mod Joining
 pub mod Runs
 pub mod Unbound

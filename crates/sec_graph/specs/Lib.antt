@@ -1,3 +1,4 @@
+pub mod Foldable
 pub mod Graph
 pub mod Kept
 pub mod Rows

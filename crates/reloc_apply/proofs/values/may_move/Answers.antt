@@ -6,7 +6,7 @@ use Rattle.reloc_apply.proofs.values.may_move.Goals as goal
 
 pub returns-then-is_empty : goal.returns-then-is_empty
 returns-then-is_empty c = λ none is n.
-    cuts_of c.args.view.now.layout.now n ∙ ap cut_views (c.is_empty.ensures c.if-is_empty.true n)
+    cuts_of c.args.view.now.layout.now n ∙ ap cut_views (c.is_empty.ensures.0 c.if-is_empty.true n)
 
 pub returns : goal.returns
 returns c = λ off on n.

@@ -1,0 +1,13 @@
+pub mod Collected
+pub mod Paired
+pub mod Rows
+pub mod RowSteps
+pub mod SectionPlaces
+pub mod NumberedRows
+pub mod Targets
+pub mod Relocs
+pub mod InOrder
+pub mod Loop
+pub mod Measure
+pub mod Refined
+pub mod Whole

@@ -1,0 +1,57 @@
+use Rattle.std.proofs.Common.{length, ◌∙◌, arith}
+use Rattle.link_sections.specs.FoldItems.{item_views}
+use Rattle.icf_part.specs.Signatures.{bytes_of, output_of, shape_at}
+use Rattle.icf_part.proofs.RowSteps.{all_rows}
+use Rattle.icf_part.proofs.Whole.{all_sections, all_ends, all_numbers, first_numbers, first_firsts, folded}
+use Rattle.icf_part.proofs.folding.fold.Goals as goal
+
+pub all_places-requires-clause-few : goal.all_places-requires-clause-few
+all_places-requires-clause-few g c =
+    omega (arith, c.requires.few, c.as_slice.ensures.len, all_sections c.args.items.now c.as_slice.result.now (c.as_slice.ensures.value ∙ c.in_ok-sections.ensures))
+
+pub all_shapes-requires-clause-few : goal.all_shapes-requires-clause-few
+all_shapes-requires-clause-few g c =
+    omega (arith, c.requires.few, all_sections c.args.items.now c.as_slice-2.result.now (c.as_slice-2.ensures.value ∙ c.in_ok-sections.ensures))
+
+pub all_shapes-requires-clause-bytes : goal.all_shapes-requires-clause-bytes
+all_shapes-requires-clause-bytes g c = all_numbers bytes_of c.args.items.now c.as_slice-3.result.now (c.as_slice-3.ensures.value ∙ c.in_ok-bytes.ensures)
+
+pub all_shapes-requires-clause-outputs : goal.all_shapes-requires-clause-outputs
+all_shapes-requires-clause-outputs g c = all_numbers output_of c.args.items.now c.as_slice-4.result.now (c.as_slice-4.ensures.value ∙ c.in_ok-outputs.ensures)
+
+pub number_rows-requires-after_bounds : goal.number_rows-requires-after_bounds
+number_rows-requires-after_bounds g c κs within =
+    omega (arith, c.requires.few, all_rows (shape_at (item_views c.args.items.now) c.as_slice-3.result.now c.as_slice-4.result.now) (length c.args.items.now) c.in_ok-rows.rows c.in_ok-rows.ensures)
+
+pub refine-requires-clause-few : goal.refine-requires-clause-few
+refine-requires-clause-few g c κs within = omega (arith, c.requires.few, all_ends c.args.items.now c.in_ok-ends.ends c.in_ok-ends.ensures)
+
+pub refine-requires-clause-firsts : goal.refine-requires-clause-firsts
+refine-requires-clause-firsts g c κs within =
+    first_firsts c.args.items.now c.in_ok-ends.ends c.in_ok-start.start.items c.in_ok-ends.ensures
+    (first_numbers c.args.items.now c.as_slice-3.result.now c.as_slice-4.result.now c.in_ok-rows.rows c.in_ok-start.start.items
+    (c.as_slice-3.ensures.value ∙ c.in_ok-bytes.ensures) (c.as_slice-4.ensures.value ∙ c.in_ok-outputs.ensures) c.in_ok-rows.ensures c.in_ok-start.ensures)
+
+pub returns-clause-leaders : goal.returns-clause-leaders
+returns-clause-leaders g c =
+    let step = first_numbers c.args.items.now c.as_slice-3.result.now c.as_slice-4.result.now c.in_ok-rows.rows c.in_ok-start.start.items
+    (c.as_slice-3.ensures.value ∙ c.in_ok-bytes.ensures) (c.as_slice-4.ensures.value ∙ c.in_ok-outputs.ensures) c.in_ok-rows.ensures c.in_ok-start.ensures in
+    let all = folded c.args.items.now c.in_ok-ends.ends c.in_ok-start.start.items c.in_ok-leaders.leaders.items c.requires.order c.in_ok-ends.ensures step
+    c.in_ok-leaders.ensures.stable c.in_ok-leaders.ensures.refining in
+    all.leaders
+
+pub returns-clause-congruence : goal.returns-clause-congruence
+returns-clause-congruence g c =
+    let step = first_numbers c.args.items.now c.as_slice-3.result.now c.as_slice-4.result.now c.in_ok-rows.rows c.in_ok-start.start.items
+    (c.as_slice-3.ensures.value ∙ c.in_ok-bytes.ensures) (c.as_slice-4.ensures.value ∙ c.in_ok-outputs.ensures) c.in_ok-rows.ensures c.in_ok-start.ensures in
+    let all = folded c.args.items.now c.in_ok-ends.ends c.in_ok-start.start.items c.in_ok-leaders.leaders.items c.requires.order c.in_ok-ends.ensures step
+    c.in_ok-leaders.ensures.stable c.in_ok-leaders.ensures.refining in
+    all.congruence
+
+pub returns-clause-greatest : goal.returns-clause-greatest
+returns-clause-greatest g c =
+    let step = first_numbers c.args.items.now c.as_slice-3.result.now c.as_slice-4.result.now c.in_ok-rows.rows c.in_ok-start.start.items
+    (c.as_slice-3.ensures.value ∙ c.in_ok-bytes.ensures) (c.as_slice-4.ensures.value ∙ c.in_ok-outputs.ensures) c.in_ok-rows.ensures c.in_ok-start.ensures in
+    let all = folded c.args.items.now c.in_ok-ends.ends c.in_ok-start.start.items c.in_ok-leaders.leaders.items c.requires.order c.in_ok-ends.ensures step
+    c.in_ok-leaders.ensures.stable c.in_ok-leaders.ensures.refining in
+    all.greatest

@@ -1,0 +1,14 @@
+use Rattle.std.proofs.Common.{◌++◌, ◌∷◌, [], ℕ, List, take, map, ap, sym, ◌∙◌, arith}
+use Rattle.std.specs.Borrow.{Bor}
+use Rattle.std.proofs.lemmas.List.{map-append, take_all, take_more}
+use Rattle.icf_part.proofs.numbering.texts_of.Goals as goal
+
+pub loop-n-preserved : goal.loop-n-preserved
+loop-n-preserved c =
+    let lent : Bor (List ℕ) → List ℕ = λ t. t.now in
+    ap (map lent) c.in_ok-push.ensures.items ∙ map-append lent c.loop-n.texts.items (c.row.result ∷ [])
+    ∙ ap (λ l. l ++ c.row.result.now ∷ []) c.loop-n.invariant ∙ ap (λ t. take c.loop-n.n c.args.rows.now ++ t ∷ []) c.row.ensures
+    ∙ sym (take_more c.args.rows.now c.loop-n.n [] (omega (arith, c.count-n-end.ensures)))
+
+pub returns : goal.returns
+returns c = c.loop-n.invariant ∙ take_all c.loop-n.n c.args.rows.now (omega (arith, c.count-n-end.ensures))

@@ -1,0 +1,96 @@
+-- What the passes over items compare: rows of numbers, as bytes.
+use Rattle.std.specs.Prelude.{◌≡◌, ℕ, ◌<◌, ◌==◌, ◌^◌, ℤ, pos, negsuc, Bool, true, false, Option, Some, None, List, [], ◌∷◌, ◌++◌, length, map, flat_map, find, slice_index, slice_index_or, nat_lt, if◌then◌else◌, All}
+use Rattle.std.specs.Int.{w32, w64, to_le_bytes}
+use Rattle.std.specs.List.{range_with_len}
+use Rattle.link_sections.specs.declared.targets.Target.{Target}
+use Rattle.link_sections.specs.declared.targets.Target.TheVariants.{Section, Piece, Number, Zero, Linker, Unbound}
+use Rattle.link_sections.specs.declared.fold_items.FoldReloc.{FoldReloc}
+use Rattle.link_sections.specs.FoldItems.{FoldItem, sections_of}
+use Rattle.icf_part.specs.Folding.{item_at}
+
+-- their contents and their output sections
+abbrev pub bytes_of : FoldItem → List ℕ
+bytes_of i = i.bytes
+
+abbrev pub output_of : FoldItem → List ℕ
+output_of i = i.output
+
+-- the place in the list of a section
+unfoldable pub place_of : (sections : List ℕ) → (section : ℕ) → Option ℕ
+place_of sections section = find (λ a. slice_index sections a == section) (range_with_len 0 (length sections))
+
+-- a number with its sign
+abbrev pub signed_words : ℤ → List ℕ
+signed_words (pos n) = 0 ∷ n ∷ []
+signed_words (negsuc n) = 1 ∷ n ∷ []
+
+-- a section that is an item counts by its place alone, which is no part of these
+abbrev pub place_words : Option ℕ → (section : ℕ) → List ℕ
+place_words None section = 0 ∷ section ∷ 0 ∷ []
+place_words (Some a) section = 1 ∷ 0 ∷ 0 ∷ []
+
+abbrev pub target_words : (sections : List ℕ) → Option Target → List ℕ
+target_words sections None = 0 ∷ 0 ∷ 0 ∷ 0 ∷ 0 ∷ 0 ∷ 0 ∷ []
+target_words sections (Some (Number n)) = 1 ∷ n ∷ 0 ∷ 0 ∷ 0 ∷ 0 ∷ 0 ∷ []
+target_words sections (Some Zero) = 2 ∷ 0 ∷ 0 ∷ 0 ∷ 0 ∷ 0 ∷ 0 ∷ []
+target_words sections (Some (Linker n)) = 3 ∷ n ∷ 0 ∷ 0 ∷ 0 ∷ 0 ∷ 0 ∷ []
+target_words sections (Some Unbound) = 4 ∷ 0 ∷ 0 ∷ 0 ∷ 0 ∷ 0 ∷ 0 ∷ []
+target_words sections (Some (Section section offset rest)) = 5 ∷ offset ∷ (signed_words rest ++ place_words (place_of sections section) section)
+target_words sections (Some (Piece pool piece offset rest)) = 6 ∷ offset ∷ (signed_words rest ++ 0 ∷ pool ∷ piece ∷ [])
+
+abbrev pub flag_of : Bool → ℕ
+flag_of true = 1
+flag_of false = 0
+
+unfoldable pub reloc_words : (sections : List ℕ) → FoldReloc → List ℕ
+reloc_words sections r = r.offset ∷ r.kind ∷ flag_of r.is_section_symbol ∷ (signed_words r.addend ++ target_words sections r.target)
+
+-- all that is compared of an item before the first round; `bytes` and `output` are the numbers of its contents and its output section
+unfoldable pub shape_words : (sections : List ℕ) → (bytes output : ℕ) → FoldItem → List ℕ
+shape_words sections bytes output i =
+    bytes ∷ output ∷ i.flags ∷ i.sh_type ∷ i.align ∷ flat_map (reloc_words sections) i.relocs
+
+abbrev pub shape_at : List FoldItem → (bytes outputs : List ℕ) → (a : ℕ) → List ℕ
+shape_at items bytes outputs a = shape_words (sections_of items) (slice_index bytes a) (slice_index outputs a) (item_at items a)
+
+-- the places of the items for which an item's relocations stand, in order
+abbrev pub place_list : Option ℕ → List ℕ
+place_list None = []
+place_list (Some a) = a ∷ []
+
+abbrev pub target_places : (sections : List ℕ) → Option Target → List ℕ
+target_places sections None = []
+target_places sections (Some (Number n)) = []
+target_places sections (Some Zero) = []
+target_places sections (Some (Linker n)) = []
+target_places sections (Some Unbound) = []
+target_places sections (Some (Section section offset rest)) = place_list (place_of sections section)
+target_places sections (Some (Piece pool piece offset rest)) = []
+
+abbrev pub reloc_places : (sections : List ℕ) → FoldReloc → List ℕ
+reloc_places sections r = target_places sections r.target
+
+unfoldable pub places : (sections : List ℕ) → FoldItem → List ℕ
+places sections i = flat_map (reloc_places sections) i.relocs
+
+unfoldable pub all_places : List FoldItem → List (List ℕ)
+all_places items = map (places (sections_of items)) items
+
+-- what a round compares: an item's class, and those of the items to which it leads
+unfoldable pub round_words : (classes : List ℕ) → (ends : List (List ℕ)) → (a : ℕ) → List ℕ
+round_words classes ends a = slice_index classes a ∷ map (slice_index classes) (slice_index_or ends a [])
+
+-- numbers as bytes: one byte of a number below 254, four bytes after 254, eight after 255
+unfoldable pub word_bytes : ℕ → List ℕ
+word_bytes n = if nat_lt n 254 then n ∷ [] else (if nat_lt n (2 ^ 32) then 254 ∷ to_le_bytes w32 n else 255 ∷ to_le_bytes w64 n)
+
+unfoldable pub row_bytes : List ℕ → List ℕ
+row_bytes words = flat_map word_bytes words
+
+abbrev pub AllFit : List ℕ → Type 0
+AllFit words = All (λ w. w < 2 ^ 64) words
+
+-- a row for each of n items
+pub record AreRows (words : ℕ → List ℕ) (n : ℕ) (rows : List (List ℕ)) : Type 0 where
+  pub rows_are : rows ≡ map (λ a. row_bytes (words a)) (range_with_len 0 n)
+  pub fit : (a : ℕ) → a < n → AllFit (words a)

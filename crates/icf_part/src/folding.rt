@@ -1,0 +1,49 @@
+//! The leaders of all items.
+
+ghost use Rattle.std.specs.Prelude.{◌≡◌, ◌<◌, ◌≤◌, ◌^◌, length, IfOk};
+ghost use Rattle.std.specs.List.Sorted.{IsStrictlyIncreasing};
+ghost use Rattle.link_sections.specs.FoldItems.{item_views, sections_of};
+ghost use Rattle.icf_part.specs.Folding.{AreLeaders, HoldsAll, IsCongruence, classes};
+
+use crate::numbering::{number_contents, number_outputs, number_rows};
+use crate::places::{all_places, sections_of};
+use crate::refining::refine;
+use crate::shapes::all_shapes;
+use link_sections::FoldItem;
+use std::alloc::{AllocError, Global};
+use std::thread::Threads;
+use work_split::Gate;
+
+/// For each item the place of its leader: the least item that can stand for it. Items are given in order of their sections' numbers. The
+/// answer is the same whatever the number of workers; more than one sort as many as the machine has processors. The only error is
+/// out of memory.
+pub fn fold<R: Threads + Sync, G: Gate>(
+    rt: &R,
+    alloc: Global,
+    items: &[FoldItem],
+    workers: u32,
+    _gate: &G,
+) -> Result<Vec<u32>, AllocError>
+    requires some { 1 ≤ workers }
+    requires most { workers ≤ 64 }
+    requires order { IsStrictlyIncreasing (sections_of (item_views items.now)) }
+    requires few { length items.now < 2 ^ 31 }
+    ensures leaders { IfOk result (λ l. AreLeaders (item_views items.now) l.items) }
+    ensures congruence { IfOk result (λ l. IsCongruence (item_views items.now) (classes l.items)) }
+    ensures greatest { IfOk result (λ l. HoldsAll (item_views items.now) l.items) }
+{
+    let sections = sections_of(alloc, items)?;
+    let ends = all_places(alloc, items, sections.as_slice())?;
+    let bytes = number_contents(rt, alloc, items, workers)?;
+    let outputs = number_outputs(rt, alloc, items, workers)?;
+    let rows = all_shapes(
+        alloc,
+        items,
+        sections.as_slice(),
+        bytes.as_slice(),
+        outputs.as_slice(),
+    )?;
+    let start = number_rows(rt, alloc, &rows, workers)?;
+    let leaders = refine(rt, alloc, &ends, start, workers)?;
+    Ok(leaders)
+}

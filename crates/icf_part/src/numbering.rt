@@ -1,0 +1,87 @@
+//! Rows by number: the number of a row is the place of the first that is equal to it.
+
+ghost use Rattle.std.specs.Prelude.{◌≡◌, ◌<◌, ◌^◌, length, map, IfOk};
+ghost use Rattle.link_sections.specs.FoldItems.{item_views};
+ghost use Rattle.icf_part.specs.Signatures.{bytes_of, output_of};
+ghost use Rattle.name_numbers.specs.Texts.{lent_texts, text_numbers};
+
+use flat_rows::Rows;
+use link_sections::FoldItem;
+use name_numbers::number_texts;
+use std::alloc::{AllocError, Global};
+use std::thread::Threads;
+
+/// The number of each row. Rows are sorted by tags that their bytes decide, and compared byte by byte where these are equal.
+pub fn number_rows<R: Threads + Sync>(
+    rt: &R,
+    alloc: Global,
+    rows: &Rows<u8>,
+    workers: u32,
+) -> Result<Vec<u32>, AllocError>
+    requires { length rows.now < 2 ^ 31 }
+    ensures { IfOk result (λ list. list.items ≡ text_numbers rows.now) }
+{
+    let texts = texts_of(alloc, rows)?;
+    number_texts(rt, alloc, texts.as_slice(), workers)
+}
+
+/// The rows, lent.
+fn texts_of<'a>(alloc: Global, rows: &'a Rows<u8>) -> Result<Vec<&'a [u8]>, AllocError>
+    ensures { IfOk result (λ texts. lent_texts texts.items ≡ rows.now) }
+{
+    let mut texts = Vec::with_capacity(alloc, rows.count())?;
+    for n in 0..rows.count() {
+        texts.push(rows.row(n))?;
+    }
+    Ok(texts)
+}
+
+/// The number of each item's contents.
+pub fn number_contents<R: Threads + Sync>(
+    rt: &R,
+    alloc: Global,
+    items: &[FoldItem],
+    workers: u32,
+) -> Result<Vec<u32>, AllocError>
+    requires { length items.now < 2 ^ 31 }
+    ensures { IfOk result (λ list. list.items ≡ text_numbers (map bytes_of (item_views items.now))) }
+{
+    let texts = contents_of(alloc, items)?;
+    number_texts(rt, alloc, texts.as_slice(), workers)
+}
+
+/// The contents of items, lent.
+fn contents_of<'a>(alloc: Global, items: &[FoldItem<'a>]) -> Result<Vec<&'a [u8]>, AllocError>
+    ensures { IfOk result (λ texts. lent_texts texts.items ≡ map bytes_of (item_views items.now)) }
+{
+    let mut texts = Vec::with_capacity(alloc, items.len())?;
+    for a in 0..items.len() {
+        texts.push(items[a].bytes)?;
+    }
+    Ok(texts)
+}
+
+/// The number of each item's output section, by its name.
+pub fn number_outputs<R: Threads + Sync>(
+    rt: &R,
+    alloc: Global,
+    items: &[FoldItem],
+    workers: u32,
+) -> Result<Vec<u32>, AllocError>
+    requires { length items.now < 2 ^ 31 }
+    ensures { IfOk result (λ list. list.items ≡ text_numbers (map output_of (item_views items.now))) }
+{
+    let texts = outputs_of(alloc, items)?;
+    number_texts(rt, alloc, texts.as_slice(), workers)
+}
+
+/// The names of the output sections of items, lent.
+fn outputs_of<'a>(alloc: Global, items: &[FoldItem<'a>]) -> Result<Vec<&'a [u8]>, AllocError>
+    ensures { IfOk result (λ texts. lent_texts texts.items ≡ map output_of (item_views items.now)) }
+{
+    let mut texts = Vec::with_capacity(alloc, items.len())?;
+    for a in 0..items.len() {
+        texts.push(items[a].output)?;
+    }
+    Ok(texts)
+}

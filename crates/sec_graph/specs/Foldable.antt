@@ -1,0 +1,95 @@
+-- Which sections may be folded, and what decides with which others (System V gABI, "Sections": what a section's header says of it).
+use Rattle.std.specs.Prelude.{ℕ, ◌+◌, ◌&&◌, ◌||◌, ◌==◌, not, nat_le, bit_and, Bool, Option, Some, None, if◌then◌else◌, List, [], ◌∷◌, map, flat_map, slice_index, codes}
+use Rattle.std.specs.List.{list_all, range_with_len}
+use Rattle.std.specs.Str.{bytes_eq}
+use Rattle.lk_base.specs.RelocKinds.{names_a_symbol}
+use Rattle.lk_base.specs.declared.abi.TheConstants.{SHF_ALLOC, SHF_EXECINSTR, SHF_GNU_RETAIN, SHF_LINK_ORDER, SHF_MERGE, SHF_TLS, SHF_WRITE, SHT_PROGBITS}
+use Rattle.lk_tables.specs.declared.objects.Reloc.{Reloc}
+use Rattle.lk_tables.specs.Binding.{Bindings}
+use Rattle.lk_tables.specs.Files.{File, file_at, is_section_symbol, relocs_at, section_total, symbol_at}
+use Rattle.lk_tables.specs.OutputNames.{output_name}
+use Rattle.lk_tables.specs.Sites.{place_of}
+use Rattle.lk_tables.specs.Targets.{target_of}
+use Rattle.link_sections.specs.declared.fold_items.FoldReloc.{FoldReloc}
+use Rattle.link_sections.specs.declared.targets.Target.{Target}
+use Rattle.link_sections.specs.FoldItems.{FoldItem}
+use Rattle.link_sections.specs.InputSections.{InputSection, input_of}
+use Rattle.link_sections.specs.Leaders.{is_kept}
+use Rattle.link_sections.specs.MergeSections.{contents}
+use Rattle.link_sections.specs.PieceTargets.{piece_target}
+use Rattle.link_sections.specs.PoolViews.{Merged}
+
+-- A to Z, a to z and `_`; 0 to 9
+abbrev pub is_letter : ℕ → Bool
+is_letter c = (nat_le 65 c && nat_le c 90) || ((nat_le 97 c && nat_le c 122) || c == 95)
+
+abbrev pub is_digit : ℕ → Bool
+is_digit c = nat_le 48 c && nat_le c 57
+
+abbrev pub is_letter_or_digit : ℕ → Bool
+is_letter_or_digit c = is_letter c || is_digit c
+
+-- an identifier of C: letters and digits, a letter first; the linker has symbols for the start and the end of a section of such a name
+unfoldable pub is_c_identifier : List ℕ → Bool
+is_c_identifier name = is_letter (slice_index name 0) && list_all is_letter_or_digit name
+
+-- functions to call at the start and at the end are made of sections of these names
+abbrev pub is_init_or_fini : List ℕ → Bool
+is_init_or_fini name = bytes_eq name (codes ".init") || bytes_eq name (codes ".fini")
+
+-- the linker gives its name no meaning
+abbrev pub is_foldable_name : List ℕ → Bool
+is_foldable_name name = not (is_init_or_fini name) && not (is_c_identifier name)
+
+-- it is executed
+abbrev pub is_code : ℕ → Bool
+is_code flags = not (bit_and flags SHF_ALLOC == 0) && not (bit_and flags SHF_EXECINSTR == 0)
+
+-- none of these flags says that the section is more than its bytes
+abbrev pub barring : ℕ
+barring = SHF_WRITE + SHF_MERGE + SHF_TLS + SHF_GNU_RETAIN + SHF_LINK_ORDER
+
+unfoldable pub is_foldable_input : InputSection → Bool
+is_foldable_input i = i.sh_type == SHT_PROGBITS && (is_code i.flags && (bit_and i.flags barring == 0 && (not (i.size == 0) && is_foldable_name i.name)))
+
+module _ (files : List File) (b : Bindings) where
+  -- a section that may be folded
+  unfoldable pub is_foldable : (kept : List Bool) → (section : ℕ) → Bool
+  is_foldable kept section = is_kept kept section && is_foldable_input (input_of files b (place_of files section).file (place_of files section).index)
+
+module _ (files : List File) (b : Bindings) (merged : List (Option Merged)) where
+  -- relocation r of file f; RELAX and ALIGN name no symbol
+  unfoldable pub fold_target : (f : ℕ) → Reloc → Option Target
+  fold_target f r = if names_a_symbol r.kind then Some (piece_target merged (target_of files b f r)) else None
+
+  abbrev pub fold_reloc : (f : ℕ) → Reloc → FoldReloc
+  fold_reloc f r = record {
+    offset = r.offset;
+    kind = r.kind;
+    addend = r.addend;
+    is_section_symbol = is_section_symbol (symbol_at (file_at files f) r.symbol);
+    target = fold_target f r;
+  }
+
+  -- section number n, which is section k of file f
+  unfoldable pub item_in : (n f k : ℕ) → FoldItem
+  item_in n f k = record {
+    section = n;
+    bytes = contents (file_at files f) k;
+    flags = (input_of files b f k).flags;
+    sh_type = (input_of files b f k).sh_type;
+    align = (input_of files b f k).align;
+    output = output_name (input_of files b f k).name;
+    relocs = map (fold_reloc f) (relocs_at (file_at files f) k);
+  }
+
+  abbrev pub item_of : (section : ℕ) → FoldItem
+  item_of section = item_in section (place_of files section).file (place_of files section).index
+
+  -- a section, if it may be folded
+  abbrev pub item_if : (kept : List Bool) → (section : ℕ) → List FoldItem
+  item_if kept section = if is_foldable files b kept section then item_of section ∷ [] else []
+
+  -- all of them, in order of section number
+  unfoldable pub items : (kept : List Bool) → List FoldItem
+  items kept = flat_map (item_if kept) (range_with_len 0 (section_total files))

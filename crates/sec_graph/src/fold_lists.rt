@@ -1,0 +1,208 @@
+//! The sections that may be folded.
+
+ghost use Rattle.std.specs.Prelude.{◌≡◌, ◌<◌, ◌^◌, ◌++◌, length, map, IfOk, OnOk};
+ghost use Rattle.std.specs.List.Sorted.{IsStrictlyIncreasing};
+ghost use Rattle.lk_tables.specs.BindingView.{binding_view};
+ghost use Rattle.lk_tables.specs.Files.{file_at, relocs_at, section_total};
+ghost use Rattle.lk_tables.specs.FileView.{file_view};
+ghost use Rattle.lk_tables.specs.TablesView.{files_of};
+ghost use Rattle.link_sections.specs.FoldItems.{item_view, item_views, sections_of};
+ghost use Rattle.link_sections.specs.Leaders.{is_kept};
+ghost use Rattle.link_sections.specs.MergeSections.{contents};
+ghost use Rattle.link_sections.specs.PoolViews.{merged_views};
+ghost use Rattle.sec_graph.specs.Foldable as spec;
+
+use crate::foldable_names::is_foldable_input;
+use link_sections::{FoldItem, FoldReloc, Pools, Target, input_in, input_section};
+use lk_base::relocations::names_a_symbol;
+use lk_base::{FileNo, SecNo};
+use lk_tables::{
+    Binding, File, Reloc, Span, Tables, is_section_symbol, output_name, target_in, text_of,
+};
+use std::alloc::{AllocError, Global};
+
+/// The sections that may be folded, in order of number: kept code that nothing writes, not empty, whose name has no meaning to the
+/// linker. `kept` has one entry for each section number. The only error is out of memory.
+#[tactic(auto, unfolding(crate::specs::Foldable::items))]
+pub fn items<'a>(
+    alloc: Global,
+    tables: &Tables<'a>,
+    binding: &Binding,
+    pools: &Pools,
+    kept: &[bool],
+) -> Result<Vec<FoldItem<'a>>, AllocError>
+    ensures items { IfOk result (λ list. item_views list.items ≡ spec.items (files_of tables.now) (binding_view binding.now) (merged_views pools.now) kept.now) }
+    ensures order { IfOk result (λ list. IsStrictlyIncreasing (sections_of (item_views list.items))) }
+    ensures few { IfOk result (λ list. length list.items < 2 ^ 31) }
+{
+    tables.is_few();
+    let mut list = Vec::new(alloc);
+    for section in 0..tables.section_count() {
+        push_item(
+            &mut list,
+            alloc,
+            tables,
+            binding,
+            pools,
+            kept,
+            section as u32,
+        )?;
+    }
+    Ok(list)
+}
+
+/// Adds a section, if it may be folded.
+fn push_item<'a>(
+    list: &mut Vec<FoldItem<'a>>,
+    alloc: Global,
+    tables: &Tables<'a>,
+    binding: &Binding,
+    pools: &Pools,
+    kept: &[bool],
+    section: SecNo,
+) -> Result<(), AllocError>
+    requires { section < section_total (files_of tables.now) }
+    ensures { OnOk result (item_views list.new.items ≡ item_views list.old.items ++ spec.item_if (files_of tables.now) (binding_view binding.now) (merged_views pools.now) kept.now section) }
+{
+    if !is_foldable(tables, binding, kept, section) {
+        return Ok(());
+    }
+    let place = tables.place_of(section);
+    let item = item_in(
+        alloc,
+        tables,
+        binding,
+        pools,
+        section,
+        place.file,
+        place.index,
+    )?;
+    list.push(item)?;
+    Ok(())
+}
+
+/// Whether a section may be folded.
+#[tactic(auto, unfolding(crate::specs::Foldable::is_foldable))]
+fn is_foldable(tables: &Tables, binding: &Binding, kept: &[bool], section: SecNo) -> bool
+    requires { section < section_total (files_of tables.now) }
+    ensures { result ≡ spec.is_foldable (files_of tables.now) (binding_view binding.now) kept.now section }
+{
+    is_kept(kept, section) && is_foldable_input(&input_section(tables, binding, section))
+}
+
+fn is_kept(kept: &[bool], section: SecNo) -> bool
+    ensures { result ≡ is_kept kept.now section }
+{
+    match kept.get(section as usize) {
+        Some(kept) => *kept,
+        None => false,
+    }
+}
+
+/// Section number `section`, which has an index of a file.
+#[tactic(auto, unfolding(crate::specs::Foldable::item_in))]
+fn item_in<'a>(
+    alloc: Global,
+    tables: &Tables<'a>,
+    binding: &Binding,
+    pools: &Pools,
+    section: SecNo,
+    file: FileNo,
+    index: u32,
+) -> Result<FoldItem<'a>, AllocError>
+    requires { file < length (files_of tables.now) }
+    ensures { IfOk result (λ item. item_view item ≡ spec.item_in (files_of tables.now) (binding_view binding.now) (merged_views pools.now) section file index) }
+{
+    let input = input_in(tables, binding, file, index);
+    let relocs = fold_relocs(
+        alloc,
+        tables,
+        binding,
+        pools,
+        file,
+        tables.relocs(file, index),
+    )?;
+    Ok(FoldItem {
+        section,
+        bytes: contents(tables.file(file), index),
+        flags: input.flags,
+        sh_type: input.sh_type,
+        align: input.align,
+        output: output_name(input.name),
+        relocs,
+    })
+}
+
+/// The bytes of a section.
+#[tactic(auto, unfolding(link_sections::specs::MergeSections::contents, lk_tables::specs::Names::text_of))]
+fn contents<'a>(file: &File<'a>, index: u32) -> &'a [u8]
+    ensures { result.now ≡ contents (file_view file.now) index }
+{
+    let section = file.section(index as usize);
+    text_of(
+        file.bytes(),
+        &Span {
+            file: 0,
+            from: section.offset,
+            len: section.size,
+        },
+    )
+}
+
+/// The relocations of a section of a file.
+fn fold_relocs(
+    alloc: Global,
+    tables: &Tables,
+    binding: &Binding,
+    pools: &Pools,
+    file: FileNo,
+    relocs: &[Reloc],
+) -> Result<Vec<FoldReloc>, AllocError>
+    requires { file < length (files_of tables.now) }
+    ensures { IfOk result (λ list. list.items ≡ map (spec.fold_reloc (files_of tables.now) (binding_view binding.now) (merged_views pools.now) file) relocs.now) }
+{
+    let mut list = Vec::with_capacity(alloc, relocs.len())?;
+    for reloc in relocs {
+        list.push(fold_reloc(tables, binding, pools, file, reloc))?;
+    }
+    Ok(list)
+}
+
+/// One relocation of a file.
+fn fold_reloc(
+    tables: &Tables,
+    binding: &Binding,
+    pools: &Pools,
+    file: FileNo,
+    reloc: &Reloc,
+) -> FoldReloc
+    requires { file < length (files_of tables.now) }
+    ensures { result ≡ spec.fold_reloc (files_of tables.now) (binding_view binding.now) (merged_views pools.now) file reloc.now }
+{
+    let symbol = tables.file(file).symbol(reloc.symbol as usize);
+    FoldReloc {
+        offset: reloc.offset,
+        kind: reloc.kind,
+        addend: reloc.addend,
+        is_section_symbol: is_section_symbol(&symbol),
+        target: fold_target(tables, binding, pools, file, reloc),
+    }
+}
+
+/// What a relocation of a file stands for, if its kind names a symbol.
+#[tactic(auto, unfolding(crate::specs::Foldable::fold_target))]
+fn fold_target(
+    tables: &Tables,
+    binding: &Binding,
+    pools: &Pools,
+    file: FileNo,
+    reloc: &Reloc,
+) -> Option<Target>
+    requires { file < length (files_of tables.now) }
+    ensures { result ≡ spec.fold_target (files_of tables.now) (binding_view binding.now) (merged_views pools.now) file reloc.now }
+{
+    if !names_a_symbol(reloc.kind) {
+        return None;
+    }
+    Some(pools.piece_target(target_in(tables, binding, file, reloc)))
+}

@@ -1,0 +1,47 @@
+-- Lists by index, and loops that add to a list.
+use Rattle.std.proofs.Common.{◌≡◌, ℕ, ◌+◌, ◌<◌, ◌≤◌, List, [], ◌∷◌, ◌++◌, length, map, get_or, drop, refl, sym, ap, ◌∙◌, arith, append_assoc}
+use Rattle.std.specs.Prelude.{flat_map}
+use Rattle.std.specs.List.{range_with_len}
+use Rattle.std.proofs.lemmas.List.{length-map, get_or-map, length-drop, map-append, nil_from_length}
+use Rattle.std.proofs.lemmas.List.FromFn.{fill_by_all, map-range_with_len_more}
+use Rattle.std.specs.Borrow.{Bor}
+use Rattle.str_merge.specs.Texts.{lent_texts}
+use Rattle.lk_base.proofs.Loops.{map_step, flat_step}
+
+pub by_index : {X Y : Type 0} (f : X → Y) (xs : List X) (d : X) (n : ℕ) → n ≡ length xs → map (λ i. f (get_or xs i d)) (range_with_len 0 n) ≡ map f xs
+by_index f xs d n e =
+    sym (fill_by_all (λ i. f (get_or xs i d)) (map f xs) n (f d) (length-map xs f ∙ sym e) (λ k lt. get_or-map f xs k d (f d) (omega arith)))
+
+-- one element more, seen through a view
+pub view_step : {X Z : Type 0} (view : X → Z) (give : ℕ → Z) (i : ℕ) (old new : List X) (x : X) → map view old ≡ map give (range_with_len 0 i) → new ≡ old ++ x ∷ [] →
+    view x ≡ give i → map view new ≡ map give (range_with_len 0 (i + 1))
+view_step view give i old new x held is own =
+    map_step give i (map view old) (map view new) held (ap (map view) is ∙ map-append view old (x ∷ []) ∙ ap (λ z. map view old ++ z ∷ []) own)
+
+flat_more : {Z : Type 0} (give : ℕ → List Z) (i : ℕ) → flat_map give (range_with_len 0 i) ++ give i ≡ flat_map give (range_with_len 0 (i + 1))
+flat_more give i = flat_step give i (flat_map give (range_with_len 0 i)) (flat_map give (range_with_len 0 i) ++ give i) refl refl
+
+pub drop_past : {X : Type 0} (xs : List X) (n : ℕ) → length xs ≤ n → drop n xs ≡ []
+drop_past xs n le = nil_from_length (drop n xs) (omega (arith, length-drop n xs))
+
+-- some elements more, seen through a view, after a prefix
+pub rows_step : {X Z : Type 0} (view : X → Z) (give : ℕ → List Z) (i : ℕ) (prefix : List Z) (old new : List X) →
+    map view old ≡ prefix ++ flat_map give (range_with_len 0 i) → map view new ≡ map view old ++ give i → map view new ≡ prefix ++ flat_map give (range_with_len 0 (i + 1))
+rows_step view give i prefix old new held is =
+    is ∙ ap (λ l. l ++ give i) held ∙ append_assoc prefix (flat_map give (range_with_len 0 i)) (give i)
+    ∙ ap (λ l. prefix ++ l) (flat_more give i)
+
+-- one element more, after a prefix
+pub row_step : {X : Type 0} (give : ℕ → X) (n : ℕ) (prefix old new : List X) (x : X) → old ≡ prefix ++ map give (range_with_len 0 n) → new ≡ old ++ x ∷ [] →
+    x ≡ give n → new ≡ prefix ++ map give (range_with_len 0 (n + 1))
+row_step give n prefix old new x held is own =
+    is ∙ ap (λ l. l ++ x ∷ []) held ∙ ap (λ y. (prefix ++ map give (range_with_len 0 n)) ++ y ∷ []) own
+    ∙ append_assoc prefix (map give (range_with_len 0 n)) (give n ∷ [])
+    ∙ ap (λ l. prefix ++ l) (sym (map-range_with_len_more give 0 n n (omega arith)))
+
+-- a text that is lent
+pub text_read : (texts : List (Bor (List ℕ))) (i : ℕ) (d : Bor (List ℕ)) → i < length texts → get_or (lent_texts texts) i [] ≡ (get_or texts i d).now
+text_read texts i d lt = get_or-map (λ (t : Bor (List ℕ)). t.now) texts i d [] lt
+
+pub length_texts : (texts : List (Bor (List ℕ))) → length (lent_texts texts) ≡ length texts
+length_texts texts = length-map texts (λ (t : Bor (List ℕ)). t.now)

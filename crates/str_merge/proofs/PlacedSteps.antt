@@ -1,0 +1,89 @@
+-- The pieces of a pool, placed one after the other.
+use Rattle.std.proofs.Common.{◌≡◌, ℕ, suc, ◌+◌, ◌<◌, List, [], ◌∷◌, ◌++◌, length, map, get_or, drop, sym, ap, ◌∙◌, arith, append_assoc}
+use Rattle.std.proofs.Math.Seq.{drop-cons}
+use Rattle.std.proofs.lemmas.List.{map-append, append-nil}
+use Rattle.std.specs.List.{range_with_len}
+use Rattle.lk_base.specs.Arithmetic.{up}
+use Rattle.lk_tables.specs.declared.spans.Span.{Span}
+use Rattle.lk_tables.specs.Names.{no_name}
+use Rattle.link_sections.specs.declared.pieces.Part.{Part}
+use Rattle.link_sections.specs.declared.pieces.Piece.{Piece}
+use Rattle.link_sections.specs.Merging.{end_from, positions_from}
+use Rattle.str_merge.specs.Parts.{parts_by}
+use Rattle.str_merge.specs.Placing.{chosen}
+use Rattle.str_merge.proofs.ListSteps.{by_index, drop_past, view_step}
+
+abbrev pub rest_of : (texts : List (List ℕ)) → (firsts : List ℕ) → (n : ℕ) → List (List ℕ)
+rest_of texts firsts n = chosen texts [] (drop n firsts)
+
+-- the first n are placed, up to an end
+pub record AreUpTo (spans : List Span) (texts : List (List ℕ)) (firsts : List ℕ) (align n : ℕ) (pieces : List Piece) (end : ℕ) : Type 0 where
+  pub spans_are : map (λ (p : Piece). p.text) pieces ≡ map (λ i. get_or spans (get_or firsts i 0) no_name) (range_with_len 0 n)
+  pub positions : map (λ (p : Piece). p.position) pieces ++ positions_from align end (rest_of texts firsts n) ≡ positions_from align 0 (chosen texts [] firsts)
+  pub end_is : end_from align end (rest_of texts firsts n) ≡ end_from align 0 (chosen texts [] firsts)
+
+rest_at : (texts : List (List ℕ)) (firsts : List ℕ) (n : ℕ) → n < length firsts → rest_of texts firsts n ≡ get_or texts (get_or firsts n 0) [] ∷ rest_of texts firsts (n + 1)
+rest_at texts firsts n lt =
+    let one : suc n ≡ n + 1 = omega arith in
+    ap (chosen texts []) (drop-cons firsts n 0 lt) ∙ ap (λ k. get_or texts (get_or firsts n 0) [] ∷ chosen texts [] (drop k firsts)) one
+
+pub placed_next : (spans : List Span) (texts : List (List ℕ)) (firsts : List ℕ) (align n : ℕ) (old new : List Piece) (end position next : ℕ) (p : Piece) →
+    n < length firsts → AreUpTo spans texts firsts align n old end → new ≡ old ++ p ∷ [] → p.text ≡ get_or spans (get_or firsts n 0) no_name → p.position ≡ up end align →
+    next ≡ up end align + length (get_or texts (get_or firsts n 0) []) → AreUpTo spans texts firsts align (n + 1) new next
+placed_next spans texts firsts align n old new end position next p lt held is text at to =
+    let piece = get_or texts (get_or firsts n 0) [] in
+    let start = up end align in
+    let rest = rest_of texts firsts (n + 1) in
+    record {
+      spans_are = view_step (λ (p : Piece). p.text) (λ i. get_or spans (get_or firsts i 0) no_name) n old new p held.spans_are is text;
+      positions =
+          ap (λ l. map (λ (p : Piece). p.position) l ++ positions_from align next rest) is
+          ∙ ap (λ l. l ++ positions_from align next rest) (map-append (λ (p : Piece). p.position) old (p ∷ []))
+          ∙ append_assoc (map (λ (p : Piece). p.position) old) (p.position ∷ []) (positions_from align next rest)
+          ∙ ap (λ k. map (λ (p : Piece). p.position) old ++ (k ∷ positions_from align next rest)) at
+          ∙ ap (λ k. map (λ (p : Piece). p.position) old ++ (start ∷ positions_from align k rest)) to
+          ∙ ap (λ l. map (λ (p : Piece). p.position) old ++ positions_from align end l) (sym (rest_at texts firsts n lt))
+          ∙ held.positions;
+      end_is =
+          ap (λ k. end_from align k rest) to ∙ ap (end_from align end) (sym (rest_at texts firsts n lt)) ∙ held.end_is;
+    }
+
+-- parts one after the other
+pub record ArePartsUpTo (texts : List (List ℕ)) (numbers : List ℕ) (n start : ℕ) (parts : List Part) : Type 0 where
+  pub parts_are : parts ++ parts_by start (drop n texts) (drop n numbers) ≡ parts_by 0 texts numbers
+
+pub part_next : (texts : List (List ℕ)) (numbers : List ℕ) (n start next : ℕ) (old new : List Part) (p : Part) → n < length texts → n < length numbers →
+    ArePartsUpTo texts numbers n start old → new ≡ old ++ p ∷ [] → p ≡ record { start = start; piece = get_or numbers n 0 } → next ≡ start + length (get_or texts n []) →
+    ArePartsUpTo texts numbers (n + 1) next new
+part_next texts numbers n start next old new p lt less held is own to =
+    let one : suc n ≡ n + 1 = omega arith in
+    let here : Part = record { start = start; piece = get_or numbers n 0 } in
+    let text = drop-cons texts n [] lt in
+    let number = drop-cons numbers n 0 less in
+    record {
+      parts_are =
+          ap (λ l. l ++ parts_by next (drop (n + 1) texts) (drop (n + 1) numbers)) is
+          ∙ append_assoc old (p ∷ []) (parts_by next (drop (n + 1) texts) (drop (n + 1) numbers))
+          ∙ ap (λ q. old ++ (q ∷ parts_by next (drop (n + 1) texts) (drop (n + 1) numbers))) own
+          ∙ ap (λ k. old ++ (here ∷ parts_by k (drop (n + 1) texts) (drop (n + 1) numbers))) to
+          ∙ ap (λ k. old ++ (here ∷ parts_by (start + length (get_or texts n [])) (drop k texts) (drop k numbers))) (sym one)
+          ∙ ap (λ l. old ++ parts_by start (get_or texts n [] ∷ drop (suc n) texts) l) (sym number)
+          ∙ ap (λ l. old ++ parts_by start l (drop n numbers)) (sym text)
+          ∙ held.parts_are;
+    }
+
+pub parts_all : (texts : List (List ℕ)) (numbers : List ℕ) (n start : ℕ) (parts : List Part) → n ≡ length texts → ArePartsUpTo texts numbers n start parts → parts ≡ parts_by 0 texts numbers
+parts_all texts numbers n start parts e held =
+    let none : drop n texts ≡ [] = drop_past texts n (omega arith) in
+    sym (append-nil parts) ∙ ap (λ l. parts ++ parts_by start l (drop n numbers)) (sym none) ∙ held.parts_are
+
+-- all are placed
+pub placed_all : (spans : List Span) (texts : List (List ℕ)) (firsts : List ℕ) (align n : ℕ) (pieces : List Piece) (size : ℕ) → n ≡ length firsts →
+    AreUpTo spans texts firsts align n pieces size → (map (λ (p : Piece). p.text) pieces ≡ chosen spans no_name firsts)
+    × (map (λ (p : Piece). p.position) pieces ≡ positions_from align 0 (chosen texts [] firsts)) × (size ≡ end_from align 0 (chosen texts [] firsts))
+placed_all spans texts firsts align n pieces size e held =
+    let none : rest_of texts firsts n ≡ [] = ap (chosen texts []) (drop_past firsts n (omega arith)) in (
+      held.spans_are ∙ by_index (λ i. get_or spans i no_name) firsts 0 n e,
+      sym (append-nil (map (λ (p : Piece). p.position) pieces)) ∙ ap (λ l. map (λ (p : Piece). p.position) pieces ++ positions_from align size l) (sym none) ∙ held.positions,
+      ap (end_from align size) (sym none) ∙ held.end_is,
+    )

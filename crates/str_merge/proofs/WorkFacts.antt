@@ -1,0 +1,45 @@
+-- What is known of each section and of each pool before the pools are filled.
+use Rattle.std.proofs.Common.{◌≡◌, ℕ, ◌<◌, length, get_or, sym, ap, ◌∙◌, arith}
+use Rattle.std.proofs.lemmas.List.{get_or-map, length-map}
+use Rattle.std.specs.Global.{Vec}
+use Rattle.lk_tables.specs.declared.spans.Span.{Span}
+use Rattle.lk_tables.specs.TablesView.{files_of}
+use Rattle.link_sections.specs.Merging.{no_site, pool_site, site_key, site_pieces, sites}
+use Rattle.str_merge.specs.declared.pooling.Work.{Work}
+use Rattle.str_merge.specs.Keys.{key_view}
+use Rattle.str_merge.specs.Sites.{site_view, span_texts}
+use Rattle.str_merge.specs.Works.{IsWork, nth_site}
+use Rattle.str_merge.proofs.KeyMaps.{no_key}
+use Rattle.str_merge.proofs.SiteFacts.{no_held, site_read}
+
+-- the first section of a pool
+pub first_is : (w : Work) (pool : ℕ) → IsWork w → pool < length w.firsts.now →
+    nth_site (files_of w.tables.now) w.kept.now (get_or w.firsts.now pool 0) ≡ pool_site (files_of w.tables.now) w.kept.now pool
+first_is w pool is lt =
+    let files = files_of w.tables.now in
+    sym (get_or-map (nth_site files w.kept.now) w.firsts.now pool 0 no_site lt) ∙ ap (λ l. get_or l pool no_site) is.firsts_are
+
+pub key_at : (w : Work) (pool : ℕ) → IsWork w → pool < length w.firsts.now →
+    key_view (get_or w.keys.now (get_or w.firsts.now pool 0) no_key) ≡ site_key (files_of w.tables.now) (pool_site (files_of w.tables.now) w.kept.now pool)
+key_at w pool is lt =
+    let files = files_of w.tables.now in
+    let all = sites files w.kept.now in
+    let at = get_or w.firsts.now pool 0 in
+    let within : at < length all = is.firsts_within pool 0 lt in
+    let count : length w.keys.now ≡ length all = sym (length-map w.keys.now key_view) ∙ ap length is.keys_are ∙ length-map all (site_key files) in
+    sym (get_or-map key_view w.keys.now at no_key (key_view no_key) (omega arith))
+    ∙ ap (λ l. get_or l at (key_view no_key)) is.keys_are
+    ∙ get_or-map (site_key files) all at no_site (key_view no_key) within
+    ∙ ap (site_key files) (first_is w pool is lt)
+
+pub count_sites : (w : Work) → IsWork w → length w.sites.now ≡ length (sites (files_of w.tables.now) w.kept.now)
+count_sites w is = sym (length-map w.sites.now site_view) ∙ ap length is.sites_are
+
+-- the section at a place of the list
+pub site_of : (w : Work) (i : ℕ) → IsWork w → i < length w.sites.now → site_view (get_or w.sites.now i no_held) ≡ nth_site (files_of w.tables.now) w.kept.now i
+site_of w i is lt = sym (site_read w.sites.now i lt) ∙ ap (λ l. get_or l i no_site) is.sites_are
+
+pub cut_count : (w : Work) → IsWork w → length w.cuts.now ≡ length (sites (files_of w.tables.now) w.kept.now)
+cut_count w is =
+    let files = files_of w.tables.now in
+    sym (length-map w.cuts.now (λ (cut : Vec Span). span_texts files cut.items)) ∙ ap length is.cuts_are ∙ length-map (sites files w.kept.now) (site_pieces files)

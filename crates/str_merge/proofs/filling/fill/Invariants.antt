@@ -1,0 +1,5 @@
+use Rattle.str_merge.specs.Filling.{IsFilledTo}
+use Rattle.str_merge.proofs.filling.fill.Given as goal
+
+abbrev pub invariant-loop-pool : goal.invariant-loop-pool
+invariant-loop-pool g l = IsFilledTo l.work l.pool l.filled

@@ -1,0 +1,124 @@
+use Rattle.std.proofs.Common.{◌≡◌, ◌<◌, ◌^◌, ℕ, List, length, map, ap, sym, subst, ◌∙◌, arith}
+use Rattle.std.specs.Prelude.{All}
+use Rattle.std.specs.Global.{Vec}
+use Rattle.std.proofs.lemmas.List.{length-map}
+use Rattle.lk_tables.specs.TablesView.{files_of}
+use Rattle.link_sections.specs.Merging.{site_key, site_pieces, sites}
+use Rattle.str_merge.specs.declared.sites.Site.{Site as HeldSite}
+use Rattle.str_merge.specs.Keys.{key_numbers, key_view, key_views}
+use Rattle.str_merge.specs.Members.{AreMembers}
+use Rattle.str_merge.specs.Orders.{IsFirstOf, firsts, ranks}
+use Rattle.str_merge.specs.Sites.{cut_views, site_view, site_views}
+use Rattle.str_merge.proofs.PoolOrder.{keys_numbered, ranks_within, site_numbers, site_numbers_first, count_ranks, works}
+use Rattle.str_merge.proofs.SiteFacts.{held_of_files}
+use Rattle.str_merge.proofs.merging.merge.Goals as goal
+
+pub cut_sites-requires-clause-files : goal.cut_sites-requires-clause-files
+cut_sites-requires-clause-files g c κs bound =
+    let P : List HeldSite → Type 0 = All (λ (s : HeldSite). s.file < length (files_of c.args.tables.now)) in
+    subst P (sym c.as_slice.ensures.value) (held_of_files (files_of c.args.tables.now) c.args.kept.now c.in_ok-sites.sites.items c.in_ok-sites.ensures)
+
+pub keys_of-requires : goal.keys_of-requires
+keys_of-requires g c =
+    let P : List HeldSite → Type 0 = All (λ (s : HeldSite). s.file < length (files_of c.args.tables.now)) in
+    record { files = subst P (sym c.as_slice-2.ensures.value) (held_of_files (files_of c.args.tables.now) c.args.kept.now c.in_ok-sites.sites.items c.in_ok-sites.ensures) }
+
+pub number_keys-requires : goal.number_keys-requires
+number_keys-requires g c =
+    let files = files_of c.args.tables.now in
+    let few = c.if-len-ge-SITE_END.false in
+    let keyed : key_views c.in_ok-keys.keys.items ≡ map (site_key files) (sites files c.args.kept.now) =
+    c.in_ok-keys.ensures ∙ ap (λ (l : List HeldSite). map (site_key files) (site_views l)) c.as_slice-2.ensures.value ∙ ap (map (site_key files)) c.in_ok-sites.ensures in
+    omega (
+      arith,
+      few,
+      c.len.ensures,
+      c.in_ok-sites.sites.ok,
+      length-map c.in_ok-sites.sites.items site_view,
+      ap length c.in_ok-sites.ensures,
+      ap length c.as_slice-3.ensures.value,
+      length-map c.in_ok-keys.keys.items key_view,
+      ap length keyed,
+      length-map (sites files c.args.kept.now) (site_key files),
+    )
+
+pub order_of-requires : goal.order_of-requires
+order_of-requires g c =
+    let files = files_of c.args.tables.now in
+    let kept = c.args.kept.now in
+    let low = c.if-len-ge-SITE_END.false in
+    let few : length (sites files kept) < 2 ^ 31 = omega (arith, low, c.len.ensures, c.in_ok-sites.sites.ok, length-map c.in_ok-sites.sites.items site_view, ap length c.in_ok-sites.ensures) in
+    let keyed : key_views c.in_ok-keys.keys.items ≡ map (site_key files) (sites files kept) =
+    c.in_ok-keys.ensures ∙ ap (λ (l : List HeldSite). map (site_key files) (site_views l)) c.as_slice-2.ensures.value ∙ ap (map (site_key files)) c.in_ok-sites.ensures in
+    let numbered : c.as_slice-4.result.now ≡ site_numbers files kept =
+    c.as_slice-4.ensures.value ∙ c.in_ok-numbers.ensures ∙ ap key_numbers c.as_slice-3.ensures.value ∙ keys_numbered files (sites files kept) c.in_ok-keys.keys.items keyed in
+    subst IsFirstOf (sym numbered) (site_numbers_first files kept few)
+
+pub members_of-requires-clause-within : goal.members_of-requires-clause-within
+members_of-requires-clause-within g c =
+    let files = files_of c.args.tables.now in
+    let kept = c.args.kept.now in
+    let keyed : key_views c.in_ok-keys.keys.items ≡ map (site_key files) (sites files kept) =
+    c.in_ok-keys.ensures ∙ ap (λ (l : List HeldSite). map (site_key files) (site_views l)) c.as_slice-2.ensures.value ∙ ap (map (site_key files)) c.in_ok-sites.ensures in
+    let numbered : c.as_slice-4.result.now ≡ site_numbers files kept =
+    c.as_slice-4.ensures.value ∙ c.in_ok-numbers.ensures ∙ ap key_numbers c.as_slice-3.ensures.value ∙ keys_numbered files (sites files kept) c.in_ok-keys.keys.items keyed in
+    let ranked : c.as_slice-5.result.now ≡ ranks (site_numbers files kept) = c.as_slice-5.ensures.value ∙ c.in_ok-order.ensures.ranks ∙ ap ranks numbered in
+    let counted : c.len-2.result ≡ length (firsts (site_numbers files kept)) = c.len-2.ensures ∙ c.in_ok-order.order.firsts.ok.0 ∙ ap length (c.in_ok-order.ensures.firsts ∙ ap firsts numbered) in
+    let P : List ℕ → Type 0 = All (λ n. n < c.len-2.result) in
+    let Q : ℕ → Type 0 = λ m. All (λ n. n < m) (ranks (site_numbers files kept)) in
+    subst P (sym ranked) (subst Q (sym counted) (ranks_within files kept))
+
+pub members_of-requires-clause-few : goal.members_of-requires-clause-few
+members_of-requires-clause-few g c =
+    let files = files_of c.args.tables.now in
+    let kept = c.args.kept.now in
+    let low = c.if-len-ge-SITE_END.false in
+    let few : length (sites files kept) < 2 ^ 31 = omega (arith, low, c.len.ensures, c.in_ok-sites.sites.ok, length-map c.in_ok-sites.sites.items site_view, ap length c.in_ok-sites.ensures) in
+    let keyed : key_views c.in_ok-keys.keys.items ≡ map (site_key files) (sites files kept) =
+    c.in_ok-keys.ensures ∙ ap (λ (l : List HeldSite). map (site_key files) (site_views l)) c.as_slice-2.ensures.value ∙ ap (map (site_key files)) c.in_ok-sites.ensures in
+    let numbered : c.as_slice-4.result.now ≡ site_numbers files kept =
+    c.as_slice-4.ensures.value ∙ c.in_ok-numbers.ensures ∙ ap key_numbers c.as_slice-3.ensures.value ∙ keys_numbered files (sites files kept) c.in_ok-keys.keys.items keyed in
+    let ranked : c.as_slice-5.result.now ≡ ranks (site_numbers files kept) = c.as_slice-5.ensures.value ∙ c.in_ok-order.ensures.ranks ∙ ap ranks numbered in
+    omega (arith, few, ap length ranked, count_ranks files kept)
+
+pub fill-requires-after_bounds : goal.fill-requires-after_bounds
+fill-requires-after_bounds g c = λ κs bound.
+    let files = files_of c.args.tables.now in
+    let kept = c.args.kept.now in
+    let all = sites files kept in
+    let low = c.if-len-ge-SITE_END.false in
+    let few : length all < 2 ^ 31 = omega (arith, low, c.len.ensures, c.in_ok-sites.sites.ok, length-map c.in_ok-sites.sites.items site_view, ap length c.in_ok-sites.ensures) in
+    let keyed : key_views c.in_ok-keys.keys.items ≡ map (site_key files) all =
+    c.in_ok-keys.ensures ∙ ap (λ (l : List HeldSite). map (site_key files) (site_views l)) c.as_slice-2.ensures.value ∙ ap (map (site_key files)) c.in_ok-sites.ensures in
+    let numbered : c.as_slice-4.result.now ≡ site_numbers files kept =
+    c.as_slice-4.ensures.value ∙ c.in_ok-numbers.ensures ∙ ap key_numbers c.as_slice-3.ensures.value ∙ keys_numbered files all c.in_ok-keys.keys.items keyed in
+    let ranked : c.as_slice-5.result.now ≡ ranks c.as_slice-4.result.now = c.as_slice-5.ensures.value ∙ c.in_ok-order.ensures.ranks in
+    let counted : c.len-2.result ≡ length c.as_slice-9.result.now = c.len-2.ensures ∙ c.in_ok-order.order.firsts.ok.0 ∙ ap length (sym c.as_slice-9.ensures.value) in
+    let P : List (Vec ℕ) → Type 0 = AreMembers c.as_slice-5.result.now c.len-2.result (length c.as_slice-5.result.now) in
+    works _ c.as_slice-4.result.now c.as_slice-5.result.now c.len-2.result
+    (ap site_views c.as_slice-6.ensures.value ∙ c.in_ok-sites.ensures)
+    (ap (cut_views files) c.as_slice-7.ensures.value ∙ c.in_ok-cuts.ensures
+    ∙ ap (λ (l : List HeldSite). map (site_pieces files) (site_views l)) c.as_slice.ensures.value ∙ ap (map (site_pieces files)) c.in_ok-sites.ensures)
+    (ap key_views c.as_slice-8.ensures.value ∙ keyed)
+    numbered (c.as_slice-9.ensures.value ∙ c.in_ok-order.ensures.firsts) ranked (subst P (sym c.as_slice-10.ensures.value) c.in_ok-members.ensures) counted few
+
+pub finish-requires-clause-work : goal.finish-requires-clause-work
+finish-requires-clause-work g c =
+    let files = files_of c.args.tables.now in
+    let kept = c.args.kept.now in
+    let all = sites files kept in
+    let low = c.if-len-ge-SITE_END.false in
+    let few : length all < 2 ^ 31 = omega (arith, low, c.len.ensures, c.in_ok-sites.sites.ok, length-map c.in_ok-sites.sites.items site_view, ap length c.in_ok-sites.ensures) in
+    let keyed : key_views c.in_ok-keys.keys.items ≡ map (site_key files) all =
+    c.in_ok-keys.ensures ∙ ap (λ (l : List HeldSite). map (site_key files) (site_views l)) c.as_slice-2.ensures.value ∙ ap (map (site_key files)) c.in_ok-sites.ensures in
+    let numbered : c.as_slice-4.result.now ≡ site_numbers files kept =
+    c.as_slice-4.ensures.value ∙ c.in_ok-numbers.ensures ∙ ap key_numbers c.as_slice-3.ensures.value ∙ keys_numbered files all c.in_ok-keys.keys.items keyed in
+    let ranked : c.as_slice-5.result.now ≡ ranks c.as_slice-4.result.now = c.as_slice-5.ensures.value ∙ c.in_ok-order.ensures.ranks in
+    let counted : c.len-2.result ≡ length c.as_slice-9.result.now = c.len-2.ensures ∙ c.in_ok-order.order.firsts.ok.0 ∙ ap length (sym c.as_slice-9.ensures.value) in
+    let P : List (Vec ℕ) → Type 0 = AreMembers c.as_slice-5.result.now c.len-2.result (length c.as_slice-5.result.now) in
+    works _ c.as_slice-4.result.now c.as_slice-5.result.now c.len-2.result
+    (ap site_views c.as_slice-6.ensures.value ∙ c.in_ok-sites.ensures)
+    (ap (cut_views files) c.as_slice-7.ensures.value ∙ c.in_ok-cuts.ensures
+    ∙ ap (λ (l : List HeldSite). map (site_pieces files) (site_views l)) c.as_slice.ensures.value ∙ ap (map (site_pieces files)) c.in_ok-sites.ensures)
+    (ap key_views c.as_slice-8.ensures.value ∙ keyed)
+    numbered (c.as_slice-9.ensures.value ∙ c.in_ok-order.ensures.firsts) ranked (subst P (sym c.as_slice-10.ensures.value) c.in_ok-members.ensures) counted few

@@ -1,0 +1,60 @@
+-- The pools so far.
+use Rattle.std.specs.Prelude.{◌≡◌, ℕ, ◌+◌, ◌<◌, ◌^◌, List, [], ◌∷◌, ◌++◌, length, map, slice_index_or, slice_set, All}
+use Rattle.std.specs.List.{range_with_len}
+use Rattle.lk_tables.specs.TablesView.{files_of}
+use Rattle.link_sections.specs.declared.pieces.Merged.{Merged}
+use Rattle.link_sections.specs.declared.pieces.Part.{Part}
+use Rattle.link_sections.specs.Merging.{merged_of, pool_number, pool_of}
+use Rattle.link_sections.specs.PoolViews.{merged_view, pool_views}
+use Rattle.link_sections.specs.Pools.{AreInOrder, pool_bytes}
+use Rattle.str_merge.specs.declared.filling.Filled.{Filled}
+use Rattle.str_merge.specs.declared.placing.Placed.{Placed}
+use Rattle.str_merge.specs.declared.pooling.Work.{Work}
+use Rattle.str_merge.specs.Parts.{parts_by}
+use Rattle.str_merge.specs.Works.{nth_site}
+
+-- one pool more, of these pieces
+pub record AddsPool (first : ℕ) (placed : Placed) (old new : Filled) : Type 0 where
+  pub pools : new.pools.items ≡ old.pools.items ++ record { first = first; size = placed.size } ∷ []
+  pub pieces : new.rows.pieces ≡ old.rows.pieces ++ placed.pieces.items ∷ []
+  pub parts : new.rows.parts ≡ old.rows.parts
+  pub answers : new.answers.items ≡ old.answers.items
+  pub bytes : new.bytes ≡ old.bytes + placed.size
+  pub small : new.bytes < 2 ^ 60
+
+-- the parts of one section more, which is the one at a place of the list
+pub record AddsParts (site pool : ℕ) (texts : List (List ℕ)) (numbers : List ℕ) (old new : Filled) : Type 0 where
+  pub pools : new.pools.items ≡ old.pools.items
+  pub pieces : new.rows.pieces ≡ old.rows.pieces
+  pub parts : new.rows.parts ≡ old.rows.parts ++ parts_by 0 texts numbers ∷ []
+  pub answers : new.answers.items ≡ slice_set old.answers.items site (record { pool = pool; row = length old.rows.parts })
+  pub bytes : new.bytes ≡ old.bytes
+
+abbrev pub no_merged : Merged
+no_merged = record { pool = 0; row = 0 }
+
+-- what is merged of the section at a place of the list is known
+pub record IsAnswered (w : Work) (parts : List (List Part)) (answers : List Merged) (i : ℕ) : Type 0 where
+  pub row : (slice_index_or answers i no_merged).row < length parts
+  pub merged : merged_view parts (slice_index_or answers i no_merged) ≡ merged_of (files_of w.tables.now) w.kept.now (nth_site (files_of w.tables.now) w.kept.now i)
+
+-- the same of the sections of one pool more
+pub record AreAnswered (w : Work) (members : List ℕ) (old new : Filled) : Type 0 where
+  pub pools : new.pools.items ≡ old.pools.items
+  pub pieces : new.rows.pieces ≡ old.rows.pieces
+  pub bytes : new.bytes ≡ old.bytes
+  pub count : length new.answers.items ≡ length old.answers.items
+  pub ordered : All AreInOrder old.rows.parts → All AreInOrder new.rows.parts
+  pub keeps : (i : ℕ) → IsAnswered w old.rows.parts old.answers.items i → IsAnswered w new.rows.parts new.answers.items i
+  pub adds : All (IsAnswered w new.rows.parts new.answers.items) members
+
+-- the first pools are filled
+pub record IsFilledTo (w : Work) (pools : ℕ) (filled : Filled) : Type 0 where
+  pub pools_are : pool_views (files_of w.tables.now) filled.pools.items filled.rows.pieces ≡ map (pool_of (files_of w.tables.now) w.kept.now) (range_with_len 0 pools)
+  pub paired : length filled.pools.items ≡ length filled.rows.pieces
+  pub bytes_are : pool_bytes filled.pools.items ≡ filled.bytes
+  pub small : filled.bytes < 2 ^ 60
+  pub ordered : All AreInOrder filled.rows.parts
+  pub count : length filled.answers.items ≡ length w.sites.now
+  pub answered : (i : ℕ) → i < length w.sites.now → pool_number (files_of w.tables.now) w.kept.now (nth_site (files_of w.tables.now) w.kept.now i) < pools →
+      IsAnswered w filled.rows.parts filled.answers.items i

@@ -1,0 +1,13 @@
+pub mod Counting
+pub mod Cutting
+pub mod Filling
+pub mod Keys
+pub mod Members
+pub mod Orders
+pub mod Parts
+pub mod Placing
+pub mod Pooling
+pub mod Sites
+pub mod Spreading
+pub mod Texts
+pub mod Works

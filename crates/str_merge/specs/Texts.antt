@@ -1,0 +1,2 @@
+-- Texts that are lent.
+pub use Rattle.name_numbers.specs.Texts.{lent_texts}

@@ -1,0 +1,73 @@
+//! The pools of a link.
+
+ghost use Rattle.std.specs.Prelude.{◌≡◌, ◌≤◌, length, IfOk};
+ghost use Rattle.lk_tables.specs.TablesView.{files_of};
+ghost use Rattle.link_sections.specs.Merging.{pools_of};
+ghost use Rattle.link_sections.specs.PoolViews.{pools_view};
+ghost use Rattle.str_merge.specs.Filling.{IsFilledTo};
+ghost use Rattle.str_merge.specs.Works.{IsWork};
+
+use crate::cuts::cut_sites;
+use crate::filling::{Filled, fill};
+use crate::keys::{keys_of, number_keys};
+use crate::members::members_of;
+use crate::orders::order_of;
+use crate::pooling::Work;
+use crate::sites::merge_sites;
+use crate::spreading::spread;
+use link_sections::Pools;
+use lk_tables::Tables;
+use std::alloc::{AllocError, Global};
+use std::thread::Threads;
+use work_split::Gate;
+
+/// A link has fewer sections.
+const SITE_END: usize = 1 << 31;
+
+/// The pools of the sections that are kept, which stand in `kept` by number: the sections that are merged, cut into pieces, of which equal
+/// ones stand in their pool once, by first appearance, each at a multiple of the pool's alignment. The workers find the pieces. It answers
+/// the same whatever the number of workers.
+pub fn merge<R: Threads + Sync, G: Gate>(
+    rt: &R,
+    alloc: Global,
+    tables: &Tables,
+    kept: &[bool],
+    workers: u32,
+    gate: &G,
+) -> Result<Pools, AllocError>
+    requires some { 1 ≤ workers }
+    requires most { workers ≤ 64 }
+    ensures { IfOk result (λ pools. pools_view (files_of tables.now) pools ≡ pools_of (files_of tables.now) kept.now) }
+{
+    let sites = merge_sites(alloc, tables, kept)?;
+    if sites.len() >= SITE_END {
+        return Err(AllocError);
+    }
+    let cuts = cut_sites(rt, alloc, tables, sites.as_slice(), workers, gate)?;
+    let keys = keys_of(alloc, tables, sites.as_slice())?;
+    let numbers = number_keys(alloc, keys.as_slice())?;
+    let order = order_of(alloc, numbers.as_slice())?;
+    let members = members_of(alloc, order.ranks.as_slice(), order.firsts.len())?;
+    let work = Work {
+        tables,
+        kept,
+        sites: sites.as_slice(),
+        cuts: cuts.as_slice(),
+        keys: keys.as_slice(),
+        firsts: order.firsts.as_slice(),
+        members: members.as_slice(),
+    };
+    let filled = fill(rt, alloc, &work, workers)?;
+    let pools = finish(alloc, &work, filled)?;
+    Ok(pools)
+}
+
+/// The pools once all are filled.
+fn finish(alloc: Global, work: &Work, filled: Filled) -> Result<Pools, AllocError>
+    requires work { IsWork work.now }
+    requires filled { IsFilledTo work.now (length work.now.firsts.now) filled }
+    ensures { IfOk result (λ pools. pools_view (files_of work.now.tables.now) pools ≡ pools_of (files_of work.now.tables.now) work.now.kept.now) }
+{
+    let merged = spread(alloc, work.tables, work.kept, filled.answers.as_slice())?;
+    Ok(Pools::of(filled.pools, merged, filled.rows))
+}

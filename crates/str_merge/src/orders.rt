@@ -1,0 +1,56 @@
+//! Distinct elements by first appearance.
+
+ghost use Rattle.std.specs.Prelude.{◌≡◌, ◌==◌, ◌<◌, ◌≤◌, ◌^◌, ◌++◌, ◌∷◌, [], length, slice_index, if◌then◌else◌, IfOk, OnOk};
+ghost use Rattle.str_merge.specs.Orders.{IsFirstOf, firsts, owns, rank, ranks};
+
+use std::alloc::{AllocError, Global};
+
+/// The distinct elements of a list.
+#[derive(Debug, Drop)]
+pub struct Order {
+    /// The index of each element with which no earlier one is the same, in order.
+    pub firsts: Vec<u32>,
+    /// For each element the place of its first equal among these.
+    pub ranks: Vec<u32>,
+}
+
+/// The distinct elements of a list, if for each element the index of the first equal one is known.
+#[tactic(auto, unfolding(crate::specs::Orders::firsts, crate::specs::Orders::ranks))]
+pub fn order_of(alloc: Global, numbers: &[u32]) -> Result<Order, AllocError>
+    requires { IsFirstOf numbers.now }
+    ensures firsts { IfOk result (λ order. order.firsts.items ≡ firsts numbers.now) }
+    ensures ranks { IfOk result (λ order. order.ranks.items ≡ ranks numbers.now) }
+{
+    let mut firsts = Vec::new(alloc);
+    let mut ranks = Vec::with_capacity(alloc, numbers.len())?;
+    for i in 0..numbers.len() {
+        let rank = rank_of(ranks.as_slice(), firsts.len(), numbers[i], i);
+        ranks.push(rank)?;
+        push_own(&mut firsts, numbers[i], i)?;
+    }
+    Ok(Order { firsts, ranks })
+}
+
+/// The place of element `i`, if the first equal one has this number: that of the earlier one, or after all before.
+fn rank_of(ranks: &[u32], count: usize, first: u32, i: usize) -> u32
+    requires within { first ≤ i }
+    requires known { length ranks.now ≡ i }
+    requires count { count < 2 ^ 32 }
+    ensures { result ≡ (if first == i then count else slice_index ranks.now first) }
+{
+    if first as usize == i {
+        return count as u32;
+    }
+    ranks[first as usize]
+}
+
+/// Adds the index of an element if the first equal one is itself.
+fn push_own(firsts: &mut Vec<u32>, first: u32, i: usize) -> Result<(), AllocError>
+    requires { i < 2 ^ 32 }
+    ensures { OnOk result (firsts.new.items ≡ firsts.old.items ++ (if first == i then i ∷ [] else [])) }
+{
+    if first as usize == i {
+        firsts.push(first)?;
+    }
+    Ok(())
+}

@@ -1,0 +1,72 @@
+//! Where the pieces of a pool stand.
+
+ghost use Rattle.std.specs.Prelude.{◌≡◌, ◌+◌, ◌<◌, ◌≤◌, ◌^◌, All, length, map, IfOk};
+ghost use Rattle.lk_base.specs.Arithmetic.{up};
+ghost use Rattle.link_sections.specs.Merging.{end_from, positions_from};
+ghost use Rattle.str_merge.specs.Placing.{IsPlaced, chosen};
+ghost use Rattle.str_merge.specs.Texts.{lent_texts};
+
+use link_sections::Piece;
+use lk_base::up;
+use lk_tables::Span;
+use std::alloc::{AllocError, Global};
+
+/// No pool of a link has so many bytes.
+const ROOM: u64 = 1 << 58;
+
+/// The distinct pieces of a pool, and its bytes.
+#[derive(Debug, Drop)]
+pub struct Placed {
+    /// In order of position.
+    pub pieces: Vec<Piece>,
+    /// To the end of the last one.
+    pub size: u64,
+}
+
+/// The pieces of these indexes, one after the other, each at a multiple of the alignment.
+pub fn place_pieces(
+    alloc: Global,
+    spans: &[Span],
+    texts: &[&[u8]],
+    firsts: &[u32],
+    align: u64,
+) -> Result<Placed, AllocError>
+    requires align { 1 ≤ align }
+    requires same { length spans.now ≡ length texts.now }
+    requires within { All (λ i. i < length spans.now) firsts.now }
+    ensures { IfOk result (IsPlaced spans.now (lent_texts texts.now) firsts.now align) }
+{
+    let mut pieces = Vec::with_capacity(alloc, firsts.len())?;
+    let mut size = 0;
+    for n in 0..firsts.len() {
+        let at = firsts[n] as usize;
+        let position = next_position(size, align)?;
+        pieces.push(Piece {
+            text: spans[at],
+            position,
+        })?;
+        size = end_of(position, texts[at].len())?;
+    }
+    Ok(Placed { pieces, size })
+}
+
+/// The next multiple of an alignment.
+fn next_position(end: u64, align: u64) -> Result<u64, AllocError>
+    requires { 1 ≤ align }
+    ensures { IfOk result (λ position. position ≡ up end align) }
+{
+    if end >= ROOM || align >= ROOM {
+        return Err(AllocError);
+    }
+    Ok(up(end, align))
+}
+
+/// The end of a piece.
+pub fn end_of(start: u64, len: usize) -> Result<u64, AllocError>
+    ensures { IfOk result (λ end. end ≡ start + len) }
+{
+    match start.checked_add(len as u64) {
+        Some(end) => Ok(end),
+        None => Err(AllocError),
+    }
+}
