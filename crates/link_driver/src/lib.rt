@@ -20,6 +20,8 @@ mod linking;
 mod sections;
 mod sources;
 mod symbol_names;
+#[cfg(test)]
+mod tests;
 
 pub use driving::run;
 pub use inputs::Inputs;

@@ -96,7 +96,7 @@ fn find_live<R: Threads + Sync, G: Gate>(
 }
 
 /// Reads all files: their heads, and then the bodies of those that take part.
-fn read_files<'a, R: Threads + Sync, G: Gate>(
+pub fn read_files<'a, R: Threads + Sync, G: Gate>(
     rt: &R,
     alloc: Global,
     limits: &Limits,
@@ -134,7 +134,7 @@ fn read_files<'a, R: Threads + Sync, G: Gate>(
 
 /// Binds all names: of the COMDAT groups of one signature one copy counts.
 #[tactic(auto, unfolding(crate::specs::Link::bound_names))]
-fn bind_names<R: Threads + Sync, G: Gate>(
+pub fn bind_names<R: Threads + Sync, G: Gate>(
     rt: &R,
     alloc: Global,
     tables: &Tables,
@@ -162,7 +162,7 @@ fn bind_names<R: Threads + Sync, G: Gate>(
 
 /// By section number, which sections are kept: all, or those that the roots lead to.
 #[tactic(auto, unfolding(crate::specs::Link::kept_of))]
-fn find_kept<R: Threads + Sync, G: Gate>(
+pub fn find_kept<R: Threads + Sync, G: Gate>(
     rt: &R,
     alloc: Global,
     tables: &Tables,
@@ -189,7 +189,7 @@ fn find_kept<R: Threads + Sync, G: Gate>(
 
 /// Lays out what is kept: nothing is merged, the global offset table is empty, and no call is relaxed.
 #[tactic(auto, unfolding(crate::specs::Link::laid_out))]
-fn lay_out<'a>(
+pub fn lay_out<'a>(
     alloc: Global,
     limits: &Limits,
     tables: &Tables<'a>,

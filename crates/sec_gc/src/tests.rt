@@ -8,9 +8,10 @@ use flat_rows::Rows;
 use link_sections::Edges;
 use lk_base::SecNo;
 use std::alloc::{AllocError, Global};
+use std::sync::atomic::{AtomicU64, Ordering};
 use std::test::Fail;
 use std::thread::Threads;
-use work_split::OpenGate;
+use work_split::{Gate, OpenGate};
 
 /// Adds the ends of one of five sections.
 fn push_row(rows: &mut Rows<SecNo>, row: &[SecNo]) -> Result<(), AllocError>
@@ -108,5 +109,43 @@ fn a_star_of_many_edges(rt: HostRuntime) -> Result<(), Fail> {
             &[false, false, false, false, false]
         )?
     );
+    Ok(())
+}
+
+/// Counts the steps of two workers, one count for each.
+#[derive(Drop)]
+struct Steps {
+    first: AtomicU64,
+    second: AtomicU64,
+}
+
+impl Gate for Steps {
+    fn at(&self, worker: u32, _step: u32) {
+        let count = if worker == 0 {
+            &self.first
+        } else {
+            &self.second
+        };
+        count.store(
+            count.load(Ordering::SeqCst).wrapping_add(1),
+            Ordering::SeqCst,
+        );
+    }
+}
+
+// The round of 6,000 edges has a piece for each of two workers, before and after which they pass the gate; that of one edge has none.
+#[test]
+fn two_workers_share_a_round_of_many_edges(rt: HostRuntime) -> Result<(), Fail> {
+    let alloc = rt.alloc();
+    let many = vec![in alloc; 2u32; 3000]?;
+    let edges = five(alloc, &many, &many, &[3], &[], &[0])?;
+    let steps = Steps {
+        first: AtomicU64::new(0),
+        second: AtomicU64::new(0),
+    };
+    let kept = keep(&rt, alloc, &[1, 0], &edges, 2, &steps)?;
+    assert!(rt; kept.as_slice() == [true, true, true, true, false].as_slice());
+    assert!(rt; steps.first.load(Ordering::SeqCst) == 2);
+    assert!(rt; steps.second.load(Ordering::SeqCst) == 2);
     Ok(())
 }
