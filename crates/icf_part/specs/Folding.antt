@@ -1,6 +1,7 @@
 -- Which sections are folded: those that the greatest congruence pairs.
 use Rattle.std.specs.Prelude.{◌≡◌, ◌⊎◌, ℕ, ◌<◌, ◌≤◌, ◌==◌, ℤ, pos, Bool, false, Option, Some, None, List, [], length, map, flat_map, slice_index, slice_index_or, Contains}
 use Rattle.std.specs.List.{filter, range_with_len}
+use Rattle.lk_base.specs.declared.abi.TheConstants.{R_RISCV_NONE, SHT_NULL}
 use Rattle.link_sections.specs.declared.targets.Target.{Target}
 use Rattle.link_sections.specs.declared.targets.Target.TheVariants.{Section}
 use Rattle.link_sections.specs.declared.fold_items.FoldReloc.{FoldReloc}
@@ -36,10 +37,10 @@ key_of i = record {
 }
 
 abbrev pub no_item : FoldItem
-no_item = record { section = 0; bytes = []; flags = 0; sh_type = 0; align = 0; output = []; relocs = [] }
+no_item = record { section = 0; bytes = []; flags = 0; sh_type = SHT_NULL; align = 0; output = []; relocs = [] }
 
 abbrev pub no_reloc : FoldReloc
-no_reloc = record { offset = 0; kind = 0; addend = pos 0; is_section_symbol = false; target = None }
+no_reloc = record { offset = 0; kind = R_RISCV_NONE; addend = pos 0; is_section_symbol = false; target = None }
 
 -- item a of the list, and what its relocation k stands for
 abbrev pub item_at : List FoldItem → (a : ℕ) → FoldItem
