@@ -1,5 +1,6 @@
 //! Objects, built for examples.
 
+use lk_base::abi::STB_LOCAL;
 use std::alloc::{AllocError, Global};
 
 /// A relocation.
@@ -196,7 +197,10 @@ fn push_symbols(
 ) -> Result<(), AllocError> {
     let mut texts = vec![in alloc; 0u8; 1]?;
     let table = table_of(alloc, symbols, &mut texts)?;
-    let locals = symbols.iter().filter(|symbol| symbol.binding == 0).count();
+    let locals = symbols
+        .iter()
+        .filter(|symbol| symbol.binding == STB_LOCAL as u64)
+        .count();
     let first = (locals as u64).wrapping_add(1);
     let link = symtab.wrapping_add(1);
     let size = table.len() as u64;
