@@ -1,7 +1,7 @@
 #!/usr/bin/env python3
 """Links altered copies of a real object, and of an archive of real objects, with rvld; and links that are made by chance, sound or not.
 
-Usage: scripts/altered.py [RVLD] [--count 10000] [--mode objects|groups|archive|links|several|all] [--seed 1] [--only K] [--keep DIR] [--workers 3] [--loose]
+Usage: scripts/altered.py [RVLD] [--count 10000] [--mode objects|groups|archive|links|several|all] [--seed 1] [--only K] [--keep DIR] [--workers 3] [--loose] [--whole-calls]
 
 Copy K is made from the seed and K alone: one byte changed, the end cut off, an entry of the section table doubled, or a field of a
 section, a symbol, a relocation or a group set to a hard value; for an archive a byte or a cut, most often near the headers. Every third
@@ -10,6 +10,7 @@ is linked with --gc-sections. In the mode `groups` it is a copy of a file in C++
 a few such links, and up to a dozen of these are altered, so that it is seen which defect is told by any number of workers. Each run must end
 by itself within the limit of time, with status 0 (no line, an executable), 1 (the line of a defect, no executable) or 3. Its status,
 line and bytes are compared with those of scripts/plain_link.py, which has the same rules in another form; --loose leaves that out.
+--whole-calls is for a program that shortens no call.
 --only K makes and links one copy, and leaves it in DIR.
 RVLD is crates/rvld/out/rvld where it is not named.
 """
@@ -36,8 +37,8 @@ SHOWN = r'(?:[!-$&-~]|%[0-9A-F]{2})'
 DEFECT = re.compile(r'rvld: F(\d\d) (\w+) file=(%s+) section=\d+ place=\d+ name=%s* other=%s*\n' % (SHOWN, SHOWN, SHOWN))
 NO_FILE = re.compile(r'rvld: cannot (?:read|write) %s+\n' % SHOWN)
 CXX = '-std=c++17 -fno-exceptions -fno-rtti -fno-threadsafe-statics -ffunction-sections -fdata-sections'.split()
-COMPILE = ('clang --target=riscv64-unknown-elf -march=rv64gc -mabi=lp64d -mno-relax -mcmodel=medany -O1 -ffreestanding -fno-builtin '
-           '-nostdlib -fno-pic -fno-jump-tables -fno-asynchronous-unwind-tables -fcommon -c -o').split()
+COMPILE = ('clang --target=riscv64-unknown-elf -march=rv64gc -mabi=lp64d -mcmodel=medany -O1 -ffreestanding -fno-builtin '
+           '-nostdlib -fcommon -c -o').split()
 
 
 def compiled(folder, source, options=()):
@@ -214,7 +215,7 @@ class Maker:
     def copy(self, mode, k):
         """The options and the inputs (name, bytes) of run K."""
         chance = random.Random('%d %s %d' % (self.seed, mode, k))
-        collected = ['--gc-sections'] if k % 3 == 2 else []
+        collected = (['--gc-sections'] if k % 3 == 2 else []) + (['--icf', 'all'] if k % 4 == 1 else [])
         if mode == 'objects':
             return collected, [('x.o', altered_object(self.object, chance))]
         if mode == 'groups':
@@ -243,10 +244,12 @@ def link(rvld, words, inputs, folder, limit):
     return run.returncode, run.stderr.decode('latin-1')
 
 
-def compared(words, inputs, status, line, out):
+def compared(words, inputs, status, line, out, whole_calls):
     """Why the end is not that of the plain rules, or None."""
     start = words[words.index('-e') + 1] if '-e' in words else '_start'
-    expected, found = plain_link.link([(name.encode(), contents) for name, contents in inputs], start.encode(), '--gc-sections' in words)
+    folded = '--icf' in words and words[words.index('--icf') + 1] == 'all'
+    expected, found = plain_link.link([(name.encode(), contents) for name, contents in inputs], start.encode(), '--gc-sections' in words, folded,
+                                      not whole_calls and '--no-relax' not in words)
     if status != expected:
         return 'status %s, and not %s %s' % (status, expected, found if expected else '')
     if status == 1:
@@ -267,7 +270,7 @@ def worker(number, words, rvld, modes, maker, folder, report):
             status, line = link(rvld, options, inputs, folder, words.limit)
             why, word = judged(status, line, out)
             if not why and not words.loose:
-                why = compared(options, inputs, status, line, out)
+                why = compared(options, inputs, status, line, out, words.whole_calls)
             counts[mode, word] += 1
             if why:
                 wrong.append('%s %d: %s: %r' % (mode, k, why, line[:200]))
@@ -284,6 +287,7 @@ def main():
     reader.add_argument('--workers', type=int, default=3)
     reader.add_argument('--limit', type=float, default=20, help='seconds for one run')
     reader.add_argument('--loose', action='store_true')
+    reader.add_argument('--whole-calls', action='store_true')
     reader.add_argument('--only', type=int)
     reader.add_argument('--keep')
     words = reader.parse_args()
@@ -306,7 +310,7 @@ def main():
                 status, line = link(rvld, options, inputs, folder, words.limit)
                 print('%s %d: rvld -s -o out %s' % (mode, words.only, ' '.join(options + [name for name, _ in inputs])))
                 print('status %s, %s' % (status, line.strip() or 'no line'))
-                print('by the plain rules: %s' % (compared(options, inputs, status, line, os.path.join(folder, 'out')) or 'the same'))
+                print('by the plain rules: %s' % (compared(options, inputs, status, line, os.path.join(folder, 'out'), words.whole_calls) or 'the same'))
             return 0
         for options, inputs in maker.originals:
             status, line = link(rvld, options, inputs, work, words.limit)

@@ -104,11 +104,9 @@ for part in base cursor expression factor leave memory note orders output shared
     [ "$part" != factor ] || object=factor_of_a_term_or_a_call.o
     [ "$part" != slots ] || object=slots_of_the_names_a_to_z.o
     compile "$object" "$sources/many/$part.c" || { say "$part.c is not compiled"; end; }
-    only_known "$object" || end
     members+=("$object")
 done
 compile start.o "$sources/many/start.c" || { say "start.c is not compiled"; end; }
-only_known start.o || end
 printf x >>memory.o                                     # a member of odd size
 printf 'no object at all' >notes.txt                    # text, of even and of odd size
 printf 'nor is this' >a_text_that_has_a_long_name.txt

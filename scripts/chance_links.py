@@ -1,7 +1,7 @@
 """Links made by chance: a few objects and archives that define, refer to, and relocate nearly as they should."""
-from elf_objects import (ABS, ALLOC, COMMON, EXECINSTR, FINI_ARRAY, GLOBAL, GROUP, INFO_LINK, INIT_ARRAY, IN_GROUP, LINK_ORDER, LOCAL, NOBITS,
-                         NOTE, PREINIT_ARRAY, PROGBITS, RELA, RETAIN, STRTAB, SYMTAB, UNDEF, WEAK, WRITE, Texts, archive, entry, relocatable,
-                         symbol)
+from elf_objects import (ABS, ALLOC, COMMON, EXECINSTR, FINI_ARRAY, GLOBAL, GROUP, INFO_LINK, INIT_ARRAY, IN_GROUP, LINK_ORDER, LOCAL, MERGE,
+                         NOBITS, NOTE, PREINIT_ARRAY, PROGBITS, RELA, RETAIN, STRINGS, STRTAB, SYMTAB, TLS, UNDEF, WEAK, WRITE, Texts,
+                         archive, entry, relocatable, symbol)
 
 UNIQUE = 10
 EXCLUDE = 0x80000000
@@ -23,7 +23,40 @@ RARE_FORMS = [
     ('.init_array', INIT_ARRAY, ALLOC), ('.data', FINI_ARRAY, ALLOC | WRITE), ('.init', PROGBITS, ALLOC | EXECINSTR),
     ('.data.held', PROGBITS, ALLOC | WRITE | RETAIN), ('.text.held', PROGBITS, ALLOC | EXECINSTR | RETAIN),
     ('.order', PROGBITS, ALLOC | LINK_ORDER), ('.order', PROGBITS, ALLOC | WRITE | LINK_ORDER), ('.order.z', NOBITS, ALLOC | WRITE | LINK_ORDER)]
-WIDTHS = {0: 0, 2: 8, 17: 4, 18: 8, 19: 8, 23: 4, 24: 4}
+# name, type, flags, entry size, alignment
+MERGED_FORMS = [
+    ('.rodata.str1.1', PROGBITS, ALLOC | MERGE | STRINGS, 1, 1), ('.rodata.str1.8', PROGBITS, ALLOC | MERGE | STRINGS, 1, 8),
+    ('.rodata.str2.2', PROGBITS, ALLOC | MERGE | STRINGS, 2, 2), ('.rodata.str4.4', PROGBITS, ALLOC | MERGE | STRINGS, 4, 4),
+    ('.rodata.cst4', PROGBITS, ALLOC | MERGE, 4, 4), ('.rodata.cst8', PROGBITS, ALLOC | MERGE, 8, 8), ('.rodata.cst16', PROGBITS, ALLOC | MERGE, 16, 4),
+    ('.srodata.cst8', PROGBITS, ALLOC | MERGE, 8, 8), ('strings', PROGBITS, ALLOC | MERGE | STRINGS, 1, 1),
+    ('.rodata.name.str1.1', PROGBITS, ALLOC | MERGE | STRINGS | IN_GROUP, 1, 1), ('.rodata.odd', PROGBITS, ALLOC | MERGE, 3, 2),
+    ('.rodata.odd', PROGBITS, ALLOC | MERGE | STRINGS, 3, 1), ('.rodata.none', PROGBITS, ALLOC | MERGE | STRINGS, 0, 1),
+    ('.data.str', PROGBITS, ALLOC | WRITE | MERGE | STRINGS, 1, 1), ('.rodata.zeros', NOBITS, ALLOC | MERGE, 4, 4)]
+THREAD_FORMS = [
+    ('.tdata', PROGBITS, ALLOC | WRITE | TLS), ('.tdata.x', PROGBITS, ALLOC | WRITE | TLS), ('.tbss', NOBITS, ALLOC | WRITE | TLS),
+    ('.tbss.y', NOBITS, ALLOC | WRITE | TLS), ('own', PROGBITS, ALLOC | WRITE | TLS), ('own', NOBITS, ALLOC | TLS)]
+SETS = ['set_a', 'set_b', 'own', 'strings', 'COMMON', 'none', '.set']
+LINKERS = ('__ehdr_start __rela_iplt_start __rela_iplt_end _etext etext _edata edata __bss_start _end end _GLOBAL_OFFSET_TABLE_ __global_pointer$ '
+           '__preinit_array_start __preinit_array_end __init_array_start __init_array_end __fini_array_start __fini_array_end').split()
+WIDTHS = {0: 0, 1: 4, 2: 8, 16: 4, 17: 4, 18: 8, 19: 8, 20: 4, 21: 4, 22: 4, 23: 4, 24: 4, 25: 4, 26: 4, 27: 4, 28: 4, 29: 4, 30: 4, 31: 4, 32: 0,
+          33: 1, 34: 2, 35: 4, 36: 8, 37: 1, 38: 2, 39: 4, 40: 8, 43: 0, 44: 2, 45: 2, 51: 0, 52: 1, 53: 1, 54: 1, 55: 2, 56: 4, 57: 4}
+UPPERS = (20, 21, 22, 23)
+NEAR = (16, 17, 44, 45)                         # kinds that reach only what is near
+ANY = [0, 1, 2, 17, 18, 19, 19, 20, 21, 22, 23, 23, 24, 25, 26, 27, 28, 29, 30, 31, 32, 33, 34, 35, 36, 37, 38, 39, 40, 43, 44, 45, 16, 52, 53, 54, 55,
+       56, 57]
+BODIES = [bytes.fromhex(body) for body in ('67800000', '73001000', '97000000e780000067800000', '170500001305050067800000',
+                                           '97000000e780000097000000e7800000', '17030000670003000100', '1700000067000000')]
+
+
+def chance_pieces(chance, flags, width):
+    """Bytes of a section that is merged, most often: few different pieces, so that many are equal."""
+    if not flags & STRINGS:
+        count = chance.randrange(6)
+        return b''.join(chance.choice([0, 1, 2, 2 ** 31]).to_bytes(max(width, 4), 'little')[:width] for _ in range(count)) + bytes(chance.random() < 0.05)
+    width = width or 1
+    units = [chance.choice([0, 0, 1, 0x61, 0x62, 256 ** width - 256 if width > 1 else 0x63]) for _ in range(chance.randrange(14))]
+    return b''.join(unit.to_bytes(width, 'little') for unit in units + [0] * (chance.random() < 0.9))
+
 
 
 def chance_object(chance, names, wild, entry_point):
@@ -38,6 +71,17 @@ def chance_object(chance, names, wild, entry_point):
     else:
         forms += [FORMS[min(int(chance.expovariate(0.1)), len(FORMS) - 1)] for _ in range(chance.randrange(5))]
     forms += [chance.choice(RARE_FORMS) for _ in range(chance.choice([0, 0, 0, 1, 2]))]
+    forms += [chance.choice(THREAD_FORMS) for _ in range(chance.choice([0, 0, 0, 1, 2]))]
+    forms += [(chance.choice(SETS[:3]), PROGBITS, chance.choice([ALLOC, ALLOC | WRITE])) for _ in range(chance.choice([0, 0, 0, 1]))]
+    merged = [chance.choice(MERGED_FORMS) for _ in range(chance.choice([0, 0, 1, 2]))]
+    bodies = chance.choice([0, 0, 0, 1, 3])
+    for form_name, sort, flags, entsize, align in merged:
+        contents = chance_pieces(chance, flags, entsize)
+        rows.append([form_name, sort, flags, len(contents) if sort == NOBITS else contents, 0, 0, chance.choice([align, align, align, 1]), entsize])
+    for _ in range(bodies):
+        rows.append([chance.choice(['.text.f', '.text.g', '.text.h', 'code', '.fini']), PROGBITS, ALLOC | EXECINSTR, chance.choice(BODIES), 0, 0, 4, 0])
+    if entry_point:                             # the code that begins the program is the first section
+        rows.insert(0, ['.text', PROGBITS, ALLOC | EXECINSTR, chance.choice(BODIES), 0, 0, 4, 0])
     for form_name, sort, flags in forms:
         size = chance.choice([0, 4, 8, 12, 16, 24, 40, 64, 100, 2 * chance.randrange(200), chance.randrange(5000)])
         align = chance.choice([0, 1, 1, 2, 4, 4, 8, 16, 64, 4096])
@@ -77,6 +121,13 @@ def chance_object(chance, names, wild, entry_point):
             symbols.append((name, binding, 0, ABS, chance.choice([0, 4, 0x12345678, 2 ** 63]), 0))
         else:
             symbols.append((name, binding, chance.choice([0, 2]), UNDEF, 0, 0))
+    for name in chance.sample(LINKERS, chance.choice([0, 0, 1, 3])) + [chance.choice(['__start_', '__stop_']) + chance.choice(SETS)] * (chance.random() < 0.3):
+        if chance.random() < 0.1 and sections:
+            symbols.append((name, chance.choice([GLOBAL, WEAK]), 0, 1, 0, 0))
+        elif chance.random() < wild or not name.endswith(('none', '.set', 'set_a', 'set_b', 'own', 'strings', 'COMMON')):
+            symbols.append((name, chance.choice([GLOBAL, GLOBAL, WEAK]), 0, UNDEF, 0, 0))
+        else:
+            symbols.append((name, WEAK, 0, UNDEF, 0, 0))
     for name in chance.sample(names, min(len(names), chance.randrange(4))):
         if name not in own:
             symbols.append((name, chance.choice([GLOBAL, GLOBAL, WEAK, WEAK]), 0, UNDEF, 0, 0))
@@ -90,44 +141,67 @@ def chance_object(chance, names, wild, entry_point):
         table.append(symbol(texts.add(name), binding, sort, place, value, size))
     relas = []
     for i in sections:
-        if rows[i - 1][1] == NOBITS or chance.random() < 0.4:
+        if rows[i - 1][1] == NOBITS or chance.random() < 0.4 or rows[i - 1][2] & MERGE and chance.random() < 0.97:
             continue
         entries, at, size = [], 0, size_of(i)
-        labels = {}                             # the places of PCREL_HI20 in this section
-        while at + 8 <= size and len(entries) < 12:
-            at += chance.choice([0, 0, 4, 8, 2 * chance.randrange(10)])
-            kind = chance.choice([0, 2, 2, 2, 17, 18, 19, 23, 23, 24])
+        uppers = {}                             # the places of upper halves in this section
+        of_body = rows[i - 1][3] in BODIES
+        while at + 1 <= size and len(entries) < 12:
+            if not of_body:
+                at += chance.choice([0, 0, 4, 8, 2 * chance.randrange(10), chance.randrange(4)])
+            kind = chance.choice([0, 2, 2, 17, 18, 19, 23, 23, 24] + ANY)
+            if of_body:
+                word = rows[i - 1][3][at:at + 1]
+                kind = 19 if word == b'\x97' or word == b'\x17' and at + 8 <= size and rows[i - 1][3][at + 4:at + 5] == b'\x67' else 23
+                if word not in (b'\x97', b'\x17'):
+                    at += 4
+                    continue
             index = chance.randrange(len(symbols) + 1)
             addend = chance.choice([0, 0, 0, 4, -4, 16, chance.randrange(-64, 5000)])
-            if kind == 24:
-                label = next((k + 1 for k, s in enumerate(symbols) if s[3] == i and s[4] in labels and s[2] != 3), None)
+            if of_body:
+                addend = 0
+            if kind in (24, 25):
+                label = next((k + 1 for k, s in enumerate(symbols) if s[3] == i and s[4] in uppers and s[2] != 3), None)
                 if label is None and chance.random() > wild:
                     continue
                 index, addend = label or index, 0
-            if kind == 17 and chance.random() > wild:
+            if kind in NEAR and chance.random() > wild:
                 index = next((k + 1 for k, s in enumerate(symbols) if s[3] == i), 0)
-                if index == 0:
+                if index == 0 or size > 2000 and kind == 45 or size > 4000 or size > 200 and kind == 44 or at % 2:
+                    at += 1
                     continue
                 addend &= -2
-            if kind == 23 and symbols:
+                if kind in (44, 45):
+                    addend = 0
+            if kind == 43:
+                addend = chance.choice([2, 2, 2, 6]) if chance.random() > wild else chance.randrange(-2, 9)
+                index = 0
+                if at % 2 and chance.random() > wild:
+                    continue
+            if kind in UPPERS and symbols:
                 # where a label stands, so that a low part finds it
                 standing = [s[4] for s in symbols if s[3] == i and s[2] != 3 and s[4] >= at and s[4] + 4 <= size]
                 if standing:
                     at = standing[0]
-                labels[at] = True
-            if index and symbols[index - 1][0] == 'number' and kind in (17, 18, 19, 23) and chance.random() > wild:
+                uppers[at] = True
+            if index and symbols[index - 1][0] == 'number' and WIDTHS[kind] and kind not in (2, 24, 25, 36, 40) and chance.random() > wild:
                 continue
-            width = WIDTHS[kind]
+            width = addend if kind == 43 else WIDTHS[kind]
             if at + width > size:
                 break
             entries.append(entry(at, index, kind, addend))
+            if kind in (18, 19) and chance.random() < 0.8 or chance.random() < 0.02:
+                entries.append(entry(at, 0, 51, 0))
+            if kind in (33, 34, 35, 36, 53, 54, 55, 56) and chance.random() < 0.7:     # what is added and what is taken away
+                entries.append(entry(at, chance.randrange(len(symbols) + 1), {53: 52, 54: 37, 55: 38, 56: 39}.get(kind, kind + 4), 0))
             if kind == 2 and chance.random() < 0.15:    # a second one at this place: the later in the table counts
                 entries.append(entry(at, chance.randrange(len(symbols) + 1), 2, chance.randrange(100)))
-            at += width
+            at += max(width, 0)
         if chance.random() < wild and size > 8:
-            entries.append(entry(chance.randrange(size), chance.randrange(len(symbols) + 2), chance.choice([2, 16, 17, 19, 23, 24, 51]),
+            entries.append(entry(chance.randrange(size), chance.randrange(len(symbols) + 2), chance.choice([2, 16, 17, 19, 23, 24, 41, 43, 51, 58]),
                                  chance.randrange(-4, 4)))
-        chance.shuffle(entries)
+        if chance.random() < 0.5:
+            chance.shuffle(entries)
         relas.append((i, b''.join(entries)))
     groups = chance_groups(chance, len(rows), [i for i, _ in relas], len(table), wild)
     for row in {k for members in groups for k in members[2] if 0 < k <= len(rows)}:
@@ -188,7 +262,11 @@ def chance_link(chance):
         inputs.append(('last.o', chance_object(chance, names, wild, True)))
     words = ['--threads', str(chance.choice([1, 2, 3, 4, 64]))]
     if chance.random() < 0.2:
-        words += ['-e', chance.choice(names)]
+        words += ['-e', chance.choice(names + LINKERS[:1] + ['_end', '__start_own'])]
     if chance.random() < 0.4:
         words.append('--gc-sections')
+    if chance.random() < 0.4:
+        words += ['--icf', chance.choice(['all', 'all', 'none'])]
+    if chance.random() < 0.3:
+        words.append('--no-relax')
     return words, inputs

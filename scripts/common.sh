@@ -1,10 +1,10 @@
 # shellcheck shell=bash disable=SC2154,SC2034
 # What the scripts that link real files share: read with `.`, with `name` set to the script's name.
 
-# begin [RVLD]: finds the program (built first if it is not there), and makes a folder to work in
+# begin [PROGRAM]: finds the program (that of $RVLD if none is named; built first if it is not there), and makes a folder to work in
 begin() {
     top=$(cd "$(dirname "${BASH_SOURCE[0]}")/.." && pwd)
-    rvld=${1:-$top/crates/rvld/out/rvld}
+    rvld=${1:-${RVLD:-$top/crates/rvld/out/rvld}}
     if [ ! -x "$rvld" ]; then
         (cd "$top/crates/rvld" && rt run >/dev/null 2>&1)
     fi
@@ -37,33 +37,17 @@ there() {
     done
 }
 
-assemble() { riscv64-linux-gnu-as -march=rv64g -mabi=lp64d -mno-relax -o "$1" "$2"; }
+assemble() { riscv64-linux-gnu-as -march=rv64g -mabi=lp64d -o "$1" "$2" "${@:3}"; }
 
-# compile OUT SOURCE [OPTION..]: code that leaves only the kinds of relocation that rvld takes today
+# compile OUT SOURCE [OPTION..]
 compile() {
-    clang --target=riscv64-unknown-elf -march=rv64gc -mabi=lp64d -mno-relax -mcmodel=medany -O1 -ffreestanding -fno-builtin \
-        -nostdlib -fno-pic -fno-jump-tables -fno-asynchronous-unwind-tables -fcommon -Wall -c -o "$1" "$2" "${@:3}"
+    clang --target=riscv64-unknown-elf -march=rv64gc -mabi=lp64d -mcmodel=medany -O1 -ffreestanding -fno-builtin \
+        -nostdlib -fcommon -Wall -c -o "$1" "$2" "${@:3}"
 }
 
 # compile_cxx OUT SOURCE [OPTION..]: the same for C++ without exceptions and type information; .s is assembled
 compile_cxx() {
     compile "$1" "$2" "${@:3}" -std=c++17 -fno-exceptions -fno-rtti -fno-threadsafe-statics -fno-use-cxa-atexit -Wno-unused-command-line-argument
-}
-
-# only_known OBJECT..: whether each has only the kinds of relocation, and of written section, that rvld takes today
-only_known() {
-    local object other wrong=0
-    for object; do
-        other=$(riscv64-linux-gnu-readelf -rW "$object" | grep -o 'R_RISCV_[A-Z0-9_]*' |
-            grep -vxE 'R_RISCV_(NONE|64|JAL|CALL|CALL_PLT|PCREL_HI20|PCREL_LO12_I)' | sort -u | tr '\n' ' ')
-        if [ -n "$other" ]; then say "$object has relocations of kinds that rvld does not take yet: $other"; wrong=1; fi
-        # a row is: [Nr] Name Type Address Off Size ES Flg Lk Inf Al
-        other=$(riscv64-linux-gnu-readelf -SW "$object" | sed -n 's/^ *\[ *[0-9]*\] //p' |
-            awk '$7 ~ /A/ && $7 !~ /E/ && $1 != ".eh_frame" && ($7 ~ /[MTC]/ || $2 !~ /^(PROGBITS|NOBITS|NOTE|(PREINIT|INIT|FINI)_ARRAY)$/) { print $1 }' |
-            tr '\n' ' ')
-        if [ -n "$other" ]; then say "$object has sections that rvld does not take yet: $other"; wrong=1; fi
-    done
-    return $wrong
 }
 
 # links OUT WORD..: rvld -s -o OUT WORD.. must end with status 0 and without a line

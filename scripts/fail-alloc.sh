@@ -52,7 +52,6 @@ for source in "$sources"/many/*.c; do
     object=$(basename "${source%.c}").o
     case $object in noted.o | again.o) continue ;; esac
     compile "$object" "$source" || { say "$source is not compiled"; end; }
-    only_known "$object" || end
     files+=("$object")
 done
 links many.out "${files[@]}" || end
@@ -65,7 +64,6 @@ files=()
 for source in "$sources"/templates/*.cc "$sources"/templates/*.s; do
     object=$(basename "${source%.*}").o
     compile_cxx "$object" "$source" -ffunction-sections -fdata-sections || { say "$source is not compiled"; end; }
-    only_known "$object" || end
     files+=("$object")
 done
 links kept.out --gc-sections "${files[@]}" || end

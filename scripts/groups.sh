@@ -30,8 +30,9 @@ for source in "$sources"/templates/*.cc "$sources"/templates/*.s; do
     options=()
     # every sixth file has one section for all its functions, but for those of its groups
     [ $((${#objects[@]} % 6)) = 2 ] || options=(-ffunction-sections -fdata-sections)
-    compile_cxx "$object" "$source" "${options[@]}" || { say "$source is not compiled"; end; }
-    only_known "$object" || end
+    # nothing that only rvld or only ld.lld takes out: calls keep their bytes, and there are no records for unwinding
+    compile_cxx "$object" "$source" -mno-relax -fno-asynchronous-unwind-tables "${options[@]}" || { say "$source is not compiled"; end; }
+    compile_cxx "relaxed-$object" "$source" "${options[@]}" || { say "$source is not compiled with relaxation"; end; }
     objects+=("$object")
 done
 files=()

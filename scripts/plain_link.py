@@ -1,22 +1,32 @@
 #!/usr/bin/env python3
 """The rules of a link once more, in plain and slow form, to compare rvld with: the first defect's line, or the executable's bytes.
 
-Usage: scripts/plain_link.py [-o OUT] [-e ENTRY] [--gc-sections] FILE..     as rvld -s, on one thread
+Usage: scripts/plain_link.py [-o OUT] [-e ENTRY] [--gc-sections] [--icf MODE] [--no-relax] FILE..     as rvld -s, on one thread
 
 It was written from the rules, not from rvld's sources.
 """
+import re
 import struct
 import sys
 
 KINDS = ('- NotObject BadHeader Outside BadSection Compressed BadArchive Thin Limit BadSymbol BadName BadReloc RelocKind BadGroup BadUleb '
          'BadAlignment FlagsClash Ifunc BsdName BadFrame Duplicate NoEntry Undefined TooBig Range Odd NoPartner NopsShort').split()
-WIDTHS = {0: 0, 2: 8, 17: 4, 18: 8, 19: 8, 23: 4, 24: 4}
-CALLS = (18, 19)
-NOTE, NOBITS, ARRAYS = 7, 8, (14, 15, 16)
+NONE, WORD, LONG, BRANCH, JAL, CALLS, RVC_BRANCH, RVC_JUMP = 0, 1, 2, 16, 17, (18, 19), 44, 45
+GOT, TLS_GOT, TLS_GD = ENTRIES = 20, 21, 22
+PCREL_HI, PCREL_LO_I, PCREL_LO_S, HI, LO_I, LO_S, TPREL_HI, TPREL_LO_I, TPREL_LO_S, TPREL_ADD = range(23, 33)
+ADDS, SUBS, SETS = {33: 1, 34: 2, 35: 4, 36: 8}, {37: 1, 38: 2, 39: 4, 40: 8}, {54: 1, 55: 2, 56: 4}
+ALIGN, RELAX, SUB6, SET6, DISTANCE = 43, 51, 52, 53, 57
+WIDTHS = {NONE: 0, RELAX: 0, TPREL_ADD: 0, WORD: 4, LONG: 8, 18: 8, 19: 8, ALIGN: None, RVC_BRANCH: 2, RVC_JUMP: 2, SUB6: 1, SET6: 1,
+          **ADDS, **SUBS, **SETS}
+WIDTHS.update({kind: 4 for kind in (BRANCH, JAL, *ENTRIES, *range(23, 32), DISTANCE)})
+PROGBITS, NOTE, NOBITS, ARRAYS = 1, 7, 8, (14, 15, 16)
 BASE = 0x10000
 ONCE = (b'.text', b'.rodata', b'.srodata', b'.data.rel.ro', b'.data', b'.bss', b'.sdata', b'.sbss', b'.tdata', b'.tbss',
         b'.preinit_array', b'.init_array', b'.fini_array', b'.ctors', b'.dtors', b'.gcc_except_table')
+CLASSES = ('R', 'RX', 'TLS', 'TLS NOBITS', 'RW', 'NOBITS')
 RANKS = {
+    'TLS': [None],
+    'TLS NOBITS': [None],
     'R': ['notes', b'.rodata', b'.srodata', b'.gcc_except_table', None],
     'RX': [b'.init', b'.text', b'.fini', None],
     'RW': [b'.preinit_array', b'.init_array', b'.fini_array', b'.ctors', b'.dtors', b'.data.rel.ro', b'.got', b'.data', None, b'.sdata'],
@@ -44,6 +54,10 @@ def line_of(kind, file=None, section=0, place=0, name=b'', other=0):
 
 def up(x, align):
     return -(-x // align) * align
+
+
+def width_of(kind, addend):
+    return addend if kind == ALIGN else WIDTHS[kind]
 
 
 class Section:
@@ -173,8 +187,7 @@ class File:
             if s.type == 9:
                 raise Flaw(4, i, s.at, 0)
             if s.flags & 2 and not s.flags & 0x80000000:
-                if (s.type not in (1, 7, 8, 14, 15, 16) or s.flags & 5 == 5 or (s.flags & 0x80 and s.link >= self.count)
-                        or (s.written and s.flags & 0x410)):
+                if s.type not in (1, 7, 8, 14, 15, 16) or s.flags & 5 == 5 or (s.flags & 0x80 and s.link >= self.count):
                     raise Flaw(4, i, s.at, 0)
                 if s.align & (s.align - 1) and s.align or s.align > 2 ** 20:
                     raise Flaw(15, i, s.at, 0)
@@ -225,18 +238,20 @@ class File:
                 raise Flaw(11, i, at, 0)
             if kind not in WIDTHS:
                 raise Flaw(12, i, at, kind)
-            if target.type == 8 or offset + WIDTHS[kind] > target.size or (kind == 24 and addend):
+            if (target.type == 8 or kind == ALIGN and (addend < 0 or addend % 2) or offset + width_of(kind, addend) > target.size
+                    or (kind in (PCREL_LO_I, PCREL_LO_S) and addend)):
                 raise Flaw(11, i, at, 0)
             entries.append((offset, kind, index, addend, at))
         entries.sort(key=lambda entry: entry[0])
-        end = call_end = 0
-        for offset, kind, _, _, at in entries:
-            if WIDTHS[kind]:
-                if offset < call_end or (kind in CALLS and offset < end):
+        end = moving_end = 0
+        for offset, kind, _, addend, at in entries:
+            width = width_of(kind, addend)
+            if width:
+                if offset < moving_end or (kind in CALLS + (ALIGN,) and offset < end):
                     raise Flaw(11, i, at, 0)
-                end = max(end, offset + WIDTHS[kind])
-                if kind in CALLS:
-                    call_end = max(call_end, offset + 8)
+                end = max(end, offset + width)
+                if kind in CALLS + (ALIGN,):
+                    moving_end = max(moving_end, offset + width)
         target.relocs = [entry[:4] for entry in entries]
 
 
@@ -349,6 +364,8 @@ def priority_of(name):
 
 
 def class_of(flags, sort):
+    if flags & 0x400:
+        return 'TLS NOBITS' if sort == NOBITS else 'TLS'
     if flags & 1:
         return 'NOBITS' if sort == 8 else 'RW'
     return 'RX' if flags & 4 else 'R'
@@ -366,278 +383,665 @@ def discarded_of(files, live):
     return discarded
 
 
-def kept_of(files, live, members, entry, spot):
-    """The sections that --gc-sections keeps, of `members`; `spot` gives the section that a file's symbol means, or None."""
-    ends = {key: set() for key in members}      # what each section keeps
-    for n in live:
-        file = files[n]
-        for i, s in enumerate(file.sections):
-            if (n, i) in ends:
-                ends[n, i] |= {spot(n, file.symbols[index]) for _, _, index, _ in s.relocs}
-                if s.flags & 0x80 and s.link and (n, s.link) in ends:
-                    ends[n, s.link].add((n, i))
-        for _, _, _, group in file.groups:
-            for k in group:
-                if (n, k) in ends:
-                    ends[n, k] |= {(n, other) for other in group}
-    kept = set()
-    queue = [entry] + [key for key, (name, flags, sort, _, _) in members.items()
-                       if sort == NOTE or sort in ARRAYS or name in (b'.init', b'.fini') or flags & 0x200000]
-    while queue:
-        key = queue.pop()
-        if key in members and key not in kept:
-            kept.add(key)
-            queue += ends[key]
-    return kept
+FIXED = (b'__ehdr_start', b'__rela_iplt_start', b'__rela_iplt_end', b'_etext', b'etext', b'_edata', b'edata', b'__bss_start', b'_end', b'end',
+         b'_GLOBAL_OFFSET_TABLE_', b'__global_pointer$', b'__preinit_array_start', b'__preinit_array_end', b'__init_array_start',
+         b'__init_array_end', b'__fini_array_start', b'__fini_array_end')
+IDENTIFIER = re.compile(rb'[A-Za-z_][A-Za-z0-9_]*')
+ZERO, UNBOUND = ('zero',), ('none',)
 
 
-def link(inputs, entry=b'_start', gc=False):
-    """(1, line) or (0, executable) of inputs (name, bytes) in command order; `gc` is --gc-sections."""
+def set_of(name):
+    """The name of the sections of which a name of the linker means the first or the last place, or None."""
+    for front in (b'__start_', b'__stop_'):
+        if name.startswith(front) and IDENTIFIER.fullmatch(name[len(front):]):
+            return name[len(front):]
+    return None
+
+
+def link(inputs, entry=b'_start', gc=False, icf=False, relax=True):
+    """(1, line) or (0, executable) of inputs (name, bytes) in command order; `gc` is --gc-sections, `icf` --icf all."""
     try:
-        return 0, linked(inputs, entry, gc)
+        return 0, Link(inputs, entry, gc, icf, relax).executable()
     except Defect as defect:
         return 1, defect.args[0]
 
 
-def linked(inputs, entry, gc):
-    files = read_all(inputs)
-    live = live_of(files)
-    for n in live:
-        try:
-            files[n].read_body()
-        except Flaw as flaw:
-            kind, section, place, other = flaw.args
-            raise Defect(line_of(kind, files[n].shown, section, place, b'', other))
-    for n in live:
-        if files[n].flags & 6 != files[live[0]].flags & 6:
-            raise Defect(line_of(16, files[n].shown, 0, files[n].flags & 6, b'', files[live[0]].flags & 6))
+class Link:
+    """A section or bound common is (file, section); a member of an output section is one of these, ('pool', key) or 'got'."""
 
-    # names: the least offer of each; the greatest common
-    discarded = discarded_of(files, live)
-    bound, strong, twice, commons = {}, {}, [], {}
-    for n in live:
-        for i, y, sort in offers_of(files[n]):
-            if (n, y.shndx) in discarded:
-                continue
-            rank = (sort, n, i)
-            if y.name not in bound or rank < bound[y.name]:
-                bound[y.name] = rank
-            if sort == 0:
-                if y.name in strong and len(strong[y.name]) == 1:
-                    twice.append(y.name)
-                strong.setdefault(y.name, []).append((n, i))
-            if sort == 1:
-                size, align = commons.get(y.name, (0, 1))
-                commons[y.name] = max(size, y.size), max(align, y.value or 1)
-    if twice:
-        name = min(twice, key=lambda name: strong[name][0])
-        (n, i), (other, _) = strong[name][:2]
-        raise Defect(line_of(20, files[n].shown, 0, i, name, files[other].shown))
-    if entry not in bound:
-        raise Defect(line_of(21, None, 0, 0, entry))
+    def __init__(self, inputs, entry, gc, icf, relax):
+        self.entry, self.relax = entry, relax
+        self.files = read_all(inputs)
+        self.live = live_of(self.files)
+        for n in self.live:
+            try:
+                self.files[n].read_body()
+            except Flaw as flaw:
+                kind, section, place, other = flaw.args
+                raise Defect(line_of(kind, self.files[n].shown, section, place, b'', other))
+        first = self.files[self.live[0]] if self.live else None
+        for n in self.live:
+            if self.files[n].flags & 6 != first.flags & 6:
+                raise Defect(line_of(16, self.files[n].shown, 0, self.files[n].flags & 6, b'', first.flags & 6))
+        self.discarded = discarded_of(self.files, self.live)
+        self.bind()
+        self.list_sections()
+        if self.entry not in self.bound and not self.is_linkers(self.entry):
+            raise Defect(line_of(21, None, 0, 0, self.entry))
+        self.kept = self.keep() if gc else set(self.sections)
+        self.find_undefined()
+        self.merge()
+        self.leader = {key: key for key in self.kept}
+        if icf:
+            self.fold()
+        self.leaders = sorted(key for key in self.kept if self.leader[key] == key)
+        self.list_entries()
+        self.list_outputs()
+        self.shorten()
+        self.walk()
 
-    # members: written sections and bound commons, each (name, flags, type, size, align) under (file, section)
-    members = {}
-    for n in live:
-        file = files[n]
-        count = file.count
-        for i, s in enumerate(file.sections):
-            if s.written and (n, i) not in discarded:
-                members[n, i] = (s.name, s.flags, s.type, s.size, s.align or 1)
-        for i, y in enumerate(file.symbols):
-            if y.shndx == 0xfff2:
-                if bound[y.name][1:] == (n, i):
-                    size, align = commons[y.name]
-                    members[n, count] = (b'COMMON', 3, 8, size, align)
-                y.common = count
-                count += 1
+    # names
+    def bind(self):
+        self.bound, strong, twice, self.commons = {}, {}, [], {}
+        for n in self.live:
+            for i, y, sort in offers_of(self.files[n]):
+                if (n, y.shndx) in self.discarded:
+                    continue
+                rank = (sort, n, i)
+                if y.name not in self.bound or rank < self.bound[y.name]:
+                    self.bound[y.name] = rank
+                if sort == 0:
+                    if y.name in strong and len(strong[y.name]) == 1:
+                        twice.append(y.name)
+                    strong.setdefault(y.name, []).append((n, i))
+                if sort == 1:
+                    size, align = self.commons.get(y.name, (0, 1))
+                    self.commons[y.name] = max(size, y.size), max(align, y.value or 1)
+        if twice:
+            name = min(twice, key=lambda name: strong[name][0])
+            (n, i), (other, _) = strong[name][:2]
+            raise Defect(line_of(20, self.files[n].shown, 0, i, name, self.files[other].shown))
 
-    def meant(n, y):
-        """The file and the symbol that a symbol of a file stands for; no symbol where its name is bound to none."""
+    def list_sections(self):
+        """Written sections and bound commons, each (name, flags, type, size, align) under (file, section)."""
+        self.sections = {}
+        for n in self.live:
+            file = self.files[n]
+            count = file.count
+            for i, s in enumerate(file.sections):
+                if s.written and (n, i) not in self.discarded:
+                    self.sections[n, i] = (s.name, s.flags, s.type, s.size, s.align or 1)
+            for i, y in enumerate(file.symbols):
+                if y.shndx == 0xfff2:
+                    if self.bound[y.name][1:] == (n, i):
+                        size, align = self.commons[y.name]
+                        self.sections[n, count] = (b'COMMON', 3, NOBITS, size, align)
+                    y.common = count
+                    count += 1
+        self.names = {section[0] for section in self.sections.values()}
+
+    def is_linkers(self, name):
+        """Whether a name that nothing offers is the linker's."""
+        return name in FIXED or set_of(name) in self.names
+
+    def spot(self, n, index, kind=NONE, addend=0):
+        """What a symbol of a file means in a relocation: ('section', key, offset, rest), ('number', n), ('linker', name), ZERO or UNBOUND."""
+        y = self.files[n].symbols[index]
         if y.binding:
-            if y.name not in bound:
-                return n, None
-            _, n, i = bound[y.name]
-            y = files[n].symbols[i]
-        return n, y
-
-    def spot(n, y):
-        """The section that a symbol of a file means, or None."""
-        n, y = meant(n, y)
-        if y is not None and y.shndx == 0xfff2:
-            return n, y.common
-        return (n, y.shndx) if y is not None and y.shndx < files[n].count and (n, y.shndx) in members else None
-
-    # what is kept, and what it lacks
-    if gc:
-        kept = kept_of(files, live, members, spot(*bound_symbol(files, bound, entry)), spot)
-        members = {key: members[key] for key in members if key in kept}
-    for n in live:
-        for i, s in enumerate(files[n].sections):
-            for offset, _, index, _ in s.relocs if (n, i) in members else ():
-                y = files[n].symbols[index]
-                if y.binding not in (0, 2) and y.name not in bound or y.binding == 0 and (n, y.shndx) in discarded:
-                    raise Defect(line_of(22, files[n].shown, i, offset, files[n].shown_name(y)))
-
-    # output sections and the walk
-    outputs = {row: {} for row in RANKS}
-    got = (1 << 32, 0)
-    for key in sorted(members) + [got]:
-        name, flags, sort, size, align = members.get(key, (b'.got', 3, 1, 0, 8))
-        outputs[class_of(flags, sort)].setdefault(output_name(name), []).append(
-            ((1 << 17 if key == got else priority_of(name),) + key, flags, sort, size, align))
-
-    def in_order(row):
-        rank = RANKS[row]
-        places = {}
-        for k, (name, list_) in enumerate(outputs[row].items()):
-            front = 'notes' if 'notes' in rank and min(list_)[2] == NOTE else name
-            places[name] = (rank.index(front if front in rank else None), k)
-        return sorted(outputs[row], key=lambda name: places[name])
-
-    full = {row: any(m[3] for list_ in outputs[row].values() for m in list_) for row in RANKS}
-    headers = 2 + full['RX'] + (full['RW'] or full['NOBITS'])
-    cursor = end_of_headers = BASE + 64 + 56 * headers
-    addresses, shown, starts, ends = {}, [], {}, {}
-    for row in ('R', 'RX', 'RW', 'NOBITS'):
-        if row in ('RX', 'RW'):
-            cursor = up(cursor, 4096)
-        starts[row] = cursor
-        for name in in_order(row):
-            list_ = sorted(outputs[row][name])
-            greatest = max(m[4] for m in list_)
-            start = at = up(cursor, greatest)
-            empty = not any(m[3] for m in list_)
-            for (_, n, i), _, _, size, align in list_:
-                at = start if empty else up(at, align)
-                addresses[n, i] = at
-                at += size
-            if not empty:
-                cursor = at
-                flags = 0
-                for m in list_:
-                    flags |= m[1]
-                sort = 8 if row == 'NOBITS' else 1 if list_[0][2] == 8 else list_[0][2]
-                shown.append((name, sort, flags & 0x407, start, cursor - start, greatest, row))
-        ends[row] = cursor
-    if len(shown) > 65000:
-        raise Defect(line_of(8, None, 0, len(shown)))
-    image = max([end_of_headers] + [address + size for _, _, _, address, size, _, _ in shown]) - BASE
-    if image >= 2 ** 31 - 2 ** 20:
-        raise Defect(line_of(23, None, 0, image))
-
-    # places of symbols: (section or None, address or number)
-    def place(n, y):
-        """The section and the address that a symbol of this file means; no section for a number."""
-        n, y = meant(n, y)
-        if y is None or y.shndx == 0:
-            return None, 0
+            if y.name not in self.bound:
+                return ('linker', y.name) if self.is_linkers(y.name) else ZERO if y.binding == 2 else UNBOUND
+            _, n, i = self.bound[y.name]
+            y = self.files[n].symbols[i]
         if y.shndx == 0xfff2:
-            return (n, y.common), addresses[n, y.common]
-        if y.shndx != 0xfff1 and files[n].sections[y.shndx].written:
-            return (n, y.shndx), addresses[n, y.shndx] + (0 if y.type == 3 and not y.binding else y.value)
-        return None, y.value
+            return 'section', (n, y.common), 0, addend
+        if y.shndx == 0:
+            return 'number', 0
+        if y.shndx == 0xfff1 or not self.files[n].sections[y.shndx].written:
+            return 'number', y.value
+        if y.binding == 0 and y.type == 3:
+            size = self.files[n].sections[y.shndx].size
+            offset = 0 if kind in ENTRIES else min(max(addend, 0), size)
+            return 'section', (n, y.shndx), offset, addend - offset
+        return 'section', (n, y.shndx), y.value, addend
 
-    image_end = max([end_of_headers] + [address + size for _, _, _, address, size, _, row in shown if row != 'NOBITS'])
-    out = bytearray(image_end - BASE)
-    for n in live:
-        for i, s in enumerate(files[n].sections):
-            if (n, i) in members and s.type != NOBITS and s.size:
-                at = addresses[n, i] - BASE
-                out[at:at + s.size] = files[n].bytes[s.offset:s.offset + s.size]
-    for n in live:
-        for i, s in enumerate(files[n].sections):
-            if (n, i) in members:
-                relocate(files[n], n, i, s, place, addresses, out)
+    def entry_spot(self):
+        if self.entry not in self.bound:
+            return 'linker', self.entry
+        _, n, i = self.bound[self.entry]
+        return self.spot(n, i)
 
-    # the file's tables
-    _, start = place(*bound_symbol(files, bound, entry))
-    flags = files[live[0]].flags & 6
-    for n in live:
-        flags |= files[n].flags & 17
-    segments = [(1, 4, BASE, ends['R'] if full['R'] else end_of_headers, ends['R'] if full['R'] else end_of_headers, 4096)]
-    if full['RX']:
-        segments.append((1, 5, starts['RX'], ends['RX'], ends['RX'], 4096))
-    if full['RW'] or full['NOBITS']:
-        segments.append((1, 6, starts['RW'], ends['RW'], ends['NOBITS'], 4096))
-    rows = [struct.pack('<IIQQQQQQ', kind, f, at - BASE, at, at, end - at, memory_end - at, align)
-            for kind, f, at, end, memory_end, align in segments]
-    rows.append(struct.pack('<IIQQQQQQ', 0x6474e551, 6, 0, 0, 0, 0, 0, 16))
-    texts, names = b'\0', []
-    for name in [row[0] for row in shown] + [b'.shstrtab']:
-        names.append(len(texts))
-        texts += name + b'\0'
-    at_texts = len(out)
-    out += texts
-    out += bytes(-len(out) % 8)
-    table = len(out)
-    out += bytes(64)
-    for at_name, (_, sort, f, address, size, align, _) in zip(names, shown):
-        out += struct.pack('<IIQQQQIIQQ', at_name, sort, f, address, address - BASE, size, 0, 0, align, 0)
-    out += struct.pack('<IIQQQQIIQQ', names[-1], 3, 0, 0, at_texts, len(texts), 0, 0, 1, 0)
-    out[0:64] = struct.pack('<16sHHIQQQIHHHHHH', b'\x7fELF\2\1\1', 2, 243, 1, start & 2 ** 64 - 1, 64, table, flags, 64, 56, len(rows), 64,
-                            len(shown) + 2, len(shown) + 1)
-    out[64:64 + 56 * len(rows)] = b''.join(rows)
-    return bytes(out)
+    def relocs(self, key):
+        n, i = key
+        return self.files[n].sections[i].relocs if i < self.files[n].count else []
 
+    # what is kept
+    def keep(self):
+        by_name, with_it = {}, {key: set() for key in self.sections}
+        for key, (name, _, _, _, _) in self.sections.items():
+            by_name.setdefault(name, set()).add(key)
+        for n in self.live:
+            for i, s in enumerate(self.files[n].sections):
+                if s.flags & 0x80 and s.link and (n, s.link) in with_it:
+                    with_it[n, s.link].add((n, i))
+            for _, _, _, group in self.files[n].groups:
+                for k in group:
+                    if (n, k) in with_it:
+                        with_it[n, k] |= {(n, other) for other in group}
+        kept = set()
+        start = self.entry_spot()
+        queue = [start[1]] if start[0] == 'section' else []
+        queue += [key for key, (name, flags, sort, _, _) in self.sections.items()
+                  if sort == NOTE or sort in ARRAYS or name in (b'.init', b'.fini') or flags & 0x200000]
+        while queue:
+            key = queue.pop()
+            if key not in self.sections or key in kept:
+                continue
+            kept.add(key)
+            queue += with_it[key]
+            for _, kind, index, addend in self.relocs(key):
+                if kind in (RELAX, ALIGN):
+                    continue
+                spot = self.spot(key[0], index, kind, addend)
+                if spot[0] == 'section':
+                    queue.append(spot[1])
+                elif spot[0] == 'linker' and set_of(spot[1]) is not None:
+                    queue += by_name.get(set_of(spot[1]), ())
+        return kept
 
-def bound_symbol(files, bound, name):
-    """The file and the symbol that a name is bound to."""
-    _, n, i = bound[name]
-    return n, files[n].symbols[i]
+    def find_undefined(self):
+        for n, i in sorted(self.kept):
+            for offset, kind, index, _ in self.relocs((n, i)):
+                y = self.files[n].symbols[index]
+                if kind in (RELAX, ALIGN):
+                    continue
+                if y.binding == 0 and (n, y.shndx) in self.discarded or y.binding and self.spot(n, index) == UNBOUND:
+                    raise Defect(line_of(22, self.files[n].shown, i, offset, self.files[n].shown_name(y)))
 
+    # pieces
+    def pieces_of(self, key):
+        """The pieces of a merge section, or None."""
+        n, i = key
+        if i >= self.files[n].count:
+            return None
+        s = self.files[n].sections[i]
+        if s.type != PROGBITS or not s.flags & 0x10 or s.flags & 1 or s.relocs or not s.size or not s.entsize or s.size % s.entsize:
+            return None
+        data = self.files[n].bytes[s.offset:s.offset + s.size]
+        units = [data[at:at + s.entsize] for at in range(0, s.size, s.entsize)]
+        if not s.flags & 0x20:
+            return units
+        end = bytes(s.entsize)
+        if s.entsize not in (1, 2, 4) or units[-1] != end:
+            return None
+        pieces, first = [], 0
+        for at, unit in enumerate(units):
+            if unit == end:
+                pieces.append(b''.join(units[first:at + 1]))
+                first = at + 1
+        return pieces
 
-def relocate(file, n, i, s, place, addresses, out):
-    def value(offset, kind, index, addend):
-        _, target = place(n, file.symbols[index])
-        if kind == 2:
-            return target + addend
-        return target + addend - (addresses[n, i] + offset)
+    def merge(self):
+        """`pools`: for each key its first section, and its pieces with their positions; `merged`: for a section its pool and pieces."""
+        self.pools, self.merged = {}, {}
+        for key in sorted(self.kept):
+            pieces = self.pieces_of(key)
+            if pieces is None:
+                continue
+            name, flags, _, _, align = self.sections[key]
+            s = self.files[key[0]].sections[key[1]]
+            pool = output_name(name), flags & ~0x200, s.entsize, align
+            first, places, size = self.pools.get(pool, (key, {}, 0))
+            for piece in pieces:
+                if piece not in places:
+                    places[piece] = up(size, align)
+                    size = places[piece] + len(piece)
+            self.pools[pool] = first, places, size
+            self.merged[key] = pool, pieces
 
-    for offset, kind, index, addend in s.relocs:
-        y = file.symbols[index]
-        if kind == 0:
-            continue
+    def target(self, n, index, kind, addend):
+        spot = self.spot(n, index, kind, addend)
+        if spot[0] != 'section' or spot[1] not in self.merged:
+            return spot
+        pool, pieces = self.merged[spot[1]]
+        offset = spot[2]
+        for at, piece in enumerate(pieces):
+            if offset < len(piece) or at == len(pieces) - 1:
+                return 'piece', (pool, piece), offset, spot[3]
+            offset -= len(piece)
+        raise AssertionError('no piece')
+
+    # folding
+    def fold(self):
+        items, parts, targets = [], {}, {}
+        for key in sorted(self.kept):
+            name, flags, sort, size, align = self.sections[key]
+            if (sort != PROGBITS or flags & 6 != 6 or flags & (1 | 0x10 | 0x400 | 0x200000 | 0x80) or not size or name in (b'.init', b'.fini')
+                    or IDENTIFIER.fullmatch(name)):
+                continue
+            n, i = key
+            file = self.files[n]
+            s = file.sections[i]
+            items.append(key)
+            parts[key] = (file.bytes[s.offset:s.offset + size], flags, align, output_name(name),
+                          tuple((offset, kind, addend, file.symbols[index].binding == 0 and file.symbols[index].type == 3)
+                                for offset, kind, index, addend in s.relocs))
+            targets[key] = [None if kind in (RELAX, ALIGN) else self.target(n, index, kind, addend) for _, kind, index, addend in s.relocs]
+        count = 0
+        while True:
+            numbers, firsts = {}, {}
+            for key in items:
+                numbers[key] = firsts.setdefault(parts[key], key)
+            if len(firsts) == count:
+                break
+            count = len(firsts)
+            for key in items:
+                parts[key] = (numbers[key],) + tuple(
+                    ('one of', numbers[t[1]]) + t[2:] if t is not None and t[0] == 'section' and t[1] in numbers else t for t in targets[key])
+        self.leader.update(numbers)
+
+    # the table of addresses
+    def list_entries(self):
+        """`table`: under (symbol, use) the number of its first word; `words` in all."""
+        self.table, self.words = {}, 0
+        for n, i in self.leaders:
+            if (n, i) in self.merged:
+                continue
+            for _, kind, index, _ in self.relocs((n, i)):
+                if kind in ENTRIES and self.entry_key(n, index, kind) not in self.table:
+                    self.table[self.entry_key(n, index, kind)] = self.words, n, index
+                    self.words += 2 if kind == TLS_GD else 1
+
+    def entry_key(self, n, index, kind):
+        y = self.files[n].symbols[index]
+        return (y.name if y.binding else (n, index)), kind
+
+    # output sections
+    def list_outputs(self):
+        """`outputs`: for each class its output sections in order, each (name, its members in order)."""
+        rows = {row: {} for row in CLASSES}
+        members = [(key, self.sections[key]) for key in self.leaders if key not in self.merged]
+        members += [(('pool', pool), (pool[0], pool[1], PROGBITS, size, pool[3])) for pool, (_, _, size) in self.pools.items()]
+        members.append(('got', (b'.got', 3, PROGBITS, 8 * self.words, 8)))
+        self.member = dict(members)
+        for key, (name, flags, sort, _, _) in members:
+            place = (1 << 33, 0) if key == 'got' else self.pools[key[1]][0] if key[0] == 'pool' else key
+            shown = output_name(name)
+            priority = 1 << 17 if key == 'got' else 65536 if key[0] == 'pool' else priority_of(name)
+            rows[class_of(flags, sort)].setdefault(shown, []).append((priority, place, key))
+        self.outputs = {}
+        for row in CLASSES:
+            ranked = []
+            for name, list_ in rows[row].items():
+                list_.sort(key=lambda entry: entry[:2])
+                front = 'notes' if row == 'R' and self.member[list_[0][2]][2] == NOTE else name
+                rank = RANKS[row]
+                ranked.append((rank.index(front if front in rank else None), min(place for _, place, _ in list_), name))
+            self.outputs[row] = [(name, [key for _, _, key in rows[row][name]]) for _, _, name in sorted(ranked)]
+
+    # calls
+    def shorten(self):
+        """`cuts`: for each leader [at, whole, kept] of its calls that keep 4 or 2 bytes, in order."""
+        self.cuts, self.short = {key: [] for key in self.leaders}, {}
+        if not self.relax:
+            return
+        row_of, calls = {}, []
+        for row in CLASSES:
+            for number, (_, list_) in enumerate(self.outputs[row]):
+                for place, key in enumerate(list_):
+                    row_of[key] = (row, number), place, list_
+        for n, i in self.leaders:
+            if i >= self.files[n].count or (n, i) in self.merged:
+                continue
+            s = self.files[n].sections[i]
+            relaxed = {offset for offset, kind, _, _ in s.relocs if kind == RELAX}
+            for offset, kind, index, addend in s.relocs:
+                if kind not in CALLS or addend or offset not in relaxed or offset % 2 or (s.align or 1) < 2:
+                    continue
+                first, second = struct.unpack_from('<II', self.files[n].bytes, s.offset + offset)
+                target = self.target(n, index, kind, addend)
+                if first & 0x7f != 0x17 or second & 0x7f != 0x67 or target[0] != 'section' or target[2] % 2:
+                    continue
+                to = self.leader[target[1]]
+                if row_of[to][0] != row_of[n, i][0] or self.sections[to][4] < 2:
+                    continue
+                rd = second >> 7 & 31
+                calls.append(((n, i), [offset, 8, 2 if rd == 0 and self.files[n].flags & 1 else 4], to, target[2]))
+        for key, cut, _, _ in calls:
+            self.cuts[key].append(cut)
+
+        def distance(key, at, to, p):
+            """The greatest distance forwards; a negative number is one backwards."""
+            if key == to:
+                return self.new_offset(to, p) - self.new_offset(key, at)
+            _, one, list_ = row_of[key]
+            _, two, _ = row_of[to]
+            low, low_at, high, high_at = (key, at, to, p) if one < two else (to, p, key, at)
+            far = self.new_size(low) - self.new_offset(low, low_at)
+            for between in list_[min(one, two) + 1:max(one, two)]:
+                far += self.member[between][4] - 1 + self.new_size(between)
+            far += self.member[high][4] - 1 + self.new_offset(high, high_at)
+            return far if one < two else -far
+
+        rising = True
+        while rising:
+            rising = False
+            for key, cut, to, p in calls:
+                far = distance(key, cut[0], to, p)
+                while cut[2] < 8 and not (-2048 <= far <= 2046 if cut[2] == 2 else -1048576 <= far <= 1048574):
+                    cut[2] *= 2
+                    rising = True
+        for key in self.leaders:
+            self.cuts[key] = sorted(cut for cut in self.cuts[key] if cut[2] < 8)
+            self.short.update({(key, at): kept for at, _, kept in self.cuts[key]})
+
+    def new_offset(self, key, offset):
+        return offset - sum(min(offset - at, whole) - min(offset - at, kept) for at, whole, kept in self.cuts.get(key, ()) if at < offset)
+
+    def new_size(self, key):
+        return self.new_offset(key, self.member[key][3])
+
+    # addresses
+    def walk(self):
+        self.address, self.shown, self.places, starts, ends = {}, [], [], {}, {}
+        short_nops = []
+        full = {row: any(self.member[key][3] for _, list_ in self.outputs[row] for key in list_) for row in CLASSES}
+        thread = full['TLS'] or full['TLS NOBITS']
+        written = full['TLS'] or full['RW'] or full['NOBITS']
+        cursor = end_of_headers = BASE + 64 + 56 * (2 + full['RX'] + written + thread)
+        widest = max([self.member[key][4] for row in ('TLS', 'TLS NOBITS') for _, list_ in self.outputs[row] for key in list_], default=1)
+        self.block = None
+        for row in CLASSES:
+            if row in ('RX', 'TLS'):
+                cursor = up(cursor, 4096)
+            if row == 'RW':
+                cursor = ends['TLS']
+            starts[row] = cursor
+            for name, list_ in self.outputs[row]:
+                greatest = max(self.member[key][4] for key in list_)
+                empty = not any(self.member[key][3] for key in list_)
+                start = at = up(cursor, greatest)
+                if row in ('TLS', 'TLS NOBITS') and not empty and self.block is None:
+                    self.block = start = at = up(cursor, widest)
+                for key in list_:
+                    at = start if empty else up(at, self.member[key][4])
+                    self.address[key] = at
+                    if isinstance(key[0], int):
+                        short_nops += self.align(key)
+                    at += self.new_size(key)
+                self.places.append((row, name, start, start if empty else at))
+                if not empty:
+                    cursor = at
+                    flags = 0
+                    for key in list_:
+                        flags |= self.member[key][1]
+                    first = self.member[list_[0]][2]
+                    sort = NOBITS if row in ('NOBITS', 'TLS NOBITS') else PROGBITS if first == NOBITS else first
+                    self.shown.append((name, sort, flags & 0x407, start, cursor - start, greatest, row))
+            ends[row] = cursor
+        if short_nops:
+            raise Defect(min(short_nops)[1])
+        if len(self.shown) > 65000:
+            raise Defect(line_of(8, None, 0, len(self.shown)))
+        image = max([end_of_headers] + [address + size for _, _, _, address, size, _, row in self.shown if row != 'TLS NOBITS']) - BASE
+        if image >= 2 ** 31 - 2 ** 20:
+            raise Defect(line_of(23, None, 0, image))
+        self.starts, self.ends, self.full, self.thread, self.written = starts, ends, full, thread, written
+        self.end_of_headers, self.widest = end_of_headers, widest
+
+    def align(self, key):
+        """Adds what stays of a member's alignments, in order; gives those for which the bytes do not suffice."""
+        wrong = []
+        n, i = key
+        for offset, kind, _, addend in self.relocs(key):
+            if kind != ALIGN:
+                continue
+            boundary = 1
+            while boundary <= addend:
+                boundary *= 2
+            needed = -(self.address[key] + self.new_offset(key, offset)) % boundary
+            if needed % 2 or needed > addend:
+                wrong.append(((n, i, offset), line_of(27, self.files[n].shown, i, offset, b'', needed)))
+            self.cuts[key] = sorted(self.cuts[key] + [[offset, addend, needed]])
+        return wrong
+
+    def linker_address(self, name):
+        def edge(row, wanted):
+            for at, other, start, end in self.places:
+                if (at, other) == (row, wanted):
+                    return start, end
+            for _, other, start, end in self.places:
+                if other == wanted:
+                    return start, end
+            return BASE, BASE
+
+        if name in (b'_etext', b'etext'):
+            return self.ends['RX']
+        if name in (b'_edata', b'edata'):
+            return self.ends['RW']
+        if name == b'__bss_start':
+            return self.starts['NOBITS']
+        if name in (b'_end', b'end'):
+            return self.ends['NOBITS']
+        if name == b'_GLOBAL_OFFSET_TABLE_':
+            return self.address['got']
+        if name == b'__global_pointer$':
+            return next((start for row, other, start, _ in self.places if (row, other) == ('RW', b'.sdata')), self.starts['RW']) + 0x800
+        for array in (b'preinit_array', b'init_array', b'fini_array'):
+            if name == b'__' + array + b'_start':
+                return edge('RW', b'.' + array)[0]
+            if name == b'__' + array + b'_end':
+                return edge('RW', b'.' + array)[1]
+        if name in FIXED:
+            return BASE
+        own = [place for place in self.places if place[1] == set_of(name)]
+        if not own:
+            return BASE
+        return own[0][2] if name.startswith(b'__start_') else own[-1][3]
+
+    def address_of(self, target):
+        """S of a target."""
+        if target[0] == 'section':
+            leader = self.leader[target[1]]
+            return self.address[leader] + self.new_offset(leader, target[2])
+        if target[0] == 'piece':
+            pool, piece = target[1]
+            return self.address['pool', pool] + self.pools[pool][1][piece] + target[2]
+        if target[0] == 'number':
+            return target[1]
+        return self.linker_address(target[1]) if target[0] == 'linker' else 0
+
+    # values
+    def place_of(self, key, offset):
+        return self.address[key] + self.new_offset(key, offset)
+
+    def value(self, key, reloc, before):
+        """The number v of a relocation; `before` is what its place holds. None where it is a low half without an upper one."""
+        n, _ = key
+        offset, kind, index, addend = reloc
+        target = self.target(n, index, kind, addend)
+        if kind in (PCREL_LO_I, PCREL_LO_S):
+            if target[0] != 'section' or target[1] != key:
+                return None
+            upper = next((r for r in self.relocs(key) if r[0] == target[2] and r[1] in (*ENTRIES, PCREL_HI)), None)
+            return None if upper is None else self.value(key, upper, 0)
+        place = self.place_of(key, offset)
+        s, a = self.address_of(target), target[3] if target[0] in ('section', 'piece') else addend
+        if kind in ENTRIES:
+            word, _, _ = self.table[self.entry_key(n, index, kind)]
+            return self.address['got'] + 8 * word + a - place
+        if kind in (TPREL_HI, TPREL_LO_I, TPREL_LO_S):
+            return a if target == ZERO else s + a - (self.block or 0)
+        if kind in (BRANCH, JAL, RVC_BRANCH, RVC_JUMP, PCREL_HI, DISTANCE) + CALLS:
+            return s + a - place
+        if kind in ADDS:
+            return before + s + a
+        if kind in SUBS or kind == SUB6:
+            return before - s - a
+        return s + a
+
+    def table_words(self):
+        out = b''
+        for (_, kind), (_, n, index) in self.table.items():
+            target = self.target(n, index, kind, 0)
+            s = 0 if target == ZERO else self.address_of(target)
+            if kind == GOT:
+                words = [s]
+            else:
+                words = [0 if target == ZERO else s - (self.block or 0) - (0x800 if kind == TLS_GD else 0)]
+                if kind == TLS_GD:
+                    words.insert(0, 1)
+            out += b''.join((word % 2 ** 64).to_bytes(8, 'little') for word in words)
+        return out
+
+    # bytes
+    def remaining(self, key):
+        """What stays of a member's bytes before its relocations, with its cuts: nops, and nothing yet for calls."""
+        n, i = key
+        s = self.files[n].sections[i]
+        data = self.files[n].bytes[s.offset:s.offset + s.size]
+        out, last = b'', 0
+        for at, whole, kept in self.cuts[key]:
+            out += data[last:at]
+            out += bytes(kept) if (key, at) in self.short else (b'\x13\0\0\0' * (kept // 4) + b'\x01\0' * (kept % 4 // 2))
+            last = at + whole
+        return out + data[last:]
+
+    def executable(self):
+        files = self.files
+        image_end = max([self.end_of_headers] + [address + size for _, _, _, address, size, _, row in self.shown if 'NOBITS' not in row])
+        out = bytearray(image_end - BASE)
+
+        def put(address, data):
+            out[address - BASE:address - BASE + len(data)] = data
+
+        for key in self.leaders:
+            if key not in self.merged and self.member[key][2] != NOBITS:
+                put(self.address[key], self.remaining(key))
+        for pool, (_, places, _) in self.pools.items():
+            for piece, at in places.items():
+                put(self.address['pool', pool] + at, piece)
+        put(self.address['got'], self.table_words())
+        for key in self.leaders:
+            if key not in self.merged:
+                for reloc in self.relocs(key):
+                    self.relocate(key, reloc, out)
+
+        # the file's tables
+        start = self.address_of(self.entry_target())
+        flags = files[self.live[0]].flags & 6 if self.live else 0
+        for n in self.live:
+            flags |= files[n].flags & 17
+        segments = [(1, 4, BASE, self.ends['R'], self.ends['R'], 4096)]
+        if self.full['RX']:
+            segments.append((1, 5, self.starts['RX'], self.ends['RX'], self.ends['RX'], 4096))
+        if self.written:
+            segments.append((1, 6, self.starts['TLS'], self.ends['RW'], self.ends['NOBITS'], 4096))
+        if self.thread:
+            end = self.ends['TLS'] if self.full['TLS'] else self.block
+            segments.append((7, 4, self.block, end, self.ends['TLS NOBITS'], self.widest))
+        rows = [struct.pack('<IIQQQQQQ', kind, f, at - BASE, at, at, end - at, memory_end - at, align)
+                for kind, f, at, end, memory_end, align in segments]
+        rows.append(struct.pack('<IIQQQQQQ', 0x6474e551, 6, 0, 0, 0, 0, 0, 16))
+        texts, names = b'\0', []
+        for name in [row[0] for row in self.shown] + [b'.shstrtab']:
+            names.append(len(texts))
+            texts += name + b'\0'
+        at_texts = len(out)
+        out += texts
+        out += bytes(-len(out) % 8)
+        table = len(out)
+        out += bytes(64)
+        for at_name, (_, sort, f, address, size, align, _) in zip(names, self.shown):
+            out += struct.pack('<IIQQQQIIQQ', at_name, sort, f, address, address - BASE, size, 0, 0, align, 0)
+        out += struct.pack('<IIQQQQIIQQ', names[-1], 3, 0, 0, at_texts, len(texts), 0, 0, 1, 0)
+        out[0:64] = struct.pack('<16sHHIQQQIHHHHHH', b'\x7fELF\2\1\1', 2, 243, 1, start % 2 ** 64, 64, table, flags, 64, 56, len(rows), 64,
+                                len(self.shown) + 2, len(self.shown) + 1)
+        out[64:64 + 56 * len(rows)] = b''.join(rows)
+        return bytes(out)
+
+    def entry_target(self):
+        if self.entry not in self.bound:
+            return 'linker', self.entry
+        _, n, i = self.bound[self.entry]
+        return self.target(n, i, NONE, 0)
+
+    def relocate(self, key, reloc, out):
+        n, i = key
+        offset, kind, index, addend = reloc
+        file = self.files[n]
+        if kind in (NONE, RELAX, ALIGN, TPREL_ADD):
+            return
+        at = self.place_of(key, offset) - BASE
+        width = WIDTHS[kind]
+
+        def number(where, size):
+            return int.from_bytes(out[where:where + size], 'little')
+
+        def store(where, size, v):
+            out[where:where + size] = (v % (1 << 8 * size)).to_bytes(size, 'little')
+
+        def fields(where, size, runs, v):
+            """Puts runs (high bit, low bit, v's high bit)."""
+            word = number(where, size)
+            for high, low, of in runs:
+                mask = (1 << high - low + 1) - 1
+                word = word & ~(mask << low) | (v >> of - (high - low) & mask) << low
+            store(where, size, word)
+
+        v = self.value(key, reloc, number(at, width))
 
         def stop(defect, v):
+            y = file.symbols[index]
             raise Defect(line_of(defect, file.shown, i, offset, file.shown_name(y), v % 2 ** 64))
 
-        if kind == 24:
-            section, label = place(n, y)
-            partner = None
-            if section == (n, i):
-                partner = next((r for r in s.relocs if r[1] == 23 and r[0] == label - addresses[n, i]), None)
-            if partner is None:
-                stop(26, 0)
-            v = value(*partner)
-        else:
-            v = value(offset, kind, index, addend)
-        at = addresses[n, i] + offset - BASE
-
-        def put(where, mask, bits):
-            word = int.from_bytes(out[where:where + 4], 'little')
-            out[where:where + 4] = (word & ~mask | bits & mask).to_bytes(4, 'little')
-
-        if kind == 2:
-            out[at:at + 8] = (v % 2 ** 64).to_bytes(8, 'little')
-        elif kind == 17:
-            if v & 1:
+        def within(low, high, even=False):
+            if even and v % 2:
                 stop(25, v)
-            if not -1048576 <= v <= 1048574:
+            if not low <= v <= high:
                 stop(24, v)
-            put(at, 0xfffff000, (v >> 20 & 1) << 31 | (v >> 1 & 0x3ff) << 21 | (v >> 11 & 1) << 20 | (v >> 12 & 0xff) << 12)
-        elif kind == 24:
-            put(at, 0xfff00000, (v & 0xfff) << 20)
+
+        if v is None:
+            stop(26, 0)
+        if (key, offset) in self.short and kind in CALLS:
+            s = file.sections[i]
+            rd = struct.unpack_from('<I', file.bytes, s.offset + offset + 4)[0] >> 7 & 31
+            kind = JAL if self.short[key, offset] == 4 else RVC_JUMP
+            store(at, WIDTHS[kind], 0x6f | rd << 7 if kind == JAL else 0xa001)
+        upper = [(31, 12, 19)]
+        lower = {PCREL_LO_I: 'I', LO_I: 'I', TPREL_LO_I: 'I', PCREL_LO_S: 'S', LO_S: 'S', TPREL_LO_S: 'S'}
+        if kind in (LONG, *ADDS, *SUBS, *SETS):
+            store(at, width, v)
+        elif kind == WORD:
+            within(-2 ** 31, 2 ** 32 - 1)
+            store(at, 4, v)
+        elif kind == DISTANCE:
+            within(-2 ** 31, 2 ** 31 - 1)
+            store(at, 4, v)
+        elif kind in (SUB6, SET6):
+            fields(at, 1, [(5, 0, 5)], v)
+        elif kind == BRANCH:
+            within(-4096, 4094, True)
+            fields(at, 4, [(31, 31, 12), (30, 25, 10), (11, 8, 4), (7, 7, 11)], v)
+        elif kind == JAL:
+            within(-1048576, 1048574, True)
+            fields(at, 4, [(31, 31, 20), (30, 21, 10), (20, 20, 11), (19, 12, 19)], v)
+        elif kind == RVC_BRANCH:
+            within(-256, 254, True)
+            fields(at, 2, [(12, 12, 8), (11, 10, 4), (6, 5, 7), (4, 3, 2), (2, 2, 5)], v)
+        elif kind == RVC_JUMP:
+            within(-2048, 2046, True)
+            fields(at, 2, [(12, 12, 11), (11, 11, 4), (10, 9, 9), (8, 8, 10), (7, 7, 6), (6, 6, 7), (5, 3, 3), (2, 2, 5)], v)
+        elif kind in lower:
+            fields(at, 4, [(31, 20, 11)] if lower[kind] == 'I' else [(31, 25, 11), (11, 7, 4)], v)
         else:
-            if not -2 ** 31 - 0x800 <= v <= 2 ** 31 - 0x801:
-                stop(24, v)
-            put(at, 0xfffff000, (v + 0x800 >> 12 & 0xfffff) << 12)
+            within(-2 ** 31 - 0x800, 2 ** 31 - 0x801)
+            fields(at, 4, upper, v + 0x800 >> 12)
             if kind in CALLS:
-                put(at + 4, 0xfff00000, (v & 0xfff) << 20)
+                fields(at + 4, 4, [(31, 20, 11)], v)
 
 
 def main():
-    out, entry, gc, names = 'a.out', '_start', False, []
+    out, entry, gc, icf, relax, names = 'a.out', '_start', False, False, True, []
     words = iter(sys.argv[1:])
     for word in words:
         if word == '-o':
@@ -648,6 +1052,10 @@ def main():
             next(words)
         elif word == '--gc-sections':
             gc = True
+        elif word == '--icf':
+            icf = next(words) == 'all'
+        elif word == '--no-relax':
+            relax = False
         elif word != '-s':
             names.append(word)
     inputs = []
@@ -658,7 +1066,7 @@ def main():
         except OSError:
             print('rvld: cannot read ' + escaped(name.encode()), file=sys.stderr)
             return 3
-    status, found = link(inputs, entry.encode(), gc)
+    status, found = link(inputs, entry.encode(), gc, icf, relax)
     if status:
         print(found, file=sys.stderr)
     else:

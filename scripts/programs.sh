@@ -9,7 +9,6 @@ begin "$@"
 
 # made NAME STATUS OBJECT..: linked, it must run so
 made() {
-    only_known "${@:3}" || return
     links "$1.out" "${@:3}" || return
     complaint=$(riscv64-linux-gnu-readelf -hlS "$1.out" 2>&1 >/dev/null)
     [ -z "$complaint" ] || { say "$1: readelf: $complaint"; return; }
@@ -29,12 +28,17 @@ if there "the program in assembly" riscv64-linux-gnu-as; then
 fi
 
 there "the programs in C" clang || end
-if clang --target=riscv64-unknown-elf -march=rv64g -mno-relax -c -o words.o "$sources/words.s"; then
-    made words 7 words.o
-else
-    say "words.s is not assembled by clang"
-fi
-if compile squares.o "$sources/squares.c"; then made squares 29 squares.o; else say "squares.c is not compiled"; fi
+for option in -mrelax -mno-relax; do
+    if clang --target=riscv64-unknown-elf -march=rv64g $option -c -o words.o "$sources/words.s"; then
+        made words 7 words.o
+    else
+        say "words.s is not assembled by clang"
+    fi
+done
+for options in "" "-mno-relax" "-fpic" "-mcmodel=medlow" "-O0" "-O2" "-Os" "-O2 -ffunction-sections -fdata-sections" "-O3"; do
+    # shellcheck disable=SC2086
+    if compile squares.o "$sources/squares.c" $options; then made squares 29 squares.o; else say "squares.c is not compiled $options"; fi
+done
 
 objects=()
 for source in "$sources"/many/*.c; do
@@ -43,7 +47,6 @@ for source in "$sources"/many/*.c; do
     # every other file has a section for each function and each datum
     [ $((${#objects[@]} % 2)) = 0 ] || options=(-ffunction-sections -fdata-sections)
     compile "$object" "$source" "${options[@]}" || { say "$source is not compiled"; end; }
-    only_known "$object" || end
     objects+=("$object")
 done
 files=()
@@ -62,6 +65,22 @@ for seed in $(seq 1 20); do
             same many-1.out "many-$threads.out" "order $seed"
         fi
     done
+done
+
+# with what nothing asks for dropped, equal functions folded, calls as they are, and code that may stand anywhere
+for words in --gc-sections "--icf all" "--gc-sections --icf all" --no-relax; do
+    # shellcheck disable=SC2206
+    words=($words)
+    links less.out "${words[@]}" "${files[@]}" && runs less.out 86 "$sources/many.said" && pass
+done
+for options in "-fpic" "-O0" "-O2 -mcmodel=medlow" "-Os -mno-relax"; do
+    others=()
+    for object in "${files[@]}"; do
+        # shellcheck disable=SC2086
+        compile "other-$object" "$sources/many/${object%.o}.c" $options || say "$object is not compiled $options"
+        others+=("other-$object")
+    done
+    links other.out "${others[@]}" && runs other.out 86 "$sources/many.said" && pass
 done
 
 # a weak name that is defined after all, and a weak definition without a strong one

@@ -3,21 +3,21 @@ use Rattle.std.proofs.Common.{◌≡◌, ◌+◌, ◌<◌, ◌^◌, length, map,
 use Rattle.std.proofs.lemmas.List.{length-map}
 use Rattle.lk_base.specs.declared.abi.TheConstants.{IMAGE_BASE}
 use Rattle.link_sections.specs.declared.views.View.{View}
-use Rattle.link_sections.specs.LaidOut.{layout_view, output_view}
+use Rattle.link_sections.specs.LaidOut.{layout_view, output_view, with_contents}
 use Rattle.link_sections.specs.Views.{laid_in}
 use Rattle.elf_out.specs.Headers.{section_names, segments}
 
 -- they are those of the layout
 pub outputs_are : (v : View) → (laid_in v).outputs ≡ map output_view v.layout.now.outputs.items
-unfolding layout_view
+unfolding layout_view with_contents
 outputs_are v = refl
 
 pub bounds_are : (v : View) → (laid_in v).bounds ≡ v.layout.now.bounds
-unfolding layout_view
+unfolding layout_view with_contents
 bounds_are v = refl
 
 pub count_is : (v : View) → length (laid_in v).outputs ≡ length v.layout.now.outputs.items
-unfolding layout_view
+unfolding layout_view with_contents
 count_is v = length-map v.layout.now.outputs.items output_view
 
 -- 16 bits count the section headers
@@ -26,7 +26,7 @@ few_outputs v = omega (arith, v.sound.few, count_is v)
 
 -- 31 bits hold the file offset of each byte of a section
 pub low_end : (v : View) → v.layout.now.bounds.file_end < IMAGE_BASE + 2 ^ 31
-unfolding layout_view
+unfolding layout_view with_contents
 low_end v = v.sound.small
 
 pub segments_are : (v : View) → length (segments (laid_in v).bounds) ≡ length (segments v.layout.now.bounds)

@@ -13,6 +13,7 @@ use Rattle.lk_tables.specs.Files.{File}
 use Rattle.link_sections.specs.declared.members.Content.{Content}
 use Rattle.link_sections.specs.declared.members.Content.TheVariants.{Section, Pool, Got}
 use Rattle.link_sections.specs.declared.members.Member.{Member}
+use Rattle.link_sections.specs.Addresses.{no_pool}
 use Rattle.link_sections.specs.InputSections.{input_at}
 use Rattle.link_sections.specs.LaidOut.{LaidOut, start_at}
 use Rattle.link_sections.specs.Sound.{IsSectionMember, IsSound, is_section}
@@ -23,7 +24,7 @@ use Rattle.elf_out.proofs.Laying.{image_byte, image_length, over_append}
 use Rattle.reloc_apply.proofs.LaidFacts.{any_at}
 use Rattle.reloc_apply.specs.Founds.{no_member}
 use Rattle.reloc_apply.specs.Image.{Piece, byte_over, image, over, piece}
-use Rattle.reloc_apply.specs.Relocated.{has_bits, member_pieces, relocated_pieces, section_bytes, written_in, written_pieces}
+use Rattle.reloc_apply.specs.Relocated.{content_pieces, has_bits, member_pieces, placed_pieces, pool_pieces, relocated_pieces, section_bytes}
 
 -- each member ends before the next one starts
 abbrev pub AreInOrder : List Member → Type 0
@@ -56,27 +57,49 @@ before_piece at bytes u place lt = grind (arith, nat_tests)
 in_piece : (at : ℕ) (bytes : List ℕ) (u place : ℕ) → at ≤ place → place < at + length bytes → over (piece at bytes) u place ≡ slice_index bytes (place - at)
 in_piece at bytes u place le lt = grind (arith, nat_tests)
 
+-- pieces that start at an offset or after it write nothing before it
+abbrev pub StartFrom : (x : ℕ) → List Piece → Type 0
+StartFrom x [] = Unit {0}
+StartFrom x (p ∷ ps) = (x ≤ p.at) × StartFrom x ps
+
+silent_pieces : (x place u : ℕ) (ps : List Piece) → StartFrom x ps → place < x → byte_over u ps place ≡ u
+silent_pieces x place u [] from lt = refl
+silent_pieces x place u (p ∷ ps) from lt =
+    let own : x ≤ p.at = from.0 in
+    ap (λ v. byte_over v ps place) (before_piece p.at p.bytes u place (omega (arith, own, lt))) ∙ silent_pieces x place u ps from.1 lt
+
 module _ (files : List File) (b : Bindings) (leaders : List (Option ℕ)) (laid : LaidOut) where
   abbrev pub pieces_by : Member → List Piece
   pieces_by m = member_pieces files b leaders laid m
 
-  -- members that start after a place write nothing there
-  silent_option : (start place u : ℕ) (o : Option ℕ) → place < start - IMAGE_BASE
-      → byte_over u (written_pieces files b leaders laid start o) place ≡ u
-  silent_option start place u None lt = refl
-  silent_option start place u (Some n) lt = before_piece (start - IMAGE_BASE) (section_bytes files b leaders laid n) u place lt
+  -- what a member has starts where it does or later
+  placed_from : (at : ℕ) (positions : List ℕ) (texts : List (List ℕ)) → StartFrom at (placed_pieces files b leaders laid at positions texts)
+  placed_from at [] texts = tt
+  placed_from at (position ∷ positions) [] = tt
+  placed_from at (position ∷ positions) (text ∷ texts) = (omega arith, placed_from at positions texts)
 
-  silent_member : (m : Member) (place u : ℕ) → place < m.start - IMAGE_BASE → byte_over u (pieces_by m) place ≡ u
+  section_from : (at : ℕ) (bytes : List ℕ) (bits : Bool) → StartFrom at (if bits then piece at bytes ∷ [] else [])
+  section_from at bytes true = (omega arith, tt)
+  section_from at bytes false = tt
+
+  content_from : (at : ℕ) (c : Content) → StartFrom at (content_pieces files b leaders laid at c)
+  unfolding content_pieces pool_pieces
+  content_from at (Section n) = section_from at (section_bytes files b leaders laid n) (has_bits files b leaders laid n)
+  content_from at (Pool p) = placed_from at (slice_index_or laid.merging.pools p no_pool).positions (slice_index_or laid.merging.pools p no_pool).pieces
+  content_from at Got = (omega arith, tt)
+
+  member_from : (m : Member) → StartFrom (m.start - IMAGE_BASE) (pieces_by m)
   unfolding member_pieces
-  silent_member m place u lt = silent_option m.start place u (written_in files b leaders laid m.content) lt
+  member_from m = content_from (m.start - IMAGE_BASE) m.content
 
+  -- members that start after a place write nothing there
   silent : (ms : List Member) (end place u : ℕ) → All (λ m. end ≤ m.start) ms → place < end - IMAGE_BASE
       → byte_over u (flat_map pieces_by ms) place ≡ u
   silent [] end place u all lt = refl
   silent (m ∷ ms) end place u all lt =
       let own : end ≤ m.start = All-head (λ (k : Member). end ≤ k.start) m ms all in
       over_append u place (pieces_by m) (flat_map pieces_by ms)
-      ∙ ap (λ v. byte_over v (flat_map pieces_by ms) place) (silent_member m place u (omega (arith, own, lt)))
+      ∙ ap (λ v. byte_over v (flat_map pieces_by ms) place) (silent_pieces (m.start - IMAGE_BASE) place u (pieces_by m) (member_from m) (omega (arith, own, lt)))
       ∙ silent ms end place u (All-tail (λ (k : Member). end ≤ k.start) m ms all) lt
 
   -- the bytes of a member are as many as it has
@@ -89,16 +112,12 @@ module _ (files : List File) (b : Bindings) (leaders : List (Option ℕ)) (laid 
       → m.start - IMAGE_BASE ≤ place → place < m.start - IMAGE_BASE + m.size
       → byte_over u (flat_map pieces_by ms) place ≡ slice_index (section_bytes files b leaders laid n) (place - (m.start - IMAGE_BASE))
 
-  written : (n : ℕ) (test : Bool) → test ≡ true → (if test then Some n else None) ≡ Some n
-  written n true is = refl
-  written n false is = let no : ⊥ = cc in absurd no
-
   pieces_are : (m : Member) (n : ℕ) → m.content ≡ Section n → has_bits files b leaders laid n ≡ true
       → pieces_by m ≡ piece (m.start - IMAGE_BASE) (section_bytes files b leaders laid n) ∷ []
-  unfolding member_pieces
+  unfolding member_pieces content_pieces
   pieces_are m n is bits =
-      ap (λ c. written_pieces files b leaders laid m.start (written_in files b leaders laid c)) is
-      ∙ ap (written_pieces files b leaders laid m.start) (written n (has_bits files b leaders laid n) bits)
+      let at = m.start - IMAGE_BASE in
+      ap (content_pieces files b leaders laid at) is ∙ ap (λ t. if t then piece at (section_bytes files b leaders laid n) ∷ [] else []) bits
 
   first_shown : (m : Member) (ms : List Member) → IMAGE_BASE ≤ m.start → AreInOrder (m ∷ ms) → IsSized m → IsShown (m ∷ ms) m
   first_shown m ms low order sized = λ n is bits u place le lt.

@@ -43,7 +43,7 @@ module _ (laid : LaidOut) where
 module _ (files : List File) (b : Bindings) (leaders : List (Option ℕ)) (laid : LaidOut) where
   -- the address at which it starts
   unfoldable pub entry_address : ℕ
-  entry_address = bits_of (pos (address_of leaders laid (entry_bound files b)))
+  entry_address = bits_of (pos (address_of files b leaders laid (entry_bound files b)))
 
   -- the file header and the program headers
   unfoldable pub headers : List ℕ

@@ -26,7 +26,7 @@ pub struct Ends {
 }
 
 /// Those of an executable; out of memory if no memory holds its names.
-#[tactic(auto, unfolding(crate::specs::Executable::file_length, link_sections::specs::LaidOut::layout_view))]
+#[tactic(auto, unfolding(crate::specs::Executable::file_length, link_sections::specs::LaidOut::layout_view, link_sections::specs::LaidOut::with_contents))]
 pub fn ends_of(view: &View) -> Result<Ends, AllocError>
     ensures { IfOk result (λ ends. AreEnds (laid_in view.now) ends) }
 {

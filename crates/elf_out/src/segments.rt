@@ -10,8 +10,8 @@ use crate::flags::kept_flags;
 use crate::header_bytes::{ProgramHeader, offset_of, push_file_header, push_program_header};
 use link_sections::{Bounds, View};
 use lk_base::abi::{IMAGE_BASE, PAGE, PF_R, PF_W, PF_X, PT_GNU_STACK, PT_LOAD, PT_TLS};
-use reloc_apply::entry_address;
 use std::alloc::{AllocError, Global};
+use symbol_addresses::entry_address;
 
 /// The stack is read and written.
 const STACK: ProgramHeader = ProgramHeader {

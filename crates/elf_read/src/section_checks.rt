@@ -8,11 +8,11 @@ use crate::header::{flaw, reject};
 use crate::sound_file::SoundFile;
 use lk_base::Flaw;
 use lk_base::abi::{
-    ALIGN_MAX, NOBITS_MAX, SHF_COMPRESSED, SHF_EXECINSTR, SHF_LINK_ORDER, SHF_MERGE, SHF_TLS,
-    SHF_WRITE, SHT_NOBITS, SHT_REL,
+    ALIGN_MAX, NOBITS_MAX, SHF_COMPRESSED, SHF_EXECINSTR, SHF_LINK_ORDER, SHF_WRITE, SHT_NOBITS,
+    SHT_REL,
 };
 use lk_base::kinds::{BAD_ALIGNMENT, BAD_SECTION, COMPRESSED, LIMIT};
-use lk_tables::{Section, is_loaded, is_loaded_type, is_written};
+use lk_tables::{Section, is_loaded, is_loaded_type};
 
 /// The checks of a section by itself.
 #[tactic(auto, unfolding(lk_tables::specs::Bodies::plain_checks))]
@@ -29,7 +29,7 @@ pub fn check_plain(file: &SoundFile, index: u32, section: &Section) -> Result<()
     )?;
     reject(section.sh_type == SHT_REL, flaw(BAD_SECTION, index, place))?;
     reject(
-        loaded && (is_bad_loaded(count, section) || is_unlinked(file.bytes, section)),
+        loaded && is_bad_loaded(count, section),
         flaw(BAD_SECTION, index, place),
     )?;
     reject(
@@ -58,12 +58,4 @@ fn is_bad_loaded(count: usize, section: &Section) -> bool
     !is_loaded_type(section.sh_type)
         || (section.flags & SHF_WRITE != 0 && section.flags & SHF_EXECINSTR != 0)
         || (section.flags & SHF_LINK_ORDER != 0 && count <= section.link as usize)
-}
-
-/// Whether a written section has a flag that is not linked yet.
-#[tactic(auto, unfolding(lk_tables::specs::Bodies::is_unlinked))]
-fn is_unlinked(bytes: &[u8], section: &Section) -> bool
-    ensures { result ≡ read.is_unlinked bytes.now section.now }
-{
-    is_written(bytes, section) && (section.flags & SHF_MERGE != 0 || section.flags & SHF_TLS != 0)
 }

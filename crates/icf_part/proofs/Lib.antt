@@ -1,12 +1,15 @@
 pub mod Collected
+pub mod Deciding
 pub mod Paired
 pub mod Rows
 pub mod RowSteps
 pub mod SectionPlaces
+pub mod Sublists
 pub mod NumberedRows
 pub mod Targets
 pub mod Relocs
 pub mod InOrder
+pub mod LeadersOf
 pub mod Loop
 pub mod Measure
 pub mod Refined

@@ -8,7 +8,7 @@ use Rattle.std.proofs.lemmas.List.Elements.{All-contains, Contains-append_left, 
 use Rattle.std.proofs.lemmas.List.FromFn.{length-range_with_len, get_or-range_with_len}
 use Rattle.icf_part.specs.Folding.{Pair, pair, fellows, classes}
 
-in_tail : {X : Type 0} (x y : X) (xs : List X) → Contains xs y → Contains (x ∷ xs) y
+pub in_tail : {X : Type 0} (x y : X) (xs : List X) → Contains xs y → Contains (x ∷ xs) y
 in_tail x y xs has = Contains-append_right (x ∷ []) xs y has
 
 pub head_or_tail : {X : Type 0} (x y : X) (xs : List X) → Contains (x ∷ xs) y → (x ≡ y) ⊎ Contains xs y
@@ -39,7 +39,7 @@ cond_in : {X : Type 0} (b : Bool) (x y : X) (xs : List X) → Contains xs y → 
 cond_in true x y xs has = in_tail x y xs has
 cond_in false x y xs has = has
 
-in_filter : {X : Type 0} (p : X → Bool) (xs : List X) (x : X) → Contains xs x → p x ≡ true → Contains (filter p xs) x
+pub in_filter : {X : Type 0} (p : X → Bool) (xs : List X) (x : X) → Contains xs x → p x ≡ true → Contains (filter p xs) x
 in_filter p [] x (k, lt, is) passes = absurd (omega arith)
 in_filter p (y ∷ xs) x has passes = ⊎_elim
     (λ (here : y ≡ x). in_cond (p y) y x (filter p xs) (filter p xs) (ap p here ∙ passes) here)
@@ -57,7 +57,7 @@ from_filter p (y ∷ xs) x has = ⊎_elim
     (λ (later : Contains (filter p xs) x). in_tail y x xs (from_filter p xs x later))
     (head_or_tail y x (filter p xs) (cond_from (p y) y x (filter p xs) has))
 
-in_flat : {X Y : Type 0} (h : X → List Y) (xs : List X) (x : X) (y : Y) → Contains xs x → Contains (h x) y → Contains (flat_map h xs) y
+pub in_flat : {X Y : Type 0} (h : X → List Y) (xs : List X) (x : X) (y : Y) → Contains xs x → Contains (h x) y → Contains (flat_map h xs) y
 in_flat h [] x y (k, lt, is) has = absurd (omega arith)
 in_flat {X} {Y} h (z ∷ xs) x y at has = ⊎_elim
     (λ (here : z ≡ x). let P : X → Type 0 = λ u. Contains (h u) y in Contains-append_left (h z) (flat_map h xs) y (subst P (sym here) has))
@@ -76,10 +76,10 @@ from_flat h (x ∷ xs) y has = ⊎_elim
     (λ (later : Contains (flat_map h xs) y). let rest = from_flat h xs y later in record { x = rest.x; listed = in_tail x rest.x xs rest.listed; part = rest.part })
     (Contains-append_cases (h x) (flat_map h xs) y has)
 
-in_range : (n a : ℕ) → a < n → Contains (range_with_len 0 n) a
+pub in_range : (n a : ℕ) → a < n → Contains (range_with_len 0 n) a
 in_range n a lt = let is = get_or-range_with_len 0 n a a lt in (a, omega (arith, lt, length-range_with_len 0 n), omega (arith, is))
 
-from_range : (n a : ℕ) → Contains (range_with_len 0 n) a → a < n
+pub from_range : (n a : ℕ) → Contains (range_with_len 0 n) a → a < n
 from_range n a (k, lt, is) =
     let less : k < n = omega (arith, lt, length-range_with_len 0 n) in
     let at = get_or-range_with_len 0 n k a less in omega (arith, at, is, less)

@@ -4,9 +4,10 @@ use Rattle.std.specs.List.Sorted.{IsStrictlyIncreasing}
 use Rattle.std.proofs.lemmas.List.{get_or-map, length-map}
 use Rattle.link_sections.specs.FoldItems.{FoldItem, sections_of}
 use Rattle.name_numbers.specs.Texts.{text_at, text_numbers}
-use Rattle.icf_part.specs.Folding.{AreFolded, AreLeaders, HoldsAll, IsCongruence, Key, Pair, Site, classes, item_at, key_of, no_item, no_reloc, pair, site_of}
+use Rattle.icf_part.specs.Folding.{AreFolded, AreLeaders, HoldsAll, IsCongruence, Key, Pair, classes, item_at, key_of, no_item, no_reloc, pair, site_of}
 use Rattle.icf_part.specs.Numbered.{AreFirsts, IsNumbering, IsRefining, IsStable, shape}
 use Rattle.icf_part.specs.Signatures.{all_places, bytes_of, output_of, places, reloc_places, reloc_words, round_words, shape_words}
+use Rattle.icf_part.proofs.Deciding.{key_from}
 use Rattle.icf_part.proofs.NumberedRows.{numbers_same, numbers_tell}
 use Rattle.icf_part.proofs.Paired.{classes_have, classes_tell}
 use Rattle.icf_part.proofs.Relocs.{along, alike, same_words, spread}
@@ -109,18 +110,6 @@ module _ (items : List FoldItem) where
     outer = λ pairs a b congr has. is.same a b (inside pairs congr a b has).0 (inside pairs congr a b has).1 (rounds_fit order c r.outer pairs congr a b has);
   }
 
-  -- a key from its parts
-  key_from : (i j : FoldItem) → i.bytes ≡ j.bytes → i.flags ≡ j.flags → i.sh_type ≡ j.sh_type → i.align ≡ j.align → i.output ≡ j.output →
-      map site_of i.relocs ≡ map site_of j.relocs → key_of i ≡ key_of j
-  key_from i j bytes flags kind align output sites =
-      let make : List ℕ → ℕ → ℕ → ℕ → List ℕ → List Site → Key = λ b f t n o s. record { bytes = b; flags = f; sh_type = t; align = n; output = o; sites = s } in
-      ap (λ b. make b i.flags i.sh_type i.align i.output (map site_of i.relocs)) bytes
-      ∙ ap (λ f. make j.bytes f i.sh_type i.align i.output (map site_of i.relocs)) flags
-      ∙ ap (λ t. make j.bytes j.flags t i.align i.output (map site_of i.relocs)) kind
-      ∙ ap (λ n. make j.bytes j.flags j.sh_type n i.output (map site_of i.relocs)) align
-      ∙ ap (λ o. make j.bytes j.flags j.sh_type j.align o (map site_of i.relocs)) output
-      ∙ ap (make j.bytes j.flags j.sh_type j.align j.output) sites
-
   -- classes that no round splits are a congruence
   pub stable_fits : (c : List ℕ) → IsRefining items c → IsStable (round_words c (all_places items)) (length items) c → IsCongruence items (classes c)
   unfolding shape_words class_words
@@ -140,7 +129,7 @@ module _ (items : List FoldItem) where
         record {
           one = la;
           two = lb;
-          key = key_from i j (one_text bytes_of items a b la lb (ap (λ l. get_or l 0 0) same)) (ap (λ l. get_or l 2 0) same) (ap (λ l. get_or l 3 0) same)
+          key = key_from (key_of i) (key_of j) (one_text bytes_of items a b la lb (ap (λ l. get_or l 0 0) same)) (ap (λ l. get_or l 2 0) same) (ap (λ l. get_or l 3 0) same)
               (ap (λ l. get_or l 4 0) same) (one_text output_of items a b la lb (ap (λ l. get_or l 1 0) same)) both.sites;
           targets = λ k lt. agrees_matched items c wide (get_or i.relocs k no_reloc).target (get_or j.relocs k no_reloc).target (both.targets k lt);
         };

@@ -1,3 +1,4 @@
 pub mod Folding
+pub mod Leaders
 pub mod Numbered
 pub mod Signatures

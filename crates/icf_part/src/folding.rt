@@ -1,9 +1,10 @@
 //! The leaders of all items.
 
-ghost use Rattle.std.specs.Prelude.{◌≡◌, ◌<◌, ◌≤◌, ◌^◌, length, IfOk};
+ghost use Rattle.std.specs.Prelude.{◌≡◌, ℕ, ◌<◌, ◌≤◌, ◌^◌, All, length, slice_index, IfOk};
 ghost use Rattle.std.specs.List.Sorted.{IsStrictlyIncreasing};
 ghost use Rattle.link_sections.specs.FoldItems.{item_views, sections_of};
 ghost use Rattle.icf_part.specs.Folding.{AreLeaders, HoldsAll, IsCongruence, classes};
+ghost use Rattle.icf_part.specs.Leaders.{leaders_of};
 
 use crate::numbering::{number_contents, number_outputs, number_rows};
 use crate::places::{all_places, sections_of};
@@ -28,9 +29,13 @@ pub fn fold<R: Threads + Sync, G: Gate>(
     requires most { workers ≤ 64 }
     requires order { IsStrictlyIncreasing (sections_of (item_views items.now)) }
     requires few { length items.now < 2 ^ 31 }
+    ensures value { IfOk result (λ l. l.items ≡ leaders_of (item_views items.now)) }
     ensures leaders { IfOk result (λ l. AreLeaders (item_views items.now) l.items) }
     ensures congruence { IfOk result (λ l. IsCongruence (item_views items.now) (classes l.items)) }
     ensures greatest { IfOk result (λ l. HoldsAll (item_views items.now) l.items) }
+    ensures places { IfOk result (λ l. All (λ p. p < length items.now) l.items) }
+    ensures own { IfOk result (λ l. (a : ℕ) → slice_index l.items (slice_index l.items a) ≡ slice_index l.items a) }
+    ensures least { IfOk result (λ l. (a : ℕ) → slice_index l.items a ≤ a) }
 {
     let sections = sections_of(alloc, items)?;
     let ends = all_places(alloc, items, sections.as_slice())?;

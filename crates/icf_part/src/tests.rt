@@ -1,6 +1,6 @@
 //! The leaders of items, the same by one worker, by two and by 64.
 
-ghost use Rattle.std.specs.Prelude.{◌≡◌, ◌+◌, ◌<◌, ◌^◌, length, OnOk};
+ghost use Rattle.std.specs.Prelude.{◌≡◌, ◌+◌, ◌<◌, ◌≤◌, ◌^◌, length, OnOk};
 ghost use Rattle.std.specs.List.{range_with_len};
 ghost use Rattle.link_sections.specs.FoldItems.{item_views, sections_of};
 
@@ -49,7 +49,23 @@ fn add<'a>(
     Ok(())
 }
 
-/// Whether items have these leaders, by one worker, by two and by 64.
+/// Whether so many workers find these leaders.
+fn leads_by<R: Threads + Sync>(
+    rt: &R,
+    alloc: Global,
+    items: &[FoldItem],
+    leaders: &[u32],
+    workers: u32,
+) -> Result<bool, AllocError>
+    requires some { 1 ≤ workers }
+    requires most { workers ≤ 64 }
+    requires few { length items.now < 2 ^ 31 }
+    requires numbered { sections_of (item_views items.now) ≡ range_with_len 0 (length items.now) }
+{
+    Ok(fold(rt, alloc, items, workers, &OpenGate)?.as_slice() == leaders)
+}
+
+/// Whether one worker, two and 64 find these leaders.
 fn leads<R: Threads + Sync>(
     rt: &R,
     alloc: Global,
@@ -60,9 +76,9 @@ fn leads<R: Threads + Sync>(
     requires numbered { sections_of (item_views items.now) ≡ range_with_len 0 (length items.now) }
 {
     Ok(
-        fold(rt, alloc, items, 1, &OpenGate)?.as_slice() == leaders
-            && fold(rt, alloc, items, 2, &OpenGate)?.as_slice() == leaders
-            && fold(rt, alloc, items, 64, &OpenGate)?.as_slice() == leaders,
+        leads_by(rt, alloc, items, leaders, 1)?
+            && leads_by(rt, alloc, items, leaders, 2)?
+            && leads_by(rt, alloc, items, leaders, 64)?,
     )
 }
 
@@ -90,18 +106,18 @@ fn a_function_that_calls_itself(rt: HostRuntime) -> Result<(), Fail> {
     Ok(())
 }
 
-// Each of a hundred functions calls the next, and the last one a function of other bytes: no two are one.
+// Each of a thousand functions calls the next one, and the last has other bytes: no two are one.
 #[test]
 fn a_chain_is_not_folded(rt: HostRuntime) -> Result<(), Fail> {
     let alloc = rt.alloc();
     let mut items = Vec::new(alloc);
     let mut leaders = Vec::new(alloc);
-    for n in 0..100u32 {
+    for n in 0..999u32 {
         add(&mut items, alloc, b"f", n + 1)?;
         leaders.push(n)?;
     }
-    add(&mut items, alloc, b"end", 100)?;
-    leaders.push(100)?;
-    assert!(rt; leads(&rt, alloc, items.as_slice(), leaders.as_slice())?);
+    add(&mut items, alloc, b"end", 999)?;
+    leaders.push(999)?;
+    assert!(rt; leads_by(&rt, alloc, items.as_slice(), leaders.as_slice(), 2)?);
     Ok(())
 }

@@ -11,11 +11,11 @@ use Rattle.layout.specs.declared.order.Row.{Row}
 use Rattle.layout.specs.declared.walk.Cursor.{Cursor}
 use Rattle.layout.specs.Layout.{last_end, tls_cursor}
 use Rattle.layout.specs.Order.{Orders}
-use Rattle.layout.specs.Spots.{AreRising}
+use Rattle.layout.specs.Spots.{AreInOrder, AreRising}
 use Rattle.layout.specs.Walk.{after, cursor_at, end_along, is_empty, members_along, members_in, runs}
 use Rattle.layout.proofs.Chain.{AreBounds}
 use Rattle.layout.proofs.Cursors.{RowFits}
-use Rattle.layout.proofs.Members.{InOrder, Within, both_along, order_along}
+use Rattle.layout.proofs.Members.{Within, both_along, order_along}
 use Rattle.layout.proofs.Rising.{AllFit, tls_most}
 use Rattle.layout.proofs.Runs.{EachRun, each_run}
 use Rattle.layout.proofs.Trails.{all_members}
@@ -86,10 +86,10 @@ members_inside sizes o b fit is up =
     (omega (arith, up.r, up.rx_rounded, up.rx, up.rw_rounded, up.tls_bits)) (λ some. omega (arith, is.bits_end, file, counts.1.1 some)) fit.rw_bits in
     All-append P _ _ r (All-append P _ _ x (All-append P _ _ t w))
 
-pub members_order : (sizes : List (List Cut)) (o : Orders) (b : Bounds) → AllFit sizes o → AreBounds sizes o b → AreRising b → InOrder b.headers_end (all_members sizes o b)
+pub members_order : (sizes : List (List Cut)) (o : Orders) (b : Bounds) → AllFit sizes o → AreBounds sizes o b → AreRising b → AreInOrder b.headers_end (all_members sizes o b)
 members_order sizes o b fit is up =
     let w : List Member = members_along sizes (cursor_at b.tls_bits_end) (runs o.rw_bits) in
-    let chain : InOrder b.headers_end (members_along sizes (cursor_at b.headers_end) (runs o.r)
+    let chain : AreInOrder b.headers_end (members_along sizes (cursor_at b.headers_end) (runs o.r)
     ++ (members_along sizes (cursor_at b.rx_start) (runs o.rx)
     ++ (members_along sizes (tls_cursor sizes o b.rw_start b.tls_align) (runs o.tls_bits)
     ++ (w ++ [])))) =
@@ -100,7 +100,7 @@ members_order sizes o b fit is up =
     (λ _ _. tt)))) in
     rw (append-nil w) at chain
 
-pub order_at : (from : ℕ) (ms : List Member) → InOrder from ms → (i : ℕ) (d : Member) → i + 1 < length ms
+pub order_at : (from : ℕ) (ms : List Member) → AreInOrder from ms → (i : ℕ) (d : Member) → i + 1 < length ms
     → (get_or ms i d).start + (get_or ms i d).size ≤ (get_or ms (i + 1) d).start
 order_at from [] order i d lt = absurd (omega (arith, lt))
 order_at from (m ∷ []) order i d lt = absurd (omega (arith, lt))

@@ -25,7 +25,7 @@ use Rattle.layout.specs.Walk.{stands_view}
 use Rattle.layout.proofs.Chain.{AreBounds, bounds_are}
 use Rattle.layout.proofs.ClassSums.{weight_most}
 use Rattle.layout.proofs.Rising.{AllFit, all_fit, rising}
-use Rattle.layout.proofs.Trails.{starts_low}
+use Rattle.layout.proofs.Trails.{trail_low}
 
 -- what the walk starts with
 pub none_counts : (w : Walked) (sections pools : ℕ) → trail_view w ≡ no_trail sections pools
@@ -47,6 +47,7 @@ pub view_is : (w : Walked) (held : Sizes) (b : Bounds) (leaders : List (Option �
       outputs = w.outputs;
       members = w.members;
       zeros = w.zeros;
+      places = w.extents;
       starts = w.places.starts;
       pools = w.places.pools;
       got = w.places.got;
@@ -85,7 +86,7 @@ unfolding trail_view stands_view
 low_starts w sizes parts o bounds sections pools count apart ready room bounds_is t_is =
     let fit : AllFit sizes o = all_fit sizes sections pools o apart ready in
     let is : AreBounds sizes o bounds = subst (AreBounds sizes o) (sym bounds_is) (bounds_are sizes o) in
-    let low = starts_low sizes parts o bounds sections count fit is (rising sizes o bounds fit room is) in
+    let low = (trail_low sizes parts o bounds sections count fit is (rising sizes o bounds fit room is)).starts in
     let starts : w.places.starts.items ≡ (trail_of sizes parts o bounds (no_trail sections count)).stands.starts = ap (λ (t : Trail). t.stands.starts) t_is in
     rw starts (λ k d lt. omega (arith, low k d lt))
 

@@ -21,11 +21,15 @@ pub mod Sized
 pub mod SizedItems
 pub mod Splitting
 pub mod Trails
+pub mod Zeros
 pub mod Walked
 pub mod Weights
 pub mod Laying
 pub mod Marks
 pub mod RelocsLie
+pub mod OwnCalls
+pub mod LaidHold
+pub mod PoolSizes
 pub mod MemberFacts
 pub mod Listed
 pub mod Inside

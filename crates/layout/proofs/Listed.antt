@@ -1,9 +1,9 @@
--- Each section that leads itself and has bytes in its file is a member.
-use Rattle.std.proofs.Common.{◌≡◌, ◌≢◌, ℕ, zero, suc, ◌+◌, ◌<◌, ◌==◌, ◌&&◌, ◌||◌, not, Bool, true, false, if◌then◌else◌, Option, List, [], ◌∷◌, ◌++◌, flat_map, refl, ap, ◌∙◌, subst, arith}
+-- Each section that leads itself and has bytes in its file is a member, and so are the pools and the table that have bytes.
+use Rattle.std.proofs.Common.{◌≡◌, ◌≢◌, ℕ, zero, suc, ◌+◌, ◌<◌, ◌==◌, ◌&&◌, ◌||◌, not, Bool, true, false, if◌then◌else◌, Option, List, [], ◌∷◌, ◌++◌, flat_map, get_or, length, refl, ap, ◌∙◌, subst, arith}
 use Rattle.std.specs.List.{list_any, range_with_len}
 use Rattle.std.proofs.lemmas.Bool.{and_from, and_parts, eq-eqb, ne_eqb}
 use Rattle.std.proofs.lemmas.List.Folds.{list_any-append}
-use Rattle.lk_base.specs.declared.abi.TheConstants.{SHT_NOBITS}
+use Rattle.lk_base.specs.declared.abi.TheConstants.{SHF_ALLOC, SHF_WRITE, SHT_NOBITS, SHT_PROGBITS}
 use Rattle.lk_base.specs.Arithmetic.{up}
 use Rattle.lk_base.proofs.StableElements.{any_stable}
 use Rattle.lk_tables.specs.Binding.{Bindings}
@@ -13,20 +13,22 @@ use Rattle.lk_tables.specs.OutputNames.{output_name}
 use Rattle.lk_tables.specs.declared.classes.Class.{Class}
 use Rattle.lk_tables.specs.declared.classes.Class.TheVariants.{R, Rx, TlsBits, RwBits}
 use Rattle.link_sections.specs.declared.layouts.Bounds.{Bounds}
-use Rattle.link_sections.specs.declared.members.Content.TheVariants.{Section}
+use Rattle.link_sections.specs.declared.members.Content.{Content}
 use Rattle.link_sections.specs.declared.members.Member.{Member}
 use Rattle.link_sections.specs.declared.pools.Pool.{Pool}
 use Rattle.link_sections.specs.Cuts.{Cut}
 use Rattle.link_sections.specs.InputSections.{InputSection, input_at}
 use Rattle.link_sections.specs.Leaders.{leads}
-use Rattle.link_sections.specs.Sound.{is_listed, is_section}
+use Rattle.link_sections.specs.Pools.{AreRising}
+use Rattle.link_sections.specs.Sound.{is_listed, is_pool, is_section, is_table}
 use Rattle.layout.specs.declared.order.Head.{Head}
 use Rattle.layout.specs.declared.order.Row.{Row}
 use Rattle.layout.specs.declared.walk.Cursor.{Cursor}
-use Rattle.layout.specs.Items.{Item, got_item, items, items_at, own_item, pool_at, section_item}
+use Rattle.layout.specs.Items.{Item, got_item, items, items_at, own_item, pool_at, pool_item, section_item}
 use Rattle.layout.specs.Layout.{tls_cursor}
 use Rattle.layout.specs.Order.{Orders, head_of, is_of, key_of, order_of, orders_of, own_row, row_in, rows_from, rows_of}
 use Rattle.layout.specs.Walk.{after, beside, cursor_at, is_empty, members_along, members_from, members_in, runs, size_at, start_of}
+use Rattle.layout.proofs.NextPool.{pool_here}
 use Rattle.layout.proofs.Trails.{all_members}
 
 or_left : (a b : Bool) → a ≡ true → (a || b) ≡ true
@@ -64,14 +66,7 @@ any_one : {X : Type 0} (t : Bool) (test : X → Bool) (x : X) → t ≡ true →
 any_one true test x is passes = or_left (test x) false passes
 any_one false test x is passes = let none : ⊥ = cc in absurd none
 
--- the item of a section that leads itself
-at_listed : (files : List File) (b : Bindings) (pools : List Pool) (leaders : List (Option ℕ)) (n : ℕ) (test : Item → Bool) → leads leaders n ≡ true
-    → test (section_item n (input_at files b n)) ≡ true → list_any test (items_at files b pools leaders n) ≡ true
-unfolding items_at own_item
-at_listed files b pools leaders n test own passes =
-    let s : InputSection = input_at files b n in
-    any_here test (if leads leaders n then section_item n s ∷ [] else []) (pool_at 0 pools n s) (any_one (leads leaders n) test (section_item n s) own passes)
-
+-- of the items of all sections, by those of one
 flat_listed : (test : Item → Bool) (f : ℕ → List Item) (a len k : ℕ) → k < len → list_any test (f (a + k)) ≡ true
     → list_any test (flat_map f (range_with_len a len)) ≡ true
 flat_listed test f a zero k lt is = absurd (omega (arith, lt))
@@ -83,48 +78,70 @@ flat_listed test f a (suc len) (suc k) lt is =
     any_later test (f a) (flat_map f (range_with_len (a + 1) len))
     (flat_listed test f (a + 1) len k (omega (arith, lt)) (subst (λ m. list_any test (f m) ≡ true) e is))
 
-items_listed : (files : List File) (b : Bindings) (pools : List Pool) (words : ℕ) (leaders : List (Option ℕ)) (n : ℕ) (test : Item → Bool)
-    → n < section_total files → leads leaders n ≡ true → test (section_item n (input_at files b n)) ≡ true
-    → list_any test (items files b pools words leaders) ≡ true
-unfolding items
-items_listed files b pools words leaders n test lt own passes =
-    let e : n ≡ 0 + n = omega arith in
-    any_here test (flat_map (items_at files b pools leaders) (range_with_len 0 (section_total files))) (got_item words ∷ [])
-    (flat_listed test (items_at files b pools leaders) 0 (section_total files) n lt
-    (subst (λ m. list_any test (items_at files b pools leaders m) ≡ true) e (at_listed files b pools leaders n test own passes)))
+module _ (files : List File) (b : Bindings) (pools : List Pool) (words : ℕ) (leaders : List (Option ℕ)) (test : Item → Bool) where
+  at_listed : (n : ℕ) → n < section_total files → list_any test (items_at files b pools leaders n) ≡ true → list_any test (items files b pools words leaders) ≡ true
+  unfolding items
+  at_listed n lt is =
+      let e : n ≡ 0 + n = omega arith in
+      any_here test (flat_map (items_at files b pools leaders) (range_with_len 0 (section_total files))) (got_item words ∷ [])
+      (flat_listed test (items_at files b pools leaders) 0 (section_total files) n lt (subst (λ m. list_any test (items_at files b pools leaders m) ≡ true) e is))
 
--- a row of section n that has bytes, and an item of it in a class
-abbrev row_has : (n : ℕ) → Row → Bool
-row_has n row = is_section n row.content && not (row.size == 0)
+  -- the item of a section that leads itself, of a pool, and of the table
+  section_listed : (n : ℕ) → n < section_total files → leads leaders n ≡ true → test (section_item n (input_at files b n)) ≡ true
+      → list_any test (items files b pools words leaders) ≡ true
+  unfolding items_at own_item
+  section_listed n lt own passes =
+      let s : InputSection = input_at files b n in
+      at_listed n lt (any_here test (if leads leaders n then section_item n s ∷ [] else []) (pool_at 0 pools n s) (any_one (leads leaders n) test (section_item n s) own passes))
 
-abbrev item_has : (n : ℕ) → Class → Item → Bool
-item_has n class item = is_of class item && (is_section n item.content && not (item.size == 0))
+  pool_listed : (p : ℕ) (d : Pool) → p < length pools → AreRising pools → (get_or pools p d).first < section_total files
+      → test (pool_item p (get_or pools p d).size (input_at files b (get_or pools p d).first)) ≡ true → list_any test (items files b pools words leaders) ≡ true
+  unfolding items_at
+  pool_listed p d below rising lt passes =
+      let pool : Pool = get_or pools p d in
+      let n : ℕ = pool.first in
+      let s : InputSection = input_at files b n in
+      let one : pool_at 0 pools n s ≡ pool_item p pool.size s ∷ [] = pool_here pools p d s rising below in
+      at_listed n lt (any_later test (own_item leaders n s) (pool_at 0 pools n s) (rw one (or_left (test (pool_item p pool.size s)) false passes)))
 
-row_same : (n : ℕ) (class : Class) (h : Head) (number : ℕ) (item : Item)
-    → row_has n (row_in class h number item) ≡ (is_section n item.content && not (item.size == 0))
+  table_listed : test (got_item words) ≡ true → list_any test (items files b pools words leaders) ≡ true
+  unfolding items
+  table_listed passes =
+      any_later test (flat_map (items_at files b pools leaders) (range_with_len 0 (section_total files))) (got_item words ∷ [])
+      (or_left (test (got_item words)) false passes)
+
+-- a row that has bytes and passes a test, and an item of it in a class
+abbrev row_has : (test : Content → Bool) → Row → Bool
+row_has test row = test row.content && not (row.size == 0)
+
+abbrev pub item_has : (test : Content → Bool) → Class → Item → Bool
+item_has test class item = is_of class item && (test item.content && not (item.size == 0))
+
+row_same : (test : Content → Bool) (class : Class) (h : Head) (number : ℕ) (item : Item)
+    → row_has test (row_in class h number item) ≡ (test item.content && not (item.size == 0))
 unfolding row_in
-row_same n class h number item = refl
+row_same test class h number item = refl
 
-own_row_listed : (n : ℕ) (class : Class) (heads : List ℕ → Head) (number : ℕ) (item : Item) → item_has n class item ≡ true
-    → list_any (row_has n) (own_row class heads number item) ≡ true
+own_row_listed : (test : Content → Bool) (class : Class) (heads : List ℕ → Head) (number : ℕ) (item : Item) → item_has test class item ≡ true
+    → list_any (row_has test) (own_row class heads number item) ≡ true
 unfolding own_row
-own_row_listed n class heads number item is =
-    let both = and_parts (is_of class item) (is_section n item.content && not (item.size == 0)) is in
+own_row_listed test class heads number item is =
+    let both = and_parts (is_of class item) (test item.content && not (item.size == 0)) is in
     let h : Head = heads (output_name item.name) in
-    any_one (is_of class item) (row_has n) (row_in class h number item) both.0 (row_same n class h number item ∙ both.1)
+    any_one (is_of class item) (row_has test) (row_in class h number item) both.0 (row_same test class h number item ∙ both.1)
 
-rows_listed : (n : ℕ) (class : Class) (heads : List ℕ → Head) (number : ℕ) (list : List Item) → list_any (item_has n class) list ≡ true
-    → list_any (row_has n) (rows_from class heads number list) ≡ true
-rows_listed n class heads number [] is = let none : ⊥ = cc in absurd none
-rows_listed n class heads number (item ∷ list) is =
-    or_cases (list_any (row_has n) (own_row class heads number item ++ rows_from class heads (number + 1) list) ≡ true)
-    (item_has n class item) (list_any (item_has n class) list) is
-    (λ here. any_here (row_has n) (own_row class heads number item) (rows_from class heads (number + 1) list) (own_row_listed n class heads number item here))
-    (λ later. any_later (row_has n) (own_row class heads number item) (rows_from class heads (number + 1) list)
-    (rows_listed n class heads (number + 1) list later))
+rows_listed : (test : Content → Bool) (class : Class) (heads : List ℕ → Head) (number : ℕ) (list : List Item) → list_any (item_has test class) list ≡ true
+    → list_any (row_has test) (rows_from class heads number list) ≡ true
+rows_listed test class heads number [] is = let none : ⊥ = cc in absurd none
+rows_listed test class heads number (item ∷ list) is =
+    or_cases (list_any (row_has test) (own_row class heads number item ++ rows_from class heads (number + 1) list) ≡ true)
+    (item_has test class item) (list_any (item_has test class) list) is
+    (λ here. any_here (row_has test) (own_row class heads number item) (rows_from class heads (number + 1) list) (own_row_listed test class heads number item here))
+    (λ later. any_later (row_has test) (own_row class heads number item) (rows_from class heads (number + 1) list)
+    (rows_listed test class heads (number + 1) list later))
 
-order_listed : (n : ℕ) (class : Class) (list : List Item) → list_any (item_has n class) list ≡ true → list_any (row_has n) (order_of class list) ≡ true
-order_listed n class list is = any_stable (row_has n) key_of (rows_of class list) ∙ rows_listed n class (head_of class list) 0 list is
+order_listed : (test : Content → Bool) (class : Class) (list : List Item) → list_any (item_has test class) list ≡ true → list_any (row_has test) (order_of class list) ≡ true
+order_listed test class list is = any_stable (row_has test) key_of (rows_of class list) ∙ rows_listed test class (head_of class list) 0 list is
 
 -- the runs have the rows
 or_none : (a c : Bool) → ((a || false) || c) ≡ (a || c)
@@ -151,44 +168,48 @@ runs_any test [] = refl
 runs_any test (row ∷ rows) = beside_any test row (runs rows) ∙ ap (λ k. test row || k) (runs_any test rows)
 
 -- an output section with such a row is not empty, and has it as a member
-not_empty : (n : ℕ) (rows : List Row) → list_any (row_has n) rows ≡ true → is_empty rows ≡ false
+not_empty : (test : Content → Bool) (rows : List Row) → list_any (row_has test) rows ≡ true → is_empty rows ≡ false
 unfolding is_empty
-not_empty n [] is = let none : ⊥ = cc in absurd none
-not_empty n (row ∷ rows) is =
-    or_cases (is_empty (row ∷ rows) ≡ false) (row_has n row) (list_any (row_has n) rows) is
-    (λ here. and_left (row.size == 0) (is_empty rows) (not_true (row.size == 0) (and_parts (is_section n row.content) (not (row.size == 0)) here).1))
-    (λ later. and_right (row.size == 0) (is_empty rows) (not_empty n rows later))
+not_empty test [] is = let none : ⊥ = cc in absurd none
+not_empty test (row ∷ rows) is =
+    or_cases (is_empty (row ∷ rows) ≡ false) (row_has test row) (list_any (row_has test) rows) is
+    (λ here. and_left (row.size == 0) (is_empty rows) (not_true (row.size == 0) (and_parts (test row.content) (not (row.size == 0)) here).1))
+    (λ later. and_right (row.size == 0) (is_empty rows) (not_empty test rows later))
 
-from_listed : (n : ℕ) (sizes : List (List Cut)) (c : ℕ) (rows : List Row) → list_any (row_has n) rows ≡ true → is_listed n (members_from sizes c rows) ≡ true
-from_listed n sizes c [] is = let none : ⊥ = cc in absurd none
-from_listed n sizes c (row ∷ rows) is =
+-- one of these members passes it
+abbrev pub has : (test : Content → Bool) → List Member → Bool
+has test members = list_any (λ m. test m.content) members
+
+from_listed : (test : Content → Bool) (sizes : List (List Cut)) (c : ℕ) (rows : List Row) → list_any (row_has test) rows ≡ true → has test (members_from sizes c rows) ≡ true
+from_listed test sizes c [] is = let none : ⊥ = cc in absurd none
+from_listed test sizes c (row ∷ rows) is =
     let at : ℕ = up c row.align in
-    let rest : Bool = is_listed n (members_from sizes (at + size_at sizes at row) rows) in
-    or_cases ((is_section n row.content || rest) ≡ true) (row_has n row) (list_any (row_has n) rows) is
-    (λ here. or_left (is_section n row.content) rest (and_parts (is_section n row.content) (not (row.size == 0)) here).0)
-    (λ later. or_right (is_section n row.content) rest (from_listed n sizes (at + size_at sizes at row) rows later))
+    let rest : Bool = has test (members_from sizes (at + size_at sizes at row) rows) in
+    or_cases ((test row.content || rest) ≡ true) (row_has test row) (list_any (row_has test) rows) is
+    (λ here. or_left (test row.content) rest (and_parts (test row.content) (not (row.size == 0)) here).0)
+    (λ later. or_right (test row.content) rest (from_listed test sizes (at + size_at sizes at row) rows later))
 
-in_listed : (n : ℕ) (sizes : List (List Cut)) (c : Cursor) (rows : List Row) → list_any (row_has n) rows ≡ true → is_listed n (members_in sizes c rows) ≡ true
+in_listed : (test : Content → Bool) (sizes : List (List Cut)) (c : Cursor) (rows : List Row) → list_any (row_has test) rows ≡ true → has test (members_in sizes c rows) ≡ true
 unfolding members_in
-in_listed n sizes c rows is = by (is_empty rows) (not_empty n rows is)
+in_listed test sizes c rows is = by (is_empty rows) (not_empty test rows is)
   where
-    by : (e : Bool) → e ≡ false → is_listed n (if e then [] else members_from sizes (start_of c rows) rows) ≡ true
+    by : (e : Bool) → e ≡ false → has test (if e then [] else members_from sizes (start_of c rows) rows) ≡ true
     by true some = let none : ⊥ = cc in absurd none
-    by false some = from_listed n sizes (start_of c rows) rows is
+    by false some = from_listed test sizes (start_of c rows) rows is
 
-along_listed : (n : ℕ) (sizes : List (List Cut)) (c : Cursor) (os : List (List Row)) → list_any (list_any (row_has n)) os ≡ true
-    → is_listed n (members_along sizes c os) ≡ true
-along_listed n sizes c [] is = let none : ⊥ = cc in absurd none
-along_listed n sizes c (o ∷ os) is =
-    let test : Member → Bool = λ m. is_section n m.content in
-    or_cases (is_listed n (members_in sizes c o ++ members_along sizes (after sizes c o) os) ≡ true)
-    (list_any (row_has n) o) (list_any (list_any (row_has n)) os) is
-    (λ here. any_here test (members_in sizes c o) (members_along sizes (after sizes c o) os) (in_listed n sizes c o here))
-    (λ later. any_later test (members_in sizes c o) (members_along sizes (after sizes c o) os) (along_listed n sizes (after sizes c o) os later))
+along_listed : (test : Content → Bool) (sizes : List (List Cut)) (c : Cursor) (os : List (List Row)) → list_any (list_any (row_has test)) os ≡ true
+    → has test (members_along sizes c os) ≡ true
+along_listed test sizes c [] is = let none : ⊥ = cc in absurd none
+along_listed test sizes c (o ∷ os) is =
+    let of : Member → Bool = λ m. test m.content in
+    or_cases (has test (members_in sizes c o ++ members_along sizes (after sizes c o) os) ≡ true)
+    (list_any (row_has test) o) (list_any (list_any (row_has test)) os) is
+    (λ here. any_here of (members_in sizes c o) (members_along sizes (after sizes c o) os) (in_listed test sizes c o here))
+    (λ later. any_later of (members_in sizes c o) (members_along sizes (after sizes c o) os) (along_listed test sizes (after sizes c o) os later))
 
-class_listed : (n : ℕ) (sizes : List (List Cut)) (c : Cursor) (rows : List Row) → list_any (row_has n) rows ≡ true
-    → is_listed n (members_along sizes c (runs rows)) ≡ true
-class_listed n sizes c rows is = along_listed n sizes c (runs rows) (runs_any (row_has n) rows ∙ is)
+class_listed : (test : Content → Bool) (sizes : List (List Cut)) (c : Cursor) (rows : List Row) → list_any (row_has test) rows ≡ true
+    → has test (members_along sizes c (runs rows)) ≡ true
+class_listed test sizes c rows is = along_listed test sizes c (runs rows) (runs_any (row_has test) rows ∙ is)
 
 -- a section that is not NOBITS is in one of four classes
 by_bits : (P : Type 0) (t w x n : Bool) → n ≡ false → ((not t && not w && not x) ≡ true → P) → ((not t && not w && x) ≡ true → P)
@@ -205,29 +226,56 @@ unfolding is_in
 by_class P sh_type flags bits r rx tls rw_bits =
     by_bits P (is_tls flags) (may_write flags) (may_execute flags) (is_nobits sh_type) (ne_eqb sh_type SHT_NOBITS bits) r rx tls rw_bits
 
-pub all_listed : (files : List File) (b : Bindings) (pools : List Pool) (words : ℕ) (leaders : List (Option ℕ)) (sizes : List (List Cut)) (bounds : Bounds) (n : ℕ)
-    → n < section_total files → leads leaders n ≡ true → (input_at files b n).sh_type ≢ SHT_NOBITS → 0 < (input_at files b n).size
-    → is_listed n (all_members sizes (orders_of (items files b pools words leaders)) bounds) ≡ true
+bits_differ : SHT_PROGBITS ≢ SHT_NOBITS
+bits_differ = λ e. absurd (omega (arith, e))
+
+-- so an item that is not NOBITS and has bytes is a member
+is_member : (test : Content → Bool) (list : List Item) (sizes : List (List Cut)) (bounds : Bounds) (sh_type flags : ℕ) → sh_type ≢ SHT_NOBITS
+    → ((class : Class) → is_in class sh_type flags ≡ true → list_any (item_has test class) list ≡ true) → has test (all_members sizes (orders_of list) bounds) ≡ true
 unfolding orders_of
-all_listed files b pools words leaders sizes bounds n lt own bits some =
-    let list : List Item = items files b pools words leaders in
-    let s : InputSection = input_at files b n in
+is_member test list sizes bounds sh_type flags bits listed =
     let o : Orders = orders_of list in
-    let test : Member → Bool = λ m. is_section n m.content in
-    let long : (s.size == 0) ≡ false = ne_eqb s.size 0 (λ e. absurd (omega (arith, e, some))) in
-    let has : (is_section n (Section n) && not (s.size == 0)) ≡ true = and_from (n == n) (not (s.size == 0)) (eq-eqb n n refl) (ap not long) in
-    let rows : (class : Class) → is_in class s.sh_type s.flags ≡ true → list_any (row_has n) (order_of class list) ≡ true =
-    λ class is. order_listed n class list
-    (items_listed files b pools words leaders n (item_has n class) lt own
-    (and_from (is_in class s.sh_type s.flags) (is_section n (Section n) && not (s.size == 0)) is has)) in
+    let of : Member → Bool = λ m. test m.content in
+    let rows : (class : Class) → is_in class sh_type flags ≡ true → list_any (row_has test) (order_of class list) ≡ true =
+    λ class is. order_listed test class list (listed class is) in
     let r : List Member = members_along sizes (cursor_at bounds.headers_end) (runs o.r) in
     let x : List Member = members_along sizes (cursor_at bounds.rx_start) (runs o.rx) in
     let t : List Member = members_along sizes (tls_cursor sizes o bounds.rw_start bounds.tls_align) (runs o.tls_bits) in
     let w : List Member = members_along sizes (cursor_at bounds.tls_bits_end) (runs o.rw_bits) in
-    by_class (is_listed n (r ++ (x ++ (t ++ w))) ≡ true) s.sh_type s.flags bits
-    (λ is. any_here test r (x ++ (t ++ w)) (class_listed n sizes (cursor_at bounds.headers_end) o.r (rows R is)))
-    (λ is. any_later test r (x ++ (t ++ w)) (any_here test x (t ++ w) (class_listed n sizes (cursor_at bounds.rx_start) o.rx (rows Rx is))))
-    (λ is. any_later test r (x ++ (t ++ w)) (any_later test x (t ++ w)
-    (any_here test t w (class_listed n sizes (tls_cursor sizes o bounds.rw_start bounds.tls_align) o.tls_bits (rows TlsBits is)))))
-    (λ is. any_later test r (x ++ (t ++ w)) (any_later test x (t ++ w)
-    (any_later test t w (class_listed n sizes (cursor_at bounds.tls_bits_end) o.rw_bits (rows RwBits is)))))
+    by_class (has test (r ++ (x ++ (t ++ w))) ≡ true) sh_type flags bits
+    (λ is. any_here of r (x ++ (t ++ w)) (class_listed test sizes (cursor_at bounds.headers_end) o.r (rows R is)))
+    (λ is. any_later of r (x ++ (t ++ w)) (any_here of x (t ++ w) (class_listed test sizes (cursor_at bounds.rx_start) o.rx (rows Rx is))))
+    (λ is. any_later of r (x ++ (t ++ w)) (any_later of x (t ++ w)
+    (any_here of t w (class_listed test sizes (tls_cursor sizes o bounds.rw_start bounds.tls_align) o.tls_bits (rows TlsBits is)))))
+    (λ is. any_later of r (x ++ (t ++ w)) (any_later of x (t ++ w)
+    (any_later of t w (class_listed test sizes (cursor_at bounds.tls_bits_end) o.rw_bits (rows RwBits is)))))
+
+-- an item in its class, that passes and has bytes
+item_passes : (test : Content → Bool) (class : Class) (item : Item) → is_in class item.sh_type item.flags ≡ true → test item.content ≡ true → 0 < item.size
+    → item_has test class item ≡ true
+item_passes test class item is passes some =
+    let long : (item.size == 0) ≡ false = ne_eqb item.size 0 (λ e. absurd (omega (arith, e, some))) in
+    and_from (is_in class item.sh_type item.flags) (test item.content && not (item.size == 0)) is (and_from (test item.content) (not (item.size == 0)) passes (ap not long))
+
+module _ (files : List File) (b : Bindings) (pools : List Pool) (words : ℕ) (leaders : List (Option ℕ)) (sizes : List (List Cut)) (bounds : Bounds) where
+  pub all_listed : (n : ℕ) → n < section_total files → leads leaders n ≡ true → (input_at files b n).sh_type ≢ SHT_NOBITS → 0 < (input_at files b n).size
+      → is_listed n (all_members sizes (orders_of (items files b pools words leaders)) bounds) ≡ true
+  all_listed n lt own bits some =
+      let s : InputSection = input_at files b n in
+      is_member (is_section n) (items files b pools words leaders) sizes bounds s.sh_type s.flags bits
+      (λ class is. section_listed files b pools words leaders (item_has (is_section n) class) n lt own
+      (item_passes (is_section n) class (section_item n s) is (eq-eqb n n refl) some))
+
+  pub pools_listed : (p : ℕ) (d : Pool) → p < length pools → AreRising pools → (get_or pools p d).first < section_total files → 0 < (get_or pools p d).size
+      → has (is_pool p) (all_members sizes (orders_of (items files b pools words leaders)) bounds) ≡ true
+  pools_listed p d below rising lt some =
+      let pool : Pool = get_or pools p d in
+      let s : InputSection = input_at files b pool.first in
+      is_member (is_pool p) (items files b pools words leaders) sizes bounds SHT_PROGBITS s.flags bits_differ
+      (λ class is. pool_listed files b pools words leaders (item_has (is_pool p) class) p d below rising lt
+      (item_passes (is_pool p) class (pool_item p pool.size s) is (eq-eqb p p refl) some))
+
+  pub table_is_listed : 0 < words → has is_table (all_members sizes (orders_of (items files b pools words leaders)) bounds) ≡ true
+  table_is_listed some =
+      is_member is_table (items files b pools words leaders) sizes bounds SHT_PROGBITS (SHF_WRITE + SHF_ALLOC) bits_differ
+      (λ class is. table_listed files b pools words leaders (item_has is_table class) (item_passes is_table class (got_item words) is refl (omega (arith, some))))

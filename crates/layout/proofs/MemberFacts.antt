@@ -1,13 +1,12 @@
--- What is known of each member that is a section.
-use Rattle.std.proofs.Common.{◌≡◌, ℕ, ◌+◌, Bool, true, false, if◌then◌else◌, Option, List, [], ◌∷◌, ◌++◌, get_or, length, refl, ap, sym, ◌∙◌, All}
+-- What is known of each member.
+use Rattle.std.proofs.Common.{◌≡◌, ℕ, ◌+◌, ◌*◌, ◌<◌, Bool, true, false, if◌then◌else◌, Option, List, [], ◌∷◌, ◌++◌, get_or, length, refl, ap, sym, ◌∙◌, All}
 use Rattle.std.proofs.lemmas.List.Elements.{All-nil, All-head, All-tail, All-cons, All-append}
 use Rattle.lk_base.specs.Arithmetic.{up}
 use Rattle.lk_tables.specs.Binding.{Bindings}
 use Rattle.lk_tables.specs.Files.{File}
 use Rattle.lk_tables.specs.declared.classes.Class.{Class}
-use Rattle.lk_tables.specs.declared.classes.Class.TheVariants.{R, Rx, TlsBits, TlsNobits, RwBits, RwNobits}
 use Rattle.link_sections.specs.declared.layouts.Bounds.{Bounds}
-use Rattle.link_sections.specs.declared.members.Content.TheVariants.{Section}
+use Rattle.link_sections.specs.declared.members.Content.TheVariants.{Section, Pool as IsPool, Got}
 use Rattle.link_sections.specs.declared.members.Member.{Member}
 use Rattle.link_sections.specs.declared.pools.Pool.{Pool}
 use Rattle.link_sections.specs.Cuts.{Cut, new_offset}
@@ -21,91 +20,79 @@ use Rattle.layout.specs.Items.{Item, items}
 use Rattle.layout.specs.Layout.{after_tls_bits, tls_cursor}
 use Rattle.layout.specs.Order.{Orders, orders_of, row_in}
 use Rattle.layout.specs.Walk.{after, cursor_at, is_empty, member_at, members_along, members_from, members_in, members_still, runs, size_at, stands_along, stands_in, start_of}
-use Rattle.layout.proofs.ClassSums.{all_order}
-use Rattle.layout.proofs.ItemFacts.{IsOfLink, items_are}
-use Rattle.layout.proofs.PlacedMembers.{size_of_section}
+use Rattle.layout.proofs.ItemFacts.{EachClass, IsOf, IsOfLink, each_class, items_are}
+use Rattle.layout.proofs.PlacedMembers.{size_of_section, size_plain}
 use Rattle.layout.proofs.Runs.{EachRun, each_run}
 use Rattle.layout.proofs.Trails.{all_members, all_stands}
 
--- the same of the rows of each class
-pub record EachClass (P : Row → Type 0) (o : Orders) : Type 0 where
-  pub r : All P o.r
-  pub rx : All P o.rx
-  pub tls_bits : All P o.tls_bits
-  pub tls_nobits : All P o.tls_nobits
-  pub rw_bits : All P o.rw_bits
-  pub rw_nobits : All P o.rw_nobits
-
-abbrev pub IsLinkRow : List File → Bindings → ℕ → List (Option ℕ) → Row → Type 0
-IsLinkRow files b pools leaders row = IsOfLink files b pools leaders row.content row.size
-
-row_is : (files : List File) (b : Bindings) (pools : ℕ) (leaders : List (Option ℕ)) (class : Class) (h : Head) (n : ℕ) (item : Item)
-    → IsOfLink files b pools leaders item.content item.size → IsLinkRow files b pools leaders (row_in class h n item)
+row_is : (files : List File) (b : Bindings) (pools : List Pool) (words : ℕ) (leaders : List (Option ℕ)) (class : Class) (h : Head) (n : ℕ) (item : Item)
+    → IsOfLink files b pools words leaders item.content item.size
+    → IsOfLink files b pools words leaders (row_in class h n item).content (row_in class h n item).size
 unfolding row_in
-row_is files b pools leaders class h n item is = is
+row_is files b pools words leaders class h n item is = is
 
-pub link_rows : (files : List File) (b : Bindings) (pools : List Pool) (words : ℕ) (leaders : List (Option ℕ))
-    → EachClass (IsLinkRow files b (length pools) leaders) (orders_of (items files b pools words leaders))
-unfolding orders_of
-link_rows files b pools words leaders =
-    let list : List Item = items files b pools words leaders in
-    let Q : Item → Type 0 = λ item. IsOfLink files b (length pools) leaders item.content item.size in
-    let all : All Q list = items_are files b pools words leaders in
-    let P : Row → Type 0 = IsLinkRow files b (length pools) leaders in
-    let each : (class : Class) (h : Head) (n : ℕ) (item : Item) → Q item → P (row_in class h n item) = λ class h n item is. row_is files b (length pools) leaders class h n item is in
-    record {
-      r = all_order P Q R list (each R) all;
-      rx = all_order P Q Rx list (each Rx) all;
-      tls_bits = all_order P Q TlsBits list (each TlsBits) all;
-      tls_nobits = all_order P Q TlsNobits list (each TlsNobits) all;
-      rw_bits = all_order P Q RwBits list (each RwBits) all;
-      rw_nobits = all_order P Q RwNobits list (each RwNobits) all;
-    }
+-- what holds of each row holds of the members of output sections that are not empty
+module _ (P : Row → Type 0) (Q : Member → Type 0) (sizes : List (List Cut)) (each : (c : ℕ) (row : Row) → P row → Q (member_at sizes (up c row.align) row)) where
+  each_from : (c : ℕ) (rows : List Row) → All P rows → All Q (members_from sizes c rows)
+  each_from c [] all = All-nil Q
+  each_from c (row ∷ rows) all =
+      let at : ℕ = up c row.align in
+      All-cons Q (member_at sizes at row) (members_from sizes (at + size_at sizes at row) rows) (each c row (All-head P row rows all))
+      (each_from (at + size_at sizes at row) rows (All-tail P row rows all))
 
--- a member that is a section leads itself, and has the bytes of that section that stay where it stands
-pub record IsMade (files : List File) (b : Bindings) (leaders : List (Option ℕ)) (sizes : List (List Cut)) (m : Member) : Type 0 where
+  each_by : (e : Bool) (start : ℕ) (rows : List Row) → All P rows → All Q (if e then [] else members_from sizes start rows)
+  each_by true start rows all = All-nil Q
+  each_by false start rows all = each_from start rows all
+
+  each_in : (c : Cursor) (rows : List Row) → All P rows → All Q (members_in sizes c rows)
+  unfolding members_in
+  each_in c rows all = each_by (is_empty rows) (start_of c rows) rows all
+
+  each_along : (c : Cursor) (os : List (List Row)) → EachRun P os → All Q (members_along sizes c os)
+  each_along c [] all = All-nil Q
+  each_along c (o ∷ os) all =
+      All-append Q (members_in sizes c o) (members_along sizes (after sizes c o) os) (each_in c o all.0) (each_along (after sizes c o) os all.1)
+
+  pub each_of : (c : Cursor) (rows : List Row) → All P rows → All Q (members_along sizes c (runs rows))
+  each_of c rows all = each_along c (runs rows) (each_run P rows all)
+
+  pub each_member : (o : Orders) (b : Bounds) → EachClass P o → All Q (all_members sizes o b)
+  each_member o b all =
+      All-append Q _ _ (each_of (cursor_at b.headers_end) o.r all.r) (All-append Q _ _ (each_of (cursor_at b.rx_start) o.rx all.rx)
+      (All-append Q _ _ (each_of (tls_cursor sizes o b.rw_start b.tls_align) o.tls_bits all.tls_bits) (each_of (cursor_at b.tls_bits_end) o.rw_bits all.rw_bits)))
+
+-- a member that is a section leads itself, and has the bytes of that section that stay where it stands; a pool and the table have all of theirs
+pub record IsMade (files : List File) (b : Bindings) (pools : List Pool) (words : ℕ) (leaders : List (Option ℕ)) (sizes : List (List Cut)) (m : Member) : Type 0 where
   pub leads_is : (n : ℕ) → m.content ≡ Section n → leads leaders n ≡ true
   pub sized : (n : ℕ) → m.content ≡ Section n → m.size ≡ new_offset (laid_cuts m.start (get_or sizes n [])) (input_at files b n).size
+  pub pool : (p : ℕ) → m.content ≡ IsPool p → p < length pools
+  pub pooled : (p : ℕ) → m.content ≡ IsPool p → (d : Pool) → m.size ≡ (get_or pools p d).size
+  pub table : m.content ≡ Got → m.size ≡ 8 * words
 
-module _ (files : List File) (b : Bindings) (pools : ℕ) (leaders : List (Option ℕ)) (sizes : List (List Cut)) where
-  made_one : (at : ℕ) (row : Row) → IsLinkRow files b pools leaders row → IsMade files b leaders sizes (member_at sizes at row)
+module _ (files : List File) (b : Bindings) (pools : List Pool) (words : ℕ) (leaders : List (Option ℕ)) (sizes : List (List Cut)) where
+  abbrev IsLinkRow : Row → Type 0
+  IsLinkRow row = IsOfLink files b pools words leaders row.content row.size
+
+  made_one : (at : ℕ) (row : Row) → IsLinkRow row → IsMade files b pools words leaders sizes (member_at sizes at row)
   made_one at row is = record {
     leads_is = is.leads_is;
     sized = λ n same. sym (size_of_section sizes at n row (get_or sizes n []) same refl)
         ∙ ap (λ k. new_offset (laid_cuts at (get_or sizes n [])) k) (is.sized n same);
+    pool = is.pool;
+    pooled = λ p same d. sym (size_plain sizes at row (λ n other. no_pool p n (sym same ∙ other))) ∙ is.pooled p same d;
+    table = λ same. sym (size_plain sizes at row (λ n other. no_table n (sym same ∙ other))) ∙ is.table same;
   }
+    where
+      no_pool : (p n : ℕ) → IsPool p ≡ Section n → ⊥
+      no_pool p n same = cc
 
-  made_from : (c : ℕ) (rows : List Row) → All (IsLinkRow files b pools leaders) rows → All (IsMade files b leaders sizes) (members_from sizes c rows)
-  made_from c [] all = All-nil (IsMade files b leaders sizes)
-  made_from c (row ∷ rows) all =
-      let at : ℕ = up c row.align in
-      All-cons (IsMade files b leaders sizes) (member_at sizes at row) (members_from sizes (at + size_at sizes at row) rows)
-      (made_one at row (All-head (IsLinkRow files b pools leaders) row rows all))
-      (made_from (at + size_at sizes at row) rows (All-tail (IsLinkRow files b pools leaders) row rows all))
+      no_table : (n : ℕ) → Got ≡ Section n → ⊥
+      no_table n same = cc
 
-  made_by : (e : Bool) (start : ℕ) (rows : List Row) → All (IsLinkRow files b pools leaders) rows
-      → All (IsMade files b leaders sizes) (if e then [] else members_from sizes start rows)
-  made_by true start rows all = All-nil (IsMade files b leaders sizes)
-  made_by false start rows all = made_from start rows all
-
-  made_in : (c : Cursor) (rows : List Row) → All (IsLinkRow files b pools leaders) rows → All (IsMade files b leaders sizes) (members_in sizes c rows)
-  unfolding members_in
-  made_in c rows all = made_by (is_empty rows) (start_of c rows) rows all
-
-  made_along : (c : Cursor) (os : List (List Row)) → EachRun (IsLinkRow files b pools leaders) os → All (IsMade files b leaders sizes) (members_along sizes c os)
-  made_along c [] all = All-nil (IsMade files b leaders sizes)
-  made_along c (o ∷ os) all =
-      All-append (IsMade files b leaders sizes) (members_in sizes c o) (members_along sizes (after sizes c o) os) (made_in c o all.0) (made_along (after sizes c o) os all.1)
-
-  made_class : (c : Cursor) (rows : List Row) → All (IsLinkRow files b pools leaders) rows → All (IsMade files b leaders sizes) (members_along sizes c (runs rows))
-  made_class c rows all = made_along c (runs rows) (each_run (IsLinkRow files b pools leaders) rows all)
-
-  pub all_made : (o : Orders) (bounds : Bounds) → EachClass (IsLinkRow files b pools leaders) o → All (IsMade files b leaders sizes) (all_members sizes o bounds)
-  all_made o bounds all =
-      let P : Member → Type 0 = IsMade files b leaders sizes in
-      All-append P _ _ (made_class (cursor_at bounds.headers_end) o.r all.r) (All-append P _ _ (made_class (cursor_at bounds.rx_start) o.rx all.rx)
-      (All-append P _ _ (made_class (tls_cursor sizes o bounds.rw_start bounds.tls_align) o.tls_bits all.tls_bits)
-      (made_class (cursor_at bounds.tls_bits_end) o.rw_bits all.rw_bits)))
+  pub all_made : (bounds : Bounds) → All (IsMade files b pools words leaders sizes) (all_members sizes (orders_of (items files b pools words leaders)) bounds)
+  all_made bounds =
+      each_member IsLinkRow (IsMade files b pools words leaders sizes) sizes (λ c row is. made_one (up c row.align) row is) (orders_of (items files b pools words leaders)) bounds
+      (each_class IsLinkRow (IsOf files b pools words leaders) (items files b pools words leaders) (row_is files b pools words leaders) (items_are files b pools words leaders))
 
 -- what holds of all members holds of those of output sections that are not empty
 split_all : (P : Member → Type 0) (xs ys : List Member) → All P (xs ++ ys) → All P xs × All P ys

@@ -8,6 +8,7 @@ use Rattle.link_sections.specs.declared.members.Member.{Member}
 use Rattle.link_sections.specs.Cuts.{Cut}
 use Rattle.layout.specs.declared.order.Row.{Row}
 use Rattle.layout.specs.declared.walk.Cursor.{Cursor}
+use Rattle.layout.specs.Spots.{AreInOrder}
 use Rattle.layout.specs.Walk.{after, cursor_at, end_along, is_empty, member_at, members_along, members_from, members_in, members_still, past, size_at, stands_along, stands_in, start_of, still}
 use Rattle.layout.proofs.Cursors.{Moves, RowFits, after_moves, least_along, past_least, start_least, start_most}
 use Rattle.layout.proofs.Runs.{EachRun}
@@ -71,13 +72,9 @@ both_along sizes from to c (o ∷ os) extra le end all =
       All-append (Within from to) (members_in sizes c o) (members_along sizes (after sizes c o) os) one.1 more.1,
     )
 
--- members one after the other from an address on
-abbrev pub InOrder : ℕ → List Member → Type 0
-InOrder from [] = Unit {0}
-InOrder from (m ∷ ms) = (from ≤ m.start) × InOrder (m.start + m.size) ms
-
+-- one after the other
 order_from : (sizes : List (List Cut)) (from c : ℕ) (rows : List Row) (later : List Member) → from ≤ c → All (RowFits sizes) rows
-    → ((f : ℕ) → f ≤ past sizes c rows → InOrder f later) → InOrder from (members_from sizes c rows ++ later)
+    → ((f : ℕ) → f ≤ past sizes c rows → AreInOrder f later) → AreInOrder from (members_from sizes c rows ++ later)
 order_from sizes from c [] later le all k = k from le
 order_from sizes from c (row ∷ rows) later le all k =
     let here : c ≤ up c row.align = up_least c row.align (All-head (RowFits sizes) row rows all).some in
@@ -85,20 +82,20 @@ order_from sizes from c (row ∷ rows) later le all k =
     (omega arith, order_from sizes e e rows later (omega arith) (All-tail (RowFits sizes) row rows all) k)
 
 order_by : (b : Bool) (sizes : List (List Cut)) (from : ℕ) (c : Cursor) (rows : List Row) (later : List Member) → is_empty rows ≡ b → from ≤ c.at → All (RowFits sizes) rows
-    → ((f : ℕ) → f ≤ (if b then c else cursor_at (past sizes (start_of c rows) rows)).at → InOrder f later)
-    → InOrder from ((if b then [] else members_from sizes (start_of c rows) rows) ++ later)
+    → ((f : ℕ) → f ≤ (if b then c else cursor_at (past sizes (start_of c rows) rows)).at → AreInOrder f later)
+    → AreInOrder from ((if b then [] else members_from sizes (start_of c rows) rows) ++ later)
 order_by true sizes from c rows later e le all k = k from le
 order_by false sizes from c rows later e le all k =
     let least : c.at ≤ start_of c rows = start_least c rows in
     order_from sizes from (start_of c rows) rows later (omega arith) all k
 
 order_in : (sizes : List (List Cut)) (from : ℕ) (c : Cursor) (rows : List Row) (later : List Member) → from ≤ c.at → All (RowFits sizes) rows
-    → ((f : ℕ) → f ≤ (after sizes c rows).at → InOrder f later) → InOrder from (members_in sizes c rows ++ later)
+    → ((f : ℕ) → f ≤ (after sizes c rows).at → AreInOrder f later) → AreInOrder from (members_in sizes c rows ++ later)
 unfolding members_in after
 order_in sizes from c rows later le all k = order_by (is_empty rows) sizes from c rows later refl le all k
 
 pub order_along : (sizes : List (List Cut)) (from : ℕ) (c : Cursor) (os : List (List Row)) (later : List Member) → from ≤ c.at → EachRun (RowFits sizes) os
-    → ((f : ℕ) → f ≤ (end_along sizes c os).at → InOrder f later) → InOrder from (members_along sizes c os ++ later)
+    → ((f : ℕ) → f ≤ (end_along sizes c os).at → AreInOrder f later) → AreInOrder from (members_along sizes c os ++ later)
 order_along sizes from c [] later le all k = k from le
 order_along sizes from c (o ∷ os) later le all k =
     rw (append_assoc (members_in sizes c o) (members_along sizes (after sizes c o) os) later)

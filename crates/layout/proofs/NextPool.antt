@@ -62,6 +62,13 @@ get_or_any [] i d e lt = absurd (omega arith)
 get_or_any (x ∷ xs) zero d e lt = refl
 get_or_any (x ∷ xs) (suc i) d e lt = get_or_any xs i d e (omega arith)
 
+-- a pool is that of its first section
+pub pool_here : (pools : List Pool) (p : ℕ) (d : Pool) (s : InputSection) → AreRising pools → p < length pools
+    → pool_at 0 pools (get_or pools p d).first s ≡ pool_item p (get_or pools p d).size s ∷ []
+pool_here pools p d s rising lt =
+    some_at 0 p p pools (get_or pools p d) (get_or pools p d).first s (omega arith) lt (get_or_any pools p d (get_or pools p d) lt)
+    (λ i e less same. let low = later_than pools e i p rising less lt in absurd (omega (arith, low, same, ap (λ (x : Pool). x.first) (get_or_any pools p d e lt)))) refl
+
 -- the next pool has another first section
 above : (pools : List Pool) (n next : ℕ) (pool : Pool) → IsNext pools n next → AreRising pools → next < length pools → pool ≡ get_or pools next pool → pool.first ≢ n
     → (i : ℕ) (d : Pool) → next ≤ i → i < length pools → n + 1 ≤ (get_or pools i d).first

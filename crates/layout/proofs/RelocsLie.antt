@@ -97,7 +97,7 @@ clear_sums offset width (c ∷ cs) kept clear =
     )
 
 -- cuts have no more bytes before an offset than there are
-low_from : (from o : ℕ) (cuts : List Cut) → AreFrom from cuts → whole_before cuts o ≤ o - from
+pub low_from : (from o : ℕ) (cuts : List Cut) → AreFrom from cuts → whole_before cuts o ≤ o - from
 low_from from o [] are = omega arith
 low_from from o (c ∷ cs) are =
     omega (arith, sum_by-cons (λ (x : Cut). min (o - x.at) x.whole) c cs, low_from (c.at + c.whole) o cs are.1, are.0)

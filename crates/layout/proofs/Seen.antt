@@ -8,16 +8,18 @@ use Rattle.link_sections.specs.declared.pools.Pool.{Pool}
 use Rattle.link_sections.specs.Cuts.{AreApart as AreCutsApart, Cut}
 use Rattle.link_sections.specs.LaidOut.{LaidOut, OutputSection, layout_view}
 use Rattle.layout.specs.Items.{AreLeaders, IsSized, Item, items}
-use Rattle.layout.specs.Layout.{FitSizes, all_weight, bounds_of, laid_by, laid_of, layout_of, no_trail, trail_of}
+use Rattle.layout.specs.Layout.{FitSizes, after_tls_bits, all_weight, bounds_of, laid_by, laid_of, layout_of, no_trail, trail_of}
 use Rattle.layout.specs.Order.{Orders, orders_of}
-use Rattle.layout.specs.Spots.{AreApart, AreRising, HaveAlignments, HaveSegments, IsWithinClass, without_tls_zeros}
+use Rattle.layout.specs.Spots.{AreApart, AreRising, HaveAlignments, HaveSegments, HaveZeros, IsWithinClass, without_tls_zeros}
+use Rattle.layout.specs.Walk.{cursor_at, members_along, runs}
 use Rattle.layout.proofs.Aligned.{IsAligned, align_rows, aligned_members, aligned_zeros}
 use Rattle.layout.proofs.Apart.{outputs_apart, outputs_within, trail_outputs}
 use Rattle.layout.proofs.Chain.{AreBounds, bounds_are}
 use Rattle.layout.proofs.ItemFacts.{ready_of}
 use Rattle.layout.proofs.Rising.{AllFit, all_fit, rising}
 use Rattle.layout.proofs.Segments.{segments}
-use Rattle.layout.proofs.Trails.{trail_members}
+use Rattle.layout.proofs.Trails.{trail_members, trail_zeros}
+use Rattle.layout.proofs.Zeros.{others_between, threads_between}
 
 -- the laws of a layout
 pub record HasLaws (files : List File) (b : Bindings) (laid : LaidOut) : Type 0 where
@@ -26,6 +28,7 @@ pub record HasLaws (files : List File) (b : Bindings) (laid : LaidOut) : Type 0 
   pub apart : AreApart laid.bounds.headers_end (without_tls_zeros laid.outputs)
   pub inside : All (IsWithinClass laid.bounds) laid.outputs
   pub aligned : HaveAlignments files b laid
+  pub zeros : HaveZeros laid
 
 laws_by : (files : List File) (b : Bindings) (leaders : List (Option ℕ)) (sizes : List (List Cut)) (parts : List Item) (o : Orders) (bounds : Bounds) (pools : ℕ) → AllFit sizes o
     → AreBounds sizes o bounds → AreRising bounds → All (IsAligned files b) (trail_of sizes parts o bounds (no_trail (section_total files) pools)).members
@@ -34,6 +37,8 @@ laws_by : (files : List File) (b : Bindings) (leaders : List (Option ℕ)) (size
 unfolding laid_by
 laws_by files b leaders sizes parts o bounds pools fit is rises members zeros =
     let outputs = trail_outputs sizes parts o bounds (section_total files) pools in
+    let threads = threads_between sizes o bounds fit is in
+    let others = others_between sizes o bounds fit is in
     let P : List OutputSection → Type 0 = λ l. AreApart bounds.headers_end (without_tls_zeros l) in
     let Q : List OutputSection → Type 0 = λ l. All (IsWithinClass bounds) l in
     record {
@@ -42,6 +47,15 @@ laws_by files b leaders sizes parts o bounds pools fit is rises members zeros =
       apart = subst P (sym outputs) (outputs_apart sizes parts o bounds fit is rises);
       inside = subst Q (sym outputs) (outputs_within sizes parts o bounds fit is rises);
       aligned = record { members = members; zeros = zeros };
+      zeros = record {
+        threads = members_along sizes (after_tls_bits sizes o bounds.rw_start bounds.tls_align) (runs o.tls_nobits);
+        others = members_along sizes (cursor_at bounds.bits_end) (runs o.rw_nobits);
+        all = trail_zeros sizes parts o bounds (section_total files) pools;
+        threads_order = threads.order;
+        threads_end = threads.end;
+        others_order = others.order;
+        others_end = others.end;
+      };
     }
 
 laws_laid : (files : List File) (b : Bindings) (pools : List Pool) (words : ℕ) (leaders : List (Option ℕ)) (sizes : List (List Cut)) → AreLeaders files b leaders
@@ -70,6 +84,7 @@ pub record IsLawful (files : List File) (b : Bindings) (layout : Layout) : Type 
   pub apart : AreApart layout.bounds.headers_end (without_tls_zeros (layout_view layout).outputs)
   pub inside : All (IsWithinClass layout.bounds) (layout_view layout).outputs
   pub aligned : HaveAlignments files b (layout_view layout)
+  pub zeros : HaveZeros (layout_view layout)
 
 pub laws_seen : (layout : Layout) (files : List File) (b : Bindings) (pools : List Pool) (words : ℕ) (leaders : List (Option ℕ)) (sizes : List (List Cut)) → AreLeaders files b leaders
     → FitSizes files b sizes → All AreCutsApart sizes → All IsSized (items files b pools words leaders)
@@ -83,4 +98,5 @@ laws_seen layout files b pools words leaders sizes are fit apart sized room is =
       apart = subst (λ (x : Bounds). AreApart x.headers_end (without_tls_zeros (layout_view layout).outputs)) same laws.apart;
       inside = subst (λ x. All (IsWithinClass x) (layout_view layout).outputs) same laws.inside;
       aligned = laws.aligned;
+      zeros = laws.zeros;
     }

@@ -13,8 +13,8 @@ use Rattle.lk_tables.specs.declared.heads.Place.TheVariants.{Undef, Absolute, Co
 use Rattle.lk_tables.specs.declared.heads.Symbol.{Symbol}
 use Rattle.lk_tables.specs.declared.section_places.SectionPlace.{SectionPlace}
 use Rattle.lk_tables.specs.declared.tables.Tables.{Tables}
-use Rattle.lk_tables.specs.Binding.{IsBindingOf}
-use Rattle.lk_tables.specs.Binding.{Bindings, Demand, bindings, bound_common_at, bound_commons_in, demand_at, demands, demands_in, greatest_align, greatest_size, rank_bound}
+use Rattle.lk_tables.specs.BoundNames.{IsBindingOf, bindings, with_linker}
+use Rattle.lk_tables.specs.Binding.{Bindings, Demand, offered_bindings, bound_common_at, bound_commons_in, demand_at, demands, demands_in, greatest_align, greatest_size, rank_bound}
 use Rattle.lk_tables.specs.Files.{File, IsSound, common_no, file_at, first_section, no_symbol, section_at, symbol_at, symbol_name, writes}
 use Rattle.lk_tables.specs.Inside.{IsCommonWithin, IsLinked}
 use Rattle.lk_tables.specs.Ranks.{rank_of}
@@ -153,7 +153,7 @@ room_in files gone f sound =
 
 commons_are : (files : List File) (gone : List Bool) (entry : List ℕ) (f : ℕ) → f < length files →
     commons_at (bindings files gone entry).commons f ≡ bound_commons_in files gone f
-unfolding bindings
+unfolding bindings with_linker offered_bindings
 commons_are files gone entry f lt = get_or-map-range_with_len (bound_commons_in files gone) 0 (length files) f f [] lt (omega arith)
 
 modest_rooms : (files : List File) (b : Bindings) (f : ℕ) → IsBindingOf files b → AllSound files → f < length files → All IsModestRoom (commons_at b.commons f)

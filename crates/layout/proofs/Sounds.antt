@@ -1,10 +1,10 @@
 -- A layout that is not refused is sound.
-use Rattle.std.proofs.Common.{◌≡◌, ◌≢◌, ℕ, zero, suc, ◌+◌, ◌-◌, ◌^◌, ◌<◌, ◌≤◌, ◌⊎◌, nat_lt, nat_le, Bool, true, false, if◌then◌else◌, Option, List, [], ◌∷◌, ◌++◌, get_or, length, map, flat_map, refl, ap, sym, ◌∙◌, All, inl, inr, subst, arith}
+use Rattle.std.proofs.Common.{◌≡◌, ◌≢◌, ℕ, zero, suc, ◌+◌, ◌-◌, ◌*◌, ◌^◌, ◌<◌, ◌≤◌, nat_lt, nat_le, Bool, true, false, if◌then◌else◌, Option, List, [], ◌∷◌, ◌++◌, get_or, length, map, flat_map, refl, ap, sym, ◌∙◌, All, inl, inr, subst, arith}
 use Rattle.std.specs.List.{range_with_len}
 use Rattle.std.proofs.lemmas.Bool.{cases_lt}
 use Rattle.std.proofs.lemmas.Bool.Decides.{nat_tests}
 use Rattle.std.proofs.lemmas.List.{length-replicate}
-use Rattle.std.proofs.lemmas.List.Elements.{All-nil, All-head, All-tail, All-cons}
+use Rattle.std.proofs.lemmas.List.Elements.{All-nil, All-cons}
 use Rattle.std.proofs.Math.ListN.{get_or-eq_default}
 use Rattle.lk_base.specs.declared.abi.TheConstants.{EHDR_SIZE, IMAGE_BASE, SHT_NOBITS}
 use Rattle.lk_base.specs.declared.defects.Defect.{Defect}
@@ -16,16 +16,23 @@ use Rattle.lk_tables.specs.Binding.{Bindings, first_phase}
 use Rattle.lk_tables.specs.Files.{File, section_total}
 use Rattle.lk_tables.specs.Sites.{place_of, relocs_of}
 use Rattle.link_sections.specs.declared.layouts.Bounds.{Bounds}
-use Rattle.link_sections.specs.declared.members.Content.TheVariants.{Section}
+use Rattle.link_sections.specs.declared.got.GotEntry.{GotEntry}
+use Rattle.link_sections.specs.declared.members.Content.{Content}
+use Rattle.link_sections.specs.declared.members.Content.TheVariants.{Section, Pool as IsPool, Got}
 use Rattle.link_sections.specs.declared.members.Member.{Member}
 use Rattle.link_sections.specs.declared.pools.Pool.{Pool}
 use Rattle.link_sections.specs.Cuts.{AreApart, Cut, new_offset}
 use Rattle.link_sections.specs.InputSections.{input_at}
-use Rattle.link_sections.specs.LaidOut.{LaidOut, cuts_at, start_at}
+use Rattle.link_sections.specs.Addresses.{no_pool}
+use Rattle.link_sections.specs.Calls.{acting_width}
+use Rattle.link_sections.specs.GotEntries.{word_count}
+use Rattle.link_sections.specs.LaidOut.{LaidOut, cuts_at, start_at, with_contents}
 use Rattle.link_sections.specs.Leaders.{leads}
-use Rattle.link_sections.specs.Sound.{IsSectionMember, IsSound, is_listed}
-use Rattle.layout.specs.Cutting.{laid_cut, laid_cuts, short_defects}
-use Rattle.layout.specs.Items.{AreLeaders, IsSized, Item, items}
+use Rattle.link_sections.specs.PoolViews.{PoolsView}
+use Rattle.link_sections.specs.Pools.{AreRising as AreRisingPools}
+use Rattle.link_sections.specs.Sound.{IsGotMember, IsPoolMember, IsSectionMember, IsSound, is_listed, is_pool, is_table}
+use Rattle.layout.specs.Cutting.{laid_cuts, short_defects}
+use Rattle.layout.specs.Items.{AreLeaders, HaveFirsts, IsSized, Item, items}
 use Rattle.layout.specs.Layout.{FitSizes, IsWithin, Trail, all_cuts, all_weight, bounds_of, cut_defects, cuts_of, laid_by, laid_of, layout_defects, layout_of, limit_defects, no_trail, trail_of}
 use Rattle.layout.specs.Order.{Orders, orders_of}
 use Rattle.layout.specs.Spots.{AreRising}
@@ -33,33 +40,18 @@ use Rattle.layout.specs.Walk.{Stands, all_put}
 use Rattle.layout.proofs.Chain.{AreBounds, bounds_are}
 use Rattle.layout.proofs.Inside.{members_inside, members_order, order_at}
 use Rattle.layout.proofs.ItemFacts.{ready_of, stays_of}
-use Rattle.layout.proofs.LaidCuts.{laid_apart, laid_are, laid_rest}
-use Rattle.layout.proofs.Listed.{all_listed}
-use Rattle.layout.proofs.Marks.{found_at, in_members, stands_once}
-use Rattle.layout.proofs.MemberFacts.{IsMade, all_made, link_rows, part_all}
-use Rattle.layout.proofs.RelocsLie.{IsClear, lies_of, lies_still}
+use Rattle.layout.proofs.LaidCuts.{laid_apart}
+use Rattle.layout.proofs.LaidHold.{laid_hold, still_met, still_some, still_within}
+use Rattle.layout.proofs.Listed.{all_listed, has, pools_listed, table_is_listed}
+use Rattle.layout.proofs.Marks.{HasRoom, found_at, in_members, stand_at, stands_once}
+use Rattle.layout.proofs.MemberFacts.{IsMade, all_made, part_all}
+use Rattle.layout.proofs.OwnCalls.{IsMet, acting_lies}
+use Rattle.layout.proofs.RelocsLie.{lies_of}
 use Rattle.layout.proofs.Rising.{AllFit, all_fit, rising}
 use Rattle.layout.proofs.RowsOfCuts.{defects_are, map_at, row_defects}
 use Rattle.layout.proofs.Sized.{AllSound}
 use Rattle.layout.proofs.SizeBounds.{apart_at, nothing_apart}
-use Rattle.layout.proofs.Trails.{all_members, all_stands, starts_low, trail_members, trail_stands}
-
--- the cuts of a section stand where they stood
-laid_same : (start : ℕ) (before : List Cut) (c : Cut) → ((laid_cut start before c).at ≡ c.at) × ((laid_cut start before c).whole ≡ c.whole)
-unfolding laid_cut
-laid_same start before c = (refl, refl)
-
-rest_hold : (P : ℕ → ℕ → Type 0) (start : ℕ) (before cuts : List Cut) → All (λ c. P c.at c.whole) cuts → All (λ c. P c.at c.whole) (laid_rest start before cuts)
-rest_hold P start before [] all = All-nil (λ (c : Cut). P c.at c.whole)
-rest_hold P start before (c ∷ cs) all =
-    let same = laid_same start before c in
-    let here : P c.at c.whole = All-head (λ (x : Cut). P x.at x.whole) c cs all in
-    All-cons (λ (x : Cut). P x.at x.whole) (laid_cut start before c) (laid_rest start (before ++ laid_cut start before c ∷ []) cs)
-    (subst (λ k. P k (laid_cut start before c).whole) (sym same.0) (subst (P c.at) (sym same.1) here))
-    (rest_hold P start (before ++ laid_cut start before c ∷ []) cs (All-tail (λ (x : Cut). P x.at x.whole) c cs all))
-
-laid_hold : (P : ℕ → ℕ → Type 0) (start : ℕ) (cuts : List Cut) → All (λ c. P c.at c.whole) cuts → All (λ c. P c.at c.whole) (laid_cuts start cuts)
-laid_hold P start cuts all = rw (laid_are start cuts) (rest_hold P start [] cuts all)
+use Rattle.layout.proofs.Trails.{AllStand, IsLow, all_members, all_stands, places_low, trail_low, trail_members, trail_places, trail_stands}
 
 -- no phase has a defect
 no_phase : (xs ys : List Defect) → first_phase (xs ∷ ys ∷ []) ≡ [] → (xs ≡ []) × (ys ≡ [])
@@ -126,17 +118,20 @@ all_range f a (suc n) each =
     (all_range f (a + 1) n (λ k lt. let s : a + suc k ≡ (a + 1) + k = omega arith in subst (λ m. AreApart (f m)) s (each (suc k) (omega (arith, lt)))))
 
 -- a member that is a section
-section_member : (files : List File) (b : Bindings) (leaders : List (Option ℕ)) (sizes : List (List Cut)) (laid : LaidOut) (n : ℕ) (m : Member) → AllSound files
-    → AreLeaders files b leaders → FitSizes files b sizes → IsMade files b leaders sizes m → m.content ≡ Section n → start_at laid n ≡ m.start
+section_member : (files : List File) (b : Bindings) (pools : List Pool) (words : ℕ) (leaders : List (Option ℕ)) (sizes : List (List Cut)) (laid : LaidOut) (n : ℕ) (m : Member)
+    → AllSound files → AreLeaders files b leaders → FitSizes files b sizes → IsMade files b pools words leaders sizes m → m.content ≡ Section n → start_at laid n ≡ m.start
     → cuts_at laid n ≡ laid_cuts m.start (get_or sizes n []) → AreApart (cuts_at laid n) → IsSectionMember files b leaders laid n m
-section_member files b leaders sizes laid n m sound are fit made is start cuts apart =
+section_member files b pools words leaders sizes laid n m sound are fit made is start cuts apart =
     let own = made.leads_is n is in
     let stays = stays_of files b leaders n are own in
     let size : ℕ = (input_at files b n).size in
-    let c : List Cut = laid_cuts m.start (get_or sizes n []) in
+    let plain : List Cut = get_or sizes n [] in
+    let c : List Cut = laid_cuts m.start plain in
     let now : AreApart c = subst AreApart cuts apart in
     let sized : m.size ≡ new_offset c size = made.sized n is in
-    let within : All (λ (x : Cut). x.at + x.whole ≤ size) c = laid_hold (λ at whole. at + whole ≤ size) m.start (get_or sizes n []) (fit.within n stays.number) in
+    let within : All (λ (x : Cut). x.at + x.whole ≤ size) c =
+    laid_hold (λ x. x.at + x.whole ≤ size) m.start plain (still_within size m.start) (fit.within n stays.number) in
+    let some : All (λ (x : Cut). 0 < x.whole) c = laid_hold (λ x. 0 < x.whole) m.start plain (still_some m.start) (fit.some n stays.number) in
     let lies = lies_of files b n sound stays.number in
     record {
       number = stays.number;
@@ -147,131 +142,212 @@ section_member files b leaders sizes laid n m sound are fit made is start cuts a
       cuts = subst (λ (l : List Cut). All (λ (x : Cut). x.at + x.whole ≤ size) l) (sym cuts) within;
       relocs = λ k d lt.
           let r : Reloc = get_or (relocs_of files n) k d in
-          let w : ℕ = (kind_of r.kind).width in
-          let clear : 0 < w → All (IsClear r.offset w) c =
-          λ some. laid_hold (λ at whole. (at + whole ≤ r.offset) ⊎ (r.offset + w ≤ at)) m.start (get_or sizes n []) (fit.clear n stays.number k d lt some) in
-          let most = lies_still c size r now (lies k d lt) clear in
-          let same : new_offset (cuts_at laid n) r.offset ≡ new_offset c r.offset = ap (λ l. new_offset l r.offset) cuts in
+          let met : 0 < (kind_of r.kind).width → All (IsMet r) c =
+          λ wide. laid_hold (IsMet r) m.start plain (still_met r m.start) (fit.clear n stays.number k d lt wide) in
+          let most = acting_lies c size r now some (lies k d lt) met in
+          let same : new_offset (cuts_at laid n) r.offset + acting_width (cuts_at laid n) r ≡ new_offset c r.offset + acting_width c r =
+          ap (λ l. new_offset l r.offset + acting_width l r) cuts in
           omega (arith, most, same, sized);
     }
 
--- where the number of a section says that it starts
-starts_are : (sizes : List (List Cut)) (o : Orders) (b : Bounds) (s : Stands) (starts : List ℕ) (total : ℕ) → starts ≡ (all_put (all_stands sizes o b) s).starts
-    → length s.starts ≡ total → ((n : ℕ) → in_members n (all_stands sizes o b) ≤ 1)
-    → All (λ (m : Member). (n : ℕ) → m.content ≡ Section n → n < total → get_or starts n 0 ≡ m.start) (all_members sizes o b)
-starts_are sizes o b s starts total is count once =
-    part_all (λ (m : Member). (n : ℕ) → m.content ≡ Section n → n < total → get_or starts n 0 ≡ m.start) sizes o b
-    (λ k d lt n same low. ap (λ l. get_or l n 0) is ∙ found_at n (all_stands sizes o b) s k d lt same (once n) (omega (arith, count, low)))
+-- where a layout has its members
+abbrev pub standing : LaidOut → Stands
+standing laid = record { starts = laid.starts; pools = laid.pools; got = laid.got }
+
+found_all : (sizes : List (List Cut)) (o : Orders) (b : Bounds) (s : Stands) (it : Content) → HasRoom it s → in_members it (all_stands sizes o b) ≤ 1
+    → All (λ (m : Member). m.content ≡ it → stand_at it (all_put (all_stands sizes o b) s) ≡ m.start) (all_members sizes o b)
+found_all sizes o b s it room once =
+    part_all (λ (m : Member). m.content ≡ it → stand_at it (all_put (all_stands sizes o b) s) ≡ m.start) sizes o b
+    (λ k d lt same. found_at it (all_stands sizes o b) s k d lt same once room)
 
 -- each section that leads itself and has bytes in its file is one of these members
 abbrev pub AreListed : List File → Bindings → List (Option ℕ) → List Member → Type 0
 AreListed files b leaders members = (n : ℕ) → n < section_total files → leads leaders n ≡ true → (input_at files b n).sh_type ≢ SHT_NOBITS
     → 0 < (input_at files b n).size → is_listed n members ≡ true
 
+-- what the pools and the table have, once they are known
+pub record HasContents (pools : List Pool) (words : ℕ) (laid : LaidOut) : Type 0 where
+  pub count : length laid.merging.pools ≡ length pools
+  pub sizes : (p : ℕ) (d : Pool) → p < length pools → (get_or laid.merging.pools p no_pool).size ≡ (get_or pools p d).size
+  pub counted : words ≡ word_count laid.table
+
 -- what a layout has of its walk
-pub record IsWalk (files : List File) (leaders : List (Option ℕ)) (sizes : List (List Cut)) (o : Orders) (laid : LaidOut) : Type 0 where
+pub record IsWalk (files : List File) (pools : ℕ) (leaders : List (Option ℕ)) (sizes : List (List Cut)) (o : Orders) (laid : LaidOut) : Type 0 where
   pub members : laid.members ≡ all_members sizes o laid.bounds
-  pub starts : (s : Stands) × ((laid.starts ≡ (all_put (all_stands sizes o laid.bounds) s).starts) × (length s.starts ≡ section_total files))
-  pub low : All (λ start. start + 2 ^ 30 < 2 ^ 63) laid.starts
+  pub stands : standing laid ≡ all_put (all_stands sizes o laid.bounds) (no_trail (section_total files) pools).stands
+  pub low : AllStand (λ start. start + 2 ^ 30 < 2 ^ 63) (standing laid)
+  pub places : All IsLow laid.places
   pub cuts : laid.cuts ≡ all_cuts leaders sizes laid.starts (section_total files)
 
-pub sound_walk : (limits : Limits) (files : List File) (b : Bindings) (leaders : List (Option ℕ)) (sizes : List (List Cut)) (o : Orders) (laid : LaidOut) → AllSound files
-    → AreLeaders files b leaders → FitSizes files b sizes → All AreApart sizes → AllFit sizes o → AreBounds sizes o laid.bounds → AreRising laid.bounds
-    → All (IsMade files b leaders sizes) (all_members sizes o laid.bounds) → ((n : ℕ) → in_members n (all_stands sizes o laid.bounds) ≤ 1)
-    → AreListed files b leaders (all_members sizes o laid.bounds) → IsWalk files leaders sizes o laid → IsWithinStandard limits → layout_defects limits files laid ≡ []
-    → IsSound files b leaders laid
-sound_walk limits files b leaders sizes o laid sound are fit apart rows is up made once listed walk few none =
-    let total : ℕ = section_total files in
-    let both = no_defects limits files laid none in
-    let limit = limits_hold limits laid both.1 in
-    let inside = members_inside sizes o laid.bounds rows is up in
-    let order = members_order sizes o laid.bounds rows is up in
-    let starts = starts_are sizes o laid.bounds walk.starts.0 laid.starts total walk.starts.1.0 walk.starts.1.1 once in
-    let row : ℕ → List Cut = cuts_of leaders sizes laid.starts in
-    let short : flat_map (row_defects files row) (range_with_len 0 total) ≡ [] =
-    sym (ap (λ l. cut_defects files l total) walk.cuts ∙ defects_are files row total) ∙ both.0 in
-    let plus : (k : ℕ) → 0 + k ≡ k = λ k. omega arith in
-    let row_none : (k : ℕ) → k < total → row_defects files row k ≡ [] =
-    λ k lt. subst (λ m. row_defects files row m ≡ []) (plus k) (none_at (row_defects files row) 0 total k short lt) in
-    let row_is_apart : (k : ℕ) → k < total → AreApart (row k) = λ k lt. row_apart files leaders sizes laid.starts k apart (row_none k lt) in
-    let cuts_are_at : (n : ℕ) → n < total → cuts_at laid n ≡ row n =
-    λ n lt. ap (λ l. get_or l n []) walk.cuts ∙ map_at row 0 total n lt ∙ ap row (plus n) in
-    let P : Member → Type 0 = λ m. (n : ℕ) → m.content ≡ Section n → IsSectionMember files b leaders laid n m in
-    let sections : All P (all_members sizes o laid.bounds) =
-    λ k d lt n same.
-    let m : Member = get_or (all_members sizes o laid.bounds) k d in
-    let own = (made k d lt).leads_is n same in
-    let number = (stays_of files b leaders n are own).number in
-    let start : get_or laid.starts n 0 ≡ m.start = starts k d lt n same number in
-    let here : row n ≡ laid_cuts m.start (get_or sizes n []) =
-    cuts_here leaders sizes laid.starts n own ∙ ap (λ a. laid_cuts a (get_or sizes n [])) start in
-    section_member files b leaders sizes laid n m sound are fit (made k d lt) same start (cuts_are_at n number ∙ here)
-    (subst AreApart (sym (cuts_are_at n number)) (row_is_apart n number)) in
-    record {
-      sections = subst (All P) (sym walk.members) sections;
-      listed = subst (AreListed files b leaders) (sym walk.members) listed;
-      low = subst (All (λ (m : Member). IMAGE_BASE + EHDR_SIZE ≤ m.start)) (sym walk.members) (λ k d lt. omega (arith, (inside k d lt).first, up.first));
-      above = subst (All (λ (m : Member). laid.bounds.headers_end ≤ m.start)) (sym walk.members) (λ k d lt. (inside k d lt).first);
-      inside = subst (All (λ (m : Member). m.start + m.size ≤ laid.bounds.file_end)) (sym walk.members) (λ k d lt. (inside k d lt).last);
-      order = λ i d lt.
-          let ms : List Member = all_members sizes o laid.bounds in
-          let count : length laid.members ≡ length ms = ap length walk.members in
-          let first : (get_or laid.members i d).start + (get_or laid.members i d).size ≡ (get_or ms i d).start + (get_or ms i d).size =
-          ap (λ l. (get_or l i d).start + (get_or l i d).size) walk.members in
-          let next : (get_or laid.members (i + 1) d).start ≡ (get_or ms (i + 1) d).start = ap (λ l. (get_or l (i + 1) d).start) walk.members in
-          omega (arith, order_at laid.bounds.headers_end ms order i d (omega (arith, lt, count)), first, next);
-      headers = omega (arith, up.first, up.r, up.file_least);
-      small = omega (arith, limit.1, few.image, up.image_least);
-      few = omega (arith, limit.0, few.outputs);
-      room = λ n. room_at laid.starts n walk.low;
-      apart = subst (All AreApart) (sym walk.cuts) (all_range row 0 total (λ k lt. subst (λ m. AreApart (row m)) (sym (plus k)) (row_is_apart k lt)));
-    }
-  where
-    room_at : (starts : List ℕ) (n : ℕ) → All (λ start. start + 2 ^ 30 < 2 ^ 63) starts → get_or starts n 0 + 2 ^ 33 < 2 ^ 64
-    room_at starts n low =
-        elim (cases_lt n (length starts)) [
-          | inl lt ↦ omega (arith, low n 0 lt)
-          | inr past ↦ omega (arith, get_or-eq_default starts 0 past)
-        ]
+-- what is known of the items of a link, and of their walk
+pub record IsPlaced (files : List File) (b : Bindings) (pools : List Pool) (words : ℕ) (leaders : List (Option ℕ)) (sizes : List (List Cut)) (o : Orders) (bounds : Bounds) : Type 0 where
+  pub made : All (IsMade files b pools words leaders sizes) (all_members sizes o bounds)
+  pub once : (it : Content) → in_members it (all_stands sizes o bounds) ≤ 1
+  pub listed : AreListed files b leaders (all_members sizes o bounds)
+  pub pool_members : (p : ℕ) (d : Pool) → p < length pools → 0 < (get_or pools p d).size → has (is_pool p) (all_members sizes o bounds) ≡ true
+  pub table_member : 0 < words → has is_table (all_members sizes o bounds) ≡ true
+
+room_at : (starts : List ℕ) (n : ℕ) → All (λ start. start + 2 ^ 30 < 2 ^ 63) starts → get_or starts n 0 + 2 ^ 62 < 2 ^ 64
+room_at starts n low =
+    elim (cases_lt n (length starts)) [
+      | inl lt ↦ omega (arith, low n 0 lt)
+      | inr past ↦ omega (arith, get_or-eq_default starts 0 past)
+    ]
+
+module _ (limits : Limits) (files : List File) (b : Bindings) (pools : List Pool) (words : ℕ) (leaders : List (Option ℕ)) (sizes : List (List Cut)) (o : Orders)
+    (laid : LaidOut) (rows : AllFit sizes o) (is : AreBounds sizes o laid.bounds) (up : AreRising laid.bounds)
+    (placed : IsPlaced files b pools words leaders sizes o laid.bounds) (walk : IsWalk files (length pools) leaders sizes o laid)
+    (contents : HasContents pools words laid) (none : layout_defects limits files laid ≡ []) where
+  -- each member stands where the layout says
+  stands_here : (it : Content) → HasRoom it (no_trail (section_total files) (length pools)).stands
+      → All (λ (m : Member). m.content ≡ it → stand_at it (standing laid) ≡ m.start) (all_members sizes o laid.bounds)
+  stands_here it room = λ k d lt same.
+      ap (stand_at it) walk.stands ∙ found_all sizes o laid.bounds (no_trail (section_total files) (length pools)).stands it room (placed.once it) k d lt same
+
+  -- the cuts of each section
+  abbrev cut_row : ℕ → List Cut
+  cut_row n = cuts_of leaders sizes laid.starts n
+
+  cuts_are_at : (n : ℕ) → n < section_total files → cuts_at laid n ≡ cut_row n
+  cuts_are_at n lt = let e : 0 + n ≡ n = omega arith in ap (λ l. get_or l n []) walk.cuts ∙ map_at cut_row 0 (section_total files) n lt ∙ ap cut_row e
+
+  row_is_apart : All AreApart sizes → (n : ℕ) → n < section_total files → AreApart (cut_row n)
+  row_is_apart apart n lt =
+      let total : ℕ = section_total files in
+      let e : 0 + n ≡ n = omega arith in
+      let short : flat_map (row_defects files cut_row) (range_with_len 0 total) ≡ [] =
+      sym (ap (λ l. cut_defects files l total) walk.cuts ∙ defects_are files cut_row total) ∙ (no_defects limits files laid none).0 in
+      row_apart files leaders sizes laid.starts n apart (subst (λ m. row_defects files cut_row m ≡ []) e (none_at (row_defects files cut_row) 0 total n short lt))
+
+  all_sections : AllSound files → AreLeaders files b leaders → FitSizes files b sizes → All AreApart sizes
+      → All (λ m. (n : ℕ) → m.content ≡ Section n → IsSectionMember files b leaders laid n m) (all_members sizes o laid.bounds)
+  all_sections sound are fit apart = λ k d lt n same.
+      let m : Member = get_or (all_members sizes o laid.bounds) k d in
+      let own = (placed.made k d lt).leads_is n same in
+      let number = (stays_of files b leaders n are own).number in
+      let start : get_or laid.starts n 0 ≡ m.start = stands_here (Section n) (omega (arith, number, length-replicate {A = ℕ} (section_total files) 0)) k d lt same in
+      let here : cut_row n ≡ laid_cuts m.start (get_or sizes n []) =
+      cuts_here leaders sizes laid.starts n own ∙ ap (λ a. laid_cuts a (get_or sizes n [])) start in
+      section_member files b pools words leaders sizes laid n m sound are fit (placed.made k d lt) same start (cuts_are_at n number ∙ here)
+      (subst AreApart (sym (cuts_are_at n number)) (row_is_apart apart n number))
+
+  all_pools : All (λ m. (p : ℕ) → m.content ≡ IsPool p → IsPoolMember laid p m) (all_members sizes o laid.bounds)
+  all_pools = λ k d lt p same.
+      let made = placed.made k d lt in
+      let number : p < length pools = made.pool p same in
+      let none : Pool = record { first = 0; size = 0 } in
+      record {
+        number = omega (arith, number, contents.count);
+        start = sym (stands_here (IsPool p) (omega (arith, number, length-replicate {A = ℕ} (length pools) 0)) k d lt same);
+        size = made.pooled p same none ∙ sym (contents.sizes p none number);
+      }
+
+  all_table : All (λ m. m.content ≡ Got → IsGotMember laid m) (all_members sizes o laid.bounds)
+  all_table = λ k d lt same. record {
+    start = sym (stands_here Got tt k d lt same);
+    size = (placed.made k d lt).table same ∙ ap (λ n. 8 * n) contents.counted;
+  }
+
+  pool_listed : (p : ℕ) → p < length laid.merging.pools → 0 < (get_or laid.merging.pools p no_pool).size → has (is_pool p) (all_members sizes o laid.bounds) ≡ true
+  pool_listed p lt some =
+      let number : p < length pools = omega (arith, lt, contents.count) in
+      let none : Pool = record { first = 0; size = 0 } in
+      placed.pool_members p none number (omega (arith, some, contents.sizes p none number))
+
+  pub sound_walk : AllSound files → AreLeaders files b leaders → FitSizes files b sizes → All AreApart sizes → IsWithinStandard limits → IsSound files b leaders laid
+  sound_walk sound are fit apart few =
+      let total : ℕ = section_total files in
+      let limit = limits_hold limits laid (no_defects limits files laid none).1 in
+      let inside = members_inside sizes o laid.bounds rows is up in
+      let order = members_order sizes o laid.bounds rows is up in
+      let same = sym walk.members in
+      let e : (k : ℕ) → 0 + k ≡ k = λ k. omega arith in
+      record {
+        sections = subst (All (λ m. (n : ℕ) → m.content ≡ Section n → IsSectionMember files b leaders laid n m)) same (all_sections sound are fit apart);
+        listed = subst (AreListed files b leaders) same placed.listed;
+        pools = subst (All (λ m. (p : ℕ) → m.content ≡ IsPool p → IsPoolMember laid p m)) same all_pools;
+        pools_listed = λ p lt some. subst (λ l. has (is_pool p) l ≡ true) same (pool_listed p lt some);
+        table = subst (All (λ m. m.content ≡ Got → IsGotMember laid m)) same all_table;
+        table_listed = λ some. subst (λ l. has is_table l ≡ true) same (placed.table_member (omega (arith, some, contents.counted)));
+        low = subst (All (λ (m : Member). IMAGE_BASE + EHDR_SIZE ≤ m.start)) same (λ k d lt. omega (arith, (inside k d lt).first, up.first));
+        above = subst (All (λ (m : Member). laid.bounds.headers_end ≤ m.start)) same (λ k d lt. (inside k d lt).first);
+        inside = subst (All (λ (m : Member). m.start + m.size ≤ laid.bounds.file_end)) same (λ k d lt. (inside k d lt).last);
+        order = λ i d lt.
+            let ms : List Member = all_members sizes o laid.bounds in
+            let count : length laid.members ≡ length ms = ap length walk.members in
+            let first : (get_or laid.members i d).start + (get_or laid.members i d).size ≡ (get_or ms i d).start + (get_or ms i d).size =
+            ap (λ l. (get_or l i d).start + (get_or l i d).size) walk.members in
+            let next : (get_or laid.members (i + 1) d).start ≡ (get_or ms (i + 1) d).start = ap (λ l. (get_or l (i + 1) d).start) walk.members in
+            omega (arith, order_at laid.bounds.headers_end ms order i d (omega (arith, lt, count)), first, next);
+        headers = omega (arith, up.first, up.r, up.file_least);
+        small = omega (arith, limit.1, few.image, up.image_least);
+        few = omega (arith, limit.0, few.outputs);
+        room = λ n. omega (arith, room_at laid.starts n walk.low.starts);
+        pool_room = λ p. room_at laid.pools p walk.low.pools;
+        table_room = omega (arith, walk.low.got);
+        pointer_room = omega (arith, up.bits, up.nobits, up.room);
+        place_room = λ k d lt. omega (arith, walk.places k d lt);
+        apart = subst (All AreApart) (sym walk.cuts) (all_range cut_row 0 total (λ k lt. subst (λ m. AreApart (cut_row m)) (sym (e k)) (row_is_apart apart k lt)));
+      }
 
 -- the layout of a link is one
-walk_laid : (files : List File) (leaders : List (Option ℕ)) (sizes : List (List Cut)) (parts : List Item) (o : Orders) (bounds : Bounds) (pools : ℕ) → AllFit sizes o
-    → AreBounds sizes o bounds → AreRising bounds
-    → IsWalk files leaders sizes o (laid_by leaders sizes (section_total files) bounds (trail_of sizes parts o bounds (no_trail (section_total files) pools)))
-unfolding laid_by
-walk_laid files leaders sizes parts o bounds pools rows is up = record {
-  members = trail_members sizes parts o bounds (section_total files) pools;
-  starts = (
-    (no_trail (section_total files) pools).stands,
-    (ap (λ (s : Stands). s.starts) (trail_stands sizes parts o bounds (no_trail (section_total files) pools)), length-replicate {A = ℕ} (section_total files) 0),
-  );
-  low = starts_low sizes parts o bounds (section_total files) pools rows is up;
-  cuts = refl;
-}
+module _ (files : List File) (b : Bindings) (pools : List Pool) (words : ℕ) (leaders : List (Option ℕ)) (sizes : List (List Cut)) (merging : PoolsView) (table : List GotEntry) where
+  walk_laid : (parts : List Item) (o : Orders) (bounds : Bounds) → AllFit sizes o → AreBounds sizes o bounds → AreRising bounds
+      → IsWalk files (length pools) leaders sizes o
+      (with_contents (laid_by leaders sizes (section_total files) bounds (trail_of sizes parts o bounds (no_trail (section_total files) (length pools)))) merging table)
+  unfolding laid_by with_contents
+  walk_laid parts o bounds rows is up =
+      let low = trail_low sizes parts o bounds (section_total files) (length pools) rows is up in
+      record {
+        members = trail_members sizes parts o bounds (section_total files) (length pools);
+        stands = trail_stands sizes parts o bounds (no_trail (section_total files) (length pools));
+        low = record { starts = low.starts; pools = low.pools; got = low.got };
+        places = subst (All IsLow) (sym (trail_places sizes parts o bounds (section_total files) (length pools))) (places_low sizes parts o bounds rows is up);
+        cuts = refl;
+      }
 
-bounds_in : (leaders : List (Option ℕ)) (sizes : List (List Cut)) (sections : ℕ) (bounds : Bounds) (t : Trail) → (laid_by leaders sizes sections bounds t).bounds ≡ bounds
-unfolding laid_by
-bounds_in leaders sizes sections bounds t = refl
+  bounds_in : (bounds : Bounds) (t : Trail) → (with_contents (laid_by leaders sizes (section_total files) bounds t) merging table).bounds ≡ bounds
+  unfolding laid_by with_contents
+  bounds_in bounds t = refl
 
-pub sound_laid : (limits : Limits) (files : List File) (b : Bindings) (pools : List Pool) (words : ℕ) (leaders : List (Option ℕ)) (sizes : List (List Cut)) → AllSound files
-    → AreLeaders files b leaders → FitSizes files b sizes → All AreApart sizes → All IsSized (items files b pools words leaders)
-    → all_weight (orders_of (items files b pools words leaders)) + 2 ^ 32 < 2 ^ 63 → IsWithinStandard limits
-    → layout_defects limits files (layout_of files b pools words leaders sizes) ≡ [] → IsSound files b leaders (layout_of files b pools words leaders sizes)
-unfolding layout_of laid_of
-sound_laid limits files b pools words leaders sizes sound are fit apart sized room few none =
-    let parts : List Item = items files b pools words leaders in
-    let o : Orders = orders_of parts in
-    let bounds : Bounds = bounds_of sizes o in
-    let t : Trail = trail_of sizes parts o bounds (no_trail (section_total files) (length pools)) in
-    let ready = ready_of files b pools words leaders sizes are fit sized in
-    let rows : AllFit sizes o = all_fit sizes (section_total files) (length pools) o apart ready in
-    let is : AreBounds sizes o bounds = bounds_are sizes o in
-    let up : AreRising bounds = rising sizes o bounds rows room is in
-    let same : (laid_by leaders sizes (section_total files) bounds t).bounds ≡ bounds = bounds_in leaders sizes (section_total files) bounds t in
-    let made : All (IsMade files b leaders sizes) (all_members sizes o bounds) =
-    all_made files b (length pools) leaders sizes o bounds (link_rows files b pools words leaders) in
-    sound_walk limits files b leaders sizes o (laid_by leaders sizes (section_total files) bounds t) sound are fit apart rows
-    (subst (AreBounds sizes o) (sym same) is) (subst AreRising (sym same) up) (subst (λ k. All (IsMade files b leaders sizes) (all_members sizes o k)) (sym same) made)
-    (λ n. stands_once files b pools words leaders sizes (laid_by leaders sizes (section_total files) bounds t).bounds n)
-    (λ n. all_listed files b pools words leaders sizes (laid_by leaders sizes (section_total files) bounds t).bounds n)
-    (walk_laid files leaders sizes parts o bounds (length pools) rows is up) few none
+  -- limits and cuts do not turn on what stands in pools and table
+  same_defects : (limits : Limits) (laid : LaidOut) → layout_defects limits files (with_contents laid merging table) ≡ layout_defects limits files laid
+  unfolding layout_defects limit_defects with_contents
+  same_defects limits laid = refl
+
+  contents_of : (laid : LaidOut) → length merging.pools ≡ length pools
+      → ((p : ℕ) (d : Pool) → p < length pools → (get_or merging.pools p no_pool).size ≡ (get_or pools p d).size) → words ≡ word_count table
+      → HasContents pools words (with_contents laid merging table)
+  unfolding with_contents
+  contents_of laid count same is = record { count = count; sizes = same; counted = is }
+
+  placed_link : (bounds : Bounds) → AreRisingPools pools → HaveFirsts files b pools → IsPlaced files b pools words leaders sizes (orders_of (items files b pools words leaders)) bounds
+  placed_link bounds rise firsts = record {
+    made = all_made files b pools words leaders sizes bounds;
+    once = stands_once files b pools words leaders sizes bounds;
+    listed = all_listed files b pools words leaders sizes bounds;
+    pool_members = λ p d lt some. pools_listed files b pools words leaders sizes bounds p d lt rise (firsts p d lt).number some;
+    table_member = table_is_listed files b pools words leaders sizes bounds;
+  }
+
+  pub sound_laid : (limits : Limits) → AllSound files → AreLeaders files b leaders → AreRisingPools pools → HaveFirsts files b pools → FitSizes files b sizes → All AreApart sizes
+      → All IsSized (items files b pools words leaders) → all_weight (orders_of (items files b pools words leaders)) + 2 ^ 32 < 2 ^ 63 → length merging.pools ≡ length pools
+      → ((p : ℕ) (d : Pool) → p < length pools → (get_or merging.pools p no_pool).size ≡ (get_or pools p d).size) → words ≡ word_count table → IsWithinStandard limits
+      → layout_defects limits files (layout_of files b pools words leaders sizes) ≡ []
+      → IsSound files b leaders (with_contents (layout_of files b pools words leaders sizes) merging table)
+  unfolding layout_of laid_of
+  sound_laid limits sound are rise firsts fit apart sized room count same_sizes counted few none =
+      let parts : List Item = items files b pools words leaders in
+      let o : Orders = orders_of parts in
+      let bounds : Bounds = bounds_of sizes o in
+      let t : Trail = trail_of sizes parts o bounds (no_trail (section_total files) (length pools)) in
+      let by_walk : LaidOut = laid_by leaders sizes (section_total files) bounds t in
+      let laid : LaidOut = with_contents by_walk merging table in
+      let ready = ready_of files b pools words leaders sizes are fit sized in
+      let rows : AllFit sizes o = all_fit sizes (section_total files) (length pools) o apart ready in
+      let is : AreBounds sizes o bounds = bounds_are sizes o in
+      let up : AreRising bounds = rising sizes o bounds rows room is in
+      let same : laid.bounds ≡ bounds = bounds_in bounds t in
+      sound_walk limits files b pools words leaders sizes o laid rows (subst (AreBounds sizes o) (sym same) is) (subst AreRising (sym same) up)
+      (placed_link laid.bounds rise firsts) (walk_laid parts o bounds rows is up) (contents_of by_walk count same_sizes counted) (same_defects limits by_walk ∙ none)
+      sound are fit apart few

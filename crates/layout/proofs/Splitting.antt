@@ -4,10 +4,10 @@ use Rattle.lk_tables.specs.declared.classes.Class.{Class}
 use Rattle.layout.specs.declared.order.Row.{Row}
 use Rattle.link_sections.specs.declared.members.Member.{Member}
 use Rattle.link_sections.specs.Cuts.{Cut}
-use Rattle.link_sections.specs.LaidOut.{OutputSection}
+use Rattle.link_sections.specs.LaidOut.{OutputPlace, OutputSection}
 use Rattle.layout.specs.Items.{Item}
 use Rattle.layout.specs.declared.walk.Cursor.{Cursor}
-use Rattle.layout.specs.Walk.{Stands, after, all_put, beside, end_along, members_along, members_in, put, runs, section_in, sections_along, stands_along, stands_in}
+use Rattle.layout.specs.Walk.{Stands, after, all_put, beside, end_along, members_along, members_in, place_in, places_along, put, runs, section_in, sections_along, stands_along, stands_in}
 use Rattle.std.specs.List.{prefix_len}
 use Rattle.std.proofs.lemmas.Bool.Decides.{nat_tests}
 
@@ -68,6 +68,10 @@ module _ (sizes : List (List Cut)) (at end : Cursor) (rest front back : List Row
 
   pub next_members : (xs ys : List Member) → ys ≡ xs ++ members_in sizes at front → ys ++ members_along sizes end (runs back) ≡ xs ++ members_along sizes at (runs rest)
   next_members xs ys more = rw (e, follows, more) (append_assoc xs (members_in sizes at front) _)
+
+  pub next_places : (items : List Item) (class : Class) (xs ys : List OutputPlace) → ys ≡ xs ++ place_in sizes items class at front ∷ []
+      → ys ++ places_along sizes items class end (runs back) ≡ xs ++ places_along sizes items class at (runs rest)
+  next_places items class xs ys more = rw (e, follows, more) (append_assoc xs (place_in sizes items class at front ∷ []) _)
 
   pub next_stands : (xs ys : Stands) → ys ≡ all_put (stands_in sizes at front) xs
       → all_put (stands_along sizes end (runs back)) ys ≡ all_put (stands_along sizes at (runs rest)) xs

@@ -1,22 +1,27 @@
 -- The whole walk: where all members stand, and those of output sections that are not empty.
-use Rattle.std.proofs.Common.{◌≡◌, ℕ, zero, suc, ◌+◌, ◌-◌, ◌^◌, ◌<◌, ◌≤◌, List, [], ◌∷◌, ◌++◌, set, replicate, sym, ◌∙◌, All, append_assoc, arith}
+use Rattle.std.proofs.Common.{◌≡◌, ℕ, zero, suc, ◌+◌, ◌-◌, ◌^◌, ◌<◌, ◌≤◌, List, [], ◌∷◌, ◌++◌, set, replicate, sym, ◌∙◌, All, append_assoc, refl, arith}
 use Rattle.std.proofs.lemmas.List.Elements.{All-nil, All-head, All-tail, All-cons, All-append}
 use Rattle.lk_base.specs.declared.abi.TheConstants.{ALIGN_MAX}
+use Rattle.lk_tables.specs.declared.classes.Class.{Class}
+use Rattle.lk_tables.specs.declared.classes.Class.TheVariants.{R, Rx, TlsBits, TlsNobits, RwBits, RwNobits}
 use Rattle.link_sections.specs.declared.layouts.Bounds.{Bounds}
 use Rattle.link_sections.specs.declared.members.Content.{Content}
 use Rattle.link_sections.specs.declared.members.Content.TheVariants.{Section, Pool as IsPool, Got}
 use Rattle.link_sections.specs.declared.members.Member.{Member}
 use Rattle.link_sections.specs.Cuts.{Cut}
+use Rattle.link_sections.specs.LaidOut.{OutputPlace}
+use Rattle.layout.specs.declared.order.Row.{Row}
+use Rattle.layout.specs.declared.walk.Cursor.{Cursor}
 use Rattle.layout.specs.Items.{Item}
 use Rattle.layout.specs.Layout.{Trail, after_tls_bits, no_trail, tls_cursor, trail_of, with_bits, with_zeros}
 use Rattle.layout.specs.Order.{Orders}
 use Rattle.layout.specs.Spots.{AreRising}
-use Rattle.layout.specs.Walk.{Stands, all_put, cursor_at, members_along, put, runs, stands_along}
+use Rattle.layout.specs.Walk.{Stands, after, all_put, cursor_at, end_along, members_along, place_in, place_of, places_along, put, runs, stands_along, start_of}
 use Rattle.layout.proofs.Chain.{AreBounds}
-use Rattle.layout.proofs.Cursors.{RowFits}
+use Rattle.layout.proofs.Cursors.{Moves, RowFits, after_moves, least_along, start_most}
 use Rattle.layout.proofs.Members.{Near, both_along}
 use Rattle.layout.proofs.Rising.{AllFit, class_moves, tls_most}
-use Rattle.layout.proofs.Runs.{each_run}
+use Rattle.layout.proofs.Runs.{EachRun, each_run}
 use Rattle.layout.proofs.Splitting.{put_append}
 
 -- all members, class by class
@@ -54,6 +59,12 @@ pub trail_members : (sizes : List (List Cut)) (parts : List Item) (o : Orders) (
 unfolding trail_of with_bits with_zeros
 trail_members sizes parts o b sections pools = simp append_assoc
 
+-- and those without
+pub trail_zeros : (sizes : List (List Cut)) (parts : List Item) (o : Orders) (b : Bounds) (sections pools : ℕ) → (trail_of sizes parts o b (no_trail sections pools)).zeros
+    ≡ members_along sizes (after_tls_bits sizes o b.rw_start b.tls_align) (runs o.tls_nobits) ++ members_along sizes (cursor_at b.bits_end) (runs o.rw_nobits)
+unfolding trail_of with_bits with_zeros
+trail_zeros sizes parts o b sections pools = refl
+
 -- where they stand: from the headers on, and not much after the end of the last class
 near_more : (from to later : ℕ) (ms : List Member) → to ≤ later → All (Near from to) ms → (first : ℕ) → first ≤ from → All (Near first later) ms
 near_more from to later ms le all first first_le = λ k d lt. record { first = omega (arith, (all k d lt).first, first_le); low = omega (arith, (all k d lt).low, le) }
@@ -87,18 +98,77 @@ stands_near sizes o b fit is up =
     (each_run (RowFits sizes) o.rw_nobits fit.rw_nobits)).0 in
     All-append P _ _ r (All-append P _ _ x (All-append P _ _ tb (All-append P _ _ tn (All-append P _ _ wb wn))))
 
--- what holds of 0 and of each start holds of each address that is put
-put_holds : (P : ℕ → Type 0) (content : Content) (start : ℕ) (s : Stands) → P start → All P s.starts → All P (put content start s).starts
-put_holds P (Section n) start s one all = all_set P s.starts n start one all
-  where
-    all_set : (P : ℕ → Type 0) (xs : List ℕ) (n x : ℕ) → P x → All P xs → All P (set xs n x)
-    all_set P [] n x one all = λ k d lt. absurd (omega (arith, lt))
-    all_set P (y ∷ ys) zero x one all = All-cons P x ys one (All-tail P y ys all)
-    all_set P (y ∷ ys) (suc n) x one all = All-cons P y (set ys n x) (All-head P y ys all) (all_set P ys n x one (All-tail P y ys all))
-put_holds P (IsPool p) start s one all = all
-put_holds P Got start s one all = all
+-- where output sections are, class by class
+abbrev pub all_places : List (List Cut) → List Item → Orders → Bounds → List OutputPlace
+all_places sizes parts o b = places_along sizes parts R (cursor_at b.headers_end) (runs o.r)
+    ++ (places_along sizes parts Rx (cursor_at b.rx_start) (runs o.rx)
+    ++ (places_along sizes parts TlsBits (tls_cursor sizes o b.rw_start b.tls_align) (runs o.tls_bits)
+    ++ (places_along sizes parts TlsNobits (after_tls_bits sizes o b.rw_start b.tls_align) (runs o.tls_nobits)
+    ++ (places_along sizes parts RwBits (cursor_at b.tls_bits_end) (runs o.rw_bits)
+    ++ places_along sizes parts RwNobits (cursor_at b.bits_end) (runs o.rw_nobits)))))
 
-pub all_hold : (P : ℕ → Type 0) (ms : List Member) (s : Stands) → All (λ m. P m.start) ms → All P s.starts → All P (all_put ms s).starts
+pub trail_places : (sizes : List (List Cut)) (parts : List Item) (o : Orders) (b : Bounds) (sections pools : ℕ)
+    → (trail_of sizes parts o b (no_trail sections pools)).places ≡ all_places sizes parts o b
+unfolding trail_of with_bits with_zeros
+trail_places sizes parts o b sections pools = simp append_assoc
+
+-- each starts not much after the end of the last class
+abbrev pub IsLow : OutputPlace → Type 0
+IsLow p = p.start < 2 ^ 63
+
+low_along : (sizes : List (List Cut)) (parts : List Item) (class : Class) (c : Cursor) (os : List (List Row)) → c.extra ≤ ALIGN_MAX
+    → (end_along sizes c os).at ≤ 2 ^ 63 - 2 ^ 31 → EachRun (RowFits sizes) os → All IsLow (places_along sizes parts class c os)
+unfolding place_in place_of
+low_along sizes parts class c [] extra end all = All-nil IsLow
+low_along sizes parts class c (o ∷ os) extra end all =
+    let moves : Moves c (after sizes c o) _ = after_moves sizes c o extra all.0 in
+    let later : (after sizes c o).at ≤ (end_along sizes (after sizes c o) os).at = least_along sizes (after sizes c o) os moves.extra all.1 in
+    let near : start_of c o < c.at + ALIGN_MAX = start_most sizes c o extra all.0 in
+    All-cons IsLow (place_in sizes parts class c o) (places_along sizes parts class (after sizes c o) os) (omega (arith, near, moves.least, later, end))
+    (low_along sizes parts class (after sizes c o) os moves.extra end all.1)
+
+pub places_low : (sizes : List (List Cut)) (parts : List Item) (o : Orders) (b : Bounds) → AllFit sizes o → AreBounds sizes o b → AreRising b
+    → All IsLow (all_places sizes parts o b)
+places_low sizes parts o b fit is up =
+    let m = class_moves sizes o b fit is in
+    let extra : b.tls_align ≤ ALIGN_MAX = omega (arith, is.tls_align, tls_most sizes o fit) in
+    let r : All IsLow (places_along sizes parts R (cursor_at b.headers_end) (runs o.r)) =
+    low_along sizes parts R (cursor_at b.headers_end) (runs o.r) (omega arith)
+    (omega (arith, is.r_end, up.rx_rounded, up.rx, up.rw_rounded, up.tls_bits, up.bits, up.nobits, up.room)) (each_run (RowFits sizes) o.r fit.r) in
+    let x : All IsLow (places_along sizes parts Rx (cursor_at b.rx_start) (runs o.rx)) =
+    low_along sizes parts Rx (cursor_at b.rx_start) (runs o.rx) (omega arith)
+    (omega (arith, is.rx_end, up.rw_rounded, up.tls_bits, up.bits, up.nobits, up.room)) (each_run (RowFits sizes) o.rx fit.rx) in
+    let tb : All IsLow (places_along sizes parts TlsBits (tls_cursor sizes o b.rw_start b.tls_align) (runs o.tls_bits)) =
+    low_along sizes parts TlsBits (tls_cursor sizes o b.rw_start b.tls_align) (runs o.tls_bits) extra
+    (omega (arith, is.tls_bits_end, up.bits, up.nobits, up.room)) (each_run (RowFits sizes) o.tls_bits fit.tls_bits) in
+    let tn : All IsLow (places_along sizes parts TlsNobits (after_tls_bits sizes o b.rw_start b.tls_align) (runs o.tls_nobits)) =
+    low_along sizes parts TlsNobits (after_tls_bits sizes o b.rw_start b.tls_align) (runs o.tls_nobits) m.tls_bits.extra
+    (omega (arith, is.tls_end, up.tls_room)) (each_run (RowFits sizes) o.tls_nobits fit.tls_nobits) in
+    let wb : All IsLow (places_along sizes parts RwBits (cursor_at b.tls_bits_end) (runs o.rw_bits)) =
+    low_along sizes parts RwBits (cursor_at b.tls_bits_end) (runs o.rw_bits) (omega arith)
+    (omega (arith, is.bits_end, up.nobits, up.room)) (each_run (RowFits sizes) o.rw_bits fit.rw_bits) in
+    let wn : All IsLow (places_along sizes parts RwNobits (cursor_at b.bits_end) (runs o.rw_nobits)) =
+    low_along sizes parts RwNobits (cursor_at b.bits_end) (runs o.rw_nobits) (omega arith)
+    (omega (arith, is.nobits_end, up.room)) (each_run (RowFits sizes) o.rw_nobits fit.rw_nobits) in
+    All-append IsLow _ _ r (All-append IsLow _ _ x (All-append IsLow _ _ tb (All-append IsLow _ _ tn (All-append IsLow _ _ wb wn))))
+
+-- what holds of 0 and of each start holds of each address that is put
+pub record AllStand (P : ℕ → Type 0) (s : Stands) : Type 0 where
+  pub starts : All P s.starts
+  pub pools : All P s.pools
+  pub got : P s.got
+
+all_set : (P : ℕ → Type 0) (xs : List ℕ) (n x : ℕ) → P x → All P xs → All P (set xs n x)
+all_set P [] n x one all = λ k d lt. absurd (omega (arith, lt))
+all_set P (y ∷ ys) zero x one all = All-cons P x ys one (All-tail P y ys all)
+all_set P (y ∷ ys) (suc n) x one all = All-cons P y (set ys n x) (All-head P y ys all) (all_set P ys n x one (All-tail P y ys all))
+
+put_holds : (P : ℕ → Type 0) (content : Content) (start : ℕ) (s : Stands) → P start → AllStand P s → AllStand P (put content start s)
+put_holds P (Section n) start s one all = record { starts = all_set P s.starts n start one all.starts; pools = all.pools; got = all.got }
+put_holds P (IsPool p) start s one all = record { starts = all.starts; pools = all_set P s.pools p start one all.pools; got = all.got }
+put_holds P Got start s one all = record { starts = all.starts; pools = all.pools; got = one }
+
+pub all_hold : (P : ℕ → Type 0) (ms : List Member) (s : Stands) → All (λ m. P m.start) ms → AllStand P s → AllStand P (all_put ms s)
 all_hold P [] s each all = all
 all_hold P (m ∷ ms) s each all =
     all_hold P ms (put m.content m.start s) (All-tail (λ (x : Member). P x.start) m ms each)
@@ -108,10 +178,12 @@ pub all_zeros : (P : ℕ → Type 0) (n : ℕ) → P 0 → All P (replicate n 0)
 all_zeros P zero one = All-nil P
 all_zeros P (suc n) one = All-cons P 0 (replicate n 0) one (all_zeros P n one)
 
-pub starts_low : (sizes : List (List Cut)) (parts : List Item) (o : Orders) (b : Bounds) (sections pools : ℕ) → AllFit sizes o → AreBounds sizes o b → AreRising b
-    → All (λ start. start + 2 ^ 30 < 2 ^ 63) (trail_of sizes parts o b (no_trail sections pools)).stands.starts
-starts_low sizes parts o b sections pools fit is up =
+pub trail_low : (sizes : List (List Cut)) (parts : List Item) (o : Orders) (b : Bounds) (sections pools : ℕ) → AllFit sizes o → AreBounds sizes o b → AreRising b
+    → AllStand (λ start. start + 2 ^ 30 < 2 ^ 63) (trail_of sizes parts o b (no_trail sections pools)).stands
+trail_low sizes parts o b sections pools fit is up =
     let near = stands_near sizes o b fit is up in
+    let P : ℕ → Type 0 = λ start. start + 2 ^ 30 < 2 ^ 63 in
+    let none : P 0 = omega arith in
     rw (trail_stands sizes parts o b (no_trail sections pools))
-    (all_hold (λ start. start + 2 ^ 30 < 2 ^ 63) (all_stands sizes o b) (no_trail sections pools).stands (λ k d lt. omega (arith, (near k d lt).low))
-    (all_zeros (λ start. start + 2 ^ 30 < 2 ^ 63) sections (omega arith)))
+    (all_hold P (all_stands sizes o b) (no_trail sections pools).stands (λ k d lt. omega (arith, (near k d lt).low))
+    (record { starts = all_zeros P sections none; pools = all_zeros P pools none; got = none }))

@@ -19,6 +19,10 @@ each_viewed P [] each = All-nil P
 each_viewed P (i ∷ is) each =
     All-cons P (item_view i) (items_view is) (each 0 i (omega arith)) (each_viewed P is (λ k d below. each (suc k) d (omega (arith, below))))
 
+pub each_cut : (P : Cut → Type 0) (cuts : List HeldCut) → ((k : ℕ) (d : HeldCut) → k < length cuts → P (cut_view (get_or cuts k d))) → All P (cut_views cuts)
+each_cut P [] each = All-nil P
+each_cut P (c ∷ cs) each = All-cons P (cut_view c) (cut_views cs) (each 0 c (omega arith)) (each_cut P cs (λ k d below. each (suc k) d (omega (arith, below))))
+
 -- a thousand small items have few bytes
 pub few_bytes : (list : List HeldItem) → length list ≤ 1000 → All (λ item. item.size ≤ NOBITS_MAX) (items_view list) → sum_by (λ item. item.size) (items_view list) < 2 ^ 61 + 2 ^ 40
 few_bytes list few small =

@@ -20,7 +20,8 @@ use Rattle.link_sections.specs.declared.members.Member.{Member}
 use Rattle.link_sections.specs.declared.pools.Pool.{Pool}
 use Rattle.link_sections.specs.Cuts.{Cut}
 use Rattle.link_sections.specs.InputSections.{input_at}
-use Rattle.link_sections.specs.LaidOut.{LaidOut, OutputSection, output_view}
+use Rattle.link_sections.specs.Calls.{IsOwnCall}
+use Rattle.link_sections.specs.LaidOut.{LaidOut, OutputPlace, OutputSection, no_pools, output_view, place_view}
 use Rattle.link_sections.specs.Leaders.{leads}
 use Rattle.layout.specs.declared.order.Row.{Row}
 use Rattle.layout.specs.declared.walk.Cursor.{Cursor}
@@ -28,7 +29,7 @@ use Rattle.layout.specs.declared.placing.Walked.{Walked}
 use Rattle.layout.specs.Cutting.{laid_cuts, short_defects}
 use Rattle.layout.specs.Items.{Item, items}
 use Rattle.layout.specs.Order.{Orders, orders_of}
-use Rattle.layout.specs.Walk.{IsReady, Stands, all_put, cursor_at, end_along, greatest, is_empty, members_along, runs, sections_along, stands_along, stands_view, weight}
+use Rattle.layout.specs.Walk.{IsReady, Stands, all_put, cursor_at, end_along, greatest, is_empty, members_along, places_along, runs, sections_along, stands_along, stands_view, weight}
 
 abbrev pub count_of : Bool → ℕ
 count_of test = if test then 1 else 0
@@ -129,12 +130,13 @@ module _ (sizes : List (List Cut)) (o : Orders) where
     image_end = image_end_of;
   }
 
--- what the walk has come past: the output sections that are not empty, their members with bytes in the file and those without, and where
--- all members stand
+-- what the walk has come past: the output sections that are not empty, their members with bytes in the file and those without, where all
+-- output sections are, the empty ones too, and where all members stand
 pub record Trail : Type 0 where
   pub outputs : List OutputSection
   pub members : List Member
   pub zeros : List Member
+  pub places : List OutputPlace
   pub stands : Stands
 
 unfoldable pub trail_view : Walked → Trail
@@ -142,6 +144,7 @@ trail_view w = record {
   outputs = map output_view w.outputs.items;
   members = w.members.items;
   zeros = w.zeros.items;
+  places = map place_view w.extents.items;
   stands = stands_view w.places;
 }
 
@@ -152,6 +155,7 @@ module _ (sizes : List (List Cut)) (parts : List Item) where
     outputs = t.outputs ++ sections_along sizes parts class c (runs rows);
     members = t.members ++ members_along sizes c (runs rows);
     zeros = t.zeros;
+    places = t.places ++ places_along sizes parts class c (runs rows);
     stands = all_put (stands_along sizes c (runs rows)) t.stands;
   }
 
@@ -160,6 +164,7 @@ module _ (sizes : List (List Cut)) (parts : List Item) where
     outputs = t.outputs ++ sections_along sizes parts class c (runs rows);
     members = t.members;
     zeros = t.zeros ++ members_along sizes c (runs rows);
+    places = t.places ++ places_along sizes parts class c (runs rows);
     stands = all_put (stands_along sizes c (runs rows)) t.stands;
   }
 
@@ -178,6 +183,7 @@ no_trail sections pools = record {
   outputs = [];
   members = [];
   zeros = [];
+  places = [];
   stands = record { starts = replicate sections 0; pools = replicate pools 0; got = 0 };
 }
 
@@ -194,11 +200,14 @@ laid_by leaders sizes sections b t = record {
   outputs = t.outputs;
   members = t.members;
   zeros = t.zeros;
+  places = t.places;
   starts = t.stands.starts;
   pools = t.stands.pools;
   got = t.stands.got;
   cuts = all_cuts leaders sizes t.stands.starts sections;
   bounds = b;
+  merging = no_pools;
+  table = [];
 }
 
 unfoldable pub laid_of : (leaders : List (Option ℕ)) → (sizes : List (List Cut)) → (sections pools : ℕ) → List Item → LaidOut
@@ -251,9 +260,11 @@ pub record AreReady (sizes : List (List Cut)) (sections pools : ℕ) (o : Orders
 abbrev pub all_weight : Orders → ℕ
 all_weight o = weight o.r + weight o.rx + weight o.tls_bits + weight o.tls_nobits + weight o.rw_bits + weight o.rw_nobits
 
--- one list of cuts for each section; each cut lies in its section, and meets no place that a relocation writes
+-- one list of cuts for each section; each cut has bytes and lies in its section, and meets no place that a relocation writes, but for that
+-- of its own call
 pub record FitSizes (files : List File) (b : Bindings) (sizes : List (List Cut)) : Type 0 where
   pub count : length sizes ≡ section_total files
+  pub some : (n : ℕ) → n < section_total files → All (λ c. 0 < c.whole) (slice_index_or sizes n [])
   pub within : (n : ℕ) → n < section_total files → All (λ c. c.at + c.whole ≤ (input_at files b n).size) (slice_index_or sizes n [])
   pub clear : (n : ℕ) → n < section_total files → All (λ r. 0 < (kind_of r.kind).width
-      → All (λ c. (c.at + c.whole ≤ r.offset) ⊎ (r.offset + (kind_of r.kind).width ≤ c.at)) (slice_index_or sizes n [])) (relocs_of files n)
+      → All (λ c. (c.at + c.whole ≤ r.offset) ⊎ ((r.offset + (kind_of r.kind).width ≤ c.at) ⊎ IsOwnCall c r)) (slice_index_or sizes n [])) (relocs_of files n)

@@ -1,5 +1,5 @@
 -- Where the output sections of a layout stand, within its bounds.
-use Rattle.std.specs.Prelude.{◌≡◌, ℕ, ◌+◌, ◌*◌, ◌%◌, ◌^◌, ◌<◌, ◌≤◌, IsTrue, Bool, true, false, not, List, [], ◌∷◌, filter, All}
+use Rattle.std.specs.Prelude.{◌≡◌, ℕ, ◌+◌, ◌*◌, ◌%◌, ◌^◌, ◌<◌, ◌≤◌, IsTrue, Bool, true, false, not, List, [], ◌∷◌, ◌++◌, filter, All}
 use Rattle.lk_base.specs.declared.abi.TheConstants.{EHDR_SIZE, IMAGE_BASE, PHDR_SIZE}
 use Rattle.lk_tables.specs.Binding.{Bindings}
 use Rattle.lk_tables.specs.Files.{File}
@@ -7,6 +7,7 @@ use Rattle.lk_tables.specs.declared.classes.Class.{Class}
 use Rattle.lk_tables.specs.declared.classes.Class.TheVariants.{R, Rx, TlsBits, TlsNobits, RwBits, RwNobits}
 use Rattle.link_sections.specs.declared.layouts.Bounds.{Bounds}
 use Rattle.link_sections.specs.declared.members.Content.TheVariants.{Section}
+use Rattle.link_sections.specs.declared.members.Member.{Member}
 use Rattle.link_sections.specs.InputSections.{input_at}
 use Rattle.link_sections.specs.LaidOut.{LaidOut, OutputSection}
 use Rattle.layout.specs.Layout.{count_of}
@@ -90,6 +91,21 @@ is_tls_nobits RwNobits = false
 -- all others
 abbrev pub without_tls_zeros : List OutputSection → List OutputSection
 without_tls_zeros outputs = filter (λ s. not (is_tls_nobits s.class)) outputs
+
+-- members one after the other from an address on, too
+abbrev pub AreInOrder : ℕ → List Member → Type 0
+AreInOrder from [] = Unit {0}
+AreInOrder from (m ∷ ms) = (from ≤ m.start) × AreInOrder (m.start + m.size) ms
+
+-- the members without bytes in the file: those that are thread-local, one after the other in their class, and then the others in theirs
+pub record HaveZeros (laid : LaidOut) : Type 0 where
+  pub threads : List Member
+  pub others : List Member
+  pub all : laid.zeros ≡ threads ++ others
+  pub threads_order : AreInOrder laid.bounds.tls_bits_end threads
+  pub threads_end : All (λ m. m.start + m.size ≤ laid.bounds.tls_end) threads
+  pub others_order : AreInOrder laid.bounds.bits_end others
+  pub others_end : All (λ m. m.start + m.size ≤ laid.bounds.nobits_end) others
 
 -- each member that is a section starts at a multiple of its alignment
 pub record HaveAlignments (files : List File) (b : Bindings) (laid : LaidOut) : Type 0 where

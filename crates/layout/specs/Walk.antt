@@ -10,7 +10,7 @@ use Rattle.link_sections.specs.declared.members.Content.{Content}
 use Rattle.link_sections.specs.declared.members.Content.TheVariants.{Section, Pool as IsPool, Got}
 use Rattle.link_sections.specs.declared.members.Member.{Member}
 use Rattle.link_sections.specs.Cuts.{Cut, new_offset}
-use Rattle.link_sections.specs.LaidOut.{OutputSection}
+use Rattle.link_sections.specs.LaidOut.{OutputPlace, OutputSection}
 use Rattle.layout.specs.declared.order.Row.{Row}
 use Rattle.layout.specs.declared.walk.Cursor.{Cursor}
 use Rattle.layout.specs.declared.places.Places.{Places}
@@ -74,6 +74,10 @@ section_of items class rows start end = record {
   align = greatest rows;
   count = length rows;
 }
+
+-- where it is
+unfoldable pub place_of : List Item → Class → List Row → (start end : ℕ) → OutputPlace
+place_of items class rows start end = record { name = first_name items rows; class = class; start = start; end = end }
 
 -- where a member stands, by what it is: a section and a pool by their numbers
 pub record Stands : Type 0 where
@@ -148,6 +152,10 @@ module _ (sizes : List (List Cut)) where
   section_in items class c rows =
       if is_empty rows then [] else section_of items class rows (start_of c rows) (past sizes (start_of c rows) rows) ∷ []
 
+  -- where it is, if it is empty, too
+  unfoldable pub place_in : List Item → Class → Cursor → List Row → OutputPlace
+  place_in items class c rows = place_of items class rows (start_of c rows) (if is_empty rows then start_of c rows else past sizes (start_of c rows) rows)
+
   -- the same of the output sections of a class one after the other, and the cursor after them
   abbrev pub stands_along : Cursor → List (List Row) → List Member
   stands_along c [] = []
@@ -160,6 +168,10 @@ module _ (sizes : List (List Cut)) where
   abbrev pub sections_along : List Item → Class → Cursor → List (List Row) → List OutputSection
   sections_along items class c [] = []
   sections_along items class c (o ∷ os) = section_in items class c o ++ sections_along items class (after c o) os
+
+  abbrev pub places_along : List Item → Class → Cursor → List (List Row) → List OutputPlace
+  places_along items class c [] = []
+  places_along items class c (o ∷ os) = place_in items class c o ∷ places_along items class (after c o) os
 
   abbrev pub end_along : Cursor → List (List Row) → Cursor
   end_along c [] = c

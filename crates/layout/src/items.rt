@@ -4,10 +4,12 @@ ghost use Rattle.std.specs.Prelude.{◌≡◌, ℕ, ◌+◌, ◌*◌, ◌<◌, �
 ghost use Rattle.std.specs.List.{sum_by};
 ghost use Rattle.layout.specs.Items as spec;
 ghost use Rattle.layout.specs.ItemViews.{item_view, items_view};
+ghost use Rattle.link_sections.specs.GotEntries.{word_count};
+ghost use Rattle.link_sections.specs.GotView.{entries_of};
 ghost use Rattle.link_sections.specs.InputSections.{input_at};
 ghost use Rattle.link_sections.specs.InputViews.{input_view};
 ghost use Rattle.link_sections.specs.Pools.{AreRising};
-ghost use Rattle.lk_tables.specs.Binding.{IsBindingOf};
+ghost use Rattle.lk_tables.specs.BoundNames.{IsBindingOf};
 ghost use Rattle.lk_tables.specs.BindingView.{binding_view};
 ghost use Rattle.lk_tables.specs.Files.{section_total};
 ghost use Rattle.lk_tables.specs.TablesView.{files_of};
@@ -48,7 +50,7 @@ pub fn items_of<'a>(
     requires bound { IsBindingOf (files_of tables.now) (binding_view binding.now) }
     requires leaders { spec.AreLeaders (files_of tables.now) (binding_view binding.now) leaders.now }
     requires pools { spec.HaveFirsts (files_of tables.now) (binding_view binding.now) pools.now.pools.items }
-    ensures items { IfOk result (λ items. items_view items.items ≡ spec.items (files_of tables.now) (binding_view binding.now) pools.now.pools.items got.now.words leaders.now) }
+    ensures items { IfOk result (λ items. items_view items.items ≡ spec.items (files_of tables.now) (binding_view binding.now) pools.now.pools.items (word_count (entries_of got.now)) leaders.now) }
     ensures sized { IfOk result (λ items. All spec.IsSized (items_view items.items)) }
     ensures few { IfOk result (λ items. length items.items ≤ 2 ^ 30) }
     ensures bytes { IfOk result (λ items. sum_by (λ item. item.size) (items_view items.items) < 2 ^ 61 + 2 ^ 40) }
@@ -140,7 +142,8 @@ fn pool_item<'a>(pool: u32, size: u64, input: &InputSection<'a>) -> Item<'a>
 
 /// The linker's table as an item.
 fn got_item(got: &Got) -> Item<'static>
-    ensures { item_view result ≡ spec.got_item got.now.words }
+    ensures item { item_view result ≡ spec.got_item (word_count (entries_of got.now)) }
+    ensures few { word_count (entries_of got.now) < 2 ^ 34 }
 {
     Item {
         content: Content::Got,

@@ -6,18 +6,22 @@ ghost use Rattle.lk_base.specs.declared.abi.TheConstants.{ALIGN_MAX, NOBITS_MAX}
 ghost use Rattle.lk_base.specs.Arithmetic.{up};
 ghost use Rattle.lk_base.specs.Firsts.{Goes, Passes};
 ghost use Rattle.lk_base.specs.Limits.{IsWithinStandard};
-ghost use Rattle.lk_tables.specs.Binding.{IsBindingOf};
+ghost use Rattle.lk_tables.specs.BoundNames.{IsBindingOf};
 ghost use Rattle.lk_tables.specs.BindingView.{binding_view};
 ghost use Rattle.lk_tables.specs.Files.{section_total};
 ghost use Rattle.lk_tables.specs.TablesView.{files_of};
-ghost use Rattle.link_sections.specs.LaidOut.{layout_view};
+ghost use Rattle.link_sections.specs.CutsView.{cut_views};
+ghost use Rattle.link_sections.specs.GotEntries.{word_count};
+ghost use Rattle.link_sections.specs.GotView.{entries_of};
+ghost use Rattle.link_sections.specs.LaidOut.{layout_view, with_contents};
+ghost use Rattle.link_sections.specs.PoolViews.{pools_view};
 ghost use Rattle.link_sections.specs.SizesView.{sizes_of};
 ghost use Rattle.link_sections.specs.Sound.{IsSound};
 ghost use Rattle.layout.specs.Items.{AreLeaders, HaveFirsts, IsSized, items};
 ghost use Rattle.layout.specs.ItemViews.{item_view, items_view};
 ghost use Rattle.layout.specs.Layout as spec;
 ghost use Rattle.layout.specs.Order.{orders_in, orders_of};
-ghost use Rattle.layout.specs.Spots.{AreApart, AreRising, HaveAlignments, HaveSegments, IsWithinClass, without_tls_zeros};
+ghost use Rattle.layout.specs.Spots.{AreApart, AreRising, HaveAlignments, HaveSegments, HaveZeros, IsWithinClass, without_tls_zeros};
 ghost use Rattle.layout.specs.Walk as walk;
 
 use crate::cut_rows::lay_rows;
@@ -25,7 +29,7 @@ use crate::items::{Item, items_of};
 use crate::order::{Ordered, Row, find_orders};
 use crate::places::Places;
 use crate::walk::{Cursor, Sources, greatest_alignment, is_empty, walk_class};
-use link_sections::{Bounds, Got, Layout, Member, Output, Pools, Sizes};
+use link_sections::{Bounds, Got, Layout, Member, Output, OutputPlace, Pools, Sizes};
 use lk_base::abi::{EHDR_SIZE, IMAGE_BASE, PAGE, PHDR_SIZE};
 use lk_base::kinds::TOO_BIG;
 use lk_base::{Defect, Limits, LinkStop, SecNo, count_defect, up};
@@ -33,9 +37,9 @@ use lk_tables::{Binding, Class, Tables};
 use std::alloc::{AllocError, Global};
 
 /// Lays out a link: the sections that lead themselves, the pools of merged pieces, and last the linker's global offset table. `sizes` has by
-/// section number where each section loses bytes; the bytes that its alignments keep are found here. Refuses an alignment that needs
-/// more bytes than it has, the first in order of section and offset; then a count of output sections above its limit; then an image
-/// that is not below its limit.
+/// section number where each section loses bytes: a call keeps what it has there, and what an alignment keeps is found here. Refuses an
+/// alignment that needs more bytes than it has, the first in order of section and offset; then a count of output sections above its limit;
+/// then an image that is not below its limit.
 pub fn place<'a>(
     alloc: Global,
     tables: &Tables<'a>,
@@ -50,15 +54,16 @@ pub fn place<'a>(
     requires leaders { AreLeaders (files_of tables.now) (binding_view binding.now) leaders.now }
     requires pools { HaveFirsts (files_of tables.now) (binding_view binding.now) pools.now.pools.items }
     requires sizes { spec.FitSizes (files_of tables.now) (binding_view binding.now) (sizes_of sizes.now) }
-    ensures goes { Goes result (spec.layout_defects limits.now (files_of tables.now) (spec.layout_of (files_of tables.now) (binding_view binding.now) pools.now.pools.items got.now.words leaders.now (sizes_of sizes.now))) }
-    ensures found { IfOk result (λ layout. layout_view layout ≡ spec.layout_of (files_of tables.now) (binding_view binding.now) pools.now.pools.items got.now.words leaders.now (sizes_of sizes.now)) }
-    ensures sound { IsWithinStandard limits.now → IfOk result (λ layout. IsSound (files_of tables.now) (binding_view binding.now) leaders.now (layout_view layout)) }
+    ensures goes { Goes result (spec.layout_defects limits.now (files_of tables.now) (spec.layout_of (files_of tables.now) (binding_view binding.now) pools.now.pools.items (word_count (entries_of got.now)) leaders.now (sizes_of sizes.now))) }
+    ensures found { IfOk result (λ layout. layout_view layout ≡ spec.layout_of (files_of tables.now) (binding_view binding.now) pools.now.pools.items (word_count (entries_of got.now)) leaders.now (sizes_of sizes.now)) }
+    ensures sound { IsWithinStandard limits.now → IfOk result (λ layout. IsSound (files_of tables.now) (binding_view binding.now) leaders.now (with_contents (layout_view layout) (pools_view (files_of tables.now) pools.now) (entries_of got.now))) }
     ensures within { IfOk result (λ layout. spec.IsWithin limits.now (layout_view layout)) }
     ensures rising { IfOk result (λ layout. AreRising layout.bounds) }
     ensures segments { IfOk result (λ layout. HaveSegments layout.bounds) }
     ensures apart { IfOk result (λ layout. AreApart layout.bounds.headers_end (without_tls_zeros (layout_view layout).outputs)) }
     ensures inside { IfOk result (λ layout. All (IsWithinClass layout.bounds) (layout_view layout).outputs) }
     ensures aligned { IfOk result (λ layout. HaveAlignments (files_of tables.now) (binding_view binding.now) (layout_view layout)) }
+    ensures zeros { IfOk result (λ layout. HaveZeros (layout_view layout)) }
 {
     let layout = lay_out(alloc, tables, binding, pools, got, leaders, sizes)?;
     match check_limits(&layout, limits) {
@@ -81,10 +86,10 @@ fn lay_out<'a>(
     requires leaders { AreLeaders (files_of tables.now) (binding_view binding.now) leaders.now }
     requires pools { HaveFirsts (files_of tables.now) (binding_view binding.now) pools.now.pools.items }
     requires sizes { spec.FitSizes (files_of tables.now) (binding_view binding.now) (sizes_of sizes.now) }
-    ensures goes { Goes result (spec.cut_defects (files_of tables.now) (spec.layout_of (files_of tables.now) (binding_view binding.now) pools.now.pools.items got.now.words leaders.now (sizes_of sizes.now)).cuts (section_total (files_of tables.now))) }
-    ensures found { IfOk result (λ layout. layout_view layout ≡ spec.layout_of (files_of tables.now) (binding_view binding.now) pools.now.pools.items got.now.words leaders.now (sizes_of sizes.now)) }
-    ensures sized { IfOk result (λ _. All IsSized (items (files_of tables.now) (binding_view binding.now) pools.now.pools.items got.now.words leaders.now)) }
-    ensures room { IfOk result (λ _. spec.all_weight (orders_of (items (files_of tables.now) (binding_view binding.now) pools.now.pools.items got.now.words leaders.now)) + 2 ^ 32 < 2 ^ 63) }
+    ensures goes { Goes result (spec.cut_defects (files_of tables.now) (spec.layout_of (files_of tables.now) (binding_view binding.now) pools.now.pools.items (word_count (entries_of got.now)) leaders.now (sizes_of sizes.now)).cuts (section_total (files_of tables.now))) }
+    ensures found { IfOk result (λ layout. layout_view layout ≡ spec.layout_of (files_of tables.now) (binding_view binding.now) pools.now.pools.items (word_count (entries_of got.now)) leaders.now (sizes_of sizes.now)) }
+    ensures sized { IfOk result (λ _. All IsSized (items (files_of tables.now) (binding_view binding.now) pools.now.pools.items (word_count (entries_of got.now)) leaders.now)) }
+    ensures room { IfOk result (λ _. spec.all_weight (orders_of (items (files_of tables.now) (binding_view binding.now) pools.now.pools.items (word_count (entries_of got.now)) leaders.now)) + 2 ^ 32 < 2 ^ 63) }
 {
     let items = items_of(alloc, tables, binding, pools, got, leaders)?;
     let (walked, bounds) = walk_items(
@@ -99,6 +104,7 @@ fn lay_out<'a>(
         outputs: walked.outputs,
         members: walked.members,
         zeros: walked.zeros,
+        places: walked.extents,
         starts: walked.places.starts,
         pools: walked.places.pools,
         got: walked.places.got,
@@ -160,6 +166,7 @@ fn no_walk(alloc: Global, sections: usize, pools: usize) -> Result<Walked<'stati
         outputs: Vec::new(alloc),
         members: Vec::new(alloc),
         zeros: Vec::new(alloc),
+        extents: Vec::new(alloc),
         places: Places {
             starts: vec![in alloc; 0u64; sections]?,
             pools: vec![in alloc; 0u64; pools]?,
@@ -178,6 +185,8 @@ pub struct Walked<'a> {
     pub members: Vec<Member>,
     /// Their members in classes without.
     pub zeros: Vec<Member>,
+    /// Where all output sections are, the empty ones too.
+    pub extents: Vec<OutputPlace<'a>>,
     /// Where all members stand, those of empty output sections too.
     pub places: Places,
 }
@@ -208,6 +217,7 @@ fn walk_bits<'a>(
         rows,
         &mut walked.outputs,
         &mut walked.members,
+        &mut walked.extents,
         &mut walked.places,
     )?;
     Ok(end)
@@ -239,6 +249,7 @@ fn walk_zeros<'a>(
         rows,
         &mut walked.outputs,
         &mut walked.zeros,
+        &mut walked.extents,
         &mut walked.places,
     )?;
     Ok(end)
@@ -425,78 +436,111 @@ mod tests {
         }
     }
 
-    /// The linker's table, without words.
-    fn table() -> Item<'static> {
+    /// A pool of strings.
+    fn strings(number: u32, size: u64) -> Item<'static> {
+        Item {
+            content: Content::Pool(number),
+            name: b".rodata.str1.1",
+            sh_type: 1,
+            flags: 0x32,
+            size,
+            align: 1,
+        }
+    }
+
+    /// The linker's table, of so many words.
+    fn table(words: u32) -> Item<'static> {
         Item {
             content: Content::Got,
             name: b".got",
             sh_type: 1,
             flags: 3,
-            size: 0,
+            size: 8 * words as u64,
             align: 8,
         }
     }
 
-    /// Whether an item can be laid out among so many sections.
-    fn is_there(item: &Item, sections: usize) -> bool
-        ensures sized { result ≡ true → IsSized (item_view item.now) }
-        ensures there { result ≡ true → spec.IsThere [] sections 0 (item_view item.now) }
-        ensures small { result ≡ true → item.now.size ≤ NOBITS_MAX }
+    /// Whether these cuts lie in so many bytes.
+    fn lie_in(cuts: &[Cut], size: u64) -> bool
+        ensures { result ≡ true → All (λ (c : _). c.at + c.whole ≤ size) (cut_views cuts.now) }
     {
-        if item.align < 1 || 0x10_0000 < item.align || 0x1_0000_0000 < item.size {
-            return false;
-        }
-        match item.content {
-            Content::Section(n) => (n as usize) < sections,
-            Content::Pool(_) => false,
-            Content::Got => true,
-        }
-    }
-
-    fn are_there(items: &[Item], sections: usize) -> bool
-        ensures sized { result ≡ true → All IsSized (items_view items.now) }
-        ensures there { result ≡ true → All (spec.IsThere [] sections 0) (items_view items.now) }
-        ensures small { result ≡ true → All (λ (item : _). item.size ≤ NOBITS_MAX) (items_view items.now) }
-    {
-        for item in items {
-            if !is_there(item, sections) {
+        for cut in cuts {
+            if size < cut.whole || size - cut.whole < cut.at {
                 return false;
             }
         }
         true
     }
 
-    /// The layout of items, where no section loses bytes.
+    /// Whether an item can be laid out among so many sections, which lose bytes so, and pools.
+    fn is_there(item: &Item, sizes: &Sizes, sections: usize, pools: usize) -> bool
+        ensures sized { result ≡ true → IsSized (item_view item.now) }
+        ensures there { result ≡ true → spec.IsThere (sizes_of sizes.now) sections pools (item_view item.now) }
+        ensures small { result ≡ true → item.now.size ≤ NOBITS_MAX }
+    {
+        if item.align < 1 || 0x10_0000 < item.align || 0x1_0000_0000 < item.size {
+            return false;
+        }
+        match item.content {
+            Content::Section(n) => {
+                if sections <= n as usize {
+                    return false;
+                }
+                lie_in(sizes.cuts(n), item.size)
+            }
+            Content::Pool(p) => (p as usize) < pools,
+            Content::Got => true,
+        }
+    }
+
+    fn are_there(items: &[Item], sizes: &Sizes, sections: usize, pools: usize) -> bool
+        ensures sized { result ≡ true → All IsSized (items_view items.now) }
+        ensures there { result ≡ true → All (spec.IsThere (sizes_of sizes.now) sections pools) (items_view items.now) }
+        ensures small { result ≡ true → All (λ (item : _). item.size ≤ NOBITS_MAX) (items_view items.now) }
+    {
+        for item in items {
+            if !is_there(item, sizes, sections, pools) {
+                return false;
+            }
+        }
+        true
+    }
+
+    /// The walk along items, where sections lose bytes so.
     fn laid_items<'a>(
         alloc: Global,
         items: &[Item<'a>],
+        sizes: &Sizes,
         sections: usize,
+        pools: usize,
     ) -> Result<Layout<'a>, LinkStop> {
-        if 1000 < items.len() || !are_there(items, sections) {
+        if 1000 < items.len() || !are_there(items, sizes, sections, pools) {
             return Err(LinkStop::Memory);
         }
-        let sizes = Sizes::of(Rows::empty(alloc)?);
-        let (walked, bounds) = walk_items(alloc, items, &sizes, sections, 0)?;
+        let none = Sizes::of(Rows::empty(alloc)?);
+        let (walked, bounds) = walk_items(alloc, items, sizes, sections, pools)?;
         Ok(Layout {
             outputs: walked.outputs,
             members: walked.members,
             zeros: walked.zeros,
+            places: walked.extents,
             starts: walked.places.starts,
             pools: walked.places.pools,
             got: walked.places.got,
-            sizes,
+            sizes: none,
             bounds,
         })
     }
 
-    /// The same, unless it passes a limit.
+    /// The same of sections alone that lose none, unless it passes a limit.
     fn laid_within<'a>(
         alloc: Global,
         items: &[Item<'a>],
         sections: usize,
         limits: &Limits,
     ) -> Result<Layout<'a>, LinkStop> {
-        let layout = laid_items(alloc, items, sections)?;
+        let sizes = Sizes::of(Rows::empty(alloc)?);
+        let layout = laid_items(alloc, items, &sizes, sections, 0)?;
         match check_limits(&layout, limits) {
             Ok(()) => Ok(layout),
             Err(defect) => Err(LinkStop::Defect(defect)),
@@ -564,7 +608,7 @@ mod tests {
 
     #[test]
     fn text_alone(rt: HostRuntime) -> Result<(), Fail> {
-        let items = [section(0, b".text", 1, 6, 8, 4), table()];
+        let items = [section(0, b".text", 1, 6, 8, 4), table(0)];
         let layout = laid_out(rt.alloc(), &items, 1)?;
         let rows = [output(b".text", 1, 6, 0x11000, 8, 4)];
         check(&rt, &layout, &[0x11000], &rows, 3, 0x11008);
@@ -583,7 +627,7 @@ mod tests {
             section(3, b".tdata", 1, 0x403, 4, 4),
             section(4, b".text", 1, 6, 4, 4),
             section(5, b".rodata", 1, 2, 5, 8),
-            table(),
+            table(0),
         ];
         let layout = laid_out(rt.alloc(), &items, 6)?;
         let rows = [
@@ -614,7 +658,7 @@ mod tests {
             section(1, b".init_array", 1, 3, 8, 8),
             section(2, b".init_array.00005", 1, 3, 8, 8),
             section(3, b".init_array.3", 1, 3, 8, 8),
-            table(),
+            table(0),
         ];
         let layout = laid_out(rt.alloc(), &items, 4)?;
         let rows = [
@@ -627,12 +671,85 @@ mod tests {
         Ok(())
     }
 
+    /// One section, of which a call at offset 4 keeps four of its eight bytes.
+    fn short_call(alloc: Global) -> Result<Sizes, LinkStop> {
+        let call = Cut {
+            at: 4,
+            whole: 8,
+            kept: 4,
+            is_align: false,
+            new_at: 4,
+        };
+        let mut rows = Rows::empty(alloc)?;
+        rows.push(&[call])?;
+        Ok(Sizes::of(rows))
+    }
+
+    /// What follows a shortened call moves; an empty output section has a place, and moves nothing.
+    #[test]
+    fn a_pool_a_table_and_a_short_call(rt: HostRuntime) -> Result<(), Fail> {
+        let items = [
+            section(0, b".text", 1, 6, 20, 4),
+            section(1, b".text.b", 1, 6, 8, 8),
+            strings(0, 5),
+            section(2, b".data", 1, 3, 0, 32),
+            table(2),
+        ];
+        let sizes = short_call(rt.alloc())?;
+        let layout = laid_items(rt.alloc(), &items, &sizes, 3, 1)?;
+        let rows = [
+            output(b".rodata", 1, 2, 0x10120, 5, 1),
+            output(b".text", 1, 6, 0x11000, 24, 8),
+            output(b".got", 1, 3, 0x12000, 16, 8),
+        ];
+        let starts = [0x11000, 0x11010, 0x12020];
+        check(&rt, &layout, &starts, &rows, 4, 0x12010);
+        assert_eq!(rt; layout.pools.as_slice(), [0x10120].as_slice());
+        assert_eq!(rt; layout.got, 0x12000);
+        let sizes = [5, 16, 8, 16];
+        assert_eq!(rt; layout.members.len(), 4);
+        for (member, size) in layout.members.iter().zip(sizes.iter()) {
+            assert_eq!(rt; member.size, *size);
+        }
+        let places = [
+            OutputPlace {
+                name: b".rodata",
+                class: Class::R,
+                start: 0x10120,
+                end: 0x10125,
+            },
+            OutputPlace {
+                name: b".text",
+                class: Class::Rx,
+                start: 0x11000,
+                end: 0x11018,
+            },
+            OutputPlace {
+                name: b".got",
+                class: Class::RwBits,
+                start: 0x12000,
+                end: 0x12010,
+            },
+            OutputPlace {
+                name: b".data",
+                class: Class::RwBits,
+                start: 0x12020,
+                end: 0x12020,
+            },
+        ];
+        assert_eq!(rt; layout.places.len(), 4);
+        for (place, expected) in layout.places.iter().zip(places.iter()) {
+            assert_eq!(rt; place, expected);
+        }
+        Ok(())
+    }
+
     #[test]
     fn too_big(rt: HostRuntime) {
         let items = [
             section(0, b".bss", 8, 3, 0x8000_0000, 8),
             section(1, b".text", 1, 6, 4, 4),
-            table(),
+            table(0),
         ];
         match laid_out(rt.alloc(), &items, 2) {
             Ok(_) => assert!(rt; false, "a layout past the limit"),

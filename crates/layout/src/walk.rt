@@ -4,7 +4,7 @@ ghost use Rattle.std.specs.Prelude.{◌≡◌, ℕ, ◌+◌, ◌*◌, ◌%◌, �
 ghost use Rattle.std.specs.List.{prefix_len};
 ghost use Rattle.lk_base.specs.Arithmetic.{up};
 ghost use Rattle.lk_base.specs.declared.abi.TheConstants.{ALIGN_MAX, NOBITS_MAX};
-ghost use Rattle.link_sections.specs.LaidOut.{output_view};
+ghost use Rattle.link_sections.specs.LaidOut.{output_view, place_view};
 ghost use Rattle.link_sections.specs.SizesView.{sizes_of};
 ghost use Rattle.layout.specs.ItemViews.{items_view};
 ghost use Rattle.layout.specs.Walk as spec;
@@ -12,7 +12,7 @@ ghost use Rattle.layout.specs.Walk as spec;
 use crate::items::Item;
 use crate::order::Row;
 use crate::places::{Places, place_row, put};
-use link_sections::{Member, Output, Sizes};
+use link_sections::{Member, Output, OutputPlace, Sizes};
 use lk_base::abi::{SHF_ALLOC, SHF_EXECINSTR, SHF_TLS, SHF_WRITE, SHT_NOBITS, SHT_PROGBITS};
 use lk_base::up;
 use lk_tables::{Class, output_name};
@@ -38,7 +38,7 @@ pub struct Cursor {
 }
 
 /// The output sections of a class, whose rows are given in order: those that are not empty go after `outputs`, their members after
-/// `members`, and where all members stand into `places`. Gives the cursor after them.
+/// `members`, where all of them are after `extents`, and where all members stand into `places`. Gives the cursor after them.
 pub fn walk_class<'a>(
     from: &Sources<'_, 'a>,
     cursor: Cursor,
@@ -46,6 +46,7 @@ pub fn walk_class<'a>(
     rows: &[Row],
     outputs: &mut Vec<Output<'a>>,
     members: &mut Vec<Member>,
+    extents: &mut Vec<OutputPlace<'a>>,
     places: &mut Places,
 ) -> Result<Cursor, AllocError>
     requires ready { All (spec.IsReady (sizes_of from.now.sizes.now) (length places.old.starts.items) (length places.old.pools.items)) rows.now }
@@ -54,6 +55,7 @@ pub fn walk_class<'a>(
     ensures end { IfOk result (λ end. end ≡ spec.end_along (sizes_of from.now.sizes.now) cursor (spec.runs rows.now)) }
     ensures outputs { OnOk result (map output_view outputs.new.items ≡ map output_view outputs.old.items ++ spec.sections_along (sizes_of from.now.sizes.now) (items_view from.now.items.now) class cursor (spec.runs rows.now)) }
     ensures members { OnOk result (members.new.items ≡ members.old.items ++ spec.members_along (sizes_of from.now.sizes.now) cursor (spec.runs rows.now)) }
+    ensures extents { OnOk result (map place_view extents.new.items ≡ map place_view extents.old.items ++ spec.places_along (sizes_of from.now.sizes.now) (items_view from.now.items.now) class cursor (spec.runs rows.now)) }
     ensures stands { OnOk result (spec.stands_view places.new ≡ spec.all_put (spec.stands_along (sizes_of from.now.sizes.now) cursor (spec.runs rows.now)) (spec.stands_view places.old)) }
     ensures bound { IfOk result (λ end. end.at ≤ cursor.at + spec.weight rows.now) }
     ensures extra { IfOk result (λ end. end.extra ≤ ALIGN_MAX) }
@@ -64,7 +66,7 @@ pub fn walk_class<'a>(
     let mut at = cursor;
     while !rest.is_empty() {
         let (section, later) = rest.split_at(run_len(rest));
-        at = walk_section(from, at, class, section, outputs, members, places)?;
+        at = walk_section(from, at, class, section, outputs, members, extents, places)?;
         rest = later;
     }
     Ok(at)
@@ -190,6 +192,25 @@ fn describe<'a>(items: &[Item<'a>], class: Class, rows: &[Row], start: u64, end:
     }
 }
 
+/// Where an output section is.
+#[tactic(auto, unfolding(crate::specs::Walk::place_of))]
+fn extent<'a>(
+    items: &[Item<'a>],
+    class: Class,
+    rows: &[Row],
+    start: u64,
+    end: u64,
+) -> OutputPlace<'a>
+    ensures { place_view result ≡ spec.place_of (items_view items.now) class rows.now start end }
+{
+    OutputPlace {
+        name: first_name(items, rows),
+        class,
+        start,
+        end,
+    }
+}
+
 /// The alignment of an output section at its start.
 fn start_alignment(cursor: Cursor, rows: &[Row], empty: bool) -> u64
     requires ready { All (λ row. row.align ≤ ALIGN_MAX) rows.now }
@@ -206,7 +227,7 @@ fn start_alignment(cursor: Cursor, rows: &[Row], empty: bool) -> u64
 }
 
 /// One output section: gives the cursor after it.
-#[tactic(auto, unfolding(crate::specs::Walk::after, crate::specs::Walk::section_in, crate::specs::Walk::stands_in, crate::specs::Walk::members_in, crate::specs::Walk::start_of))]
+#[tactic(auto, unfolding(crate::specs::Walk::after, crate::specs::Walk::section_in, crate::specs::Walk::stands_in, crate::specs::Walk::members_in, crate::specs::Walk::place_in, crate::specs::Walk::start_of))]
 fn walk_section<'a>(
     from: &Sources<'_, 'a>,
     cursor: Cursor,
@@ -214,6 +235,7 @@ fn walk_section<'a>(
     rows: &[Row],
     outputs: &mut Vec<Output<'a>>,
     members: &mut Vec<Member>,
+    extents: &mut Vec<OutputPlace<'a>>,
     places: &mut Places,
 ) -> Result<Cursor, AllocError>
     requires some { 0 < length rows.now }
@@ -223,6 +245,7 @@ fn walk_section<'a>(
     ensures end { IfOk result (λ end. end ≡ spec.after (sizes_of from.now.sizes.now) cursor rows.now) }
     ensures outputs { OnOk result (map output_view outputs.new.items ≡ map output_view outputs.old.items ++ spec.section_in (sizes_of from.now.sizes.now) (items_view from.now.items.now) class cursor rows.now) }
     ensures members { OnOk result (members.new.items ≡ members.old.items ++ spec.members_in (sizes_of from.now.sizes.now) cursor rows.now) }
+    ensures extents { OnOk result (map place_view extents.new.items ≡ map place_view extents.old.items ++ spec.place_in (sizes_of from.now.sizes.now) (items_view from.now.items.now) class cursor rows.now ∷ []) }
     ensures stands { OnOk result (spec.stands_view places.new ≡ spec.all_put (spec.stands_in (sizes_of from.now.sizes.now) cursor rows.now) (spec.stands_view places.old)) }
     ensures bound { IfOk result (λ end. end.at ≤ cursor.at + spec.weight rows.now) }
     ensures extra { IfOk result (λ end. end.extra ≤ ALIGN_MAX) }
@@ -233,10 +256,12 @@ fn walk_section<'a>(
     let start = up(cursor.at, start_alignment(cursor, rows, empty));
     if empty {
         walk_empty(start, rows, places);
+        extents.push(extent(from.items, class, rows, start, start))?;
         return Ok(cursor);
     }
     let end = walk_members(from, start, rows, members, places)?;
     outputs.push(describe(from.items, class, rows, start, end))?;
+    extents.push(extent(from.items, class, rows, start, end))?;
     Ok(Cursor { at: end, extra: 1 })
 }
 

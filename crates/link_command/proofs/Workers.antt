@@ -19,11 +19,11 @@ use Rattle.clap.specs.declared.builder.value_parser.ValueParser.TheVariants.{Sig
 use Rattle.clap.specs.declared.parser.ArgMatches.{ArgMatches}
 use Rattle.clap.proofs.CallerLemmas.{default_present, same_rules_by_id}
 use Rattle.clap.proofs.WalkLemmas.{both, one_text-rows}
-use Rattle.link_command.specs.Grammar.{HasThreads, entry_rule, files_rule, gc_rule, output_rule, rows_in, rvld_app, strip_rule, threads_rule}
+use Rattle.link_command.specs.Grammar.{HasThreads, entry_rule, files_rule, gc_rule, icf_rule, output_rule, relax_rule, rows_in, rvld_app, strip_rule, threads_rule}
 use Rattle.link_command.proofs.Entries.{AllValued, IsValued, text_given}
 
 abbrev rvld_rules : List Rule
-rvld_rules = output_rule ∷ entry_rule ∷ threads_rule ∷ gc_rule ∷ strip_rule ∷ files_rule ∷ []
+rvld_rules = output_rule ∷ entry_rule ∷ threads_rule ∷ gc_rule ∷ icf_rule ∷ relax_rule ∷ strip_rule ∷ files_rule ∷ []
 
 abbrev workers : ValueParser
 workers = Signed (pos 1) (pos 64)
@@ -77,23 +77,27 @@ begins_apart a b s t first second apart same =
     never
 
 -- the third option alone has the id `threads`
-only_third : (j : ℕ) (r : Rule) → j < 6 → bytes_eq (slice_index_or rvld_rules j r).id (codes "threads") ≡ true → j ≡ 2
+only_third : (j : ℕ) (r : Rule) → j < 8 → bytes_eq (slice_index_or rvld_rules j r).id (codes "threads") ≡ true → j ≡ 2
 only_third zero r low same = cc
 only_third (suc zero) r low same = cc
 only_third (suc (suc zero)) r low same = refl
 only_third (suc (suc (suc zero))) r low same = cc
 only_third (suc (suc (suc (suc zero)))) r low same = cc
 only_third (suc (suc (suc (suc (suc zero))))) r low same = cc
-only_third (suc (suc (suc (suc (suc (suc j)))))) r low same = absurd (omega arith)
+only_third (suc (suc (suc (suc (suc (suc zero)))))) r low same = cc
+only_third (suc (suc (suc (suc (suc (suc (suc zero))))))) r low same = cc
+only_third (suc (suc (suc (suc (suc (suc (suc (suc j)))))))) r low same = absurd (omega arith)
 
-each_simple : (j : ℕ) (r : Rule) → j < 6 → (slice_index_or rvld_rules j r).is_simple ≡ true
+each_simple : (j : ℕ) (r : Rule) → j < 8 → (slice_index_or rvld_rules j r).is_simple ≡ true
 each_simple zero r low = refl
 each_simple (suc zero) r low = refl
 each_simple (suc (suc zero)) r low = refl
 each_simple (suc (suc (suc zero))) r low = refl
 each_simple (suc (suc (suc (suc zero)))) r low = refl
 each_simple (suc (suc (suc (suc (suc zero))))) r low = refl
-each_simple (suc (suc (suc (suc (suc (suc j)))))) r low = absurd (omega arith)
+each_simple (suc (suc (suc (suc (suc (suc zero)))))) r low = refl
+each_simple (suc (suc (suc (suc (suc (suc (suc zero))))))) r low = refl
+each_simple (suc (suc (suc (suc (suc (suc (suc (suc j)))))))) r low = absurd (omega arith)
 
 -- an argument of the rules of `--threads`
 valued_of : (a : Arg) → rule_of a ≡ threads_rule → IsValued workers a
@@ -124,20 +128,20 @@ wanted_of a is =
 
 module _ (old : Command) (m : ArgMatches) (p : IsParsedFrom old m) (rules : map rule_of (args_of old) ≡ rvld_rules)
     (plain : (is_empty (groups_of old) ≡ true) × ((out-Command old).has_globals ≡ false)) where
-  six : length (args_of old) ≡ 6
-  six = sym (length-map (args_of old) rule_of) ∙ ap length rules
+  eight : length (args_of old) ≡ 8
+  eight = sym (length-map (args_of old) rule_of) ∙ ap length rules
 
   rule_at : (k : ℕ) (d : Arg) → k < length (args_of old) → rule_of (slice_index_or (args_of old) k d) ≡ slice_index_or rvld_rules k (rule_of d)
   rule_at k d low = sym (get_or-map rule_of (args_of old) k d (rule_of d) low) ∙ ap (λ rs. slice_index_or rs k (rule_of d)) rules
 
   abbrev some_arg : Arg
-  some_arg = first_of (args_of old) (omega (arith, six))
+  some_arg = first_of (args_of old) (omega (arith, eight))
 
   abbrev third : Arg
   third = slice_index_or (args_of old) 2 some_arg
 
   third_is : rule_of third ≡ threads_rule
-  third_is = rule_at 2 some_arg (omega (arith, six))
+  third_is = rule_at 2 some_arg (omega (arith, eight))
 
   third_id : third.id.now ≡ codes "threads"
   third_id = ap (λ (r : Rule). r.id) third_is
@@ -146,7 +150,7 @@ module _ (old : Command) (m : ArgMatches) (p : IsParsedFrom old m) (rules : map 
   unique j e low same =
       let id : (slice_index_or (args_of old) j e).id.now ≡ (slice_index_or rvld_rules j (rule_of e)).id =
       ap (λ (r : Rule). r.id) (rule_at j e low) in
-      only_third j (rule_of e) (omega (arith, six)) (rw (← id, ← third_id) same)
+      only_third j (rule_of e) (omega (arith, eight)) (rw (← id, ← third_id) same)
 
   own : IsAuto third → ⊥
   own (inl help) = begins_apart 116 104 (codes "threads") (codes "help") refl refl refl (sym third_id ∙ help)
@@ -154,13 +158,13 @@ module _ (old : Command) (m : ArgMatches) (p : IsParsedFrom old m) (rules : map 
 
   valued : AllValued p.built (codes "threads") workers
   valued k a low at same =
-      kept_valued third a (same_rules_by_id old m p 2 some_arg (omega (arith, six)) unique own k a low at (rw third_id same)) (valued_of third third_is)
+      kept_valued third a (same_rules_by_id old m p 2 some_arg (omega (arith, eight)) unique own k a low at (rw third_id same)) (valued_of third third_is)
 
   no_groups : groups_of p.built ≡ []
   no_groups =
       let names : NamesNoGroup old = λ k d low.
       let simple : is_simple_arg (slice_index_or (args_of old) k d) ≡ true =
-      ap (λ (r : Rule). r.is_simple) (rule_at k d low) ∙ each_simple k (rule_of d) (omega (arith, six)) in
+      ap (λ (r : Rule). r.is_simple) (rule_at k d low) ∙ each_simple k (rule_of d) (omega (arith, eight)) in
       (simple_parts (slice_index_or (args_of old) k d) simple).1 in
       (p.from.same_groups names).1 ∙ empty_of (groups_of old) plain.0
 
@@ -173,7 +177,7 @@ module _ (old : Command) (m : ArgMatches) (p : IsParsedFrom old m) (rules : map 
   workers_in : HasThreads (rows_in m)
   workers_in =
       let parsed = p.parsed (p.from.globals ∙ globals) in
-      let there = default_present old m p globals 2 some_arg (omega (arith, six)) (wanted_of third third_is) in
+      let there = default_present old m p globals 2 some_arg (omega (arith, eight)) (wanted_of third third_is) in
       let has : HasId (found_of m) (codes "threads") = subst (HasId (found_of m)) third_id there in
       let got = text_given p.built (found_of m) (codes "threads") workers valued no_groups named parsed.values has in
       (got.0, sym (one_text-rows (found_of m) (codes "threads")) ∙ got.1, got.2.1)

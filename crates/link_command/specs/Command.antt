@@ -1,23 +1,28 @@
 -- What a command asks for, as a function of its words.
-use Rattle.std.specs.Prelude.{◌≡◌, true, ◌==◌, ◌&&◌, ℕ, Bool, not, List, [], Option, Some, None, if◌then◌else◌, codes, length, map, option_and_then, option_map, string_bytes, String, unwrap_or}
+use Rattle.std.specs.Prelude.{◌≡◌, true, false, ◌==◌, ◌&&◌, ◌||◌, ℕ, Bool, not, List, [], Option, Some, None, if◌then◌else◌, codes, length, map, option_and_then, option_map, string_bytes, String, unwrap_or}
 use Rattle.std.specs.Option.{option_map_or}
 use Rattle.std.specs.Global.{Global}
 use Rattle.std.specs.Str.{bytes_eq}
 use Rattle.std.specs.Str.Parse.{digits_value, without_leading_plus}
 use Rattle.clap.specs.Words.{Row, all_of, first_of, one_of}
 use Rattle.link_command.specs.declared.command.Command.{Command}
+use Rattle.link_command.specs.declared.command.IcfMode.{IcfMode}
+use Rattle.link_command.specs.declared.command.IcfMode.TheVariants.{Off, All}
 use Rattle.link_command.specs.declared.command.Wanted.{Wanted}
 use Rattle.link_command.specs.declared.command.Wanted.TheVariants.{Files}
 use Rattle.link_command.specs.Grammar.{taken}
 
 -- what a command asks for: the names of the executable and of the map, the entry symbol, the number of
--- workers, whether sections that nothing refers to are left out, whether symbols are, and the inputs
+-- workers, whether sections that nothing refers to are left out, whether equal code is folded, whether calls are relaxed, whether symbols are
+-- left out, and the inputs
 pub record Asked : Type 0 where
   pub output : List ℕ
   pub map : Option (List ℕ)
   pub entry : List ℕ
   pub threads : ℕ
   pub gc : Bool
+  pub icf : Bool
+  pub relax : Bool
   pub strip : Bool
   pub inputs : List (List ℕ)
 
@@ -29,6 +34,11 @@ texts_of words = map (λ word. string_bytes word) words
 abbrev pub names_of : Wanted → List (List ℕ)
 names_of (Files names) = texts_of names.items
 
+-- what folding is asked for
+abbrev pub folds : IcfMode → Bool
+folds Off = false
+folds All = true
+
 abbrev pub asks : Command → Asked
 asks command = record {
   output = string_bytes command.output;
@@ -36,6 +46,8 @@ asks command = record {
   entry = string_bytes command.entry;
   threads = command.threads;
   gc = command.gc;
+  icf = folds command.icf;
+  relax = command.relax;
   strip = command.strip;
   inputs = names_of command.inputs;
 }
@@ -68,6 +80,8 @@ read_from rows = record {
   entry = text_of (codes "entry") rows;
   threads = workers_in rows;
   gc = is_on (codes "gc-sections") rows;
+  icf = bytes_eq (text_of (codes "icf") rows) (codes "all");
+  relax = not (is_on (codes "no-relax") rows);
   strip = is_on (codes "strip-all") rows;
   inputs = inputs_in rows;
 }
@@ -76,14 +90,18 @@ read_from rows = record {
 abbrev pub is_linkable : Asked → Bool
 is_linkable asked = asked.strip && (not (length asked.entry == 0) && not (length asked.inputs == 0))
 
+-- the mode of folding is one of the two that there are
+abbrev pub is_mode : List ℕ → Bool
+is_mode text = bytes_eq text (codes "none") || bytes_eq text (codes "all")
+
 -- what an accepted command asks for can be linked: symbols are left out, and there is no map
 pub record IsLinkable (asked : Asked) : Type 0 where
   pub stripped : asked.strip ≡ true
   pub unmapped : asked.map ≡ None
 
-abbrev pub tested : Asked → Option Asked
-tested asked = if is_linkable asked then Some asked else None
+abbrev pub tested : (mode : List ℕ) → Asked → Option Asked
+tested mode asked = if is_mode mode && is_linkable asked then Some asked else None
 
 -- the accepted commands: those that clap takes and that can be linked
 unfoldable pub asked_of : List (List ℕ) → Option Asked
-asked_of words = option_and_then (λ rows. tested (read_from rows)) (taken words)
+asked_of words = option_and_then (λ rows. tested (text_of (codes "icf") rows) (read_from rows)) (taken words)

@@ -40,6 +40,21 @@ gc_rule = record (new_rule (codes "gc-sections")) {
   action = Some SetTrue;
 }
 
+-- `--icf MODE`: whether equal code is folded, `none` or `all`
+abbrev pub icf_rule : Rule
+icf_rule = record (new_rule (codes "icf")) {
+  long = Some (codes "icf");
+  action = Some Set;
+  defaults = codes "none" ∷ [];
+}
+
+-- `--no-relax`: calls keep their bytes
+abbrev pub relax_rule : Rule
+relax_rule = record (new_rule (codes "no-relax")) {
+  long = Some (codes "no-relax");
+  action = Some SetTrue;
+}
+
 -- `-s`, `--strip-all`: no symbol table
 abbrev pub strip_rule : Rule
 strip_rule = record (new_rule (codes "strip-all")) {
@@ -56,8 +71,8 @@ files_rule = record (new_rule (codes "files")) {
 
 -- the command
 unfoldable pub rvld_app : App
-rvld_app = with_rule (with_rule (with_rule (with_rule (with_rule (with_rule (new_app (codes "rvld"))
-    output_rule) entry_rule) threads_rule) gc_rule) strip_rule) files_rule
+rvld_app = with_rule (with_rule (with_rule (with_rule (with_rule (with_rule (with_rule (with_rule (new_app (codes "rvld"))
+    output_rule) entry_rule) threads_rule) gc_rule) icf_rule) relax_rule) strip_rule) files_rule
 
 -- the rows of a parse
 abbrev pub rows_in : ArgMatches → List Row

@@ -5,7 +5,9 @@ ghost use Rattle.link_command.specs.Command.{IsLinkable, asked_of, asks, is_link
 ghost use Rattle.link_command.specs.Grammar.{HasThreads, rows_in};
 
 use crate::matching::matches_of;
-use crate::values::{gc_of, inputs_of, owned_text, strip_of, threads_of};
+use crate::values::{
+    gc_of, has_mode, icf_of, inputs_of, owned_text, relax_of, strip_of, threads_of,
+};
 use clap::ArgMatches;
 use std::alloc::{AllocError, Global};
 
@@ -27,6 +29,15 @@ impl Wanted {
     }
 }
 
+/// Whether equal code is folded.
+#[derive(Clone, Copy, Debug, PartialEq, Eq)]
+pub enum IcfMode {
+    /// It is not.
+    Off,
+    /// All code that may be.
+    All,
+}
+
 /// An accepted command.
 #[derive(Drop)]
 pub struct Command {
@@ -40,6 +51,10 @@ pub struct Command {
     pub threads: u32,
     /// Whether sections that nothing refers to are left out.
     pub gc: bool,
+    /// Whether equal code is folded.
+    pub icf: IcfMode,
+    /// Whether calls are relaxed.
+    pub relax: bool,
     /// Whether symbols are left out.
     pub strip: bool,
     /// What is linked.
@@ -61,6 +76,8 @@ fn read_from(alloc: Global, matches: &ArgMatches) -> Result<Command, AllocError>
         entry,
         threads: threads_of(matches),
         gc: gc_of(matches),
+        icf: icf_of(matches),
+        relax: relax_of(matches),
         strip: strip_of(matches),
         inputs: Wanted::Files(inputs),
     })
@@ -85,7 +102,7 @@ pub fn command_of(alloc: Global, words: &[String]) -> Result<Option<Command>, Al
         return Ok(None);
     };
     let command = read_from(alloc, &matches)?;
-    if !is_linkable(&command) {
+    if !(has_mode(&matches) && is_linkable(&command)) {
         return Ok(None);
     }
     Ok(Some(command))

@@ -2,7 +2,7 @@
 
 ghost use Rattle.std.specs.Prelude.{◌≡◌, IfOk, false};
 ghost use Rattle.clap.specs.Words.{app_of, rule_of};
-ghost use Rattle.link_command.specs.Grammar.{entry_rule, files_rule, gc_rule, output_rule, rvld_app, strip_rule, threads_rule};
+ghost use Rattle.link_command.specs.Grammar.{entry_rule, files_rule, gc_rule, icf_rule, output_rule, relax_rule, rvld_app, strip_rule, threads_rule};
 
 use clap::{Arg, ArgAction};
 use std::alloc::{AllocError, Global};
@@ -53,6 +53,27 @@ fn gc_option<'a>(alloc: Global) -> Arg<'a>
         .action(ArgAction::SetTrue)
 }
 
+/// `--icf MODE`: whether equal code is folded, `none` or `all`.
+fn icf_option<'a>(alloc: Global) -> Arg<'a>
+    ensures rule { rule_of result ≡ icf_rule }
+    ensures local { result.global ≡ false }
+{
+    Arg::new(alloc, "icf")
+        .long("icf")
+        .action(ArgAction::Set)
+        .default_value("none")
+}
+
+/// `--no-relax`: calls keep their bytes.
+fn relax_option<'a>(alloc: Global) -> Arg<'a>
+    ensures rule { rule_of result ≡ relax_rule }
+    ensures local { result.global ≡ false }
+{
+    Arg::new(alloc, "no-relax")
+        .long("no-relax")
+        .action(ArgAction::SetTrue)
+}
+
 /// `-s`, `--strip-all`: no symbol table.
 fn strip_option<'a>(alloc: Global) -> Arg<'a>
     ensures rule { rule_of result ≡ strip_rule }
@@ -82,6 +103,8 @@ pub(crate) fn command_line<'a>(alloc: Global) -> Result<clap::Command<'a>, Alloc
         .arg(entry_option(alloc))?
         .arg(threads_option(alloc))?
         .arg(gc_option(alloc))?
+        .arg(icf_option(alloc))?
+        .arg(relax_option(alloc))?
         .arg(strip_option(alloc))?
         .arg(files_argument(alloc))
 }

@@ -10,7 +10,7 @@ mod grammar;
 mod matching;
 mod values;
 
-pub use command::{Command, Wanted, command_of};
+pub use command::{Command, IcfMode, Wanted, command_of};
 
 #[cfg(test)]
 mod tests;

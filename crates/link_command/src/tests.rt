@@ -1,12 +1,12 @@
 //! Commands, and what they are answered by: the expected answers are worked out from the rules of the Rust crate `clap`.
 
-use crate::command_of;
+use crate::{IcfMode, command_of};
 use std::alloc::{AllocError, Global};
 use std::test::Fail;
 
 /// The words after the program's name, and the names of the executable and of the entry, the number of workers and
 /// the inputs.
-const ACCEPTED: [(&str, &str); 26] = [
+const ACCEPTED: [(&str, &str); 31] = [
     ("-s|a.o", "a.out|_start|4|a.o"),
     ("a.o|-s", "a.out|_start|4|a.o"),
     ("--strip-all|a.o", "a.out|_start|4|a.o"),
@@ -33,9 +33,20 @@ const ACCEPTED: [(&str, &str); 26] = [
     ("-s|-e|\u{e9}|a\u{20ac}.o", "a.out|\u{e9}|4|a\u{20ac}.o"),
     ("--gc-sections|-s|a.o", "a.out|_start|4 collected|a.o"),
     ("a.o|-s|--gc-sections", "a.out|_start|4 collected|a.o"),
+    ("--icf|all|-s|a.o", "a.out|_start|4 folded|a.o"),
+    ("--icf=none|-s|a.o", "a.out|_start|4|a.o"),
+    (
+        "-s|a.o|--icf=all|--gc-sections",
+        "a.out|_start|4 collected folded|a.o",
+    ),
+    ("--no-relax|-s|a.o", "a.out|_start|4 unrelaxed|a.o"),
+    (
+        "-s|--icf|all|a.o|--no-relax",
+        "a.out|_start|4 folded unrelaxed|a.o",
+    ),
 ];
 
-const REFUSED: [&str; 39] = [
+const REFUSED: [&str; 45] = [
     "",
     "a.o",
     "-s",
@@ -56,6 +67,12 @@ const REFUSED: [&str; 39] = [
     "-s|a.o|-o",
     "-o|-s|a.o",
     "--icf|some|-s|a.o",
+    "--icf|All|-s|a.o",
+    "--icf||-s|a.o",
+    "--icf=|-s|a.o",
+    "-s|a.o|--icf",
+    "--icf|all|--icf|all|-s|a.o",
+    "--no-relax=true|-s|a.o",
     "--Map|m|-s|a.o",
     "--Output|x|-s|a.o",
     "--strip|-s|a.o",
@@ -94,6 +111,12 @@ fn answer_to(alloc: Global, words: &[String]) -> Result<String, AllocError> {
     let mut answer = format!(in alloc; "{}|{}|{}", command.output, command.entry, command.threads)?;
     if command.gc {
         answer.push_str(" collected")?;
+    }
+    if command.icf == IcfMode::All {
+        answer.push_str(" folded")?;
+    }
+    if !command.relax {
+        answer.push_str(" unrelaxed")?;
     }
     for input in command.inputs.names() {
         answer.push('|')?;

@@ -1,9 +1,11 @@
 //! The values that clap found.
 
-ghost use Rattle.std.specs.Prelude.{◌≡◌, ◌≤◌, IfOk, codes, map, string_bytes};
-ghost use Rattle.link_command.specs.Command.{inputs_in, is_on, text_of, texts_of, workers_in};
+ghost use Rattle.std.specs.Prelude.{◌≡◌, ◌≤◌, IfOk, codes, map, not, string_bytes};
+ghost use Rattle.std.specs.Str.{bytes_eq};
+ghost use Rattle.link_command.specs.Command.{folds, inputs_in, is_mode, is_on, text_of, texts_of, workers_in};
 ghost use Rattle.link_command.specs.Grammar.{HasThreads, rows_in};
 
+use crate::command::IcfMode;
 use clap::ArgMatches;
 use std::alloc::{AllocError, Global};
 
@@ -30,6 +32,30 @@ pub(crate) fn gc_of(matches: &ArgMatches) -> bool
     ensures { result ≡ is_on (codes "gc-sections") (rows_in matches.now) }
 {
     text_of(matches, "gc-sections") == "true"
+}
+
+/// Whether a mode of folding is one of the two that there are.
+pub(crate) fn has_mode(matches: &ArgMatches) -> bool
+    ensures { result ≡ is_mode (text_of (codes "icf") (rows_in matches.now)) }
+{
+    text_of(matches, "icf") == "none" || text_of(matches, "icf") == "all"
+}
+
+/// Whether equal code is folded.
+pub(crate) fn icf_of(matches: &ArgMatches) -> IcfMode
+    ensures { folds result ≡ bytes_eq (text_of (codes "icf") (rows_in matches.now)) (codes "all") }
+{
+    if text_of(matches, "icf") == "all" {
+        return IcfMode::All;
+    }
+    IcfMode::Off
+}
+
+/// Whether calls are relaxed.
+pub(crate) fn relax_of(matches: &ArgMatches) -> bool
+    ensures { result ≡ not (is_on (codes "no-relax") (rows_in matches.now)) }
+{
+    text_of(matches, "no-relax") != "true"
 }
 
 /// Whether symbols are left out.

@@ -8,10 +8,10 @@ use Rattle.lk_base.specs.Firsts.{BeginsWith, StopsAt}
 use Rattle.comdat.specs.Discarded.{discarded}
 use Rattle.layout.specs.Layout.{layout_defects}
 use Rattle.link_command.specs.Command.{Asked}
-use Rattle.link_sections.specs.Leaders.{own_leaders}
-use Rattle.lk_tables.specs.Binding.{Bindings, first_phase, binding_defects, flag_defects, duplicate_defects, entry_defects}
+use Rattle.lk_tables.specs.Binding.{Bindings, first_phase, flag_defects, duplicate_defects}
+use Rattle.lk_tables.specs.BoundNames.{binding_defects, entry_defects}
 use Rattle.lk_tables.specs.Files.{File}
-use Rattle.link_driver.specs.Link.{bound_names, defects_in, kept_of, laid_out, last_phases, later_phases}
+use Rattle.link_driver.specs.Link.{Wishes, bound_names, defects_in, kept_of, laid_out, last_phases, later_phases, leaders_in, piece_defects, wishes_of}
 use Rattle.link_driver.specs.Defects.{opening_defects, reading_defects}
 use Rattle.link_driver.specs.Sources.{Source, files_in}
 use Rattle.reloc_apply.specs.Relocated.{relocation_defects}
@@ -46,31 +46,31 @@ one_none [] none = refl
 one_none (x ∷ xs) none = none
 
 -- the last three, each in turn
-module _ (limits : Limits) (files : List File) (b : Bindings) (kept : List Bool) where
-  pub at_undefined : (d : Defect) → BeginsWith (undefined_defects files b kept) d → BeginsWith (first_phase (last_phases limits files b kept)) d
+module _ (limits : Limits) (w : Wishes) (files : List File) (b : Bindings) (kept : List Bool) where
+  pub at_undefined : (d : Defect) → BeginsWith (undefined_defects files b kept) d → BeginsWith (first_phase (last_phases limits w files b kept)) d
   at_undefined d begins = ended (undefined_defects files b kept ∷ []) _ d (one d (undefined_defects files b kept) begins)
 
   module _ (defined : undefined_defects files b kept ≡ []) where
-    last_two : first_phase (last_phases limits files b kept)
-        ≡ first_phase (layout_defects limits files (laid_out files b kept) ∷ relocation_defects files b (own_leaders kept) (laid_out files b kept) ∷ [])
+    last_two : first_phase (last_phases limits w files b kept)
+        ≡ first_phase (layout_defects limits files (laid_out w files b kept) ∷ relocation_defects files b (leaders_in w files b kept) (laid_out w files b kept) ∷ [])
     last_two = passed (undefined_defects files b kept ∷ []) _ (one_none (undefined_defects files b kept) defined)
 
-    pub at_layout : (stop : LinkStop) → StopsAt stop (layout_defects limits files (laid_out files b kept)) → StopsAt stop (first_phase (last_phases limits files b kept))
+    pub at_layout : (stop : LinkStop) → StopsAt stop (layout_defects limits files (laid_out w files b kept)) → StopsAt stop (first_phase (last_phases limits w files b kept))
     at_layout stop at = let P : List Defect → Type 0 = λ ds. StopsAt stop ds in
         subst P (sym last_two)
-        (stopped (layout_defects limits files (laid_out files b kept) ∷ []) _ stop (one_stop stop (layout_defects limits files (laid_out files b kept)) at))
+        (stopped (layout_defects limits files (laid_out w files b kept) ∷ []) _ stop (one_stop stop (layout_defects limits files (laid_out w files b kept)) at))
 
-    module _ (laid : layout_defects limits files (laid_out files b kept) ≡ []) where
-      last_one : first_phase (last_phases limits files b kept) ≡ first_phase (relocation_defects files b (own_leaders kept) (laid_out files b kept) ∷ [])
-      last_one = last_two ∙ passed (layout_defects limits files (laid_out files b kept) ∷ []) _ (one_none (layout_defects limits files (laid_out files b kept)) laid)
+    module _ (laid : layout_defects limits files (laid_out w files b kept) ≡ []) where
+      last_one : first_phase (last_phases limits w files b kept) ≡ first_phase (relocation_defects files b (leaders_in w files b kept) (laid_out w files b kept) ∷ [])
+      last_one = last_two ∙ passed (layout_defects limits files (laid_out w files b kept) ∷ []) _ (one_none (layout_defects limits files (laid_out w files b kept)) laid)
 
-      pub at_relocations : (stop : LinkStop) → StopsAt stop (relocation_defects files b (own_leaders kept) (laid_out files b kept)) →
-          StopsAt stop (first_phase (last_phases limits files b kept))
+      pub at_relocations : (stop : LinkStop) → StopsAt stop (relocation_defects files b (leaders_in w files b kept) (laid_out w files b kept)) →
+          StopsAt stop (first_phase (last_phases limits w files b kept))
       at_relocations stop at = let P : List Defect → Type 0 = λ ds. StopsAt stop ds in
-          subst P (sym last_one) (one_stop stop (relocation_defects files b (own_leaders kept) (laid_out files b kept)) at)
+          subst P (sym last_one) (one_stop stop (relocation_defects files b (leaders_in w files b kept) (laid_out w files b kept)) at)
 
-      pub none_last : relocation_defects files b (own_leaders kept) (laid_out files b kept) ≡ [] → first_phase (last_phases limits files b kept) ≡ []
-      none_last done = last_one ∙ one_none (relocation_defects files b (own_leaders kept) (laid_out files b kept)) done
+      pub none_last : relocation_defects files b (leaders_in w files b kept) (laid_out w files b kept) ≡ [] → first_phase (last_phases limits w files b kept) ≡ []
+      none_last done = last_one ∙ one_none (relocation_defects files b (leaders_in w files b kept) (laid_out w files b kept)) done
 
 module _ (limits : Limits) (asked : Asked) (ss : List Source) where
   pub at_reading : (stop : LinkStop) → StopsAt stop (first_phase (reading_defects limits ss ∷ opening_defects limits ss ∷ [])) → StopsAt stop (defects_in limits asked ss)
@@ -89,21 +89,30 @@ module _ (limits : Limits) (asked : Asked) (ss : List Source) where
       abbrev binding_phases : List (List Defect)
       binding_phases = flag_defects files ∷ duplicate_defects files (discarded files) ∷ entry_defects files (discarded files) asked.entry ∷ []
 
-      pub at_binding : (stop : LinkStop) → StopsAt stop (binding_defects files (discarded files) asked.entry) → StopsAt stop (defects_in limits asked ss)
-      at_binding stop at = let P : List Defect → Type 0 = λ ds. StopsAt stop ds in subst P (sym left) (stopped binding_phases _ stop at)
+      pub at_pieces : (stop : LinkStop) → StopsAt stop (piece_defects limits files) → StopsAt stop (defects_in limits asked ss)
+      at_pieces stop at = let P : List Defect → Type 0 = λ ds. StopsAt stop ds in
+          subst P (sym left) (stopped (piece_defects limits files ∷ []) _ stop (one_stop stop (piece_defects limits files) at))
 
-      module _ (bound : binding_defects files (discarded files) asked.entry ≡ []) (b : Bindings) (names : b ≡ bound_names files asked.entry)
-          (kept : List Bool) (stays : kept ≡ kept_of asked.gc files b) where
-        then_left : defects_in limits asked ss ≡ first_phase (last_phases limits files b kept)
-        then_left = left ∙ passed binding_phases _ bound
-            ∙ ap (λ n. first_phase (last_phases limits files n (kept_of asked.gc files n))) (sym names)
-            ∙ ap (λ k. first_phase (last_phases limits files b k)) (sym stays)
+      module _ (few : piece_defects limits files ≡ []) where
+        past : defects_in limits asked ss
+            ≡ first_phase (binding_phases ++ last_phases limits (wishes_of asked) files (bound_names files asked.entry) (kept_of asked.gc files (bound_names files asked.entry)))
+        past = left ∙ passed (piece_defects limits files ∷ []) _ (one_none (piece_defects limits files) few)
 
-        pub at_last : (stop : LinkStop) → StopsAt stop (first_phase (last_phases limits files b kept)) → StopsAt stop (defects_in limits asked ss)
-        at_last stop at = let P : List Defect → Type 0 = λ ds. StopsAt stop ds in subst P (sym then_left) at
+        pub at_binding : (stop : LinkStop) → StopsAt stop (binding_defects files (discarded files) asked.entry) → StopsAt stop (defects_in limits asked ss)
+        at_binding stop at = let P : List Defect → Type 0 = λ ds. StopsAt stop ds in subst P (sym past) (stopped binding_phases _ stop at)
 
-        pub no_defects : first_phase (last_phases limits files b kept) ≡ [] → defects_in limits asked ss ≡ []
-        no_defects done = then_left ∙ done
+        module _ (bound : binding_defects files (discarded files) asked.entry ≡ []) (b : Bindings) (names : b ≡ bound_names files asked.entry)
+            (kept : List Bool) (stays : kept ≡ kept_of asked.gc files b) where
+          then_left : defects_in limits asked ss ≡ first_phase (last_phases limits (wishes_of asked) files b kept)
+          then_left = past ∙ passed binding_phases _ bound
+              ∙ ap (λ n. first_phase (last_phases limits (wishes_of asked) files n (kept_of asked.gc files n))) (sym names)
+              ∙ ap (λ k. first_phase (last_phases limits (wishes_of asked) files b k)) (sym stays)
+
+          pub at_last : (stop : LinkStop) → StopsAt stop (first_phase (last_phases limits (wishes_of asked) files b kept)) → StopsAt stop (defects_in limits asked ss)
+          at_last stop at = let P : List Defect → Type 0 = λ ds. StopsAt stop ds in subst P (sym then_left) at
+
+          pub no_defects : first_phase (last_phases limits (wishes_of asked) files b kept) ≡ [] → defects_in limits asked ss ≡ []
+          no_defects done = then_left ∙ done
 
 -- two phases of which the first has no defect
 pub second_phase : (r o : List Defect) (d : Defect) → r ≡ [] → BeginsWith o d → BeginsWith (first_phase (r ∷ o ∷ [])) d

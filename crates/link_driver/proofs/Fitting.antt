@@ -1,84 +1,80 @@
--- A link whose kept sections lead themselves, and whose sections lose bytes only where they may, can be laid out.
-use Rattle.std.proofs.Common.{◌≡◌, ℕ, ◌+◌, ◌<◌, ◌≤◌, ◌==◌, Bool, true, false, List, [], length, map, get_or, refl, sym, ap, ◌∙◌, subst, arith, inl, inr, Some}
-use Rattle.std.specs.Prelude.{◌⊎◌, Option, None, replicate, if◌then◌else◌}
+-- A link whose leaders are kept sections that lead themselves, and whose sections lose bytes only where they may, can be laid out.
+use Rattle.std.proofs.Common.{◌≡◌, ℕ, ◌+◌, ◌<◌, ◌≤◌, ◌==◌, ◌&&◌, Bool, true, false, List, [], ◌∷◌, length, map, filter, get_or, refl, sym, ap, ◌∙◌, subst, arith, inl, inr, Some}
+use Rattle.std.specs.Prelude.{◌⊎◌, Option, None, flat_map, if◌then◌else◌, slice_index_or}
 use Rattle.std.specs.List.{All, range_with_len}
-use Rattle.std.proofs.lemmas.Bool.{cases_lt, eq-eqb}
-use Rattle.std.proofs.lemmas.List.{get_or-replicate, get_or_past, length-replicate}
-use Rattle.std.proofs.lemmas.List.Elements.{All-nil}
-use Rattle.std.proofs.lemmas.List.FromFn.{get_or-map-range_with_len, length-map-range_with_len}
-use Rattle.layout.specs.Items.{AreLeaders, IsStaying}
+use Rattle.std.proofs.lemmas.Bool.{and_parts, cases_lt}
+use Rattle.std.proofs.lemmas.List.Elements.{All-filter, All-map, All-nil}
+use Rattle.std.proofs.lemmas.List.FromFn.{get_or-range_with_len, length-range_with_len}
+use Rattle.layout.specs.Items.{AreLeaders, HaveFirsts, IsStaying}
 use Rattle.layout.specs.Layout.{FitSizes}
-use Rattle.lk_base.specs.RelocKinds.{kind_of}
-use Rattle.lk_tables.specs.declared.objects.Reloc.{Reloc}
 use Rattle.lk_tables.specs.Binding.{Bindings}
-use Rattle.lk_tables.specs.Files.{File, section_total}
-use Rattle.lk_tables.specs.Sites.{relocs_of}
-use Rattle.link_sections.specs.InputSections.{input_at}
+use Rattle.lk_tables.specs.Files.{File, file_at, section_count, section_no, section_total}
+use Rattle.lk_tables.proofs.BoundHas.{each_flat, one_if}
 use Rattle.link_sections.specs.Cuts.{Cut}
-use Rattle.link_sections.specs.Leaders.{is_kept, leader_at, leads, own_leaders}
+use Rattle.link_sections.specs.Distinct.{distinct, element, is_first}
+use Rattle.link_sections.specs.Leaders.{is_kept, leader_at, leads}
+use Rattle.link_sections.specs.MergeSections.{is_mergeable}
+use Rattle.link_sections.specs.Merging.{Site, is_merge, no_site, pool_of, pool_site, pool_sites, pools_of, same_pool, site, site_at, sites, sites_in}
+use Rattle.link_sections.specs.declared.pools.Pool.{Pool}
+use Rattle.link_sections.specs.PoolViews.{PoolView, pool_head, pool_heads}
+use Rattle.link_sections.proofs.OwnLeaders.{LeadThemselves, kept_below}
 use Rattle.link_driver.specs.Tables.{MayStay}
 use Rattle.relax.specs.Sizes.{FitSections}
 
 pub sizes_fit : (files : List File) (b : Bindings) (sizes : List (List Cut)) → FitSections files sizes → FitSizes files b sizes
-sizes_fit files b sizes fit = record { count = fit.count; within = fit.within b; clear = fit.clear }
+sizes_fit files b sizes fit = record { count = fit.count; some = fit.some; within = fit.within b; clear = fit.clear }
 
--- the leader of a section that is kept or not
-own_at : (kept : List Bool) (n : ℕ) → n < length kept → leader_at (own_leaders kept) n ≡ (if is_kept kept n then Some n else None)
-unfolding own_leaders
-own_at kept n lt = get_or-map-range_with_len (λ m. if is_kept kept m then Some m else None) 0 (length kept) n n None lt (omega arith)
+-- a kept section may stay
+kept_stays : (files : List File) (b : Bindings) (kept : List Bool) (n : ℕ) → MayStay files b kept → is_kept kept n ≡ true → IsStaying files b n
+kept_stays files b kept n stay on = record { number = omega (arith, kept_below kept n on, stay.wide); stays = stay.each n on }
 
-own_count : (kept : List Bool) → length (own_leaders kept) ≡ length kept
-unfolding own_leaders
-own_count kept = length-map-range_with_len (λ m. if is_kept kept m then Some m else None) 0 (length kept)
-
--- a leader is the kept section itself
-pub record IsOwn (kept : List Bool) (n m : ℕ) : Type 0 where
-  pub within : n < length kept
-  pub kept_is : is_kept kept n ≡ true
-  pub same : n ≡ m
-
-chosen : (on : Bool) (n m : ℕ) → (if on then Some n else None) ≡ Some m → (on ≡ true) × (n ≡ m)
-chosen true n m is = (refl, some_same is)
-  where
-    value : Option ℕ → ℕ
-    value (Some x) = x
-    value None = 0
-
-    some_same : Some n ≡ Some m → n ≡ m
-    some_same e = ap value e
-chosen false n m is = let no : ⊥ = cc in absurd no
-
-own_is : (kept : List Bool) (n m : ℕ) → leader_at (own_leaders kept) n ≡ Some m → IsOwn kept n m
-own_is kept n m leader = elim (cases_lt n (length kept)) [
-  | inl lt ↦ let c = chosen (is_kept kept n) n m (sym (own_at kept n lt) ∙ leader) in record { within = lt; kept_is = c.0; same = c.1 }
-  | inr past ↦
-      let none : leader_at (own_leaders kept) n ≡ None = get_or_past (own_leaders kept) n None (omega (arith, past, own_count kept)) in
-      let no : ⊥ = cc in
-      absurd no
-]
-
-pub leads_own : (kept : List Bool) (n : ℕ) → n < length kept → is_kept kept n ≡ true → leads (own_leaders kept) n ≡ true
-leads_own kept n lt on =
-    let at : leader_at (own_leaders kept) n ≡ Some n = own_at kept n lt ∙ ap (λ k. if k then Some n else None) on in
-    let P : Option ℕ → Type 0 = λ o. number o n ≡ true in
-    subst P (sym at) (eq-eqb n n refl)
-  where
-    number : Option ℕ → ℕ → Bool
-    number None k = false
-    number (Some m) k = m == k
-
-pub leaders_lead : (files : List File) (b : Bindings) (kept : List Bool) (leaders : List (Option ℕ)) → leaders ≡ own_leaders kept → MayStay files b kept →
+pub lead_so : (files : List File) (b : Bindings) (kept : List Bool) (leaders : List (Option ℕ)) → LeadThemselves kept leaders → MayStay files b kept →
     AreLeaders files b leaders
-leaders_lead files b kept leaders are stay =
-    let P : List (Option ℕ) → Type 0 = λ l. AreLeaders files b l in
-    subst P (sym are) (record {
-      count = own_count kept ∙ stay.wide;
-      stay = λ n m leader.
-          let own = own_is kept n m leader in
-          let Q : ℕ → Type 0 = λ k. IsStaying files b k in
-          subst Q own.same (record { number = omega (arith, own.within, stay.wide); stays = stay.each n own.kept_is });
-      own = λ n m leader.
-          let own = own_is kept n m leader in
-          let Q : ℕ → Type 0 = λ k. leads (own_leaders kept) k ≡ true in
-          subst Q own.same (leads_own kept n own.within own.kept_is);
-    })
+lead_so files b kept leaders lead stay = record {
+  count = lead.count ∙ stay.wide;
+  stay = λ n m leader. kept_stays files b kept m stay (lead.kept_are n m leader);
+  own = lead.own;
+}
+
+-- sections that are merged are kept
+sites_kept : (files : List File) (kept : List Bool) → All (λ (s : Site). is_kept kept s.section ≡ true) (sites files kept)
+unfolding sites sites_in site_at is_merge
+sites_kept files kept =
+    let P : Site → Type 0 = λ s. is_kept kept s.section ≡ true in
+    each_flat P (sites_in files kept) 0 (length files) (λ f lt.
+    each_flat P (site_at files kept f) 0 (section_count (file_at files f)) (λ k below.
+    one_if P (is_merge files kept f k) (site files kept f k)
+    (λ on. (and_parts (is_kept kept (section_no files f k)) (is_mergeable (file_at files f) k) on).0)))
+
+-- what holds of each number below another
+below_each : (Q : ℕ → Type 0) (n : ℕ) → ((i : ℕ) → i < n → Q i) → All Q (range_with_len 0 n)
+below_each Q n each = λ i d lt.
+    let low : i < n = omega (arith, lt, length-range_with_len 0 n) in
+    let plain : 0 + i ≡ i = omega arith in
+    let is : get_or (range_with_len 0 n) i d ≡ i = get_or-range_with_len 0 n i d low ∙ plain in
+    subst Q (sym is) (each i low)
+
+-- what holds of each element holds of the distinct ones
+each_distinct : {X : Type 0} (P : X → Type 0) (same : X → X → Bool) (d : X) (xs : List X) → All P xs → All P (distinct same d xs)
+unfolding distinct
+each_distinct P same d xs all =
+    All-map P (element same d xs) (filter (is_first same d xs) (range_with_len 0 (length xs)))
+    (All-filter (is_first same d xs) (λ i. P (element same d xs i)) (range_with_len 0 (length xs))
+    (below_each (λ i. P (element same d xs i)) (length xs) (λ i lt. all i d lt)))
+
+-- so is the first section of each pool
+firsts_kept : (files : List File) (kept : List Bool) → All (λ (s : Site). is_kept kept s.section ≡ true) (pool_sites files kept)
+unfolding pool_sites
+firsts_kept files kept =
+    let P : Site → Type 0 = λ s. is_kept kept s.section ≡ true in
+    each_distinct P (same_pool files) no_site (sites files kept) (sites_kept files kept)
+
+pub firsts_stay : (files : List File) (b : Bindings) (kept : List Bool) → MayStay files b kept → HaveFirsts files b (pool_heads (pools_of files kept))
+unfolding pool_heads pools_of pool_of
+firsts_stay files b kept stay =
+    let P : Pool → Type 0 = λ p. IsStaying files b p.first in
+    let Q : PoolView → Type 0 = λ v. IsStaying files b v.first in
+    let count = length (pool_sites files kept) in
+    All-map P pool_head (map (pool_of files kept) (range_with_len 0 count))
+    (All-map Q (pool_of files kept) (range_with_len 0 count)
+    (below_each (λ p. Q (pool_of files kept p)) count (λ p lt. kept_stays files b kept (pool_site files kept p).section stay (firsts_kept files kept p no_site lt))))

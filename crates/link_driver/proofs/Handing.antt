@@ -4,13 +4,12 @@ use Rattle.std.specs.Prelude.{Result, Ok, Err, IfOk}
 use Rattle.comdat.specs.Discarded.{discarded}
 use Rattle.elf_out.specs.Standing.{SectionsStand}
 use Rattle.link_command.specs.Command.{Asked}
-use Rattle.link_sections.specs.Leaders.{own_leaders}
 use Rattle.file_live.specs.Live.{IsLive, live_of}
-use Rattle.lk_tables.specs.Binding.{IsBindingOf}
+use Rattle.lk_tables.specs.BoundNames.{IsBindingOf}
 use Rattle.lk_tables.specs.Binding.{Bindings}
 use Rattle.lk_tables.specs.Files.{File}
 use Rattle.sym_resolve.specs.Law.{IsLawful}
-use Rattle.link_driver.specs.Link.{bound_names, executable_in, executable_with, kept_in, kept_of, laid_out}
+use Rattle.link_driver.specs.Link.{bound_names, executable_in, executable_with, kept_in, kept_of, laid_out, leaders_in, wishes_of}
 use Rattle.link_driver.specs.Sources.{Source, files_in, heads_in, live_in}
 use Rattle.link_driver.specs.Tables.{IsCollected}
 
@@ -34,13 +33,13 @@ binding_is entry files b names = (discarded files, entry, names)
 
 -- the executable of these files
 pub gives_executable : (asked : Asked) (ss : List Source) (files : List File) (b : Bindings) (kept : List Bool) (exe : List ℕ) →
-    files ≡ files_in ss → b ≡ bound_names files asked.entry → kept ≡ kept_of asked.gc files b → exe ≡ executable_with files b kept →
+    files ≡ files_in ss → b ≡ bound_names files asked.entry → kept ≡ kept_of asked.gc files b → exe ≡ executable_with (wishes_of asked) files b kept →
     exe ≡ executable_in asked ss
 unfolding executable_in
 gives_executable asked ss files b kept exe are names stays is =
-    is ∙ ap (executable_with files b) stays
-    ∙ ap (λ n. executable_with files n (kept_of asked.gc files n)) names
-    ∙ ap (λ fs. executable_with fs (bound_names fs asked.entry) (kept_of asked.gc fs (bound_names fs asked.entry))) are
+    is ∙ ap (executable_with (wishes_of asked) files b) stays
+    ∙ ap (λ n. executable_with (wishes_of asked) files n (kept_of asked.gc files n)) names
+    ∙ ap (λ fs. executable_with (wishes_of asked) fs (bound_names fs asked.entry) (kept_of asked.gc fs (bound_names fs asked.entry))) are
 
 -- what the names of these files are bound to
 pub bound_are : (entry asked : List ℕ) (files : List File) (ss : List Source) → files ≡ files_in ss → entry ≡ asked →
@@ -62,17 +61,17 @@ collected_are asked ss files b kept are names stays is =
 
 -- the sections of these files stand whole
 pub stand_so : (asked : Asked) (ss : List Source) (files : List File) (b : Bindings) (kept : List Bool) (exe : List ℕ) → files ≡ files_in ss →
-    b ≡ bound_names files asked.entry → kept ≡ kept_of asked.gc files b → SectionsStand files b (own_leaders kept) (laid_out files b kept) exe →
-    SectionsStand (files_in ss) (bound_names (files_in ss) asked.entry) (own_leaders (kept_in asked ss))
-    (laid_out (files_in ss) (bound_names (files_in ss) asked.entry) (kept_in asked ss)) exe
+    b ≡ bound_names files asked.entry → kept ≡ kept_of asked.gc files b → SectionsStand files b (leaders_in (wishes_of asked) files b kept) (laid_out (wishes_of asked) files b kept) exe →
+    SectionsStand (files_in ss) (bound_names (files_in ss) asked.entry) (leaders_in (wishes_of asked) (files_in ss) (bound_names (files_in ss) asked.entry) (kept_in asked ss))
+    (laid_out (wishes_of asked) (files_in ss) (bound_names (files_in ss) asked.entry) (kept_in asked ss)) exe
 stand_so asked ss files b kept exe are names stays stand =
-    let P : List Bool → Type 0 = λ k. SectionsStand files b (own_leaders k) (laid_out files b k) exe in
+    let P : List Bool → Type 0 = λ k. SectionsStand files b (leaders_in (wishes_of asked) files b k) (laid_out (wishes_of asked) files b k) exe in
     let Q : Bindings → Type 0 = λ n. P' files n in
     let R : List File → Type 0 = λ fs. P' fs (bound_names fs asked.entry) in
     subst R are (subst Q names (subst P stays stand))
   where
     P' : List File → Bindings → Type 0
-    P' fs n = SectionsStand fs n (own_leaders (kept_of asked.gc fs n)) (laid_out fs n (kept_of asked.gc fs n)) exe
+    P' fs n = SectionsStand fs n (leaders_in (wishes_of asked) fs n (kept_of asked.gc fs n)) (laid_out (wishes_of asked) fs n (kept_of asked.gc fs n)) exe
 
 -- what holds of an answer, and follows from it
 pub on_each : {X E : Type 0} {P Q : X → Type 0} (r : Result X E) → ((x : X) → P x → Q x) → IfOk r P → IfOk r Q

@@ -14,7 +14,7 @@ use Rattle.lk_tables.specs.declared.bounds.Target.TheVariants as targets
 use Rattle.lk_tables.specs.declared.heads.Symbol.{Symbol}
 use Rattle.lk_tables.specs.declared.objects.Reloc.{Reloc}
 use Rattle.lk_tables.specs.declared.section_places.SectionPlace.{SectionPlace}
-use Rattle.lk_tables.specs.Binding.{IsBindingOf}
+use Rattle.lk_tables.specs.BoundNames.{IsBindingOf}
 use Rattle.lk_tables.specs.Binding.{Bindings}
 use Rattle.lk_tables.specs.Files.{AreFew, File, by_section, file_at, first_section, is_section_symbol, section_count, section_no, section_total, symbol_at}
 use Rattle.lk_tables.specs.Reach.{IsClosed, IsReach, mark}
@@ -29,6 +29,7 @@ use Rattle.link_sections.proofs.BoundStays.{Stays, bound_stays, entry_stays, sta
 use Rattle.sec_gc.specs.Roots.{is_root, is_root_input, root_at, roots, roots_in, section_bound}
 use Rattle.sec_graph.specs.Graph.{edges, ends_in, section_in}
 use Rattle.sec_graph.specs.Kept as rules
+use Rattle.sec_graph.proofs.Closing.{bounds_stay}
 use Rattle.link_driver.specs.Tables.{IsCollected, MayStay}
 
 -- a section's number belongs to a file
@@ -76,15 +77,15 @@ none_stays : (files : List File) (b : Bindings) → AllStay files b []
 none_stays files b = All-nil (λ m. may_stay_at files b m ≡ true)
 
 -- that of a target
-target_stays : (files : List File) (b : Bindings) (found : Bound) (file : File) (s : Symbol) (r : Reloc) → Stays files b found → AllStay files b (section_in (target_by found file s r))
+target_stays : (files : List File) (b : Bindings) (found : Bound) (file : File) (s : Symbol) (r : Reloc) → Stays files b found → AllStay files b (section_in files b (target_by found file s r))
 target_stays files b (InSection section offset) file s r stays =
     let one = one_stays files b section stays in
-    either (λ t. AllStay files b (section_in t)) (is_section_symbol s && not (goes_by_got r.kind)) _ _ one one
+    either (λ t. AllStay files b (section_in files b t)) (is_section_symbol s && not (goes_by_got r.kind)) _ _ one one
 target_stays files b (Number n) file s r stays = none_stays files b
-target_stays files b (Linker n) file s r stays = none_stays files b
+target_stays files b (Linker n) file s r stays = bounds_stay files b n
 target_stays files b Nobody file s r stays =
     let none = none_stays files b in
-    either (λ t. AllStay files b (section_in t)) (s.binding == STB_WEAK) targets.Zero targets.Unbound none none
+    either (λ t. AllStay files b (section_in files b t)) (s.binding == STB_WEAK) targets.Zero targets.Unbound none none
 
 live_of : (files : List File) (f k : ℕ) → k < section_count (file_at files f) → (file_at files f).live ≡ true
 live_of files f k lt = live_if (file_at files f).live k _ lt
@@ -100,9 +101,10 @@ closed_stay files b is few = record {
   targets = λ f k r section offset rest stays in_set has names target.
       let live = live_of files f k stays.index in
       let all = target_stays files b (bound files b f r.symbol) (file_at files f) (symbol_at (file_at files f) r.symbol) r (bound_stays files b f r.symbol is few stays.file live) in
-      All-head (λ n. may_stay_at files b n ≡ true) section [] (subst (λ t. AllStay files b (section_in t)) target all);
+      All-head (λ n. may_stay_at files b n ≡ true) section [] (subst (λ t. AllStay files b (section_in files b t)) target all);
   links = λ f k j stays in_table in_set other ordered link some. stays_at files b f j other.file other.index other.stays;
   groups = λ f i j group has first second stays in_table other in_other in_set. stays_at files b f j other.file other.index other.stays;
+  bounds = λ f k g j r n stays in_set has names target is_bound other named. stays_at files b g j other.file other.index other.stays;
 }
 
 -- and each root does

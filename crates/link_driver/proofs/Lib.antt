@@ -5,6 +5,7 @@ pub mod Finishing
 pub mod Gathered
 pub mod Handing
 pub mod Keeping
+pub mod Leading
 pub mod Opened
 pub mod Promising
 pub mod Starting

@@ -1,32 +1,43 @@
 -- What a link is: the command, the defects, and the one-thread definition of all that a user gets.
-use Rattle.std.specs.Prelude.{ℕ, Bool, Option, Some, None, Result, Ok, Err, if◌then◌else◌, List, [], ◌∷◌, ◌++◌, slice_get, codes}
+use Rattle.std.specs.Prelude.{ℕ, ◌-◌, ◌^◌, min, Bool, Option, Some, None, Result, Ok, Err, if◌then◌else◌, List, [], ◌∷◌, ◌++◌, slice_get, codes}
 use Rattle.std.specs.Option.{option_map_or}
 use Rattle.lk_base.specs.declared.defects.Defect.{Defect}
 use Rattle.lk_base.specs.declared.defects.Flaw.{Flaw}
 use Rattle.lk_base.specs.declared.limits.Limits.{Limits}
+use Rattle.lk_base.specs.Defects.{count_defects}
 use Rattle.lk_base.specs.Kinds.{names_entry, names_symbol}
 use Rattle.lk_base.specs.Limits.{standard}
 use Rattle.lk_base.specs.Lines.{defect_line, escaped}
 use Rattle.comdat.specs.Discarded.{discarded}
 use Rattle.layout.specs.Layout.{layout_defects, layout_of}
 use Rattle.link_sections.specs.InputSections.{all_kept}
-use Rattle.link_sections.specs.LaidOut.{LaidOut}
-use Rattle.link_sections.specs.Leaders.{own_leaders}
+use Rattle.link_sections.specs.LaidOut.{LaidOut, with_contents}
+use Rattle.link_sections.specs.declared.got.GotEntry.{GotEntry}
+use Rattle.link_sections.specs.Cuts.{Cut}
+use Rattle.link_sections.specs.FoldItems.{FoldItem}
+use Rattle.link_sections.specs.GotEntries.{word_count}
+use Rattle.link_sections.specs.Leaders.{folded_leaders, own_leaders}
+use Rattle.link_sections.specs.Merging.{piece_count, pools_of}
+use Rattle.link_sections.specs.PoolViews.{Merged, pool_heads}
 use Rattle.lk_tables.specs.declared.heads.Place.{Place}
 use Rattle.lk_tables.specs.declared.heads.Place.TheVariants.{Undef, Absolute, Common, Within}
 use Rattle.lk_tables.specs.declared.heads.Symbol.{Symbol}
-use Rattle.lk_tables.specs.Binding.{Bindings, bindings, flag_defects, duplicate_defects, entry_defects, first_phase}
+use Rattle.lk_tables.specs.Binding.{Bindings, flag_defects, duplicate_defects, first_phase}
+use Rattle.lk_tables.specs.BoundNames.{bindings, entry_defects}
 use Rattle.lk_tables.specs.Files.{File, is_section_symbol}
 use Rattle.lk_tables.specs.Heads.{HeadView, head_of}
 use Rattle.lk_tables.specs.Names.{text_of}
 use Rattle.elf_out.specs.Executable.{executable}
+use Rattle.got_tls.specs.GotList.{got_of}
+use Rattle.icf_part.specs.Leaders.{leaders_of}
 use Rattle.link_command.specs.Command.{Asked}
 use Rattle.link_driver.specs.Defects.{opening_defects, reading_defects}
 use Rattle.link_driver.specs.Sources.{Source, files_in, shown_file, source_at, sources}
-use Rattle.relax.specs.Sizes.{whole_cuts}
+use Rattle.relax.specs.CallSizes.{cuts_of}
 use Rattle.reloc_apply.specs.Relocated.{relocation_defects}
 use Rattle.sec_gc.specs.Kept.{reached}
 use Rattle.sec_gc.specs.Roots.{roots}
+use Rattle.sec_graph.specs.Foldable.{items}
 use Rattle.sec_graph.specs.Graph.{edges}
 use Rattle.sec_graph.specs.Undefined.{undefined_defects}
 
@@ -38,25 +49,61 @@ bound_names files entry = bindings files (discarded files) entry
 unfoldable pub kept_of : (gc : Bool) → List File → Bindings → List Bool
 kept_of gc files b = if gc then reached (roots files b) (edges files b) else all_kept files b
 
--- where everything stands if these sections are kept: nothing is merged, the global offset table is empty, and no call is relaxed
-unfoldable pub laid_out : List File → Bindings → (kept : List Bool) → LaidOut
-laid_out files b kept = layout_of files b [] 0 (own_leaders kept) (whole_cuts files)
+-- what the command asks of a link beside its names: which sections are kept, whether equal code is folded, and whether calls are relaxed
+pub record Wishes : Type 0 where
+  pub gc : Bool
+  pub icf : Bool
+  pub relax : Bool
+
+abbrev pub wishes_of : Asked → Wishes
+wishes_of asked = record { gc = asked.gc; icf = asked.icf; relax = asked.relax }
+
+module _ (w : Wishes) (files : List File) (b : Bindings) (kept : List Bool) where
+  -- by section number, what is merged of kept sections
+  abbrev pub merged_of : List (Option Merged)
+  merged_of = (pools_of files kept).merged
+
+  -- by section number, which section is written in the place of each: those that are merged stand in pools, and equal code is folded
+  abbrev pub fold_items_of : List FoldItem
+  fold_items_of = items files b merged_of kept
+
+  unfoldable pub leaders_in : List (Option ℕ)
+  leaders_in = if w.icf then folded_leaders fold_items_of (leaders_of fold_items_of) (own_leaders kept merged_of) else own_leaders kept merged_of
+
+  -- the linker's global offset table
+  abbrev pub table_of : List GotEntry
+  table_of = got_of files leaders_in
+
+  -- by section number, where each loses bytes before anything has a place
+  unfoldable pub cuts_in : List (List Cut)
+  cuts_in = cuts_of files b (pools_of files kept) leaders_in w.relax
+
+  -- where everything stands
+  unfoldable pub laid_out : LaidOut
+  laid_out = with_contents (layout_of files b (pool_heads (pools_of files kept)) (word_count table_of) leaders_in cuts_in) (pools_of files kept) table_of
 
 -- the phases of a link after its files are read, each with its defects in order: float ABIs agree, no name is defined twice, the entry is
 -- defined, what is referred to is, the layout has room, and the values of relocations fit
-module _ (limits : Limits) (files : List File) (b : Bindings) (kept : List Bool) where
-  abbrev pub last_phases : List (List Defect)
-  last_phases = undefined_defects files b kept
-      ∷ layout_defects limits files (laid_out files b kept)
-      ∷ relocation_defects files b (own_leaders kept) (laid_out files b kept)
+module _ (limits : Limits) (w : Wishes) (files : List File) (b : Bindings) (kept : List Bool) where
+  abbrev pub final_phases : List (List Defect)
+  final_phases = layout_defects limits files (laid_out w files b kept)
+      ∷ relocation_defects files b (leaders_in w files b kept) (laid_out w files b kept)
       ∷ []
+
+  abbrev pub last_phases : List (List Defect)
+  last_phases = undefined_defects files b kept ∷ final_phases
+
+-- too many pieces of sections that would be merged if they are kept; 64 bits hold the count
+unfoldable pub piece_defects : Limits → List File → List Defect
+piece_defects limits files = count_defects limits.pieces (min (piece_count files) (2 ^ 64 - 1))
 
 abbrev pub later_phases : Limits → Asked → List File → List (List Defect)
 later_phases limits asked files =
-    flag_defects files
+    piece_defects limits files
+    ∷ flag_defects files
     ∷ duplicate_defects files (discarded files)
     ∷ entry_defects files (discarded files) asked.entry
-    ∷ last_phases limits files (bound_names files asked.entry) (kept_of asked.gc files (bound_names files asked.entry))
+    ∷ last_phases limits (wishes_of asked) files (bound_names files asked.entry) (kept_of asked.gc files (bound_names files asked.entry))
 
 -- the defects are those of the first phase that has any
 unfoldable pub defects_in : Limits → Asked → List Source → List Defect
@@ -67,15 +114,15 @@ abbrev pub defects_of : Limits → Asked → List (List ℕ) → List Defect
 defects_of limits asked inputs = defects_in limits asked (sources limits inputs)
 
 -- the executable of files that have no defect
-unfoldable pub executable_with : List File → Bindings → (kept : List Bool) → List ℕ
-executable_with files b kept = executable files b (own_leaders kept) (laid_out files b kept)
+unfoldable pub executable_with : Wishes → List File → Bindings → (kept : List Bool) → List ℕ
+executable_with w files b kept = executable files b (leaders_in w files b kept) (laid_out w files b kept)
 
 -- what is kept of the files of these sources
 abbrev pub kept_in : Asked → List Source → List Bool
 kept_in asked ss = kept_of asked.gc (files_in ss) (bound_names (files_in ss) asked.entry)
 
 unfoldable pub executable_in : Asked → List Source → List ℕ
-executable_in asked ss = executable_with (files_in ss) (bound_names (files_in ss) asked.entry) (kept_in asked ss)
+executable_in asked ss = executable_with (wishes_of asked) (files_in ss) (bound_names (files_in ss) asked.entry) (kept_in asked ss)
 
 abbrev pub executable_of : Limits → Asked → List (List ℕ) → List ℕ
 executable_of limits asked inputs = executable_in asked (sources limits inputs)

@@ -6,11 +6,10 @@ use Rattle.lk_base.specs.Firsts.{StopsAt}
 use Rattle.elf_out.specs.Standing.{SectionsStand}
 use Rattle.file_live.specs.Live.{IsLive}
 use Rattle.link_command.specs.Command.{Asked}
-use Rattle.link_sections.specs.Leaders.{own_leaders}
 use Rattle.sym_resolve.specs.Law.{IsLawful}
 use Rattle.link_driver.specs.declared.linking.Linked.{Linked}
 use Rattle.comdat.specs.Discarded.{discarded}
-use Rattle.link_driver.specs.Link.{bound_names, defects_in, executable_in, kept_in, laid_out, link}
+use Rattle.link_driver.specs.Link.{bound_names, defects_in, executable_in, kept_in, laid_out, leaders_in, link, wishes_of}
 use Rattle.link_driver.specs.Sources.{Source, files_in, heads_in, live_in}
 use Rattle.link_driver.specs.Tables.{IsCollected}
 
@@ -29,8 +28,9 @@ pub record Links (limits : Limits) (asked : Asked) (ss : List Source) (linked : 
   pub taking_part : IsLive (heads_in ss) (live_in ss)
   pub bound : IsLawful (files_in ss) (discarded (files_in ss)) asked.entry (bound_names (files_in ss) asked.entry)
   pub collected : asked.gc ≡ true → IsCollected (files_in ss) (bound_names (files_in ss) asked.entry) (kept_in asked ss)
-  pub stands : SectionsStand (files_in ss) (bound_names (files_in ss) asked.entry) (own_leaders (kept_in asked ss))
-      (laid_out (files_in ss) (bound_names (files_in ss) asked.entry) (kept_in asked ss)) linked.exe.items
+  pub stands : SectionsStand (files_in ss) (bound_names (files_in ss) asked.entry)
+      (leaders_in (wishes_of asked) (files_in ss) (bound_names (files_in ss) asked.entry) (kept_in asked ss))
+      (laid_out (wishes_of asked) (files_in ss) (bound_names (files_in ss) asked.entry) (kept_in asked ss)) linked.exe.items
   pub gives : Gives asked ss linked
 
 -- Link if there is no defect, the first defect if there is one, or out of memory

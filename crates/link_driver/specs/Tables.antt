@@ -5,8 +5,14 @@ use Rattle.lk_tables.specs.Files.{File, section_total}
 use Rattle.lk_tables.specs.Reach.{IsReach}
 use Rattle.link_sections.specs.InputSections.{may_stay_at}
 use Rattle.link_sections.specs.Leaders.{is_kept}
+use Rattle.link_driver.specs.declared.linking.Options.{Options}
+use Rattle.link_driver.specs.Link.{Wishes}
 use Rattle.sec_gc.specs.Roots.{roots}
 use Rattle.sec_graph.specs.Kept.{HasEnds, IsClosedByRules}
+
+-- what a link is asked for
+abbrev pub wished : Options → Wishes
+wished o = record { gc = o.gc; icf = o.icf; relax = o.relax }
 
 -- by section number, and each that is kept may be
 pub record MayStay (files : List File) (b : Bindings) (kept : List Bool) : Type 0 where

@@ -5,24 +5,29 @@ ghost use Rattle.comdat.specs.Discarded.{discarded};
 ghost use Rattle.elf_out.specs.Executable.{executable};
 ghost use Rattle.elf_out.specs.Standing.{SectionsStand};
 ghost use Rattle.file_live.specs.Live.{IsLive, live_of};
+ghost use Rattle.layout.specs.Items.{AreLeaders};
 ghost use Rattle.layout.specs.Layout.{layout_defects};
 ghost use Rattle.link_command.specs.Command.{IsLinkable, asks};
-ghost use Rattle.link_sections.specs.LaidOut.{layout_view};
-ghost use Rattle.link_sections.specs.Leaders.{own_leaders};
+ghost use Rattle.link_sections.specs.GotView.{entries_of};
+ghost use Rattle.link_sections.specs.LaidOut.{layout_view, with_contents};
+ghost use Rattle.link_sections.specs.Merging.{pools_of};
+ghost use Rattle.link_sections.specs.PoolViews.{pools_view};
 ghost use Rattle.link_sections.specs.Sound.{IsSound};
 ghost use Rattle.lk_base.specs.Firsts.{Goes};
 ghost use Rattle.lk_base.specs.Limits.{IsWithinStandard};
-ghost use Rattle.lk_tables.specs.Binding.{IsBindingOf};
-ghost use Rattle.lk_tables.specs.Binding.{binding_defects, first_phase};
+ghost use Rattle.lk_tables.specs.BoundNames.{IsBindingOf};
+ghost use Rattle.lk_tables.specs.Binding.{first_phase};
+ghost use Rattle.lk_tables.specs.BoundNames.{binding_defects};
 ghost use Rattle.lk_tables.specs.BindingView.{binding_view};
 ghost use Rattle.lk_tables.specs.Files.{symbol_total};
+ghost use Rattle.lk_tables.specs.NameNumbers.{NumbersNames, heads_alone};
 ghost use Rattle.lk_tables.specs.TablesView.{files_of, heads_of};
 ghost use Rattle.link_driver.specs.Contents.{input_contents, sources_of};
 ghost use Rattle.link_driver.specs.Defects.{opening_defects, reading_defects};
-ghost use Rattle.link_driver.specs.Link.{bound_names, executable_with, kept_of, laid_out, last_phases};
+ghost use Rattle.link_driver.specs.Link.{bound_names, executable_with, final_phases, kept_of, laid_out, last_phases, leaders_in, piece_defects, table_of, wishes_of};
 ghost use Rattle.link_driver.specs.Phases.{AfterLink};
 ghost use Rattle.link_driver.specs.Sources.{files_in, heads_in, live_in, sources};
-ghost use Rattle.link_driver.specs.Tables.{IsCollected, MayStay};
+ghost use Rattle.link_driver.specs.Tables.{IsCollected, MayStay, wished};
 ghost use Rattle.reloc_apply.specs.Relocated.{relocation_defects};
 ghost use Rattle.sym_resolve.specs.Law.{IsLawful};
 
@@ -34,19 +39,23 @@ use crate::sources::Source;
 use comdat::discard;
 use elf_out::write_executable;
 use file_live::live;
+use got_tls::entries;
+use icf_part::fold;
 use layout::place;
-use link_command::Command;
-use link_sections::{Got, Layout, Pools, View, all_kept, own_leaders};
-use lk_base::{Limits, LinkStop, SecNo};
-use lk_tables::{Binding, Heads, Tables};
+use link_command::{Command, IcfMode};
+use link_sections::{Got, Layout, Pools, View, all_kept, fold_leaders, own_leaders};
+use lk_base::{Limits, LinkStop, SecNo, check_count};
+use lk_tables::{Binding, Heads, NameNumbers, Tables};
 use name_numbers::number_names;
 use relax::sizes;
-use reloc_apply::{find_addresses, find_uppers};
+use reloc_apply::find_uppers;
 use sec_gc::{keep, roots};
-use sec_graph::{edges, undefined};
+use sec_graph::{edges, items, undefined};
 use std::alloc::{AllocError, Global};
 use std::thread::Threads;
+use str_merge::{merge, piece_count};
 use sym_resolve::bind;
+use symbol_addresses::find_addresses;
 use work_split::Gate;
 
 /// What a link without a defect gives.
@@ -187,30 +196,85 @@ pub fn find_kept<R: Threads + Sync, G: Gate>(
     keep(rt, alloc, roots.as_slice(), &edges, workers, gate)
 }
 
-/// Lays out what is kept: nothing is merged, the global offset table is empty, and no call is relaxed.
-#[tactic(auto, unfolding(crate::specs::Link::laid_out))]
+/// What a command asks of a link beside its names.
+#[derive(Clone, Copy, Debug, PartialEq, Eq)]
+pub struct Options {
+    /// Whether sections that nothing refers to are left out.
+    pub gc: bool,
+    /// Whether equal code is folded.
+    pub icf: bool,
+    /// Whether calls are relaxed.
+    pub relax: bool,
+}
+
+/// Those of a command.
+fn options_of(command: &Command) -> Options
+    ensures { wished result ≡ wishes_of (asks command.now) }
+{
+    Options {
+        gc: command.gc,
+        icf: command.icf == IcfMode::All,
+        relax: command.relax,
+    }
+}
+
+/// By section number, which section is written in the place of each: those that are merged stand in pools, and equal code is folded.
+#[tactic(auto, unfolding(crate::specs::Link::leaders_in))]
+pub fn find_leaders<R: Threads + Sync, G: Gate>(
+    rt: &R,
+    alloc: Global,
+    tables: &Tables,
+    binding: &Binding,
+    kept: &[bool],
+    pools: &Pools,
+    options: Options,
+    workers: u32,
+    gate: &G,
+) -> Result<Vec<Option<SecNo>>, AllocError>
+    requires some { 1 ≤ workers }
+    requires most { workers ≤ 64 }
+    requires stay { MayStay (files_of tables.now) (binding_view binding.now) kept.now }
+    requires pools { pools_view (files_of tables.now) pools.now ≡ pools_of (files_of tables.now) kept.now }
+    ensures leaders { IfOk result (λ leaders. leaders.items ≡ leaders_in (wished options) (files_of tables.now) (binding_view binding.now) kept.now) }
+    ensures stay { IfOk result (λ leaders. AreLeaders (files_of tables.now) (binding_view binding.now) leaders.items) }
+{
+    tables.is_few();
+    let mut leaders = own_leaders(alloc, kept, pools)?;
+    if !options.icf {
+        return Ok(leaders);
+    }
+    let items = items(alloc, tables, binding, pools, kept)?;
+    let places = fold(rt, alloc, items.as_slice(), workers, gate)?;
+    fold_leaders(&mut leaders, items.as_slice(), places.as_slice());
+    Ok(leaders)
+}
+
+/// Where everything stands, given what is merged, which sections are written and what the linker's table has.
+#[tactic(auto, unfolding(crate::specs::Link::laid_out, crate::specs::Link::cuts_in))]
 pub fn lay_out<'a>(
     alloc: Global,
     limits: &Limits,
     tables: &Tables<'a>,
     binding: &Binding,
     kept: &[bool],
+    pools: &Pools,
     leaders: &[Option<SecNo>],
+    got: &Got,
+    options: Options,
 ) -> Result<Layout<'a>, LinkStop>
     requires limits { IsWithinStandard limits.now }
     requires bound { IsBindingOf (files_of tables.now) (binding_view binding.now) }
     requires stay { MayStay (files_of tables.now) (binding_view binding.now) kept.now }
-    requires leaders { leaders.now ≡ own_leaders kept.now }
-    ensures goes { Goes result (layout_defects limits.now (files_of tables.now) (laid_out (files_of tables.now) (binding_view binding.now) kept.now)) }
-    ensures laid { IfOk result (λ layout. layout_view layout ≡ laid_out (files_of tables.now) (binding_view binding.now) kept.now) }
-    ensures sound { IfOk result (λ layout. IsSound (files_of tables.now) (binding_view binding.now) leaders.now (layout_view layout)) }
+    requires lead { AreLeaders (files_of tables.now) (binding_view binding.now) leaders.now }
+    requires pools { pools_view (files_of tables.now) pools.now ≡ pools_of (files_of tables.now) kept.now }
+    requires leaders { leaders.now ≡ leaders_in (wished options) (files_of tables.now) (binding_view binding.now) kept.now }
+    requires table { entries_of got.now ≡ table_of (wished options) (files_of tables.now) (binding_view binding.now) kept.now }
+    ensures goes { Goes result (layout_defects limits.now (files_of tables.now) (laid_out (wished options) (files_of tables.now) (binding_view binding.now) kept.now)) }
+    ensures laid { IfOk result (λ layout. with_contents (layout_view layout) (pools_view (files_of tables.now) pools.now) (entries_of got.now) ≡ laid_out (wished options) (files_of tables.now) (binding_view binding.now) kept.now) }
+    ensures sound { IfOk result (λ layout. IsSound (files_of tables.now) (binding_view binding.now) leaders.now (with_contents (layout_view layout) (pools_view (files_of tables.now) pools.now) (entries_of got.now))) }
 {
-    let pools = Pools::none(alloc);
-    let got = Got::empty();
-    let sizes = sizes(alloc, tables)?;
-    match place(
-        alloc, tables, binding, &pools, &got, leaders, &sizes, limits,
-    ) {
+    let sizes = sizes(alloc, tables, binding, pools, leaders, options.relax)?;
+    match place(alloc, tables, binding, pools, got, leaders, &sizes, limits) {
         Ok(layout) => Ok(layout),
         Err(stop) => Err(stop),
     }
@@ -222,28 +286,41 @@ fn write<R: Threads + Sync, G: Gate>(
     alloc: Global,
     tables: &Tables,
     binding: &Binding,
+    kept: &[bool],
+    pools: &Pools,
     leaders: &[Option<SecNo>],
+    got: &Got,
     layout: &Layout,
+    numbers: &NameNumbers,
     workers: u32,
     gate: &G,
 ) -> Result<Vec<u8>, LinkStop>
     requires some { 1 ≤ workers }
     requires most { workers ≤ 64 }
     requires bound { IsBindingOf (files_of tables.now) (binding_view binding.now) }
-    requires sound { IsSound (files_of tables.now) (binding_view binding.now) leaders.now (layout_view layout.now) }
-    ensures goes { Goes result (relocation_defects (files_of tables.now) (binding_view binding.now) leaders.now (layout_view layout.now)) }
-    ensures written { IfOk result (λ exe. exe.items ≡ executable (files_of tables.now) (binding_view binding.now) leaders.now (layout_view layout.now)) }
-    ensures stands { IfOk result (λ exe. SectionsStand (files_of tables.now) (binding_view binding.now) leaders.now (layout_view layout.now) exe.items) }
+    requires numbers { NumbersNames (heads_alone (files_of tables.now)) numbers.now }
+    requires sound { IsSound (files_of tables.now) (binding_view binding.now) leaders.now (with_contents (layout_view layout.now) (pools_view (files_of tables.now) pools.now) (entries_of got.now)) }
+    ensures goes { Goes result (relocation_defects (files_of tables.now) (binding_view binding.now) leaders.now (with_contents (layout_view layout.now) (pools_view (files_of tables.now) pools.now) (entries_of got.now))) }
+    ensures written { IfOk result (λ exe. exe.items ≡ executable (files_of tables.now) (binding_view binding.now) leaders.now (with_contents (layout_view layout.now) (pools_view (files_of tables.now) pools.now) (entries_of got.now))) }
+    ensures stands { IfOk result (λ exe. SectionsStand (files_of tables.now) (binding_view binding.now) leaders.now (with_contents (layout_view layout.now) (pools_view (files_of tables.now) pools.now) (entries_of got.now)) exe.items) }
 {
-    let addresses = find_addresses(rt, alloc, tables, binding, leaders, layout, workers, gate)?;
+    let addresses = find_addresses(
+        rt, alloc, tables, binding, pools, leaders, got, layout, workers, gate,
+    )?;
     let uppers = find_uppers(alloc, tables)?;
     let view = View {
         tables,
         binding,
+        kept,
+        pools,
         leaders,
+        got,
         layout,
         addresses: &addresses,
         uppers: &uppers,
+        numbers,
+        names: &[],
+        strip: true,
     };
     match write_executable(rt, alloc, &view, workers, gate) {
         Ok(exe) => Ok(exe),
@@ -251,15 +328,17 @@ fn write<R: Threads + Sync, G: Gate>(
     }
 }
 
-/// The executable of files whose names are bound, if these sections are kept.
+/// The executable of files whose names are bound and numbered, if these sections are kept and referred to by defined symbols alone.
 #[tactic(auto, unfolding(crate::specs::Link::executable_with))]
-fn link_kept<R: Threads + Sync, G: Gate>(
+fn link_numbered<R: Threads + Sync, G: Gate>(
     rt: &R,
     alloc: Global,
     limits: &Limits,
     tables: &Tables,
     binding: &Binding,
     kept: &[bool],
+    numbers: &NameNumbers,
+    options: Options,
     workers: u32,
     gate: &G,
 ) -> Result<Vec<u8>, LinkStop>
@@ -267,17 +346,31 @@ fn link_kept<R: Threads + Sync, G: Gate>(
     requires some { 1 ≤ workers }
     requires most { workers ≤ 64 }
     requires bound { IsBindingOf (files_of tables.now) (binding_view binding.now) }
+    requires numbers { NumbersNames (heads_alone (files_of tables.now)) numbers.now }
     requires stay { MayStay (files_of tables.now) (binding_view binding.now) kept.now }
-    ensures goes { Goes result (first_phase (last_phases limits.now (files_of tables.now) (binding_view binding.now) kept.now)) }
-    ensures written { IfOk result (λ exe. exe.items ≡ executable_with (files_of tables.now) (binding_view binding.now) kept.now) }
-    ensures stands { IfOk result (λ exe. SectionsStand (files_of tables.now) (binding_view binding.now) (own_leaders kept.now) (laid_out (files_of tables.now) (binding_view binding.now) kept.now) exe.items) }
+    ensures goes { Goes result (first_phase (final_phases limits.now (wished options) (files_of tables.now) (binding_view binding.now) kept.now)) }
+    ensures written { IfOk result (λ exe. exe.items ≡ executable_with (wished options) (files_of tables.now) (binding_view binding.now) kept.now) }
+    ensures stands { IfOk result (λ exe. SectionsStand (files_of tables.now) (binding_view binding.now) (leaders_in (wished options) (files_of tables.now) (binding_view binding.now) kept.now) (laid_out (wished options) (files_of tables.now) (binding_view binding.now) kept.now) exe.items) }
 {
-    if let Some(defect) = undefined(tables, binding, kept) {
-        return Err(LinkStop::Defect(defect));
-    }
-    let leaders = own_leaders(alloc, kept)?;
+    // Equal strings and constants stand once from here on.
+    let pools = merge(rt, alloc, tables, kept, workers, gate)?;
+    // Which section is written in the place of each is settled from here on.
+    let leaders = find_leaders(
+        rt, alloc, tables, binding, kept, &pools, options, workers, gate,
+    )?;
+    let got = entries(alloc, tables, numbers, leaders.as_slice())?;
     // Nothing moves from here on.
-    let layout = match lay_out(alloc, limits, tables, binding, kept, leaders.as_slice()) {
+    let layout = match lay_out(
+        alloc,
+        limits,
+        tables,
+        binding,
+        kept,
+        &pools,
+        leaders.as_slice(),
+        &got,
+        options,
+    ) {
         Ok(layout) => layout,
         Err(stop) => return Err(stop),
     };
@@ -286,11 +379,62 @@ fn link_kept<R: Threads + Sync, G: Gate>(
         alloc,
         tables,
         binding,
+        kept,
+        &pools,
         leaders.as_slice(),
+        &got,
         &layout,
+        numbers,
         workers,
         gate,
     )
+}
+
+/// The executable of files whose names are bound, if these sections are kept.
+fn link_kept<R: Threads + Sync, G: Gate>(
+    rt: &R,
+    alloc: Global,
+    limits: &Limits,
+    tables: &Tables,
+    binding: &Binding,
+    kept: &[bool],
+    options: Options,
+    workers: u32,
+    gate: &G,
+) -> Result<Vec<u8>, LinkStop>
+    requires limits { IsWithinStandard limits.now }
+    requires some { 1 ≤ workers }
+    requires most { workers ≤ 64 }
+    requires bound { IsBindingOf (files_of tables.now) (binding_view binding.now) }
+    requires stay { MayStay (files_of tables.now) (binding_view binding.now) kept.now }
+    ensures goes { Goes result (first_phase (last_phases limits.now (wished options) (files_of tables.now) (binding_view binding.now) kept.now)) }
+    ensures written { IfOk result (λ exe. exe.items ≡ executable_with (wished options) (files_of tables.now) (binding_view binding.now) kept.now) }
+    ensures stands { IfOk result (λ exe. SectionsStand (files_of tables.now) (binding_view binding.now) (leaders_in (wished options) (files_of tables.now) (binding_view binding.now) kept.now) (laid_out (wished options) (files_of tables.now) (binding_view binding.now) kept.now) exe.items) }
+{
+    tables.is_few();
+    if let Some(defect) = undefined(tables, binding, kept) {
+        return Err(LinkStop::Defect(defect));
+    }
+    if let Some(numbers) = tables.names() {
+        return link_numbered(
+            rt, alloc, limits, tables, binding, kept, numbers, options, workers, gate,
+        );
+    }
+    let numbers = number_names(rt, alloc, tables.files(), workers)?;
+    link_numbered(
+        rt, alloc, limits, tables, binding, kept, &numbers, options, workers, gate,
+    )
+}
+
+/// Refuses more pieces than a link may have.
+#[tactic(auto, unfolding(crate::specs::Link::piece_defects))]
+fn check_pieces(tables: &Tables, limits: &Limits) -> Result<(), LinkStop>
+    ensures { Goes result (piece_defects limits.now (files_of tables.now)) }
+{
+    match check_count(limits.pieces, piece_count(tables)) {
+        Ok(()) => Ok(()),
+        Err(defect) => Err(LinkStop::Defect(defect)),
+    }
 }
 
 /// Links the files of a command: pass after pass, and the defects of each are those of its phase.
@@ -313,6 +457,10 @@ pub fn link_sources<R: Threads + Sync, G: Gate>(
         Ok(tables) => tables,
         Err(stop) => return Err(stop),
     };
+    match check_pieces(&tables, limits) {
+        Ok(()) => {}
+        Err(stop) => return Err(stop),
+    }
     // All names are bound from here on.
     let entry = command.entry.as_str();
     let binding = match bind_names(rt, alloc, &tables, entry, workers, gate) {
@@ -328,6 +476,7 @@ pub fn link_sources<R: Threads + Sync, G: Gate>(
         &tables,
         &binding,
         kept.as_slice(),
+        options_of(command),
         workers,
         gate,
     ) {

@@ -2,9 +2,12 @@
 
 ghost use Rattle.std.specs.Prelude.{◌≡◌, ◌≤◌};
 ghost use Rattle.link_driver.specs.Tables.{MayStay};
-ghost use Rattle.link_sections.specs.LaidOut.{layout_view};
+ghost use Rattle.link_sections.specs.GotView.{entries_of};
+ghost use Rattle.link_sections.specs.LaidOut.{layout_view, with_contents};
+ghost use Rattle.link_sections.specs.PoolViews.{pools_view};
+ghost use Rattle.lk_tables.specs.NameNumbers.{NumbersNames, heads_alone};
 ghost use Rattle.link_sections.specs.Sound.{IsSound};
-ghost use Rattle.lk_tables.specs.Binding.{IsBindingOf};
+ghost use Rattle.lk_tables.specs.BoundNames.{IsBindingOf};
 ghost use Rattle.lk_tables.specs.BindingView.{binding_view};
 ghost use Rattle.lk_tables.specs.TablesView.{files_of};
 
@@ -13,18 +16,29 @@ mod objects;
 
 use crate::finding::find_sources;
 use crate::inputs::Inputs;
-use crate::linking::{bind_names, find_kept, lay_out, read_files};
+use crate::linking::{Options, bind_names, find_kept, find_leaders, lay_out, read_files};
 use elf_out::{block, file_length, headers, write_executable};
 use examples::{Example, OF_THREE_BLOCKS, SMALL};
-use link_sections::{Layout, View, own_leaders};
+use got_tls::entries;
+use link_sections::{Got, Layout, Pools, View};
 use lk_base::{Limits, LinkStop, SecNo};
-use lk_tables::{Binding, Tables};
+use lk_tables::{Binding, NameNumbers, Tables};
+use name_numbers::number_names;
 use objects::object_of;
-use reloc_apply::{apply, find_addresses, find_uppers, write_block};
+use reloc_apply::{apply, find_uppers, write_block};
 use std::alloc::{AllocError, Global};
 use std::test::Fail;
 use std::thread::Threads;
+use str_merge::merge;
+use symbol_addresses::find_addresses;
 use work_split::OpenGate;
+
+/// What is asked of the links.
+const OPTIONS: Options = Options {
+    gc: false,
+    icf: true,
+    relax: true,
+};
 
 /// The order in which blocks are written.
 #[derive(Clone, Copy)]
@@ -204,22 +218,35 @@ fn layout_agrees<R: Threads + Sync>(
     alloc: Global,
     tables: &Tables,
     binding: &Binding,
+    kept: &[bool],
+    pools: &Pools,
     leaders: &[Option<SecNo>],
+    got: &Got,
     layout: &Layout,
+    numbers: &NameNumbers,
     example: &Example,
 ) -> Result<bool, LinkStop>
     requires bound { IsBindingOf (files_of tables.now) (binding_view binding.now) }
-    requires sound { IsSound (files_of tables.now) (binding_view binding.now) leaders.now (layout_view layout.now) }
+    requires numbers { NumbersNames (heads_alone (files_of tables.now)) numbers.now }
+    requires sound { IsSound (files_of tables.now) (binding_view binding.now) leaders.now (with_contents (layout_view layout.now) (pools_view (files_of tables.now) pools.now) (entries_of got.now)) }
 {
-    let addresses = find_addresses(rt, alloc, tables, binding, leaders, layout, 2, &OpenGate)?;
+    let addresses = find_addresses(
+        rt, alloc, tables, binding, pools, leaders, got, layout, 2, &OpenGate,
+    )?;
     let uppers = find_uppers(alloc, tables)?;
     let view = View {
         tables,
         binding,
+        kept,
+        pools,
         leaders,
+        got,
         layout,
         addresses: &addresses,
         uppers: &uppers,
+        numbers,
+        names: &[],
+        strip: true,
     };
     let exe = write_executable(rt, alloc, &view, 2, &OpenGate)?;
     Ok(file_agrees(alloc, &view, &exe)? && sections_agree(alloc, &view, &exe, example)?)
@@ -237,9 +264,25 @@ fn kept_agrees<R: Threads + Sync>(
     requires bound { IsBindingOf (files_of tables.now) (binding_view binding.now) }
     requires stay { MayStay (files_of tables.now) (binding_view binding.now) kept.now }
 {
+    tables.is_few();
     let limits = Limits::standard();
-    let leaders = own_leaders(alloc, kept)?;
-    let layout = match lay_out(alloc, &limits, tables, binding, kept, leaders.as_slice()) {
+    let numbers = number_names(rt, alloc, tables.files(), 2)?;
+    let pools = merge(rt, alloc, tables, kept, 2, &OpenGate)?;
+    let leaders = find_leaders(
+        rt, alloc, tables, binding, kept, &pools, OPTIONS, 2, &OpenGate,
+    )?;
+    let got = entries(alloc, tables, &numbers, leaders.as_slice())?;
+    let layout = match lay_out(
+        alloc,
+        &limits,
+        tables,
+        binding,
+        kept,
+        &pools,
+        leaders.as_slice(),
+        &got,
+        OPTIONS,
+    ) {
         Ok(layout) => layout,
         Err(stop) => return Err(stop),
     };
@@ -248,8 +291,12 @@ fn kept_agrees<R: Threads + Sync>(
         alloc,
         tables,
         binding,
+        kept,
+        &pools,
         leaders.as_slice(),
+        &got,
         &layout,
+        &numbers,
         example,
     )
 }

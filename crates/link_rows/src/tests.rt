@@ -1,14 +1,20 @@
 //! Worked examples over `run`, each with its words and what it has to leave; those of `limits` are over `link`. All the inputs are
 //! at hand in each, and each runs with several numbers of workers.
 
+mod aligned;
 mod archives;
 mod collected;
+mod folded;
 mod groups;
 mod images;
+mod kinds;
 mod libraries;
 mod limits;
+mod linker_symbols;
+mod merged;
 mod objects;
 mod orders;
+mod thread_data;
 mod wrong_groups;
 
 use crate::{Image, archive_of, image_of, object_of};
@@ -67,6 +73,12 @@ enum Store {
     WrongGroups,
     Collected,
     Orders,
+    Merged,
+    Folded,
+    Kinds,
+    Threads,
+    LinkerSymbols,
+    Aligned,
 }
 
 /// Files with their names.
@@ -103,6 +115,12 @@ fn stored(alloc: Global, store: Store) -> Result<Files, AllocError> {
         Store::WrongGroups => wrong_groups::files(alloc),
         Store::Collected => collected::files(alloc),
         Store::Orders => orders::files(alloc),
+        Store::Merged => merged::files(alloc),
+        Store::Folded => folded::files(alloc),
+        Store::Kinds => kinds::files(alloc),
+        Store::Threads => thread_data::files(alloc),
+        Store::LinkerSymbols => linker_symbols::files(alloc),
+        Store::Aligned => aligned::files(alloc),
     }
 }
 
@@ -671,6 +689,157 @@ fn arrays_stand_by_their_numbers(rt: HostRuntime) -> Result<(), Fail> {
     Ok(())
 }
 
+#[test]
+fn a_string_stands_once(rt: HostRuntime) -> Result<(), Fail> {
+    for (index, link) in merged::STRINGS_OF_FILES.iter().enumerate() {
+        assert!(rt; is_linked_by_any(&rt, rt.alloc(), link)?, "example {index}");
+    }
+    Ok(())
+}
+
+#[test]
+fn pieces_are_constants_and_strings(rt: HostRuntime) -> Result<(), Fail> {
+    for (index, link) in merged::PIECES.iter().enumerate() {
+        assert!(rt; is_linked_by_any(&rt, rt.alloc(), link)?, "example {index}");
+    }
+    Ok(())
+}
+
+#[test]
+fn equal_functions_are_folded_together(rt: HostRuntime) -> Result<(), Fail> {
+    for (index, link) in folded::TOGETHER.iter().enumerate() {
+        assert!(rt; is_linked_by_any(&rt, rt.alloc(), link)?, "example {index}");
+    }
+    Ok(())
+}
+
+#[test]
+fn what_differs_is_not_folded(rt: HostRuntime) -> Result<(), Fail> {
+    for (index, link) in folded::EQUAL.iter().enumerate() {
+        assert!(rt; is_linked_by_any(&rt, rt.alloc(), link)?, "example {index}");
+    }
+    Ok(())
+}
+
+#[test]
+fn each_kind_is_written(rt: HostRuntime) -> Result<(), Fail> {
+    for (index, link) in kinds::WRITTEN.iter().enumerate() {
+        assert!(rt; is_linked_by_any(&rt, rt.alloc(), link)?, "example {index}");
+    }
+    Ok(())
+}
+
+#[test]
+fn branches_have_ends(rt: HostRuntime) -> Result<(), Fail> {
+    for (index, refusal) in kinds::BRANCHES.iter().enumerate() {
+        assert!(rt;
+            is_refused_by_any(&rt, rt.alloc(), refusal)?,
+            "example {index}"
+        );
+    }
+    Ok(())
+}
+
+#[test]
+fn halves_and_words_have_ends(rt: HostRuntime) -> Result<(), Fail> {
+    for (index, refusal) in kinds::HALVES_AND_WORDS.iter().enumerate() {
+        assert!(rt;
+            is_refused_by_any(&rt, rt.alloc(), refusal)?,
+            "example {index}"
+        );
+    }
+    Ok(())
+}
+
+#[test]
+fn a_low_half_has_a_high_one(rt: HostRuntime) -> Result<(), Fail> {
+    for (index, refusal) in kinds::WRONG.iter().enumerate() {
+        assert!(rt;
+            is_refused_by_any(&rt, rt.alloc(), refusal)?,
+            "example {index}"
+        );
+    }
+    Ok(())
+}
+
+#[test]
+fn entries_stand_by_first_use(rt: HostRuntime) -> Result<(), Fail> {
+    for (index, link) in thread_data::TABLES.iter().enumerate() {
+        assert!(rt; is_linked_by_any(&rt, rt.alloc(), link)?, "example {index}");
+    }
+    Ok(())
+}
+
+#[test]
+fn offsets_count_from_the_block(rt: HostRuntime) -> Result<(), Fail> {
+    for (index, link) in thread_data::OFFSETS_OF_THREADS.iter().enumerate() {
+        assert!(rt; is_linked_by_any(&rt, rt.alloc(), link)?, "example {index}");
+    }
+    Ok(())
+}
+
+#[test]
+fn the_linker_has_its_symbols(rt: HostRuntime) -> Result<(), Fail> {
+    for (index, link) in linker_symbols::FIXED.iter().enumerate() {
+        assert!(rt; is_linked_by_any(&rt, rt.alloc(), link)?, "example {index}");
+    }
+    Ok(())
+}
+
+#[test]
+fn an_offer_is_before_the_linker(rt: HostRuntime) -> Result<(), Fail> {
+    for (index, link) in linker_symbols::OFFERED.iter().enumerate() {
+        assert!(rt; is_linked_by_any(&rt, rt.alloc(), link)?, "example {index}");
+    }
+    Ok(())
+}
+
+#[test]
+fn a_program_begins_at_any_symbol(rt: HostRuntime) -> Result<(), Fail> {
+    for (index, link) in linker_symbols::ENTRIES.iter().enumerate() {
+        assert!(rt; is_linked_by_any(&rt, rt.alloc(), link)?, "example {index}");
+    }
+    Ok(())
+}
+
+#[test]
+fn sections_are_found_by_name(rt: HostRuntime) -> Result<(), Fail> {
+    for (index, link) in linker_symbols::NAMED.iter().enumerate() {
+        assert!(rt; is_linked_by_any(&rt, rt.alloc(), link)?, "example {index}");
+    }
+    Ok(())
+}
+
+#[test]
+fn no_name_without_its_section(rt: HostRuntime) -> Result<(), Fail> {
+    for (index, refusal) in linker_symbols::LACKING.iter().enumerate() {
+        assert!(rt;
+            is_refused_by_any(&rt, rt.alloc(), refusal)?,
+            "example {index}"
+        );
+    }
+    Ok(())
+}
+
+#[test]
+fn alignments_stay(rt: HostRuntime) -> Result<(), Fail> {
+    for (index, link) in aligned::STAYING.iter().enumerate() {
+        assert!(rt; is_linked_by_any(&rt, rt.alloc(), link)?, "example {index}");
+    }
+    Ok(())
+}
+
+#[test]
+fn alignments_need_their_bytes(rt: HostRuntime) -> Result<(), Fail> {
+    for (index, refusal) in aligned::SHORTAGES.iter().enumerate() {
+        assert!(rt;
+            is_refused_by_any(&rt, rt.alloc(), refusal)?,
+            "example {index}"
+        );
+    }
+    Ok(())
+}
+
 /// A fault of the first link, whose calls of the depot are a load, a begin and five appends: the number of the call that
 /// fails, the line, how many calls there are, and how many bytes of the executable are written.
 type Fault<'a> = (u64, &'a str, u64, usize);
@@ -781,9 +950,9 @@ impl Gate for Holder {
 /// A link that two workers share, and in how many passes they do.
 type Shared<'a> = (Link<'a>, u64);
 
-/// The passes of the first link are heads, the claims for members, bodies, the list of offers, the claims for names, the ranks and the
-/// addresses of symbols, and the test of relocations. Those of the second are the claims for groups, the edges between sections and
-/// the blocks of the executable too.
+/// The passes of the first link are heads, the claims for members, bodies, the list of offers, the claims for names, the ranks of offers,
+/// the names that nothing offers, the addresses of symbols, and the test of relocations. Those of the second are the claims for groups, the
+/// symbols that stand for sections' names, the edges between sections and the blocks of the executable too.
 const SHARED: [Shared; 2] = [
     (
         Link {
@@ -791,7 +960,7 @@ const SHARED: [Shared; 2] = [
             image: TWO_FILES,
             ..FIRST_LINK
         },
-        8,
+        9,
     ),
     (
         Link {
@@ -808,7 +977,7 @@ const SHARED: [Shared; 2] = [
             image: TWO_BLOCKS,
             ..FIRST_LINK
         },
-        11,
+        13,
     ),
 ];
 

@@ -1,6 +1,6 @@
 -- The section in which a symbol stands, or the entry, may be kept.
 use Rattle.std.proofs.Common.{◌≡◌, ℕ, ◌+◌, ◌-◌, ◌<◌, ◌≤◌, ◌==◌, ◌&&◌, Bool, true, false, List, [], ◌∷◌, length, flat_map, not, refl, sym, ap, ◌∙◌, subst, arith, Some}
-use Rattle.std.specs.Prelude.{Option, None, find, is_some, nat_lt, if◌then◌else◌}
+use Rattle.std.specs.Prelude.{Option, None, find, is_some, if◌then◌else◌}
 use Rattle.std.specs.List.{All, range_with_len}
 use Rattle.std.proofs.lemmas.Bool.{and_parts, cond-false, cond-true, eq-eqb, le-ltb, lt-ltb}
 use Rattle.std.proofs.lemmas.List.Elements.{All-head, All-tail}
@@ -11,18 +11,19 @@ use Rattle.lk_tables.specs.declared.commons.BoundCommon.{BoundCommon}
 use Rattle.lk_tables.specs.declared.heads.Place.{Place}
 use Rattle.lk_tables.specs.declared.heads.Place.TheVariants.{Undef, Absolute, Common, Within}
 use Rattle.lk_tables.specs.declared.heads.Symbol.{Symbol}
-use Rattle.lk_tables.specs.Binding.{IsBindingOf}
-use Rattle.lk_tables.specs.Binding.{Bindings, bindings, bound_common_at, bound_commons_in, greatest_align, greatest_size, demands, is_discarded, rank_bound}
+use Rattle.lk_tables.specs.BoundNames.{IsBindingOf, with_linker}
+use Rattle.lk_tables.specs.Binding.{offered_bindings}
+use Rattle.lk_tables.specs.Binding.{Bindings, bound_common_at, bound_commons_in, greatest_align, greatest_size, demands, rank_bound}
+use Rattle.lk_tables.specs.BoundNames.{bindings}
 use Rattle.lk_tables.specs.Symbols.{is_common}
-use Rattle.lk_tables.specs.Files.{AreFew, File, common_no, commons_before, file_at, first_section, section_count, section_no, section_total, symbol_at, symbol_name, writes}
+use Rattle.lk_tables.specs.Files.{AreFew, File, common_no, commons_before, file_at, first_section, section_count, section_no, symbol_at, symbol_name, writes}
 use Rattle.lk_tables.specs.Ranks.{rank_of}
-use Rattle.lk_tables.specs.Sites.{place_of}
 use Rattle.lk_tables.specs.Targets.{bound, commons_at, defined_by, definition, entry_bound, is_gone, offset_in, room_of}
-use Rattle.lk_tables.proofs.BoundHas.{OfDefinitions, bound_has, each_flat, each_if, either, entry_has, one_if}
+use Rattle.lk_tables.proofs.BoundHas.{OfDefinitions, bound_has, each_flat, each_if, entry_has, one_if}
 use Rattle.lk_tables.proofs.BoundWithin.{common_below}
 use Rattle.lk_tables.proofs.FirstNumbers.{section_more}
 use Rattle.lk_tables.proofs.LiveFiles.{counted}
-use Rattle.lk_tables.proofs.Owners.{place_in, place_is, written_within}
+use Rattle.lk_tables.proofs.Owners.{place_is, written_within}
 use Rattle.link_sections.specs.InputSections.{common_in, common_of, is_own, may_stay, may_stay_at}
 
 -- a section by its file and its index there
@@ -92,7 +93,7 @@ rooms_are files gone f lt =
     })))
 
 commons_are : (files : List File) (b : Bindings) (f : ℕ) → IsBindingOf files b → f < length files → All (IsRoom files f) (commons_at b.commons f)
-unfolding bindings
+unfolding bindings with_linker offered_bindings
 commons_are files b f (gone, entry, is) lt =
     let P : List BoundCommon → Type 0 = λ cs. All (IsRoom files f) cs in
     let own : commons_at b.commons f ≡ bound_commons_in files gone f =
@@ -148,7 +149,7 @@ definitions_stay files b is = λ f i lt live. defined_stays files b f i (symbol_
 
 -- of each symbol of a file that takes part, and of the entry
 pub bound_stays : (files : List File) (b : Bindings) (f i : ℕ) → IsBindingOf files b → AreFew files → f < length files → (file_at files f).live ≡ true → Stays files b (bound files b f i)
-bound_stays files b f i is few lt live = bound_has files b (Stays files b) f i is few tt (definitions_stay files b is) lt live
+bound_stays files b f i is few lt live = bound_has files b (Stays files b) f i is few tt (λ name n found. tt) (definitions_stay files b is) lt live
 
 pub entry_stays : (files : List File) (b : Bindings) → IsBindingOf files b → AreFew files → Stays files b (entry_bound files b)
-entry_stays files b is few = entry_has files b (Stays files b) is few tt (definitions_stay files b is)
+entry_stays files b is few = entry_has files b (Stays files b) is few tt (λ name n found. tt) (definitions_stay files b is)

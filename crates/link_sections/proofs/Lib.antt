@@ -1,6 +1,10 @@
 pub mod BoundStays
 pub mod CutRows
 pub mod CutSums
+pub mod Folded
+pub mod GotSteps
 pub mod MergedAt
 mod NoCuts
+pub mod OwnLeaders
+pub mod PoolHeads
 mod RowSteps

@@ -4,9 +4,12 @@ use Rattle.lk_tables.specs.declared.classes.Class.{Class}
 use Rattle.link_sections.specs.declared.layouts.Bounds.{Bounds}
 use Rattle.link_sections.specs.declared.layouts.Layout.{Layout}
 use Rattle.link_sections.specs.declared.layouts.Output.{Output}
+use Rattle.link_sections.specs.declared.layouts.OutputPlace.{OutputPlace as HeldPlace}
+use Rattle.link_sections.specs.declared.got.GotEntry.{GotEntry}
 use Rattle.link_sections.specs.declared.members.Member.{Member}
 use Rattle.link_sections.specs.Cuts.{Cut, new_offset}
 use Rattle.link_sections.specs.Leaders.{leader_of}
+use Rattle.link_sections.specs.PoolViews.{PoolsView}
 use Rattle.link_sections.specs.SizesView.{sizes_of}
 
 -- an output section that is not empty
@@ -32,28 +35,64 @@ output_view o = record {
   count = o.count;
 }
 
--- where everything stands: the output sections that are not empty; their members with bytes in the file, and those without; by number the
--- first address of each section that is its own leader; those of pools and of the linker's table; by number where sections lose bytes
+-- an output section, empty or not, from its first address to its end
+pub record OutputPlace : Type 0 where
+  pub name : List ℕ
+  pub class : Class
+  pub start : ℕ
+  pub end : ℕ
+
+abbrev pub place_view : HeldPlace → OutputPlace
+place_view p = record { name = p.name.now; class = p.class; start = p.start; end = p.end }
+
+-- where everything stands: the output sections that are not empty; their members with bytes in the file, and those without; where all output
+-- sections are, the empty ones too; by number the first address of each section that is its own leader; those of pools and of the linker's
+-- table; by number where sections lose bytes. And what stands in the pools, and in the linker's table
 pub record LaidOut : Type 0 where
   pub outputs : List OutputSection
   pub members : List Member
   pub zeros : List Member
+  pub places : List OutputPlace
   pub starts : List ℕ
   pub pools : List ℕ
   pub got : ℕ
   pub cuts : List (List Cut)
   pub bounds : Bounds
+  pub merging : PoolsView
+  pub table : List GotEntry
+
+-- a layout by itself does not know what stands in the pools and in the table
+abbrev pub no_pools : PoolsView
+no_pools = record { pools = []; merged = [] }
+
+unfoldable pub with_contents : LaidOut → PoolsView → List GotEntry → LaidOut
+with_contents l pools table = record {
+  outputs = l.outputs;
+  members = l.members;
+  zeros = l.zeros;
+  places = l.places;
+  starts = l.starts;
+  pools = l.pools;
+  got = l.got;
+  cuts = l.cuts;
+  bounds = l.bounds;
+  merging = pools;
+  table = table;
+}
 
 unfoldable pub layout_view : Layout → LaidOut
 layout_view l = record {
   outputs = map output_view l.outputs.items;
   members = l.members.items;
   zeros = l.zeros.items;
+  places = map place_view l.places.items;
   starts = l.starts.items;
   pools = l.pools.items;
   got = l.got;
   cuts = sizes_of l.sizes;
   bounds = l.bounds;
+  merging = no_pools;
+  table = [];
 }
 
 -- by section number

@@ -1,9 +1,12 @@
 pub mod Addresses
+pub mod Calls
 pub mod Cuts
 pub mod CutsView
 pub mod Distinct
 pub mod Edges
 pub mod FoldItems
+pub mod GotEntries
+pub mod GotView
 pub mod InputSections
 pub mod InputViews
 pub mod LaidOut

@@ -1,15 +1,14 @@
 -- Pools of merged pieces as plain lists.
-use Rattle.std.specs.Prelude.{ℕ, Bool, Option, Some, None, is_some, option_map, List, [], ◌∷◌, map, slice_index_or}
+use Rattle.std.specs.Prelude.{ℕ, Bool, Option, None, is_some, option_map, List, [], ◌∷◌, map, slice_index_or}
 use Rattle.std.specs.Borrow.{Bor}
 use Rattle.lk_tables.specs.Files.{File, file_at}
 use Rattle.lk_tables.specs.Names.{text_of}
 use Rattle.link_sections.specs.declared.pieces.Merged.{Merged as HeldMerged}
 use Rattle.link_sections.specs.declared.pieces.Part.{Part}
 use Rattle.link_sections.specs.declared.pieces.Piece.{Piece}
-use Rattle.link_sections.specs.declared.pieces.PieceRows.{PieceRows}
 use Rattle.link_sections.specs.declared.pools.Pool.{Pool}
 use Rattle.link_sections.specs.declared.pools.Pools.{Pools}
-use Rattle.link_sections.specs.Pools.{part_rows}
+use Rattle.link_sections.specs.Pools.{part_rows, piece_lists}
 
 -- a pool: its first section, its pieces, where each stands in it, and its bytes
 pub record PoolView : Type 0 where
@@ -42,8 +41,15 @@ pool_view files pool pieces = record {
 -- pools, each with its row of pieces
 abbrev pub pool_views : List File → List Pool → List (List Piece) → List PoolView
 pool_views files [] rows = []
-pool_views files (pool ∷ pools) [] = []
+pool_views files (pool ∷ pools) [] = pool_view files pool [] ∷ pool_views files pools []
 pool_views files (pool ∷ pools) (row ∷ rows) = pool_view files pool row ∷ pool_views files pools rows
+
+-- what the layout asks of pools: their first sections and their bytes
+abbrev pub pool_head : PoolView → Pool
+pool_head v = record { first = v.first; size = v.size }
+
+unfoldable pub pool_heads : PoolsView → List Pool
+pool_heads v = map pool_head v.pools
 
 -- what is merged, with the parts of each section in place of their list's number
 abbrev pub merged_view : List (List Part) → HeldMerged → Merged
@@ -52,12 +58,8 @@ merged_view rows m = record { pool = m.pool; parts = slice_index_or rows m.row [
 unfoldable pub merged_by : List (List Part) → List (Option HeldMerged) → List (Option Merged)
 merged_by rows list = map (option_map (merged_view rows)) list
 
-abbrev pub piece_rows_in : Option PieceRows → List (List Piece)
-piece_rows_in None = []
-piece_rows_in (Some rows) = rows.pieces
-
 abbrev pub piece_rows : Pools → List (List Piece)
-piece_rows pools = piece_rows_in pools.rows
+piece_rows pools = piece_lists pools.rows
 
 abbrev pub merged_views : Pools → List (Option Merged)
 merged_views pools = merged_by (part_rows pools.rows) pools.merged.items

@@ -5,7 +5,9 @@ use Rattle.lk_tables.specs.BindingView.{binding_view}
 use Rattle.lk_tables.specs.Files.{File}
 use Rattle.lk_tables.specs.TablesView.{files_of}
 use Rattle.link_sections.specs.declared.views.View.{View}
-use Rattle.link_sections.specs.LaidOut.{LaidOut, layout_view}
+use Rattle.link_sections.specs.GotView.{entries_of}
+use Rattle.link_sections.specs.LaidOut.{LaidOut, layout_view, with_contents}
+use Rattle.link_sections.specs.PoolViews.{pools_view}
 
 abbrev pub files_in : View → List File
 files_in view = files_of view.tables.now
@@ -17,4 +19,4 @@ abbrev pub leaders_in : View → List (Option ℕ)
 leaders_in view = view.leaders.now
 
 abbrev pub laid_in : View → LaidOut
-laid_in view = layout_view view.layout.now
+laid_in view = with_contents (layout_view view.layout.now) (pools_view (files_in view) view.pools.now) (entries_of view.got.now)

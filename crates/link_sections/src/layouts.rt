@@ -25,6 +25,19 @@ pub struct Output<'a> {
     pub count: u64,
 }
 
+/// Where an output section is, whether it is empty or not.
+#[derive(Clone, Copy, Debug, PartialEq, Eq)]
+pub struct OutputPlace<'a> {
+    /// Its name.
+    pub name: &'a [u8],
+    /// Its class.
+    pub class: Class,
+    /// Its first address.
+    pub start: u64,
+    /// Its end; the first address, if it is empty.
+    pub end: u64,
+}
+
 /// Where the segments start and end (System V gABI, "Program Header"). All are addresses, but for the counts and the alignment.
 #[derive(Clone, Copy, Debug, PartialEq, Eq)]
 pub struct Bounds {
@@ -75,6 +88,8 @@ pub struct Layout<'a> {
     pub members: Vec<Member>,
     /// The members of those in classes without bytes in the file: first the thread-local ones, then the others, each in order of address.
     pub zeros: Vec<Member>,
+    /// Where all output sections are, the empty ones too, in order of their classes and addresses.
+    pub places: Vec<OutputPlace<'a>>,
     /// By section number the first address of each section that is its own leader; 0 for each other.
     pub starts: Vec<u64>,
     /// The first address of each pool.

@@ -1,8 +1,9 @@
 //! What is read of pools.
 
-ghost use Rattle.std.specs.Prelude.{◌≡◌, ◌<◌, ◌^◌, [], None, All, IfSome, option_map, slice_index_or};
+ghost use Rattle.std.specs.Prelude.{◌≡◌, ◌<◌, ◌^◌, [], None, All, IfSome, length, option_map, slice_index_or};
 ghost use Rattle.link_sections.specs.PoolViews.{is_merged, merged_at, merged_by, merged_of, merged_views, piece_rows};
-ghost use Rattle.link_sections.specs.Pools.{AreInOrder, AreRising, part_rows, pool_bytes};
+ghost use Rattle.link_sections.specs.declared.pools.Pool.{Pool};
+ghost use Rattle.link_sections.specs.Pools.{AreInOrder, ArePiles, AreRising, IsPile, part_rows, pool_bytes};
 
 use crate::pieces::{Merged, Part, Piece, PieceRows};
 use crate::pools::{Pool, Pools};
@@ -28,6 +29,7 @@ impl Pools {
         requires rising { AreRising pools.items }
         requires small { pool_bytes pools.items < 2 ^ 60 }
         requires ordered { All AreInOrder rows.parts }
+        requires piled { ArePiles pools.items rows.pieces }
         ensures pools { result.pools.items ≡ pools.items }
         ensures pieces { piece_rows result ≡ rows.pieces }
         ensures merged { merged_views result ≡ merged_by rows.parts merged.items }
@@ -48,9 +50,10 @@ impl Pools {
         self.pools.as_slice()
     }
 
-    /// The pieces of a pool, by number, in order of position; none past the last pool.
+    /// The pieces of a pool, by number, in order of position; none past the last pool. None stands over another, and each lies in the pool.
     pub fn pieces(&self, pool: u32) -> &[Piece]
-        ensures { result.now ≡ slice_index_or (piece_rows self.now) pool [] }
+        ensures value { result.now ≡ slice_index_or (piece_rows self.now) pool [] }
+        ensures piled { (d : Pool) → pool < length self.now.pools.items → IsPile (slice_index_or self.now.pools.items pool d) result.now }
     {
         match &self.rows {
             Some(rows) => rows.pieces.row(pool as usize),

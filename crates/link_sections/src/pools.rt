@@ -2,7 +2,7 @@
 
 ghost use Rattle.std.specs.Prelude.{◌<◌, ◌^◌, All};
 ghost use Rattle.std.proofs.Props.{props};
-ghost use Rattle.link_sections.specs.Pools.{AreInOrder, AreRising, part_rows, pool_bytes};
+ghost use Rattle.link_sections.specs.Pools.{AreInOrder, ArePiles, AreRising, part_rows, piece_lists, pool_bytes};
 
 use crate::pieces::{Merged, PieceRows};
 use lk_base::SecNo;
@@ -28,4 +28,5 @@ pub struct Pools {
     ghost rising: { AreRising pools.items } by { Prim.hlevel props },
     ghost small: { pool_bytes pools.items < 2 ^ 60 } by { Prim.hlevel props },
     ghost ordered: { All AreInOrder (part_rows rows) } by { Prim.hlevel props },
+    ghost piled: { ArePiles pools.items (piece_lists rows) } by { Prim.hlevel props },
 }

@@ -3,31 +3,48 @@
 ghost use Rattle.std.specs.Prelude.{◌≡◌};
 ghost use Rattle.std.proofs.Props.{props};
 ghost use Rattle.lk_tables.specs.BindingView.{binding_view};
+ghost use Rattle.lk_tables.specs.NameNumbers.{NumbersNames, heads_alone};
 ghost use Rattle.lk_tables.specs.TablesView.{files_of};
 ghost use Rattle.lk_tables.specs.Uppers.{AreListed, section_uppers};
 ghost use Rattle.link_sections.specs.Addresses.{symbol_addresses};
-ghost use Rattle.link_sections.specs.LaidOut.{layout_view};
+ghost use Rattle.link_sections.specs.GotView.{entries_of};
+ghost use Rattle.link_sections.specs.LaidOut.{layout_view, with_contents};
+ghost use Rattle.link_sections.specs.PoolViews.{pools_view};
 ghost use Rattle.link_sections.specs.Sound.{IsSound};
 
 use crate::addresses::Addresses;
+use crate::got::Got;
 use crate::layouts::Layout;
+use crate::pools::Pools;
 use lk_base::SecNo;
-use lk_tables::{Binding, Tables, Uppers};
+use lk_tables::{Binding, NameNumbers, Tables, Uppers};
 
-/// The tables of a link, lent, once its layout stands: which section is written in the place of each, where everything stands, what each
-/// symbol stands for, and the upper parts of each section. The addresses and the upper parts are those of the tables, and the layout is
-/// one of them.
+/// The tables of a link, lent, once its layout stands: which sections are kept, what is merged, which section is written in the place of
+/// each, the linker's global offset table, where everything stands, what each symbol stands for, and the upper parts of each section; how
+/// files are shown, and whether symbols are left out. The addresses and the upper parts are those of the tables, and the layout is one of
+/// them.
 #[derive(Clone, Copy)]
 pub struct View<'t, 'a> {
     pub tables: &'t Tables<'a>,
     pub binding: &'t Binding,
+    /// By section number, whether it is kept.
+    pub kept: &'t [bool],
+    pub pools: &'t Pools,
     /// By section number.
     pub leaders: &'t [Option<SecNo>],
+    pub got: &'t Got,
     pub layout: &'t Layout<'a>,
     pub addresses: &'t Addresses,
     pub uppers: &'t Uppers,
+    /// By symbol number, the number of its name.
+    pub numbers: &'t NameNumbers,
+    /// By file number the name that lines and the map show.
+    pub names: &'t [Vec<u8>],
+    /// Whether the executable has no symbol table.
+    pub strip: bool,
 
-    ghost symbols: { addresses.now.symbols.items ≡ symbol_addresses (files_of tables.now) (binding_view binding.now) leaders.now (layout_view layout.now) } by { Prim.hlevel props },
+    ghost symbols: { addresses.now.symbols.items ≡ symbol_addresses (files_of tables.now) (binding_view binding.now) leaders.now (with_contents (layout_view layout.now) (pools_view (files_of tables.now) pools.now) (entries_of got.now)) } by { Prim.hlevel props },
+    ghost numbered: { NumbersNames (heads_alone (files_of tables.now)) numbers.now } by { Prim.hlevel props },
     ghost listed: { AreListed (section_uppers (files_of tables.now)) uppers.now } by { Prim.hlevel props },
-    ghost sound: { IsSound (files_of tables.now) (binding_view binding.now) leaders.now (layout_view layout.now) } by { Prim.hlevel props },
+    ghost sound: { IsSound (files_of tables.now) (binding_view binding.now) leaders.now (with_contents (layout_view layout.now) (pools_view (files_of tables.now) pools.now) (entries_of got.now)) } by { Prim.hlevel props },
 }

@@ -1,6 +1,6 @@
 -- The kinds of relocations (RISC-V ELF psABI, "Relocations"): of each its number, the bytes of its place, what is
 -- computed, which values the field takes, and the field.
-use Rattle.std.specs.Prelude.{ℕ, ◌==◌, pos, Bool, true, false, if◌then◌else◌, IsTrue, List, [], ◌∷◌}
+use Rattle.std.specs.Prelude.{ℕ, ◌==◌, pos, Bool, true, false, if◌then◌else◌, IsTrue, List, [], ◌∷◌, map}
 use Rattle.std.specs.List.{list_any}
 use Rattle.lk_base.specs.Formats.{Field, plain, no_bits, upper, upper_and_lower, i_format, s_format, b_format, j_format, cb_format, cj_format, low_six, whole_8, whole_16, whole_32, whole_64, field_of}
 use Rattle.lk_base.specs.Reaches.{Reach, any, from_to, even_from_to, minus, reach_of}
@@ -136,10 +136,9 @@ is_got_distance _ = false
 unfoldable pub goes_by_got : ℕ → Bool
 goes_by_got number = is_got_distance (kind_of number).calculation
 
--- the kinds that are let through
+-- the kinds that are linked: each that has a line
 abbrev pub linked_kinds : List ℕ
-linked_kinds =
-    R_RISCV_NONE ∷ R_RISCV_64 ∷ R_RISCV_JAL ∷ R_RISCV_CALL ∷ R_RISCV_CALL_PLT ∷ R_RISCV_PCREL_HI20 ∷ R_RISCV_PCREL_LO12_I ∷ []
+linked_kinds = map (λ (l : Line). l.number) lines
 
 unfoldable pub is_linked : ℕ → Bool
 is_linked = is_among linked_kinds

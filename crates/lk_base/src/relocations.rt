@@ -1,7 +1,7 @@
 //! The kinds of relocations (RISC-V ELF psABI, "Relocations"): one table.
 
-ghost use Rattle.std.specs.Prelude.{◌≡◌, ◌≤◌};
-ghost use Rattle.lk_base.specs.RelocKinds.{goes_by_got, has_value, is_linked, is_lower, is_upper, kind_of, kind_view, moves_bytes, names_a_symbol};
+ghost use Rattle.std.specs.Prelude.{◌≡◌, ◌≤◌, None, is_some, IfSome};
+ghost use Rattle.lk_base.specs.RelocKinds.{goes_by_got, has_value, is_linked, is_lower, is_upper, kind_of, kind_view, moves_bytes, names_a_symbol, unknown};
 
 use crate::abi::{
     R_RISCV_32, R_RISCV_32_PCREL, R_RISCV_64, R_RISCV_ADD8, R_RISCV_ADD16, R_RISCV_ADD32,
@@ -97,23 +97,44 @@ pub struct Kind {
 
 macro_rules! kind {
     ($width:literal, $calculation:ident, $rule:expr, $format:ident) => {
-        Kind {
+        Some(Kind {
             width: $width,
             calculation: Calculation::$calculation,
             rule: $rule,
             format: Format::$format,
-        }
+        })
     };
 }
 
 // What an upper part and a signed lower part reach together.
 const FAR: Rule = Rule::FromTo(-0x8000_0800, 0x7fff_f7ff);
 
+// What stands for a number that has no line: nothing is written.
+const NO_KIND: Kind = Kind {
+    width: 0,
+    calculation: Calculation::Nothing,
+    rule: Rule::Any,
+    format: Format::Empty,
+};
+
 /// The kind of a number. If the table has no line for it, nothing is written.
-#[tactic(auto, unfolding(crate::specs::RelocKinds::kind_of))]
 pub fn kind_of(number: u32) -> Kind
     ensures line { kind_view result ≡ kind_of number }
     ensures few { result.width ≤ 8 }
+{
+    match line_of(number) {
+        Some(kind) => kind,
+        None => NO_KIND,
+    }
+}
+
+// The line of a number: every kind that has one is linked.
+#[tactic(auto, unfolding(crate::specs::RelocKinds::kind_of, crate::specs::RelocKinds::is_linked))]
+fn line_of(number: u32) -> Option<Kind>
+    ensures line { IfSome result (λ kind. kind_view kind ≡ kind_of number) }
+    ensures few { IfSome result (λ kind. kind.width ≤ 8) }
+    ensures none { result ≡ None → kind_of number ≡ unknown }
+    ensures linked { is_some result ≡ is_linked number }
 {
     match number {
         R_RISCV_NONE => kind!(0, Nothing, Rule::Any, Empty),
@@ -154,7 +175,7 @@ pub fn kind_of(number: u32) -> Kind
         R_RISCV_SET16 => kind!(2, Address, Rule::Any, Half),
         R_RISCV_SET32 => kind!(4, Address, Rule::Any, Word),
         R_RISCV_32_PCREL => kind!(4, Distance, Rule::FromTo(-2147483648, 2147483647), Word),
-        _ => kind!(0, Nothing, Rule::Any, Empty),
+        _ => None,
     }
 }
 
@@ -215,19 +236,9 @@ pub fn goes_by_got(number: u32) -> bool
     matches!(kind_of(number).calculation, Calculation::GotDistance)
 }
 
-/// Whether the relocations of a kind are linked.
-#[tactic(auto, unfolding(crate::specs::RelocKinds::is_linked))]
+/// Whether the relocations of a kind are linked: those of each kind that has a line.
 pub fn is_linked(number: u32) -> bool
     ensures { result ≡ is_linked number }
 {
-    matches!(
-        number,
-        R_RISCV_NONE
-            | R_RISCV_64
-            | R_RISCV_JAL
-            | R_RISCV_CALL
-            | R_RISCV_CALL_PLT
-            | R_RISCV_PCREL_HI20
-            | R_RISCV_PCREL_LO12_I
-    )
+    line_of(number).is_some()
 }

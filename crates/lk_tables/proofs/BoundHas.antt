@@ -1,24 +1,27 @@
--- What holds of nothing, and of what each symbol of a file that takes part is by its own definition, holds of what each symbol of such a
--- file is bound to.
-use Rattle.std.proofs.Common.{◌≡◌, ℕ, zero, suc, ◌+◌, ◌<◌, ◌≤◌, ◌^◌, ◌==◌, ◌&&◌, Bool, true, false, List, [], ◌∷◌, length, flat_map, min, not, refl, sym, ap, ◌∙◌, subst, arith, inl, inr}
-use Rattle.std.specs.Prelude.{if◌then◌else◌}
+-- What holds of nothing, of what each symbol of a file that takes part is by its own definition, and of each symbol of the linker's own that
+-- a name has, holds of what each symbol of such a file is bound to.
+use Rattle.std.proofs.Common.{◌≡◌, ℕ, zero, suc, ◌+◌, ◌*◌, ◌<◌, ◌≤◌, ◌^◌, ◌==◌, ◌&&◌, Bool, true, false, List, [], ◌∷◌, length, flat_map, min, not, refl, sym, ap, ◌∙◌, subst, arith, inl, inr, Some, None}
+use Rattle.std.specs.Prelude.{Option, if◌then◌else◌}
 use Rattle.std.specs.List.{All, range_with_len}
 use Rattle.std.specs.Str.{bytes_eq}
-use Rattle.std.proofs.lemmas.Bool.{cases_lt, cond-true, eq-eqb}
+use Rattle.std.proofs.lemmas.Bool.{cases_lt, cond-false, cond-true, eq-eqb, ne_eqb}
 use Rattle.std.proofs.lemmas.List.{get_or_past}
 use Rattle.std.proofs.lemmas.List.Elements.{All-nil, All-cons, All-head, All-tail, All-append}
 use Rattle.lk_base.specs.declared.abi.TheConstants.{STB_LOCAL}
 use Rattle.lk_tables.specs.declared.bounds.Bound.{Bound}
-use Rattle.lk_tables.specs.declared.bounds.Bound.TheVariants.{Nobody}
+use Rattle.lk_tables.specs.declared.bounds.Bound.TheVariants.{Linker, Nobody}
 use Rattle.lk_tables.specs.declared.heads.Symbol.{Symbol}
-use Rattle.lk_tables.specs.Binding.{IsBindingOf}
-use Rattle.lk_tables.specs.Binding.{Bindings, Offer, bindings, bound_rank, class_of, is_discarded, is_offer, least_rank, live_rank, offer_at, offers, offers_in, rank_bound}
+use Rattle.lk_tables.specs.BoundNames.{IsBindingOf}
+use Rattle.lk_tables.specs.Binding.{Bindings, Offer, bound_rank, class_of, is_discarded, is_offer, least_rank, live_rank, offer_at, offered_bindings, offers, offers_in, rank_bound}
+use Rattle.lk_tables.specs.BoundNames.{bindings, linked_rank, or_linker, rank_of_linker, with_linker}
 use Rattle.lk_tables.specs.Symbols.{is_common}
-use Rattle.lk_tables.specs.Files.{AreFew, File, file_at, no_symbol, symbol_at, symbol_name, symbol_no}
-use Rattle.lk_tables.specs.Ranks.{file_of, no_rank, rank_of, symbol_of_rank}
+use Rattle.lk_tables.specs.Files.{AreFew, File, file_at, no_symbol, section_total, symbol_at, symbol_name, symbol_no}
+use Rattle.lk_tables.specs.LinkerSymbols.{linker_no}
+use Rattle.lk_tables.specs.Ranks.{class_of_rank, file_of, is_linker_rank, linker_class, no_rank, rank_of, symbol_of_rank}
 use Rattle.lk_tables.specs.Targets.{bound, bound_by, definition, entry_bound, rank_at}
 use Rattle.lk_tables.proofs.ByNumber.{read_by_symbol}
 use Rattle.lk_tables.proofs.FirstNumbers.{first_within}
+use Rattle.lk_tables.proofs.LinkerNumbers.{IfNumber, linker_few, linker_named, same_no}
 
 file_is : (class f i : ℕ) → class ≤ 2 → f < 2 ^ 24 → i < 2 ^ 32 → file_of (rank_of class f i) ≡ f
 file_is class f i few file symbol = omega arith
@@ -26,7 +29,7 @@ file_is class f i few file symbol = omega arith
 symbol_is : (class f i : ℕ) → i < 2 ^ 32 → symbol_of_rank (rank_of class f i) ≡ i
 symbol_is class f i symbol = omega arith
 
-class_few : (s : Symbol) → class_of s ≤ 2
+pub class_few : (s : Symbol) → class_of s ≤ 2
 class_few s = few_by (is_common s.place) _
   where
     few_by : (c d : Bool) → (if c then 1 else (if d then 2 else 0)) ≤ 2
@@ -34,10 +37,15 @@ class_few s = few_by (is_common s.place) _
     few_by false true = omega arith
     few_by false false = omega arith
 
-rank_is : (files : List File) (gone : List Bool) (entry : List ℕ) (f i : ℕ) → f < length files → i < length (file_at files f).head.symbols →
-    rank_at (bindings files gone entry) (symbol_no files f i) ≡ live_rank files gone f i
-unfolding bindings
-rank_is files gone entry f i lt below = read_by_symbol files (live_rank files gone) f i no_rank lt below
+pub offered_is : (files : List File) (gone : List Bool) (entry : List ℕ) (f i : ℕ) → f < length files → i < length (file_at files f).head.symbols →
+    rank_at (offered_bindings files gone entry) (symbol_no files f i) ≡ live_rank files gone f i
+unfolding offered_bindings
+offered_is files gone entry f i lt below = read_by_symbol files (live_rank files gone) f i no_rank lt below
+
+pub rank_is : (files : List File) (gone : List Bool) (entry : List ℕ) (f i : ℕ) → f < length files → i < length (file_at files f).head.symbols →
+    rank_at (bindings files gone entry) (symbol_no files f i) ≡ linked_rank files (offered_bindings files gone entry) f i
+unfolding bindings with_linker
+rank_is files gone entry f i lt below = read_by_symbol files (linked_rank files (offered_bindings files gone entry)) f i no_rank lt below
 
 -- each of a list over a range, and of a list that stands if a test passes
 pub each_flat : {X : Type 0} (P : X → Type 0) (f : ℕ → List X) (from n : ℕ) → ((k : ℕ) → k < from + n → All P (f k)) →
@@ -62,22 +70,54 @@ either P false x y one other = other
 abbrev pub OfDefinitions : List File → Bindings → (Bound → Type 0) → Type 0
 OfDefinitions files b P = (f i : ℕ) → f < length files → (file_at files f).live ≡ true → P (definition files b f i)
 
+-- of the linker's own that a name has
+abbrev pub OfLinker : List File → Bindings → (Bound → Type 0) → Type 0
+OfLinker files b P = (name : List ℕ) (n : ℕ) → linker_no files b name ≡ Some n → P (Linker n)
+
 -- so of what a rank names
 abbrev Named : List File → Bindings → (Bound → Type 0) → ℕ → Type 0
 Named files b P rank = P (bound_by files b rank)
 
+-- what a rank names that is not of the linker's own
+abbrev of_files : List File → Bindings → ℕ → Bound
+of_files files b rank = if is_linker_rank rank then Linker (symbol_of_rank rank) else definition files b (file_of rank) (symbol_of_rank rank)
+
 none_named : (files : List File) (b : Bindings) (P : Bound → Type 0) → P Nobody → Named files b P no_rank
 unfolding bound_by
-none_named files b P none =
-    subst P (sym (cond-true (no_rank == no_rank) Nobody (definition files b (file_of no_rank) (symbol_of_rank no_rank)) (eq-eqb no_rank no_rank refl))) none
+none_named files b P none = subst P (sym (cond-true (no_rank == no_rank) Nobody (of_files files b no_rank) (eq-eqb no_rank no_rank refl))) none
 
 rank_named : (files : List File) (b : Bindings) (P : Bound → Type 0) (class f i : ℕ) → class ≤ 2 → f < 2 ^ 24 → i < 2 ^ 32 → P Nobody →
     P (definition files b f i) → Named files b P (rank_of class f i)
 unfolding bound_by
 rank_named files b P class f i few file symbol none own =
-    let Q : ℕ → ℕ → Type 0 = λ g j. P (if rank_of class f i == no_rank then Nobody else definition files b g j) in
-    subst (λ g. Q g (symbol_of_rank (rank_of class f i))) (sym (file_is class f i few file symbol))
-    (subst (Q f) (sym (symbol_is class f i symbol)) (either P (rank_of class f i == no_rank) Nobody (definition files b f i) none own))
+    let rank = rank_of class f i in
+    let classed : class_of_rank rank ≡ class = omega (arith, few, file, symbol) in
+    let other : is_linker_rank rank ≡ false = ne_eqb (class_of_rank rank) linker_class (λ same. omega (arith, classed, same, few)) in
+    let found : of_files files b rank ≡ definition files b f i =
+    cond-false (is_linker_rank rank) (Linker (symbol_of_rank rank)) (definition files b (file_of rank) (symbol_of_rank rank)) other
+    ∙ ap (λ g. definition files b g (symbol_of_rank rank)) (file_is class f i few file symbol) ∙ ap (definition files b f) (symbol_is class f i symbol) in
+    either P (rank == no_rank) Nobody (of_files files b rank) none (subst P (sym found) own)
+
+-- of the rank of the linker's symbol of a name
+number_named : (files : List File) (b : Bindings) (P : Bound → Type 0) (o : Option ℕ) → P Nobody → ((n : ℕ) → o ≡ Some n → P (Linker n)) →
+    IfNumber (λ n. n < 2 ^ 31) o → Named files b P (rank_of_linker o)
+number_named files b P None none own few = none_named files b P none
+number_named files b P (Some n) none own few = subst P (sym (linker_named files b n few)) (own n refl)
+
+few_numbers : (files : List File) (o : Option ℕ) → AreFew files → IfNumber (λ n. n < 18 + 2 * section_total files) o → IfNumber (λ n. n < 2 ^ 31) o
+few_numbers files None few below = tt
+few_numbers files (Some n) few below = omega (arith, below, few.section_count_is)
+
+name_named : (files : List File) (gone : List Bool) (entry : List ℕ) (P : Bound → Type 0) (name : List ℕ) (rank : ℕ) → AreFew files → P Nobody →
+    OfLinker files (bindings files gone entry) P → Named files (bindings files gone entry) P rank →
+    Named files (bindings files gone entry) P (or_linker files (offered_bindings files gone entry) name rank)
+unfolding bindings or_linker
+name_named files gone entry P name rank few none linker offered =
+    let b = offered_bindings files gone entry in
+    let o = linker_no files b name in
+    either (Named files (with_linker files b entry) P) (rank == no_rank) (rank_of_linker o) rank
+    (number_named files (with_linker files b entry) P o none (λ n is. linker name n (same_no files b entry name ∙ is))
+    (few_numbers files o few (linker_few files b name))) offered
 
 -- of what each offer's rank names, and so the least
 Offered : List File → Bindings → (Bound → Type 0) → Offer → Type 0
@@ -129,25 +169,55 @@ past_bound files b P f i past own =
     ap (λ (s : Symbol). s.binding == STB_LOCAL) (get_or_past (file_at files f).head.symbols i no_symbol past) ∙ eq-eqb STB_LOCAL STB_LOCAL refl in
     subst P (sym (cond-true ((symbol_at (file_at files f) i).binding == STB_LOCAL) (definition files b f i) (bound_by files b (rank_at b (symbol_no files f i))) local)) own
 
-among_bound : (files : List File) (b : Bindings) (P : Bound → Type 0) (f i : ℕ) → IsBindingOf files b → AreFew files → P Nobody → OfDefinitions files b P →
-    f < length files → (file_at files f).live ≡ true → i < length (file_at files f).head.symbols → P (bound files b f i)
-unfolding bound
-among_bound files b P f i (gone, entry, is) few none own lt live below =
-    let rank : rank_at b (symbol_no files f i) ≡ live_rank files gone f i = ap (λ n. rank_at n (symbol_no files f i)) is ∙ rank_is files gone entry f i lt below in
-    either P ((symbol_at (file_at files f) i).binding == STB_LOCAL) (definition files b f i) (bound_by files b (rank_at b (symbol_no files f i)))
-    (own f i lt live) (subst (Named files b P) (sym rank) (live_named files gone b P f i few none own))
+linked_named : (files : List File) (gone : List Bool) (entry : List ℕ) (P : Bound → Type 0) (f i : ℕ) → AreFew files → P Nobody →
+    OfLinker files (bindings files gone entry) P → OfDefinitions files (bindings files gone entry) P → f < length files →
+    i < length (file_at files f).head.symbols → Named files (bindings files gone entry) P (linked_rank files (offered_bindings files gone entry) f i)
+unfolding linked_rank
+linked_named files gone entry P f i few none linker own lt below =
+    let b = bindings files gone entry in
+    let Q : ℕ → Type 0 = Named files b P in
+    let name = symbol_name (file_at files f) i in
+    let rank = rank_at (offered_bindings files gone entry) (symbol_no files f i) in
+    let offered : Q rank = subst Q (sym (offered_is files gone entry f i lt below)) (live_named files gone b P f i few none own) in
+    either Q (file_at files f).live _ no_rank
+    (either Q ((symbol_at (file_at files f) i).binding == STB_LOCAL) no_rank _ (none_named files b P none)
+    (name_named files gone entry P name rank few none linker offered))
+    (none_named files b P none)
 
-pub bound_has : (files : List File) (b : Bindings) (P : Bound → Type 0) (f i : ℕ) → IsBindingOf files b → AreFew files → P Nobody → OfDefinitions files b P →
-    f < length files → (file_at files f).live ≡ true → P (bound files b f i)
-bound_has files b P f i is few none own lt live = elim (cases_lt i (length (file_at files f).head.symbols)) [
-  | inl below ↦ among_bound files b P f i is few none own lt live below
+among_bound : (files : List File) (gone : List Bool) (entry : List ℕ) (P : Bound → Type 0) (f i : ℕ) → AreFew files → P Nobody →
+    OfLinker files (bindings files gone entry) P → OfDefinitions files (bindings files gone entry) P → f < length files →
+    (file_at files f).live ≡ true → i < length (file_at files f).head.symbols → P (bound files (bindings files gone entry) f i)
+unfolding bound
+among_bound files gone entry P f i few none linker own lt live below =
+    let b = bindings files gone entry in
+    either P ((symbol_at (file_at files f) i).binding == STB_LOCAL) (definition files b f i) (bound_by files b (rank_at b (symbol_no files f i)))
+    (own f i lt live)
+    (subst (Named files b P) (sym (rank_is files gone entry f i lt below)) (linked_named files gone entry P f i few none linker own lt below))
+
+pub bound_has : (files : List File) (b : Bindings) (P : Bound → Type 0) (f i : ℕ) → IsBindingOf files b → AreFew files → P Nobody → OfLinker files b P →
+    OfDefinitions files b P → f < length files → (file_at files f).live ≡ true → P (bound files b f i)
+bound_has files b P f i (gone, entry, is) few none linker own lt live = elim (cases_lt i (length (file_at files f).head.symbols)) [
+  | inl below ↦
+      let R : Bindings → Type 0 = λ n. OfLinker files n P → OfDefinitions files n P → P (bound files n f i) in
+      subst R (sym is) (λ first second. among_bound files gone entry P f i few none first second lt live below) linker own
   | inr past ↦ past_bound files b P f i past (own f i lt live)
 ]
 
+offered_entry : (files : List File) (gone : List Bool) (entry : List ℕ) (b : Bindings) (P : Bound → Type 0) → AreFew files → P Nobody →
+    OfDefinitions files b P → Named files b P (offered_bindings files gone entry).entry
+unfolding offered_bindings bound_rank
+offered_entry files gone entry b P few none own = least_named files b P entry (offers files gone) none (offers_named files gone b P few none own)
+
+entry_among : (files : List File) (gone : List Bool) (entry : List ℕ) (P : Bound → Type 0) → AreFew files → P Nobody →
+    OfLinker files (bindings files gone entry) P → OfDefinitions files (bindings files gone entry) P → P (entry_bound files (bindings files gone entry))
+unfolding bindings with_linker
+entry_among files gone entry P few none linker own =
+    let b = with_linker files (offered_bindings files gone entry) entry in
+    name_named files gone entry P entry (offered_bindings files gone entry).entry few none linker (offered_entry files gone entry b P few none own)
+
 -- what the entry's name is bound to
-pub entry_has : (files : List File) (b : Bindings) (P : Bound → Type 0) → IsBindingOf files b → AreFew files → P Nobody → OfDefinitions files b P →
-    P (entry_bound files b)
-unfolding bindings bound_rank
-entry_has files b P (gone, entry, is) few none own =
-    subst (Named files b P) (sym (ap (λ (n : Bindings). n.entry) is))
-    (least_named files b P entry (offers files gone) none (offers_named files gone b P few none own))
+pub entry_has : (files : List File) (b : Bindings) (P : Bound → Type 0) → IsBindingOf files b → AreFew files → P Nobody → OfLinker files b P →
+    OfDefinitions files b P → P (entry_bound files b)
+entry_has files b P (gone, entry, is) few none linker own =
+    let R : Bindings → Type 0 = λ n. OfLinker files n P → OfDefinitions files n P → P (entry_bound files n) in
+    subst R (sym is) (λ first second. entry_among files gone entry P few none first second) linker own

@@ -13,8 +13,9 @@ use Rattle.lk_tables.specs.declared.commons.BoundCommon.{BoundCommon}
 use Rattle.lk_tables.specs.declared.heads.Place.{Place}
 use Rattle.lk_tables.specs.declared.heads.Place.TheVariants.{Undef, Absolute, Common, Within}
 use Rattle.lk_tables.specs.declared.heads.Symbol.{Symbol}
-use Rattle.lk_tables.specs.Binding.{IsBindingOf}
-use Rattle.lk_tables.specs.Binding.{Bindings, bindings, bound_common_at, bound_commons_in, greatest_align, greatest_size, demands, is_discarded, rank_bound}
+use Rattle.lk_tables.specs.BoundNames.{IsBindingOf}
+use Rattle.lk_tables.specs.Binding.{Bindings, bound_common_at, bound_commons_in, greatest_align, greatest_size, demands, is_discarded, offered_bindings, rank_bound}
+use Rattle.lk_tables.specs.BoundNames.{bindings, with_linker}
 use Rattle.lk_tables.specs.Symbols.{is_common}
 use Rattle.lk_tables.specs.Files.{AreFew, File, common_no, commons_before, file_at, no_symbol, section_no, section_total, symbol_at, symbol_name, writes}
 use Rattle.lk_tables.specs.Ranks.{rank_of}
@@ -61,7 +62,7 @@ room_within files p (c ∷ cs) all =
     either Q (p c) (Some c) (find p cs) (All-head P c cs all) (room_within files p cs (All-tail P c cs all))
 
 commons_within : (files : List File) (b : Bindings) (f : ℕ) → IsBindingOf files b → f < length files → All (λ (c : BoundCommon). c.section < section_total files) (commons_at b.commons f)
-unfolding bindings
+unfolding bindings with_linker offered_bindings
 commons_within files b f (gone, entry, is) lt =
     let P : List BoundCommon → Type 0 = λ cs. All (λ (c : BoundCommon). c.section < section_total files) cs in
     let own : commons_at b.commons f ≡ bound_commons_in files gone f =
@@ -89,7 +90,7 @@ definitions_within files b is = λ f i lt live. defined_within files b f i (symb
 
 -- of each symbol of a file that takes part, and of the entry
 pub bound_within : (files : List File) (b : Bindings) (f i : ℕ) → IsBindingOf files b → AreFew files → f < length files → (file_at files f).live ≡ true → IsWithin files (bound files b f i)
-bound_within files b f i is few lt live = bound_has files b (IsWithin files) f i is few tt (definitions_within files b is) lt live
+bound_within files b f i is few lt live = bound_has files b (IsWithin files) f i is few tt (λ name n has. tt) (definitions_within files b is) lt live
 
 pub entry_within : (files : List File) (b : Bindings) → IsBindingOf files b → AreFew files → IsWithin files (entry_bound files b)
-entry_within files b is few = entry_has files b (IsWithin files) is few tt (definitions_within files b is)
+entry_within files b is few = entry_has files b (IsWithin files) is few tt (λ name n has. tt) (definitions_within files b is)

@@ -6,6 +6,7 @@ pub mod FewSections
 pub mod Finding
 pub mod FirstNumbers
 pub mod HeadFacts
+pub mod LinkerNumbers
 pub mod Owners
 pub mod Passing
 pub mod Putting

@@ -13,7 +13,7 @@ use Rattle.lk_tables.specs.declared.heads.Place.TheVariants.{Undef, Common}
 use Rattle.lk_tables.specs.declared.heads.Section.{Section}
 use Rattle.lk_tables.specs.declared.heads.Symbol.{Symbol}
 use Rattle.lk_tables.specs.declared.objects.Reloc.{Reloc}
-use Rattle.lk_tables.specs.Bodies.{is_bad_alignment, is_bad_loaded, is_unlinked, plain_checks, relocates, rela_of, is_bad_rela, rela_checks, body_checks, use_checks, all_body_checks, all_use_checks}
+use Rattle.lk_tables.specs.Bodies.{is_bad_alignment, is_bad_loaded, plain_checks, relocates, rela_of, is_bad_rela, rela_checks, body_checks, use_checks, all_body_checks, all_use_checks}
 use Rattle.lk_base.specs.declared.kinds.TheConstants.{BAD_SECTION, LIMIT, BAD_ALIGNMENT, IFUNC}
 use Rattle.lk_base.specs.RelocKinds.{is_among, is_lower}
 use Rattle.lk_base.specs.declared.abi.TheConstants.{ALIGN_MAX, FILE_MAX, NOBITS_MAX, SHF_WRITE, SHF_EXECINSTR, SHF_LINK_ORDER, SHT_NULL, SHT_GROUP, SHT_NOBITS, SHT_RELA, STT_GNU_IFUNC}
@@ -77,11 +77,10 @@ unfolding plain_checks is_bad_loaded
 linked_from b k s e written inside =
     let lines : NoneBroken (plain_checks b k s) = none_from_ok (plain_checks b k s) (tt {0}) (tt {0}) e in
     let loaded = (written_type b s written).0 in
-    let formed = or_parts (is_bad_loaded (section_count b) s) (is_unlinked b s)
-    (second_false (is_loaded s) (is_bad_loaded (section_count b) s || is_unlinked b s) lines.1.1.0 loaded) in
+    let formed = second_false (is_loaded s) (is_bad_loaded (section_count b) s) lines.1.1.0 loaded in
     let twice = not (bit_and s.flags SHF_WRITE == 0) && not (bit_and s.flags SHF_EXECINSTR == 0) in
     let astray = not (bit_and s.flags SHF_LINK_ORDER == 0) && not (nat_lt s.link (section_count b)) in
-    let p = or_parts (not (is_among loaded_types s.sh_type)) (twice || astray) formed.0 in
+    let p = or_parts (not (is_among loaded_types s.sh_type)) (twice || astray) formed in
     let q = or_parts twice astray p.1 in
     let aligned = second_false (is_loaded s) (is_bad_alignment s.align) lines.1.1.1.0 loaded in
     let sized = second_false (is_loaded s) (s.sh_type == SHT_NOBITS && nat_lt (NOBITS_MAX) s.size) lines.1.1.1.1.0 loaded in

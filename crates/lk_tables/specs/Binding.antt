@@ -1,6 +1,6 @@
 -- Which symbol a name is bound to (System V gABI, "Symbol Table": a defined symbol of binding GLOBAL is taken before a COMMON one,
 -- and that before a WEAK one; ties go to the first file of the command).
-use Rattle.std.specs.Prelude.{◌≡◌, ℕ, ◌^◌, ◌&&◌, ◌==◌, not, nat_lt, bit_and, Bool, false, Option, Some, None, if◌then◌else◌, min, max, List, [], ◌∷◌, ◌++◌, length, map, filter, find, slice_index_or, flat_map}
+use Rattle.std.specs.Prelude.{ℕ, ◌^◌, ◌&&◌, ◌==◌, not, nat_lt, bit_and, Bool, false, Option, Some, None, if◌then◌else◌, min, max, List, [], ◌∷◌, ◌++◌, length, map, filter, find, slice_index_or, flat_map}
 use Rattle.std.specs.List.{range_with_len}
 use Rattle.std.specs.Str.{bytes_eq}
 use Rattle.lk_base.specs.declared.defects.Defect.{Defect}
@@ -119,17 +119,14 @@ pub record Bindings : Type 0 where
 unfoldable pub live_rank : List File → List Bool → (f i : ℕ) → ℕ
 live_rank files gone f i = if (file_at files f).live then rank_bound files gone f i else no_rank
 
-unfoldable pub bindings : List File → List Bool → List ℕ → Bindings
-bindings files gone entry = record {
+-- bound by the offers of files alone
+unfoldable pub offered_bindings : List File → List Bool → List ℕ → Bindings
+offered_bindings files gone entry = record {
   discarded = gone;
   ranks = by_symbol files (live_rank files gone);
   entry = bound_rank files gone entry;
   commons = map (bound_commons_in files gone) (range_with_len 0 (length files));
 }
-
--- the names of these files are bound to this
-abbrev pub IsBindingOf : List File → Bindings → Type 0
-IsBindingOf files b = (gone : List Bool) × (entry : List ℕ) × (b ≡ bindings files gone entry)
 
 -- the float ABI (RISC-V ELF psABI, "File Header": e_flags, EF_RISCV_FLOAT_ABI) of each live file, with its number
 pub record FloatAbi : Type 0 where
@@ -181,16 +178,8 @@ duplicate_defects files gone = duplicates_of (filter is_strong (offers files gon
 abbrev pub no_entry : Defect
 no_entry = record { kind = NO_ENTRY; file = NO_FILE; section = 0; place = 0; symbol = 0; other = 0 }
 
-unfoldable pub entry_defects : List File → List Bool → List ℕ → List Defect
-entry_defects files gone entry = if bound_rank files gone entry == no_rank then no_entry ∷ [] else []
-
 -- the defects of the first phase that has any
 abbrev pub first_phase : List (List Defect) → List Defect
 first_phase [] = []
 first_phase ([] ∷ phases) = first_phase phases
 first_phase ((defect ∷ defects) ∷ phases) = defect ∷ defects
-
--- the defects of binding: clashing float ABIs, then names defined twice, then the entry
-abbrev pub binding_defects : List File → List Bool → List ℕ → List Defect
-binding_defects files gone entry =
-    first_phase (flag_defects files ∷ duplicate_defects files gone ∷ entry_defects files gone entry ∷ [])

@@ -1,4 +1,7 @@
 pub mod Binding
+pub mod BoundNames
+pub mod InputSections
+pub mod LinkerSymbols
 pub mod BindingView
 pub mod Bodies
 pub mod Checks

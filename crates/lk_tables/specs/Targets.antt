@@ -13,7 +13,7 @@ use Rattle.lk_tables.specs.declared.bounds.Target.{Target}
 use Rattle.lk_tables.specs.declared.bounds.Target.TheVariants as targets
 use Rattle.lk_tables.specs.Binding.{Bindings, is_discarded}
 use Rattle.lk_tables.specs.Files.{File, file_at, symbol_at, section_at, writes, is_section_symbol, section_no, symbol_no}
-use Rattle.lk_tables.specs.Ranks.{no_rank, file_of, symbol_of_rank}
+use Rattle.lk_tables.specs.Ranks.{no_rank, file_of, is_linker_rank, symbol_of_rank}
 
 -- where a symbol stands in its section: a SECTION symbol at the start
 abbrev pub offset_in : Symbol → ℕ
@@ -83,9 +83,10 @@ module _ (files : List File) (b : Bindings) where
   unfoldable pub definition : (f i : ℕ) → Bound
   definition f i = defined_by (symbol_at (file_at files f) i).place f i (symbol_at (file_at files f) i)
 
-  -- the symbol that a rank names
+  -- what a rank names: a symbol of a file, or one of the linker's own
   unfoldable pub bound_by : (rank : ℕ) → Bound
-  bound_by rank = if rank == no_rank then Nobody else definition (file_of rank) (symbol_of_rank rank)
+  bound_by rank = if rank == no_rank then Nobody
+      else (if is_linker_rank rank then Linker (symbol_of_rank rank) else definition (file_of rank) (symbol_of_rank rank))
 
   -- what symbol i of file f stands for: a local one for itself, another for what its name is bound to
   unfoldable pub bound : (f i : ℕ) → Bound

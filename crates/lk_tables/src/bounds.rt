@@ -16,7 +16,7 @@ pub enum Bound {
     Number(u64),
     /// A symbol of the linker's own, by its number.
     Linker(u32),
-    /// Nothing: no file offers the name, or the section in which the symbol stands was discarded.
+    /// Nothing: no file offers the name and the linker has no symbol of it, or the section in which the symbol stands was discarded.
     Nobody,
 }
 

@@ -13,6 +13,8 @@ mod entries;
 mod files;
 mod gathering;
 mod heads;
+mod identifiers;
+mod linker_symbols;
 mod names;
 mod numbering;
 mod objects;
@@ -37,11 +39,19 @@ pub use commons::BoundCommon;
 pub use entries::{SectionHeader, SymbolEntry};
 pub use files::File;
 pub use heads::{Head, Place, Section, Symbol};
+pub use identifiers::is_c_identifier;
+pub use linker_symbols::{
+    Edge, FIXED_SYMBOLS, bound_section, edge_of, fixed_no, is_stop, start_no, start_of, stop_no,
+    stop_of,
+};
 pub use names::text_of;
 pub use numbering::NameNumbers;
 pub use objects::{Group, Object, Reloc};
 pub use output_names::{output_name, priority_of};
-pub use ranks::{NO_RANK, class_of, class_of_rank, file_of, is_offer, rank_of, symbol_of};
+pub use ranks::{
+    NO_RANK, class_of, class_of_rank, file_of, is_linker_rank, is_offer, linker_rank, rank_of,
+    symbol_of,
+};
 pub use reading::{
     NO_SYMBOL, is_common, is_loaded, is_loaded_type, is_section_symbol, is_visible, is_written,
 };

@@ -38,12 +38,30 @@ pub fn class_of(symbol: &Symbol) -> u64
 
 /// The rank of an offer of a class, by its file and its symbol.
 pub fn rank_of(class: u64, file: usize, symbol: usize) -> u64
-    requires class { class ≤ 3 }
+    requires class { class ≤ 4 }
     requires file { file < 2 ^ 24 }
     requires symbol { symbol < 2 ^ 31 }
     ensures { result ≡ ranks.rank_of class file symbol }
 {
     class * CLASS_RANKS + file as u64 * FILE_RANKS + symbol as u64
+}
+
+/// The class of the linker's own symbols, to which a name is bound that no file offers.
+const LINKER_CLASS: u64 = 4;
+
+/// The rank of a symbol of the linker's own, by its number.
+pub fn linker_rank(number: u32) -> u64
+    requires { number < 2 ^ 31 }
+    ensures { result ≡ ranks.linker_rank number }
+{
+    rank_of(LINKER_CLASS, 0, number as usize)
+}
+
+/// Whether a rank is that of a symbol of the linker's own.
+pub fn is_linker_rank(rank: u64) -> bool
+    ensures { result ≡ ranks.is_linker_rank rank }
+{
+    class_of_rank(rank) == LINKER_CLASS
 }
 
 /// The class of a rank.

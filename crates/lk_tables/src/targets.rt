@@ -16,7 +16,7 @@ use crate::commons::BoundCommon;
 use crate::files::File;
 use crate::heads::{Place, Symbol};
 use crate::objects::Reloc;
-use crate::ranks::{NO_RANK, file_of, symbol_of};
+use crate::ranks::{NO_RANK, file_of, is_linker_rank, symbol_of};
 use crate::reading::{is_section_symbol, is_visible};
 use crate::tables::Tables;
 use lk_base::abi::STB_WEAK;
@@ -68,11 +68,14 @@ impl Binding {
         if rank == NO_RANK {
             return Bound::Nobody;
         }
+        if is_linker_rank(rank) {
+            return Bound::Linker(symbol_of(rank));
+        }
         definition(tables, self, file_of(rank), symbol_of(rank))
     }
 
-    /// The rank of a symbol's name, by the symbol's number.
-    fn rank_at(&self, symbol: usize) -> u64
+    /// The rank that a symbol's name is bound to, by the symbol's number.
+    pub fn rank_at(&self, symbol: usize) -> u64
         ensures { result ≡ spec.rank_at (binding_view self.now) symbol }
     {
         match self.ranks.get(symbol) {

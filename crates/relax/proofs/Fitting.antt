@@ -1,37 +1,50 @@
--- The cuts of all sections lie in these, and meet no place of a value.
-use Rattle.std.proofs.Common.{◌≡◌, ℕ, ◌+◌, ◌<◌, ◌≤◌, ◌⊎◌, ◌||◌, Bool, true, false, if◌then◌else◌, List, [], ◌∷◌, ◌++◌, length, map, get_or, refl, sym, ap, ◌∙◌, subst, arith, inl, inr}
-use Rattle.std.specs.Prelude.{flat_map}
+-- The relocations of a section are sound; the cuts that its alignments and calls are stand in order, none meeting another or the place of
+-- a value.
+use Rattle.std.proofs.Common.{◌≡◌, ℕ, ◌+◌, ◌<◌, ◌≤◌, ◌⊎◌, ◌&&◌, ◌||◌, ◌==◌, Bool, true, false, if◌then◌else◌, List, [], ◌∷◌, length, get_or, refl, sym, ap, ◌∙◌, subst, arith, inl, inr, nat_lt}
+use Rattle.std.specs.Prelude.{is_some, unsigned_abs}
 use Rattle.std.specs.List.{All, AllPairs, filter, range_with_len}
-use Rattle.std.proofs.lemmas.Bool.{cases_lt, lt-ltb}
-use Rattle.std.proofs.lemmas.List.{get_or_default, get_or_past}
+use Rattle.std.proofs.lemmas.Bool.{and_parts, cases_lt, eqb-true, lt-ltb, ltb-true, or_cases}
+use Rattle.std.proofs.lemmas.List.{get_or_default, get_or_past, get_or-map, length-map}
 use Rattle.std.proofs.lemmas.List.Elements.{All-filter, All-map, All-nil, filter_passes}
+use Rattle.std.proofs.lemmas.List.FromFn.{get_or-range_with_len, length-range_with_len}
+use Rattle.std.proofs.lemmas.List.Kept.{AllPairs-filter}
 use Rattle.lk_base.specs.RelocKinds.{kind_of, moves_bytes}
+use Rattle.lk_base.specs.declared.abi.TheConstants.{R_RISCV_CALL, R_RISCV_CALL_PLT}
 use Rattle.lk_tables.specs.declared.heads.Section.{Section}
 use Rattle.lk_tables.specs.declared.objects.Reloc.{Reloc}
 use Rattle.lk_tables.specs.declared.tables.Tables.{Tables}
 use Rattle.lk_tables.specs.Binding.{Bindings}
-use Rattle.lk_tables.specs.Files.{File, by_section, commons_before, file_at, no_section, relocs_at, section_at, section_count, section_total}
+use Rattle.lk_tables.specs.Files.{File, commons_before, file_at, no_reloc, no_section, relocs_at, section_at, section_count, section_total}
 use Rattle.lk_tables.specs.Inside.{IsBodyInside, IsRelocBefore}
-use Rattle.lk_tables.specs.Relocations.{end_of, place_width}
+use Rattle.lk_tables.specs.Relocations.{end_of, has_bytes, is_alignment, is_padding, place_width, width_of}
 use Rattle.lk_tables.specs.Sections.{contents_of}
 use Rattle.lk_tables.specs.Sites.{place_of, relocs_of}
 use Rattle.lk_tables.specs.TablesView.{files_of}
-use Rattle.lk_tables.proofs.ByNumber.{by_section_same, length_by_section, read_by_section}
 use Rattle.lk_tables.proofs.Owners.{place_of_number}
 use Rattle.lk_tables.proofs.SoundFiles.{inside_body, sound_file}
-use Rattle.lk_tables.proofs.Widths.{alignment_width, width_least}
-use Rattle.link_sections.specs.declared.cuts.Cut.{Cut as HeldCut}
-use Rattle.link_sections.specs.Cuts.{Cut}
-use Rattle.link_sections.specs.CutsView.{AreCuts, cut_views}
+use Rattle.lk_tables.proofs.Widths.{alignment_moves, alignment_width, width_is, width_least}
+use Rattle.link_sections.specs.Calls.{IsOwnCall, is_call}
+use Rattle.link_sections.specs.Cuts.{AreApart, Cut}
 use Rattle.link_sections.specs.InputSections.{common_in, input_at, input_of, room_input, section_input}
-use Rattle.relax.specs.Sizes.{FitSections, align_cut, has_nops, held_cuts, whole_cuts}
-use Rattle.relax.proofs.Kept.{IsOfKind, are_cuts, bytes_if, end_is, nops_of, viewed}
+use Rattle.relax.specs.CallSizes.{cut_of, cuts_by, is_cut}
+use Rattle.relax.specs.Placing.{IsOneSize}
+use Rattle.relax.specs.Sizes.{FitSections, has_nops}
+
+-- the end of a place
+abbrev pub IsOfKind : (contents : List ℕ) → Reloc → Type 0
+IsOfKind contents r = is_some (width_of contents r) ≡ true
+
+pub end_is : (contents : List ℕ) (r : Reloc) → IsOfKind contents r → end_of contents r ≡ r.offset + place_width r
+end_is contents r kind = ap (λ w. r.offset + w) (width_is contents r kind)
+
+pub bytes_if : (contents : List ℕ) (r : Reloc) → IsOfKind contents r → 0 < place_width r → has_bytes contents r ≡ true
+bytes_if contents r kind some = lt-ltb r.offset (end_of contents r) (omega (arith, end_is contents r kind))
 
 -- what is known of the relocations of section k of a file
-record AreSound (contents : List ℕ) (size : ℕ) (relocs : List Reloc) : Type 0 where
-  kinds : All (IsOfKind contents) relocs
-  fits : All (λ r. end_of contents r ≤ size) relocs
-  apart : AllPairs (IsRelocBefore contents) relocs
+pub record AreSound (contents : List ℕ) (size : ℕ) (relocs : List Reloc) : Type 0 where
+  pub kinds : All (IsOfKind contents) relocs
+  pub fits : All (λ r. end_of contents r ≤ size) relocs
+  pub apart : AllPairs (IsRelocBefore contents) relocs
 
 none_sound : (contents : List ℕ) (size : ℕ) → AreSound contents size []
 none_sound contents size = record {
@@ -58,22 +71,14 @@ sound_at tables f k live =
     ]
 
 -- sections of a file that takes no part have no numbers
-live_from : (files : List File) (f k : ℕ) → k < section_count (file_at files f) → (file_at files f).live ≡ true
+pub live_from : (files : List File) (f k : ℕ) → k < section_count (file_at files f) → (file_at files f).live ≡ true
 live_from files f k lt = go (file_at files f).live lt
   where
     go : (b : Bool) → k < (if b then length (file_at files f).head.sections + commons_before (file_at files f) (length (file_at files f).head.symbols) else 0) → b ≡ true
     go true lt = refl
     go false lt = absurd (omega (arith, lt))
 
--- the row of a section's number
-pub row_at : {X : Type 0} (files : List File) (give : ℕ → ℕ → X) (n : ℕ) (d : X) → n < section_total files →
-    get_or (by_section files give) n d ≡ give (place_of files n).file (place_of files n).index
-row_at files give n d lt =
-    let law = place_of_number files n lt in
-    ap (λ m. get_or (by_section files give) m d) (sym law.number)
-    ∙ read_by_section files give (place_of files n).file (place_of files n).index d law.file law.index
-
-sound_of : (tables : Tables) (n : ℕ) → n < section_total (files_of tables) →
+pub sound_of : (tables : Tables) (n : ℕ) → n < section_total (files_of tables) →
     let file = file_at (files_of tables) (place_of (files_of tables) n).file in
     let s = section_at file (place_of (files_of tables) n).index in
     AreSound (contents_of file.bytes s) s.size (relocs_of (files_of tables) n)
@@ -82,139 +87,261 @@ sound_of tables n lt =
     let law = place_of_number files n lt in
     sound_at tables (place_of files n).file (place_of files n).index (live_from files (place_of files n).file (place_of files n).index law.index)
 
--- each row can be held
-pub all_cuts : (tables : Tables) (rows : List (List HeldCut)) → rows ≡ by_section (files_of tables) (held_cuts (files_of tables)) → All AreCuts rows
-all_cuts tables rows are n d lt =
-    let files = files_of tables in
-    let high : n < section_total files = omega (arith, lt, ap length are, length_by_section files (held_cuts files)) in
-    let file = file_at files (place_of files n).file in
-    let contents = contents_of file.bytes (section_at file (place_of files n).index) in
-    let sound = sound_of tables n high in
-    let row = ap (λ l. get_or l n d) are ∙ row_at files (held_cuts files) n d high in
-    subst AreCuts (sym row) (are_cuts contents (relocs_of files n) sound.kinds sound.apart)
-
--- the rows as plain records
-map_append : {X Y : Type 0} (g : X → Y) (xs ys : List X) → map g (xs ++ ys) ≡ map g xs ++ map g ys
-map_append g [] ys = refl
-map_append g (x ∷ xs) ys = ap (λ l. g x ∷ l) (map_append g xs ys)
-
-map_rows : {X Y : Type 0} (g : X → Y) (give : ℕ → X) (ks : List ℕ) → map g (map give ks) ≡ map (λ k. g (give k)) ks
-map_rows g give [] = refl
-map_rows g give (k ∷ ks) = ap (λ l. g (give k) ∷ l) (map_rows g give ks)
-
-map_flat : {X Y : Type 0} (g : X → Y) (give : ℕ → ℕ → X) (counts : ℕ → ℕ) (fs : List ℕ) →
-    map g (flat_map (λ f. map (give f) (range_with_len 0 (counts f))) fs) ≡ flat_map (λ f. map (λ k. g (give f k)) (range_with_len 0 (counts f))) fs
-map_flat g give counts [] = refl
-map_flat g give counts (f ∷ fs) =
-    map_append g (map (give f) (range_with_len 0 (counts f))) (flat_map (λ h. map (give h) (range_with_len 0 (counts h))) fs)
-    ∙ ap (λ l. l ++ map g (flat_map (λ h. map (give h) (range_with_len 0 (counts h))) fs)) (map_rows g (give f) (range_with_len 0 (counts f)))
-    ∙ ap (λ l. map (λ k. g (give f k)) (range_with_len 0 (counts f)) ++ l) (map_flat g give counts fs)
-
-pub rows_viewed : (files : List File) (rows : List (List HeldCut)) → rows ≡ by_section files (held_cuts files) → map cut_views rows ≡ whole_cuts files
-unfolding by_section whole_cuts
-rows_viewed files rows are =
-    ap (map cut_views) are
-    ∙ map_flat cut_views (held_cuts files) (λ f. section_count (file_at files f)) (range_with_len 0 (length files))
-    ∙ by_section_same files (λ f k. cut_views (held_cuts files f k)) (λ f k. map align_cut (filter has_nops (relocs_at (file_at files f) k)))
-    (λ f k low lt. viewed (filter has_nops (relocs_at (file_at files f) k)))
-
--- each cut lies in its section
-cuts_fit : (contents : List ℕ) (size : ℕ) (relocs : List Reloc) → AreSound contents size relocs →
-    All (λ (c : Cut). c.at + c.whole ≤ size) (map align_cut (filter has_nops relocs))
-cuts_fit contents size relocs sound =
-    All-map (λ (c : Cut). c.at + c.whole ≤ size) align_cut (filter has_nops relocs)
-    (All-filter has_nops (λ r. r.offset + place_width r ≤ size) relocs
-    (λ k d lt. omega (arith, sound.fits k d lt, end_is contents (get_or relocs k d) (sound.kinds k d lt))))
-
--- and meets no place of a value
-abbrev IsClear : Reloc → Cut → Type 0
-IsClear r c = (c.at + c.whole ≤ r.offset) ⊎ (r.offset + (kind_of r.kind).width ≤ c.at)
-
-or_second : (a b : Bool) → b ≡ true → (a || b) ≡ true
-or_second true b e = refl
-or_second false b e = e
-
-clear_of : (contents : List ℕ) (size : ℕ) (relocs : List Reloc) → AreSound contents size relocs → (j i : ℕ) (d : Reloc) →
-    j < length relocs → i < length relocs → 0 < (kind_of (get_or relocs j d).kind).width → has_nops (get_or relocs i d) ≡ true →
-    IsClear (get_or relocs j d) (align_cut (get_or relocs i d))
-clear_of contents size relocs sound j i d high lt wide nops =
-    let r = get_or relocs j d in
-    let p = get_or relocs i d in
-    let rk = sound.kinds j d high in
-    let pk = sound.kinds i d lt in
-    let is = nops_of contents p nops in
-    let least = width_least contents r rk in
-    let re = end_is contents r rk in
-    let pe = end_is contents p pk in
-    let rb = bytes_if contents r rk (omega (arith, wide, least, re)) in
-    let pb = bytes_if contents p pk is.some in
-    elim (cases_lt i j) [
-      | inl before ↦
-          let apart = sound.apart i j d before high pb rb (ap (λ b. b || moves_bytes r.kind) is.moves) in
-          inl (omega (arith, apart, pe))
-      | inr from ↦ elim (cases_lt j i) [
-        | inl after ↦
-            let apart = sound.apart j i d after lt rb pb (or_second (moves_bytes r.kind) (moves_bytes p.kind) is.moves) in
-            inr (omega (arith, apart, re, least))
-        | inr le ↦
-            let same : i ≡ j = omega arith in
-            let none = alignment_width p is.align in
-            let own : (kind_of p.kind).width ≡ (kind_of r.kind).width = ap (λ n. (kind_of (get_or relocs n d).kind).width) same in
-            absurd (omega (arith, none, own, wide))
-      ]
-    ]
-
-cuts_clear : (contents : List ℕ) (size : ℕ) (relocs : List Reloc) → AreSound contents size relocs →
-    All (λ r. 0 < (kind_of r.kind).width → All (IsClear r) (map align_cut (filter has_nops relocs))) relocs
-cuts_clear contents size relocs sound j d high wide =
-    let r = get_or relocs j d in
-    let Q : Reloc → Type 0 = λ p. has_nops p ≡ true → IsClear r (align_cut p) in
-    let each : All Q relocs = λ i e lt nops.
-    let same : get_or relocs i e ≡ get_or relocs i d = get_or_default relocs i e d lt in
-    let P : Reloc → Type 0 = λ p. IsClear r (align_cut p) in
-    subst P (sym same) (clear_of contents size relocs sound j i d high lt wide (ap has_nops (sym same) ∙ nops)) in
-    All-map (IsClear r) align_cut (filter has_nops relocs)
-    (λ k e lt. All-filter has_nops Q relocs each k e lt (filter_passes has_nops relocs k e lt))
-
 -- the size of an input section that is a file's own; one that has relocations is
 own_size : (files : List File) (b : Bindings) (f k : ℕ) → k < length (file_at files f).head.sections → (input_of files b f k).size ≡ (section_at (file_at files f) k).size
 unfolding input_of
 own_size files b f k lt =
     ap (λ t. (if t then section_input (file_at files f) k else room_input (common_in files b f k)).size) (lt-ltb k (length (file_at files f).head.sections) lt)
 
-fit_at : (tables : Tables) (b : Bindings) (n : ℕ) → n < section_total (files_of tables) →
-    All (λ (c : Cut). c.at + c.whole ≤ (input_at (files_of tables) b n).size) (map align_cut (filter has_nops (relocs_of (files_of tables) n)))
-fit_at tables b n lt =
+-- a call has eight bytes, and what stands after it may move
+pub record IsCallKind (kind : ℕ) : Type 0 where
+  pub width : (kind_of kind).width ≡ 8
+  pub plain : is_padding (kind_of kind).calculation ≡ false
+  pub moves : moves_bytes kind ≡ true
+
+first_kind : IsCallKind R_RISCV_CALL
+unfolding kind_of moves_bytes
+first_kind = record { width = refl; plain = refl; moves = refl }
+
+second_kind : IsCallKind R_RISCV_CALL_PLT
+unfolding kind_of moves_bytes
+second_kind = record { width = refl; plain = refl; moves = refl }
+
+pub call_kind : (kind : ℕ) → is_call kind ≡ true → IsCallKind kind
+unfolding is_call
+call_kind kind is = elim (or_cases (R_RISCV_CALL == kind) ((R_RISCV_CALL_PLT == kind) || false) is) [
+  | inl first ↦ subst IsCallKind (eqb-true R_RISCV_CALL kind first) first_kind
+  | inr rest ↦ elim (or_cases (R_RISCV_CALL_PLT == kind) false rest) [
+    | inl second ↦ subst IsCallKind (eqb-true R_RISCV_CALL_PLT kind second) second_kind
+    | inr none ↦ let wrong : ⊥ = cc in absurd wrong
+  ]
+]
+
+pub call_width : (r : Reloc) → is_call r.kind ≡ true → place_width r ≡ 8
+unfolding place_width is_alignment
+call_width r is =
+    let kind = call_kind r.kind is in
+    ap (λ b. if b then unsigned_abs r.addend else (kind_of r.kind).width) kind.plain ∙ kind.width
+
+pub call_plain : (r : Reloc) → is_call r.kind ≡ true → is_alignment r ≡ false
+unfolding is_alignment
+call_plain r is = (call_kind r.kind is).plain
+
+-- what a relocation that is a cut has
+pub record IsMoving (r : Reloc) (c : Cut) : Type 0 where
+  pub at : c.at ≡ r.offset
+  pub whole : c.whole ≡ place_width r
+  pub some : 0 < place_width r
+  pub kept : c.kept ≤ c.whole
+  pub moves : moves_bytes r.kind ≡ true
+  pub own : (is_alignment r ≡ true) ⊎ IsOwnCall c r
+
+pub moving : (size : ℕ) (r : Reloc) → IsOneSize size → is_cut size r ≡ true → IsMoving r (cut_of size r)
+unfolding is_cut cut_of has_nops
+moving size r one is = elim (or_cases (is_alignment r && nat_lt 0 (place_width r)) (is_call r.kind && nat_lt size 8) is) [
+  | inl nops ↦
+      let parts = and_parts (is_alignment r) (nat_lt 0 (place_width r)) nops in
+      let kept = ap (λ b. if b then place_width r else size) parts.0 in
+      record {
+        at = refl;
+        whole = refl;
+        some = ltb-true 0 (place_width r) parts.1;
+        kept = omega (arith, kept);
+        moves = alignment_moves r parts.0;
+        own = inl parts.0;
+      }
+  | inr call ↦
+      let parts = and_parts (is_call r.kind) (nat_lt size 8) call in
+      let wide = call_width r parts.0 in
+      let plain = call_plain r parts.0 in
+      let small : size < 8 = ltb-true size 8 parts.1 in
+      let kept : (if is_alignment r then place_width r else size) ≡ size = ap (λ b. if b then place_width r else size) plain in
+      record {
+        at = refl;
+        whole = refl;
+        some = omega (arith, wide);
+        kept = omega (arith, kept, wide, small);
+        moves = (call_kind r.kind parts.0).moves;
+        own = inr record {
+          call = parts.0;
+          at = refl;
+          plain = plain;
+          whole = wide;
+          kept = elim one [
+            | inl two ↦ inl (kept ∙ two)
+            | inr more ↦ elim more [ inl four ↦ inr (kept ∙ four) | inr eight ↦ absurd (omega (arith, small, eight)) ]
+          ];
+        };
+      }
+]
+
+module _ (contents : List ℕ) (size : ℕ) (relocs : List Reloc) (sound : AreSound contents size relocs) (sizes : ℕ → ℕ) (lawful : (k : ℕ) → IsOneSize (sizes k)) where
+  abbrev at : ℕ → Reloc
+  at k = get_or relocs k no_reloc
+
+  abbrev wanted : ℕ → Bool
+  wanted k = is_cut (sizes k) (at k)
+
+  abbrev cut : ℕ → Cut
+  cut k = cut_of (sizes k) (at k)
+
+  abbrev kept_ones : List ℕ
+  kept_ones = filter wanted (range_with_len 0 (length relocs))
+
+  is_one : (k : ℕ) → wanted k ≡ true → IsMoving (at k) (cut k)
+  is_one k is = moving (sizes k) (at k) (lawful k) is
+
+  -- each is the number of a relocation that is a cut
+  below : All (λ k. k < length relocs) (range_with_len 0 (length relocs))
+  below = λ i d lt. let same = get_or-range_with_len 0 (length relocs) i d (omega (arith, length-range_with_len 0 (length relocs), lt)) in omega (arith, same, lt, length-range_with_len 0 (length relocs))
+
+  number_low : (p d : ℕ) → p < length kept_ones → get_or kept_ones p d < length relocs
+  number_low p d lt = All-filter wanted (λ k. k < length relocs) (range_with_len 0 (length relocs)) below p d lt
+
+  number_cut : (p d : ℕ) → p < length kept_ones → wanted (get_or kept_ones p d) ≡ true
+  number_cut p d lt = filter_passes wanted (range_with_len 0 (length relocs)) p d lt
+
+  in_order : AllPairs (λ a b. a < b) (range_with_len 0 (length relocs))
+  in_order i j d less lt =
+      let few = length-range_with_len 0 (length relocs) in
+      omega (arith, less, get_or-range_with_len 0 (length relocs) i d (omega (arith, few, less, lt)), get_or-range_with_len 0 (length relocs) j d (omega (arith, few, lt)))
+
+  -- the bytes of one end before those of a later one
+  one_before : (k j : ℕ) → k < j → j < length relocs → wanted k ≡ true → 0 < place_width (at j) → (at k).offset + place_width (at k) ≤ (at j).offset
+  one_before k j less lt first some =
+      let is = is_one k first in
+      let pk = sound.kinds k no_reloc (omega (arith, less, lt)) in
+      let qk = sound.kinds j no_reloc lt in
+      let end = end_is contents (at k) pk in
+      let before = sound.apart k j no_reloc less lt (bytes_if contents (at k) pk is.some) (bytes_if contents (at j) qk some) (ap (λ b. b || moves_bytes (at j).kind) is.moves) in
+      omega (arith, before, end)
+
+  one_after : (j k : ℕ) → j < k → k < length relocs → wanted k ≡ true → 0 < place_width (at j) → (at j).offset + place_width (at j) ≤ (at k).offset
+  one_after j k less lt second some =
+      let is = is_one k second in
+      let pk = sound.kinds k no_reloc lt in
+      let qk = sound.kinds j no_reloc (omega (arith, less, lt)) in
+      let end = end_is contents (at j) qk in
+      let before = sound.apart j k no_reloc less lt (bytes_if contents (at j) qk some) (bytes_if contents (at k) pk is.some) (or_second (moves_bytes (at j).kind) (moves_bytes (at k).kind) is.moves) in
+      omega (arith, before, end)
+    where
+      or_second : (a b : Bool) → b ≡ true → (a || b) ≡ true
+      or_second true b e = refl
+      or_second false b e = e
+
+  pub cuts_apart : AreApart (cuts_by sizes relocs)
+  cuts_apart = record {
+    kept = All-map (λ (c : Cut). c.kept ≤ c.whole) cut kept_ones (λ p d lt. (is_one (get_or kept_ones p d) (number_cut p d lt)).kept);
+    order = λ p d lt.
+        let few = length-map kept_ones cut in
+        let k = get_or kept_ones p 0 in
+        let j = get_or kept_ones (p + 1) 0 in
+        let first = get_or-map cut kept_ones p 0 d (omega (arith, lt, few)) in
+        let second = get_or-map cut kept_ones (p + 1) 0 d (omega (arith, lt, few)) in
+        let kc = number_cut p 0 (omega (arith, lt, few)) in
+        let jc = number_cut (p + 1) 0 (omega (arith, lt, few)) in
+        let ki = is_one k kc in
+        let ji = is_one j jc in
+        let less = AllPairs-filter (λ a b. a < b) wanted (range_with_len 0 (length relocs)) in_order p (p + 1) 0 (omega arith) (omega (arith, lt, few)) in
+        let before = one_before k j less (number_low (p + 1) 0 (omega (arith, lt, few))) kc ji.some in
+        omega (arith, before, ki.at, ki.whole, ji.at, ap (λ (c : Cut). c.at) first, ap (λ (c : Cut). c.whole) first, ap (λ (c : Cut). c.at) second);
+  }
+
+  pub cuts_some : All (λ (c : Cut). 0 < c.whole) (cuts_by sizes relocs)
+  cuts_some = All-map (λ (c : Cut). 0 < c.whole) cut kept_ones (λ p d lt.
+      let is = is_one (get_or kept_ones p d) (number_cut p d lt) in omega (arith, is.some, is.whole))
+
+  pub cuts_within : All (λ (c : Cut). c.at + c.whole ≤ size) (cuts_by sizes relocs)
+  cuts_within = All-map (λ (c : Cut). c.at + c.whole ≤ size) cut kept_ones (λ p d lt.
+      let k = get_or kept_ones p d in
+      let is = is_one k (number_cut p d lt) in
+      let low = number_low p d lt in
+      omega (arith, is.at, is.whole, sound.fits k no_reloc low, end_is contents (at k) (sound.kinds k no_reloc low)))
+
+  abbrev pub IsClear : Reloc → Cut → Type 0
+  IsClear r c = (c.at + c.whole ≤ r.offset) ⊎ ((r.offset + (kind_of r.kind).width ≤ c.at) ⊎ IsOwnCall c r)
+
+  clear_of : (j k : ℕ) → j < length relocs → k < length relocs → 0 < (kind_of (at j).kind).width → wanted k ≡ true → IsClear (at j) (cut k)
+  clear_of j k high lt wide is =
+      let m = is_one k is in
+      let rk = sound.kinds j no_reloc high in
+      let least = width_least contents (at j) rk in
+      let re = end_is contents (at j) rk in
+      let some : 0 < place_width (at j) = omega (arith, wide, least, re) in
+      elim (cases_lt k j) [
+        | inl before ↦ inl (omega (arith, one_before k j before high is some, m.at, m.whole))
+        | inr from ↦ elim (cases_lt j k) [
+          | inl after ↦ inr (inl (omega (arith, one_after j k after lt is some, m.at, least, re)))
+          | inr le ↦
+              let same : k ≡ j = omega (arith, from, le) in
+              elim m.own [
+                | inl align ↦
+                    let none = alignment_width (at k) align in
+                    let own : (kind_of (at k).kind).width ≡ (kind_of (at j).kind).width = ap (λ n. (kind_of (at n).kind).width) same in
+                    absurd (omega (arith, none, own, wide))
+                | inr call ↦ inr (inr (subst (λ n. IsOwnCall (cut k) (at n)) same call))
+              ]
+        ]
+      ]
+
+  pub cuts_clear : All (λ (r : Reloc). 0 < (kind_of r.kind).width → All (IsClear r) (cuts_by sizes relocs)) relocs
+  cuts_clear j d high wide =
+      let same : get_or relocs j d ≡ at j = get_or_default relocs j d no_reloc high in
+      let P : Reloc → Type 0 = λ r. All (IsClear r) (cuts_by sizes relocs) in
+      subst P (sym same) (All-map (IsClear (at j)) cut kept_ones (λ p e lt.
+      clear_of j (get_or kept_ones p e) high (number_low p e lt) (subst (λ (r : Reloc). 0 < (kind_of r.kind).width) same wide) (number_cut p e lt)))
+
+-- the size of a section that has relocations is that of its header
+pub size_is : (tables : Tables) (b : Bindings) (n : ℕ) → n < section_total (files_of tables) → 0 < length (relocs_of (files_of tables) n) →
+    (input_at (files_of tables) b n).size ≡ (section_at (file_at (files_of tables) (place_of (files_of tables) n).file) (place_of (files_of tables) n).index).size
+size_is tables b n lt some =
     let files = files_of tables in
     let f = (place_of files n).file in
     let k = (place_of files n).index in
     let file : File = file_at files f in
     let law = place_of_number files n lt in
     let inside : IsBodyInside file.bytes file.head file.object = inside_body file (sound_file tables f (live_from files f k law.index)) in
-    let P : ℕ → Type 0 = λ size. All (λ (c : Cut). c.at + c.whole ≤ size) (map align_cut (filter has_nops (relocs_of files n))) in
     elim (cases_lt k (length file.head.sections)) [
-      | inl own ↦
-          subst P (sym (own_size files b f k own))
-          (cuts_fit (contents_of file.bytes (section_at file k)) (section_at file k).size (relocs_of files n) (sound_of tables n lt))
-      | inr past ↦
-          let none : relocs_of files n ≡ [] = get_or_past file.object.relocs k [] (omega (arith, inside.counted, past)) in
-          let Q : List Reloc → Type 0 = λ rs. All (λ (c : Cut). c.at + c.whole ≤ (input_at files b n).size) (map align_cut (filter has_nops rs)) in
-          subst Q (sym none) (All-nil (λ (c : Cut). c.at + c.whole ≤ (input_at files b n).size))
+      | inl own ↦ own_size files b f k own
+      | inr past ↦ absurd (omega (arith, some, ap length (get_or_past file.object.relocs k [] (omega (arith, inside.counted, past)))))
     ]
 
-pub fit_sections : (tables : Tables) (sizes : List (List Cut)) → sizes ≡ whole_cuts (files_of tables) → FitSections (files_of tables) sizes
-unfolding whole_cuts
-fit_sections tables sizes are =
+no_relocs : (sizes : ℕ → ℕ) (relocs : List Reloc) → length relocs ≡ 0 → cuts_by sizes relocs ≡ []
+no_relocs sizes [] none = refl
+no_relocs sizes (r ∷ rs) none = absurd (omega (arith, none))
+
+pub within_input : (tables : Tables) (b : Bindings) (n : ℕ) (sizes : ℕ → ℕ) → n < section_total (files_of tables) → ((k : ℕ) → IsOneSize (sizes k)) →
+    All (λ (c : Cut). c.at + c.whole ≤ (input_at (files_of tables) b n).size) (cuts_by sizes (relocs_of (files_of tables) n))
+within_input tables b n sizes lt lawful =
     let files = files_of tables in
-    let give : ℕ → ℕ → List Cut = λ f k. map align_cut (filter has_nops (relocs_at (file_at files f) k)) in
-    let row : (n : ℕ) → n < section_total files → get_or sizes n [] ≡ give (place_of files n).file (place_of files n).index =
-    λ n lt. ap (λ l. get_or l n []) are ∙ row_at files give n [] lt in
+    let relocs = relocs_of files n in
+    let file = file_at files (place_of files n).file in
+    let s = section_at file (place_of files n).index in
+    elim (cases_lt 0 (length relocs)) [
+      | inl some ↦
+          let P : ℕ → Type 0 = λ size. All (λ (c : Cut). c.at + c.whole ≤ size) (cuts_by sizes relocs) in
+          subst P (sym (size_is tables b n lt some)) (cuts_within (contents_of file.bytes s) s.size relocs (sound_of tables n lt) sizes lawful)
+      | inr none ↦
+          let P : List Cut → Type 0 = λ cs. All (λ (c : Cut). c.at + c.whole ≤ (input_at files b n).size) cs in
+          subst P (sym (no_relocs sizes relocs (omega (arith, none)))) (All-nil (λ (c : Cut). c.at + c.whole ≤ (input_at files b n).size))
+    ]
+
+-- the cuts of all sections
+pub fit_sections : (tables : Tables) (cuts : List (List Cut)) (sizes : (n k : ℕ) → ℕ) → length cuts ≡ section_total (files_of tables) →
+    ((n : ℕ) → n < section_total (files_of tables) → get_or cuts n [] ≡ cuts_by (sizes n) (relocs_of (files_of tables) n)) → ((n k : ℕ) → IsOneSize (sizes n k)) →
+    FitSections (files_of tables) cuts
+fit_sections tables cuts sizes count row lawful =
+    let files = files_of tables in
     record {
-      count = ap length are ∙ length_by_section files give;
-      within = λ b n lt. subst (All (λ (c : Cut). c.at + c.whole ≤ (input_at files b n).size)) (sym (row n lt)) (fit_at tables b n lt);
+      count = count;
+      some = λ n lt.
+          let file = file_at files (place_of files n).file in
+          let s = section_at file (place_of files n).index in
+          subst (All (λ (c : Cut). 0 < c.whole)) (sym (row n lt)) (cuts_some (contents_of file.bytes s) s.size (relocs_of files n) (sound_of tables n lt) (sizes n) (lawful n));
+      within = λ b n lt. subst (All (λ (c : Cut). c.at + c.whole ≤ (input_at files b n).size)) (sym (row n lt)) (within_input tables b n (sizes n) lt (lawful n));
       clear = λ n lt.
           let file = file_at files (place_of files n).file in
           let s = section_at file (place_of files n).index in
-          let P : List Cut → Type 0 = λ cs. All (λ (r : Reloc). 0 < (kind_of r.kind).width → All (IsClear r) cs) (relocs_of files n) in
-          subst P (sym (row n lt)) (cuts_clear (contents_of file.bytes s) s.size (relocs_of files n) (sound_of tables n lt));
+          let P : List Cut → Type 0 = λ cs. All (λ (r : Reloc). 0 < (kind_of r.kind).width → All (λ (c : Cut). (c.at + c.whole ≤ r.offset) ⊎ ((r.offset + (kind_of r.kind).width ≤ c.at) ⊎ IsOwnCall c r)) cs) (relocs_of files n) in
+          subst P (sym (row n lt)) (cuts_clear (contents_of file.bytes s) s.size (relocs_of files n) (sound_of tables n lt) (sizes n) (lawful n));
     }

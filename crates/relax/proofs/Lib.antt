@@ -1,3 +1,11 @@
+mod CutSteps
 mod Fitting
-mod Kept
-mod RowSteps
+mod Hints
+mod KeyMaps
+mod LeastSizes
+mod ListSteps
+mod MemberFacts
+mod Places
+mod PointSteps
+mod RowFacts
+mod SafeSizes

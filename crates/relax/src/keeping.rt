@@ -1,80 +1,227 @@
 //! The bytes that sections keep before anything has a place.
 
-ghost use Rattle.std.specs.Prelude.{◌≡◌, ◌<◌, ◌++◌, length, map, IfOk, OnOk};
-ghost use Rattle.std.specs.List.{filter};
+ghost use Rattle.std.specs.Prelude.{◌≡◌, ◌+◌, ◌-◌, ◌<◌, ◌≤◌, ◌^◌, ◌++◌, length, map, All, IfOk, OnOk, if◌then◌else◌};
+ghost use Rattle.std.specs.List.{range_with_len};
+ghost use Rattle.lk_tables.specs.BindingView.{binding_view};
+ghost use Rattle.lk_tables.specs.Files.{section_total};
+ghost use Rattle.lk_tables.specs.Relocations.{is_alignment};
+ghost use Rattle.lk_tables.specs.Sites.{relocs_of};
 ghost use Rattle.lk_tables.specs.TablesView.{files_of};
-ghost use Rattle.lk_tables.proofs.ByNumber.{section_row};
+ghost use Rattle.link_sections.specs.CutsView.{AreCuts, cut_view, cut_views};
+ghost use Rattle.link_sections.specs.PoolViews.{pools_view};
 ghost use Rattle.link_sections.specs.SizesView.{sizes_of};
-ghost use Rattle.relax.specs.Sizes as spec;
+ghost use Rattle.relax.specs.CallSizes as spec;
+ghost use Rattle.relax.specs.Points.{AreSoundRows, mark_at};
+ghost use Rattle.relax.specs.Placing.{ArePlaced, IsKnown, IsOneSize, added};
+ghost use Rattle.relax.specs.Scenes.{cuts_in, rows_in};
+ghost use Rattle.relax.specs.Sizes.{FitSections};
 
+use crate::calls::{Call, Scene, call_rows, place_of, places_of};
+use crate::jumps::{Mark, count_of, jumps_of, marks_of};
+use crate::members::{Member, members_of};
+use crate::solving::{least_sizes, size_at};
 use flat_rows::Rows;
-use link_sections::{Cut, Sizes};
-use lk_base::FileNo;
-use lk_tables::{Reloc, Tables, is_alignment, place_width, section_count};
+use link_sections::{Cut, Pool, Pools, Sizes};
+use lk_base::SecNo;
+use lk_base::abi::{R_RISCV_CALL, R_RISCV_CALL_PLT};
+use lk_tables::{Binding, Reloc, Tables, is_alignment, place_width};
 use std::alloc::{AllocError, Global};
 
-/// By section number, where each section loses bytes: each alignment in order of offset, with all its bytes, since no place is known
-/// yet. No call is relaxed.
-pub fn sizes(alloc: Global, tables: &Tables) -> Result<Sizes, AllocError>
-    ensures cuts { IfOk result (λ sizes. sizes_of sizes ≡ spec.whole_cuts (files_of tables.now)) }
-    ensures fit { IfOk result (λ sizes. spec.FitSections (files_of tables.now) (sizes_of sizes)) }
+/// By section number, where each section loses bytes, in order of offset: each alignment with all its bytes, since no place is known yet, and
+/// each call that may be shortened, with the four bytes of `jal` or the two of `c.j`. A call of eight bytes is none of them. With `on` a call
+/// has the least size that allows the greatest distance that its target can have, wherever the sections stand; without it no call is
+/// relaxed. `leaders` are by section number. The only error is out of memory.
+pub fn sizes(
+    alloc: Global,
+    tables: &Tables,
+    binding: &Binding,
+    pools: &Pools,
+    leaders: &[Option<SecNo>],
+    on: bool,
+) -> Result<Sizes, AllocError>
+    ensures cuts { IfOk result (λ sizes. sizes_of sizes ≡ spec.cuts_of (files_of tables.now) (binding_view binding.now) (pools_view (files_of tables.now) pools.now) leaders.now on) }
+    ensures fit { IfOk result (λ sizes. FitSections (files_of tables.now) (sizes_of sizes)) }
+    ensures law { IfOk result (λ _. spec.IsLeastSafe (files_of tables.now) (binding_view binding.now) (pools_view (files_of tables.now) pools.now) leaders.now on) }
 {
     tables.is_few();
-    let mut rows = Rows::empty(alloc)?;
-    for file in 0..tables.file_count() as u32 {
-        push_file(alloc, &mut rows, tables, file)?;
-    }
+    few_pools(pools);
+    let members = members_of(alloc, tables, binding, pools, leaders)?;
+    let places = places_of(alloc, members.as_slice(), tables.section_count())?;
+    let scene = Scene {
+        tables,
+        binding,
+        pools,
+        leaders,
+        members: members.as_slice(),
+        places: places.as_slice(),
+    };
+    let sizes = sizes_in(alloc, &scene, on)?;
+    Ok(sizes)
+}
+
+/// The same, once the members are in order.
+fn sizes_in(alloc: Global, scene: &Scene, on: bool) -> Result<Sizes, AllocError>
+    requires few { length scene.now.members.now < 2 ^ 33 }
+    requires known { All (IsKnown (files_of scene.now.tables.now) (binding_view scene.now.binding.now)) scene.now.members.now }
+    ensures cuts { IfOk result (λ sizes. sizes_of sizes ≡ cuts_in scene.now on) }
+    ensures fit { IfOk result (λ sizes. FitSections (files_of scene.now.tables.now) (sizes_of sizes)) }
+    ensures law { IfOk result (λ _. spec.AreLeastSafe scene.now.members.now (rows_in scene.now on) (spec.least_sizes scene.now.members.now (rows_in scene.now on))) }
+{
+    let calls = call_rows(alloc, scene, on)?;
+    let marks = marks_of(alloc, scene.members, &calls)?;
+    let jumps = jumps_of(alloc, scene.members, &calls, marks.as_slice())?;
+    let sizes = least_sizes(alloc, jumps.as_slice())?;
+    let rows = cut_rows(alloc, scene, &calls, marks.as_slice(), sizes.as_slice())?;
     Ok(Sizes::of(rows))
 }
 
-/// Those of one file, a row for each of its section numbers.
-fn push_file(
-    alloc: Global,
-    rows: &mut Rows<Cut>,
-    tables: &Tables,
-    file: FileNo,
-) -> Result<(), AllocError>
-    requires { file < length (files_of tables.now) }
-    ensures { OnOk result (rows.new ≡ rows.old ++ section_row (files_of tables.now) (spec.held_cuts (files_of tables.now)) file) }
+/// There are not more pools than section numbers of 32 bits.
+fn few_pools(pools: &Pools) -> usize
+    ensures { length pools.now.pools.items ≤ 2 ^ 32 }
 {
-    tables.is_few();
-    for index in 0..section_count(tables.file(file)) {
-        let cuts = cuts_of(alloc, tables.relocs(file, index as u32))?;
+    let pools = pools.pools();
+    if pools.len() == 0 {
+        return 0;
+    }
+    last_first(&pools[pools.len() - 1])
+}
+
+/// The number of a pool's first section.
+fn last_first(pool: &Pool) -> usize
+    ensures value { result ≡ pool.now.first }
+    ensures few { result < 2 ^ 32 }
+{
+    pool.first as usize
+}
+
+/// The cuts of all sections.
+#[tactic(auto, unfolding(crate::specs::CallSizes::all_cuts))]
+fn cut_rows(
+    alloc: Global,
+    scene: &Scene,
+    calls: &Rows<Call>,
+    marks: &[Mark],
+    sizes: &[u64],
+) -> Result<Rows<Cut>, AllocError>
+    requires sound { AreSoundRows scene.now.members.now calls.now }
+    requires marks { marks.now ≡ map (mark_at scene.now.members.now calls.now) (range_with_len 0 (length scene.now.members.now)) }
+    requires sizes { All IsOneSize sizes.now }
+    requires count { length sizes.now ≡ length (spec.all_calls calls.now) }
+    ensures views { IfOk result (λ rows. map cut_views rows ≡ spec.all_cuts (files_of scene.now.tables.now) scene.now.members.now calls.now sizes.now) }
+    ensures sound { IfOk result (λ rows. All AreCuts rows) }
+{
+    scene.tables.is_few();
+    let mut rows = Rows::empty(alloc)?;
+    for section in 0..scene.tables.section_count() as u32 {
+        let cuts = section_cuts(alloc, scene, calls, marks, sizes, section)?;
         rows.push(cuts.as_slice())?;
     }
-    Ok(())
+    Ok(rows)
 }
 
-/// Those of one section.
-fn cuts_of(alloc: Global, relocs: &[Reloc]) -> Result<Vec<Cut>, AllocError>
-    ensures { IfOk result (λ cuts. cuts.items ≡ map spec.held_cut (filter spec.has_nops relocs.now)) }
+/// The cuts of a section.
+fn section_cuts(
+    alloc: Global,
+    scene: &Scene,
+    calls: &Rows<Call>,
+    marks: &[Mark],
+    sizes: &[u64],
+    section: SecNo,
+) -> Result<Vec<Cut>, AllocError>
+    requires sound { AreSoundRows scene.now.members.now calls.now }
+    requires marks { marks.now ≡ map (mark_at scene.now.members.now calls.now) (range_with_len 0 (length scene.now.members.now)) }
+    requires sizes { All IsOneSize sizes.now }
+    requires count { length sizes.now ≡ length (spec.all_calls calls.now) }
+    requires section { section < section_total (files_of scene.now.tables.now) }
+    ensures views { IfOk result (λ cuts. cut_views cuts.items ≡ spec.cuts_by (spec.size_in calls.now sizes.now (spec.place_in scene.now.members.now section)) (relocs_of (files_of scene.now.tables.now) section)) }
+    ensures sound { IfOk result (λ cuts. AreCuts cuts.items) }
 {
-    relocs
-        .iter()
-        .filter(|reloc| has_nops(reloc))
-        .map(|reloc| whole_cut(reloc))
-        .collect(alloc)
+    let mut cuts = Vec::new(alloc);
+    let mut lost: u128 = 0;
+    let place = scene.tables.place_of(section);
+    let relocs = scene.tables.relocs(place.file, place.index);
+    let member = place_of(scene, section);
+    for k in 0..relocs.len() {
+        let size = size_in(calls, marks, sizes, scene.members, member, k);
+        lost = push_cut(&mut cuts, lost, &relocs[k], size)?;
+    }
+    Ok(cuts)
 }
 
-/// Whether a relocation is an alignment that has nops.
-#[tactic(auto, unfolding(crate::specs::Sizes::has_nops))]
-fn has_nops(reloc: &Reloc) -> bool
-    ensures { result ≡ spec.has_nops reloc.now }
+/// Adds what a relocation keeps of its bytes, if it is an alignment, or a call of less than eight. Gives how many bytes are lost so far.
+#[tactic(auto, unfolding(crate::specs::Placing::added))]
+fn push_cut(cuts: &mut Vec<Cut>, lost: u128, reloc: &Reloc, size: u64) -> Result<u128, AllocError>
+    requires { lost + 2 ^ 64 ≤ 2 ^ 128 }
+    ensures views { OnOk result (cut_views cuts.new.items ≡ cut_views cuts.old.items ++ added size reloc.now) }
+    ensures placed { IfOk result (λ after. ArePlaced cuts.old.items lost → ArePlaced cuts.new.items after) }
+    ensures few { IfOk result (λ after. after ≤ lost + (2 ^ 64 - 1)) }
 {
-    is_alignment(reloc) && 0 < place_width(reloc)
+    if !is_cut(reloc, size) {
+        return Ok(lost);
+    }
+    let cut = held_cut(reloc, size, lost);
+    cuts.push(cut)?;
+    Ok(lost + cut.whole.saturating_sub(cut.kept) as u128)
 }
 
-/// An alignment with all its bytes.
-#[tactic(auto, unfolding(crate::specs::Sizes::held_cut))]
-fn whole_cut(reloc: &Reloc) -> Cut
-    ensures { result ≡ spec.held_cut reloc.now }
+/// Whether a relocation is an alignment that has nops, or a call of this size that has less than eight bytes.
+#[tactic(auto, unfolding(crate::specs::CallSizes::is_cut, crate::specs::Sizes::has_nops, link_sections::specs::Calls::is_call))]
+fn is_cut(reloc: &Reloc, size: u64) -> bool
+    ensures { result ≡ spec.is_cut size reloc.now }
+{
+    (is_alignment(reloc) && 0 < place_width(reloc))
+        || ((reloc.kind == R_RISCV_CALL || reloc.kind == R_RISCV_CALL_PLT) && size < 8)
+}
+
+/// A relocation's bytes, where so many are lost before them.
+#[tactic(auto, unfolding(crate::specs::CallSizes::cut_of))]
+fn held_cut(reloc: &Reloc, size: u64, lost: u128) -> Cut
+    ensures view { cut_view result ≡ spec.cut_of size reloc.now }
+    ensures place { result.new_at ≡ result.at - lost }
 {
     let whole = place_width(reloc);
     Cut {
         at: reloc.offset,
         whole,
-        kept: whole,
-        is_align: true,
-        new_at: reloc.offset,
+        kept: kept_of(reloc, whole, size),
+        is_align: is_alignment(reloc),
+        new_at: (reloc.offset as u128).saturating_sub(lost) as u64,
     }
+}
+
+/// How many bytes stay: all of an alignment, or those of a call's size.
+fn kept_of(reloc: &Reloc, whole: u64, size: u64) -> u64
+    ensures { result ≡ (if is_alignment reloc.now then whole else size) }
+{
+    if is_alignment(reloc) {
+        return whole;
+    }
+    size
+}
+
+/// The size of the call at a relocation of a member; eight if there is none.
+#[tactic(auto, unfolding(crate::specs::CallSizes::size_in))]
+fn size_in(
+    calls: &Rows<Call>,
+    marks: &[Mark],
+    sizes: &[u64],
+    members: &[Member],
+    member: usize,
+    k: usize,
+) -> u64
+    requires sound { AreSoundRows members.now calls.now }
+    requires marks { marks.now ≡ map (mark_at members.now calls.now) (range_with_len 0 (length members.now)) }
+    requires count { length sizes.now ≡ length (spec.all_calls calls.now) }
+    ensures { result ≡ spec.size_in calls.now sizes.now member k }
+{
+    let row = calls.row(member);
+    let n = row.partition_point(|call| call.reloc < k);
+    let Some(call) = row.get(n) else {
+        return 8;
+    };
+    if call.reloc != k {
+        return 8;
+    }
+    count_of(calls);
+    size_at(sizes, marks[member].first + n)
 }

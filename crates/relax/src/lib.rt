@@ -2,6 +2,14 @@
 //! Relaxation").
 #![tactic(auto)]
 
+mod calls;
+mod items;
+mod jumps;
 mod keeping;
+mod members;
+mod solving;
 
 pub use keeping::sizes;
+
+#[cfg(test)]
+mod tests;

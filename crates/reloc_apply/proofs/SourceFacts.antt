@@ -3,22 +3,23 @@ use Rattle.std.proofs.Common.{◌≡◌, ℕ, ◌+◌, ◌-◌, ◌≤◌, true,
 use Rattle.std.specs.Prelude.{Option}
 use Rattle.std.specs.List.{All}
 use Rattle.std.specs.List.Sorted.{IsNonDecreasingBy}
-use Rattle.lk_base.specs.RelocKinds.{kind_of}
 use Rattle.lk_base.specs.declared.abi.TheConstants.{IMAGE_BASE}
 use Rattle.lk_tables.specs.declared.objects.Reloc.{Reloc}
 use Rattle.lk_tables.specs.Binding.{Bindings}
 use Rattle.lk_tables.specs.Files.{File}
 use Rattle.lk_tables.specs.Sites.{place_of, relocs_of}
+use Rattle.link_sections.specs.Calls.{acting_width}
 use Rattle.link_sections.specs.Cuts.{Cut}
 use Rattle.link_sections.specs.CutsView.{AreCuts, cut_views}
 use Rattle.link_sections.specs.LaidOut.{LaidOut, cuts_at, start_at}
 use Rattle.link_sections.specs.Sound.{IsSound}
 use Rattle.reloc_apply.specs.declared.sources.Source.{Source}
 use Rattle.reloc_apply.specs.Relocated.{contents_at, is_laid, staying_at}
-use Rattle.reloc_apply.specs.Sites.{IsSite, IsSource}
+use Rattle.reloc_apply.specs.Sites.{HasSymbol, IsSite, IsSource}
 use Rattle.reloc_apply.specs.Values.{offset_of}
 use Rattle.reloc_apply.proofs.LaidFacts.{known, places_rise, raw_short, raw_size, stay_size}
 use Rattle.reloc_apply.proofs.SitePlaces.{live_site, site_ordered}
+use Rattle.reloc_apply.proofs.SiteSymbols.{site_symbols}
 use Rattle.reloc_apply.proofs.SoundLists.{AllSound}
 
 pub source_is : (files : List File) (b : Bindings) (leaders : List (Option ℕ)) (laid : LaidOut) (s : Source) → IsSound files b leaders laid → AllSound files →
@@ -34,8 +35,9 @@ source_is files b leaders laid s sound all is site at raw cuts relocs are =
     let stay = stay_size files b leaders laid n sound own k in
     let long = ap length raw in
     let P : List Cut → Type 0 = λ cs. All (λ (c : Cut). c.at + c.whole ≤ length s.raw.now) cs in
-    let Q : List Reloc → Type 0 = λ rs. All (λ (r : Reloc). offset_of files b leaders laid n r + (kind_of r.kind).width ≤ length (staying_at files b leaders laid n)) rs in
+    let Q : List Reloc → Type 0 = λ rs. All (λ (r : Reloc). offset_of files b leaders laid n r + acting_width (cuts_at laid n) r ≤ length (staying_at files b leaders laid n)) rs in
     let R : List Reloc → Type 0 = λ rs. IsNonDecreasingBy (offset_of files b leaders laid n) rs in
+    let S : List Reloc → Type 0 = λ rs. All (HasSymbol files s.site) rs in
     let high = k.high in
     let start = k.section.start in
     record {
@@ -44,6 +46,7 @@ source_is files b leaders laid s sound all is site at raw cuts relocs are =
       raw = raw;
       cuts = cuts;
       relocs = relocs;
+      symbols = subst S (sym relocs) (site_symbols files s.site site all);
       sound = are;
       within = subst P (sym cuts) (λ i d lt. let within = k.section.cuts i d lt in omega (arith, within, long, size));
       low = omega (arith, at, high, start);

@@ -6,11 +6,12 @@ use Rattle.std.proofs.lemmas.List.{get_or_append_left, get_or-take, get_or-drop,
 use Rattle.std.proofs.lemmas.List.Elements.{All-head, All-tail}
 use Rattle.byteorder.specs.Numbers.{length-bytes_low_first}
 use Rattle.lk_base.specs.Formats.{Field}
-use Rattle.lk_base.specs.RelocKinds.{kind_of}
+use Rattle.lk_base.specs.RelocKinds.{Kind}
 use Rattle.lk_tables.specs.declared.objects.Reloc.{Reloc}
 use Rattle.lk_tables.specs.Binding.{Bindings}
 use Rattle.lk_tables.specs.Files.{File}
-use Rattle.link_sections.specs.LaidOut.{LaidOut}
+use Rattle.link_sections.specs.Calls.{acting_kind, acting_width}
+use Rattle.link_sections.specs.LaidOut.{LaidOut, cuts_at}
 use Rattle.rv_code.specs.Places.{patched}
 use Rattle.reloc_apply.specs.Relocated.{filled, put, relocated}
 use Rattle.reloc_apply.specs.Values.{held_in, offset_of, value_of}
@@ -19,9 +20,9 @@ patched_length : (field : Field) (v : ℤ) (place : List ℕ) → length (patche
 unfolding patched
 patched_length field v place = length-bytes_low_first 0 (length place) _
 
-pub filled_length : (r : Reloc) (v : Option ℤ) (place : List ℕ) → length (filled r v place) ≡ length place
-filled_length r None place = refl
-filled_length r (Some v) place = patched_length (kind_of r.kind).field v place
+pub filled_length : (kind : Kind) (v : Option ℤ) (place : List ℕ) → length (filled kind v place) ≡ length place
+filled_length kind None place = refl
+filled_length kind (Some v) place = patched_length kind.field v place
 
 -- new bytes of the same length at a place
 laid_length : (at w : ℕ) (new bytes : List ℕ) → at + w ≤ length bytes → length new ≡ w → length (take at bytes ++ (new ++ drop (at + w) bytes)) ≡ length bytes
@@ -58,12 +59,15 @@ module _ (files : List File) (b : Bindings) (leaders : List (Option ℕ)) (laid 
   abbrev pub at_of : Reloc → ℕ
   at_of r = offset_of files b leaders laid n r
 
+  abbrev pub kind_at : Reloc → Kind
+  kind_at r = acting_kind (cuts_at laid n) r
+
   abbrev pub width_of : Reloc → ℕ
-  width_of r = (kind_of r.kind).width
+  width_of r = acting_width (cuts_at laid n) r
 
   -- what a place gets that held these bytes
   abbrev pub fill : Reloc → List ℕ → List ℕ
-  fill r held = filled r (value_of files b leaders laid n r (held_in (width_of r) 0 held)) held
+  fill r held = filled (kind_at r) (value_of files b leaders laid n r (held_in (width_of r) 0 held)) held
 
   abbrev pub Fits : List ℕ → Reloc → Type 0
   Fits bytes r = at_of r + width_of r ≤ length bytes
@@ -72,8 +76,8 @@ module _ (files : List File) (b : Bindings) (leaders : List (Option ℕ)) (laid 
   held_length r bytes fits = length-take-le (width_of r) (drop (at_of r) bytes) (omega (arith, fits, length-drop (at_of r) bytes))
 
   new_length : (r : Reloc) (bytes : List ℕ) → Fits bytes r →
-      length (filled r (value_of files b leaders laid n r (held_in (width_of r) (at_of r) bytes)) (take (width_of r) (drop (at_of r) bytes))) ≡ width_of r
-  new_length r bytes fits = filled_length r _ (take (width_of r) (drop (at_of r) bytes)) ∙ held_length r bytes fits
+      length (filled (kind_at r) (value_of files b leaders laid n r (held_in (width_of r) (at_of r) bytes)) (take (width_of r) (drop (at_of r) bytes))) ≡ width_of r
+  new_length r bytes fits = filled_length (kind_at r) _ (take (width_of r) (drop (at_of r) bytes)) ∙ held_length r bytes fits
 
   pub put_length : (r : Reloc) (bytes : List ℕ) → Fits bytes r → length (put files b leaders laid n r bytes) ≡ length bytes
   put_length r bytes fits = laid_length (at_of r) (width_of r) _ bytes fits (new_length r bytes fits)
@@ -88,7 +92,7 @@ module _ (files : List File) (b : Bindings) (leaders : List (Option ℕ)) (laid 
 
   pub put_within : (r : Reloc) (bytes : List ℕ) (q : ℕ) → Fits bytes r → at_of r ≤ q → q < at_of r + width_of r →
       slice_index (put files b leaders laid n r bytes) q
-      ≡ slice_index (filled r (value_of files b leaders laid n r (held_in (width_of r) (at_of r) bytes)) (take (width_of r) (drop (at_of r) bytes))) (q - at_of r)
+      ≡ slice_index (filled (kind_at r) (value_of files b leaders laid n r (held_in (width_of r) (at_of r) bytes)) (take (width_of r) (drop (at_of r) bytes))) (q - at_of r)
   put_within r bytes q fits le lt = laid_within (at_of r) (width_of r) _ bytes q fits (new_length r bytes fits) le lt
 
   -- relocations done one after the other, all of which lie in the section

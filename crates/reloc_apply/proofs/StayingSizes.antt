@@ -1,25 +1,37 @@
 -- The bytes of a section that stay: how many they are, and those before a cut.
 use Rattle.std.proofs.Common.{◌≡◌, ℕ, zero, suc, ◌+◌, ◌-◌, ◌<◌, ◌≤◌, Bool, true, false, List, [], ◌∷◌, ◌++◌, length, take, drop, get_or, refl, sym, ap, ◌∙◌, subst, arith, inl, inr, append_assoc}
-use Rattle.std.specs.Prelude.{All, if◌then◌else◌}
-use Rattle.std.proofs.lemmas.Bool.{cases_lt}
+use Rattle.std.specs.Prelude.{All, if◌then◌else◌, ◌==◌}
+use Rattle.std.specs.Int.{to_le_bytes, w16, w32}
+use Rattle.std.proofs.lemmas.Bool.{cases_lt, eqb-true}
 use Rattle.std.proofs.lemmas.List.{drop_all, length-append, length-take-le, length-drop}
 use Rattle.std.proofs.lemmas.List.FromFn.{length-map-range_with_len}
 use Rattle.std.proofs.Math.Seq.{drop-cons}
 use Rattle.link_sections.specs.Cuts.{Cut, AreApart, new_offset}
 use Rattle.link_sections.proofs.CutSums.{by_cut, no_cut}
 use Rattle.rv_code.specs.Instructions.{nop_byte}
-use Rattle.reloc_apply.specs.Staying.{kept_bytes, new_before, no_cut as none, nops, old_before, staying}
+use Rattle.rv_code.specs.Places.{number_of}
+use Rattle.reloc_apply.specs.Staying.{call_bytes, jal_word, kept_bytes, register_of, new_before, no_cut as none, nops, old_before, staying}
 
 -- each cut lies in the section
 abbrev pub AreIn : (size : ℕ) → List Cut → Type 0
 AreIn size cuts = All (λ c. c.at + c.whole ≤ size) cuts
 
+call_size : (size : ℕ) (raw : List ℕ) → size ≤ length raw → length (call_bytes size raw) ≡ size
+unfolding call_bytes
+call_size size raw within = go (size == 4) (size == 2) refl refl
+  where
+    go : (a b : Bool) → (size == 4) ≡ a → (size == 2) ≡ b →
+        length (if a then to_le_bytes w32 (jal_word (register_of (number_of (take 4 (drop 4 raw))))) else (if b then to_le_bytes w16 0xa001 else take size raw)) ≡ size
+    go true b is other = sym (eqb-true size 4 is)
+    go false true is other = sym (eqb-true size 2 other)
+    go false false is other = length-take-le size raw within
+
 kept_size : (c : Cut) (raw : List ℕ) → c.kept ≤ c.whole → c.at + c.whole ≤ length raw → length (kept_bytes c raw) ≡ c.kept
 kept_size c raw most within = go c.is_align
   where
-    go : (b : Bool) → length (if b then nops c.kept else take c.kept (drop c.at raw)) ≡ c.kept
+    go : (b : Bool) → length (if b then nops c.kept else call_bytes c.kept (drop c.at raw)) ≡ c.kept
     go true = length-map-range_with_len (nop_byte c.kept) 0 c.kept
-    go false = length-take-le c.kept (drop c.at raw) (omega (arith, length-drop c.at raw))
+    go false = call_size c.kept (drop c.at raw) (omega (arith, most, within, length-drop c.at raw))
 
 pub part_size : (from to : ℕ) (raw : List ℕ) → from ≤ to → to ≤ length raw → length (take (to - from) (drop from raw)) ≡ to - from
 part_size from to raw le within = length-take-le (to - from) (drop from raw) (omega (arith, length-drop from raw))

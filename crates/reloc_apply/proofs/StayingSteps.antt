@@ -10,7 +10,8 @@ use Rattle.link_sections.specs.CutsView.{AreCuts, cut_view, cut_views}
 use Rattle.reloc_apply.specs.Image.{over, piece}
 use Rattle.reloc_apply.specs.Staying.{kept_bytes, new_before, no_cut, old_before, staying}
 use Rattle.reloc_apply.proofs.Placing.{inside, past, under}
-use Rattle.reloc_apply.proofs.CutViews.{cut_is, no_held, viewed}
+use Rattle.reloc_apply.specs.Sites.{no_held}
+use Rattle.reloc_apply.proofs.CutViews.{cut_is, viewed}
 use Rattle.reloc_apply.proofs.StayingSizes.{AreIn, Split, at_cut, part_size, split, split_next}
 
 -- a place at which no byte of a piece stands

@@ -3,13 +3,13 @@ use Rattle.std.proofs.Common.{◌≡◌, ℕ, zero, suc, ◌+◌, ◌-◌, ◌<�
 use Rattle.std.specs.Prelude.{if◌then◌else◌}
 use Rattle.std.proofs.Math.Seq.{drop-cons}
 use Rattle.std.proofs.lemmas.Bool.{le-ltb}
-use Rattle.lk_base.specs.RelocKinds.{kind_of}
 use Rattle.lk_base.specs.declared.abi.TheConstants.{IMAGE_BASE}
 use Rattle.lk_base.specs.declared.defects.Defect.{Defect}
 use Rattle.lk_base.proofs.Loops.{pass_item}
 use Rattle.lk_tables.specs.declared.objects.Reloc.{Reloc}
 use Rattle.lk_tables.specs.Files.{no_reloc}
-use Rattle.link_sections.specs.LaidOut.{start_at}
+use Rattle.link_sections.specs.Calls.{acting_width}
+use Rattle.link_sections.specs.LaidOut.{cuts_at, start_at}
 use Rattle.link_sections.specs.declared.views.View.{View}
 use Rattle.link_sections.specs.Views.{binding_in, files_in, laid_in, leaders_in}
 use Rattle.reloc_apply.specs.declared.sources.Source.{Source}
@@ -56,14 +56,14 @@ module _ (view : View) (s : Source) (is : IsMadeFrom view s) (from len : ℕ) wh
   before_it r le =
       let at : ℕ = start_at (laid_in view) s.site.section - IMAGE_BASE + offset_by view s r in
       let own = is.at in
-      le-ltb (max at from) (min (at + (kind_of r.kind).width) (from + len)) (omega (arith, le, own))
+      le-ltb (max at from) (min (at + acting_width (cuts_at (laid_in view) s.site.section) r) (from + len)) (omega (arith, le, own))
 
   after_it : (r : Reloc) → from + len ≤ s.at + offset_by view s r → touches (files_in view) (binding_in view) (leaders_in view) (laid_in view) from len s.site.section r ≡ false
   unfolding touches
   after_it r le =
       let at : ℕ = start_at (laid_in view) s.site.section - IMAGE_BASE + offset_by view s r in
       let own = is.at in
-      le-ltb (max at from) (min (at + (kind_of r.kind).width) (from + len)) (omega (arith, le, own))
+      le-ltb (max at from) (min (at + acting_width (cuts_at (laid_in view) s.site.section) r) (from + len)) (omega (arith, le, own))
 
   pub from_near : (near : ℕ) → ((k : ℕ) → k < near → s.at + end_by view s (get_or s.relocs.now k no_reloc) ≤ from) →
       flat_map touching (drop near s.relocs.now) ≡ flat_map touching s.relocs.now

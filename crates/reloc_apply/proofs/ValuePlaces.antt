@@ -5,7 +5,7 @@ use Rattle.std.proofs.lemmas.Bool.{and_parts, cases_lt, eqb-true, lt-ltb}
 use Rattle.std.proofs.lemmas.Bool.Decides.{nat_tests}
 use Rattle.std.proofs.lemmas.List.{get_or_past}
 use Rattle.lk_base.specs.declared.abi.TheConstants.{SHT_NOBITS}
-use Rattle.lk_base.specs.RelocKinds.{has_value, is_linked, is_lower, is_upper, kind_of}
+use Rattle.lk_base.specs.RelocKinds.{has_value, is_lower, is_upper, kind_of}
 use Rattle.lk_base.proofs.TableLines.{width_some}
 use Rattle.lk_tables.specs.declared.objects.Reloc.{Reloc}
 use Rattle.lk_tables.specs.Binding.{Bindings}
@@ -14,7 +14,7 @@ use Rattle.lk_tables.specs.Inside.{IsBodyInside, IsRelocWithin}
 use Rattle.lk_tables.specs.Sections.{contents_of}
 use Rattle.lk_tables.specs.Sites.{place_of, relocs_of}
 use Rattle.lk_tables.proofs.SoundFiles.{inside_body}
-use Rattle.lk_tables.proofs.Widths.{is_linked_from, width_least}
+use Rattle.lk_tables.proofs.Widths.{width_least}
 use Rattle.link_sections.specs.declared.members.Content.{Content}
 use Rattle.link_sections.specs.declared.members.Content.TheVariants.{Section, Pool, Got}
 use Rattle.link_sections.specs.declared.members.Member.{Member}
@@ -24,11 +24,11 @@ use Rattle.link_sections.specs.Leaders.{is_number, leads}
 use Rattle.link_sections.specs.Sound.{IsSound, is_section}
 use Rattle.reloc_apply.specs.Founds.{no_member}
 use Rattle.reloc_apply.specs.Relocated.{has_bits, is_laid, value_at, written_in}
-use Rattle.reloc_apply.specs.Values.{direct_value, gives_value, is_upper_at, label_in, partner_of, target_in, value_of}
+use Rattle.reloc_apply.specs.Values.{direct_value, gives_value, is_upper_at, label_in, partner_of, spot_in, value_of}
 use Rattle.reloc_apply.proofs.LaidFacts.{any_at}
 use Rattle.reloc_apply.proofs.MemberFacts.{any_from, file_sound}
 use Rattle.reloc_apply.proofs.SoundLists.{AllSound}
-use Rattle.reloc_apply.proofs.ValueKinds.{direct_some, linked_done, none_by, some_by, upper_direct}
+use Rattle.reloc_apply.proofs.ValueKinds.{direct_some, each_done, none_by, some_by, upper_direct}
 
 -- a relocation of a section of a file
 pub record IsRelocOf (file : File) (k : ℕ) (r : Reloc) : Type 0 where
@@ -127,27 +127,22 @@ module _ (files : List File) (b : Bindings) (leaders : List (Option ℕ)) (laid 
   pub none_at : (n k : ℕ) → has_value (reloc_at n k).kind ≡ false → value_at files b leaders laid n k ≡ None
   unfolding value_at value_of direct_value has_value is_lower
   none_at n k none =
-      none_by (kind_of (reloc_at n k).kind).calculation _ _ _ _ none
+      none_by (kind_of (reloc_at n k).kind).calculation _ _ _ _ _ _ none
 
-  partner_some : (n : ℕ) (r p : Reloc) → AllSound files → n < section_total files → partner_of files b leaders laid n r ≡ Some p →
+  partner_some : (n : ℕ) (r p : Reloc) → partner_of files b leaders laid n r ≡ Some p →
       is_some (direct_value files b leaders laid n p (pos 0)) ≡ true
   unfolding partner_of direct_value
-  partner_some n r p all number is =
-      let at = from_option (label_in n (target_in files b leaders laid n r)) (λ offset. find (is_upper_at offset) (relocs_of files n)) p is in
+  partner_some n r p is =
+      let at = from_option (label_in n (spot_in files b leaders laid n r)) (λ offset. find (is_upper_at offset) (relocs_of files n)) p is in
       let found = find_at (is_upper_at at.0) (relocs_of files n) p no_reloc at.1 in
-      let own = reloc_of n found.0 all number found.1 in
       let upper = (and_parts (p.offset == at.0) (is_upper p.kind) found.3).1 in
-      let linked = is_linked_from (contents_of (file_at files (place_of files n).file).bytes (section_at (file_at files (place_of files n).file) (place_of files n).index))
-      (reloc_at n found.0) own.within.kind in
-      direct_some (kind_of p.kind).calculation _ _ _ (upper_direct p.kind (sym (ap (λ (q : Reloc). is_linked q.kind) found.2) ∙ linked) upper)
+      direct_some (kind_of p.kind).calculation _ _ _ _ _ (upper_direct p.kind upper)
 
   -- a value stands exactly where the kind puts one, and a lower part has a partner
-  pub some_at : (n k : ℕ) → AllSound files → n < section_total files → k < length (relocs_of files n) →
+  pub some_at : (n k : ℕ) →
       is_some (value_at files b leaders laid n k) ≡ gives_value files b leaders laid n (reloc_at n k)
   unfolding value_at value_of direct_value has_value is_lower gives_value
-  some_at n k all number lt =
+  some_at n k =
       let r = reloc_at n k in
-      let own = reloc_of n k all number lt in
-      let linked = is_linked_from (contents_of (file_at files (place_of files n).file).bytes (section_at (file_at files (place_of files n).file) (place_of files n).index)) r own.within.kind in
-      some_by (kind_of r.kind).calculation _ _ _ (partner_of files b leaders laid n r) (λ p. direct_value files b leaders laid n p (pos 0)) (linked_done r.kind linked)
-      (λ p is. partner_some n r p all number is)
+      some_by (kind_of r.kind).calculation _ _ _ _ _ (partner_of files b leaders laid n r) (λ p. direct_value files b leaders laid n p (pos 0)) (each_done (kind_of r.kind).calculation)
+      (λ p is. partner_some n r p is)

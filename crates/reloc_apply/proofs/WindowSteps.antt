@@ -13,7 +13,7 @@ use Rattle.reloc_apply.specs.Image.{over, piece}
 use Rattle.reloc_apply.specs.Relocated.{filled, put}
 use Rattle.reloc_apply.specs.Values.{value_of}
 use Rattle.reloc_apply.proofs.Placing.{inside, past, under}
-use Rattle.reloc_apply.proofs.States.{Fits, at_of, filled_length, put_after, put_before, put_length, put_within, width_of}
+use Rattle.reloc_apply.proofs.States.{Fits, at_of, filled_length, kind_at, put_after, put_before, put_length, put_within, width_of}
 
 -- what a window holds of a place is what stands there
 pub window_held : (window state : List ℕ) (p w : ℕ) → w ≤ 8 → length window ≡ 8 → p + w ≤ length state →
@@ -86,16 +86,16 @@ module _ (files : List File) (b : Bindings) (leaders : List (Option ℕ)) (laid 
   -- the bytes that a window gets are those that stand there then
   pub window_put : (r : Reloc) (state window new : List ℕ) → width_of files b leaders laid n r ≤ 8 → length window ≡ 8 → Fits files b leaders laid n state r →
       ((j : ℕ) → j < 8 → slice_index window j ≡ slice_index state (at_of files b leaders laid n r + j)) →
-      new ≡ filled r (value_of files b leaders laid n r (pos (number_of (take (width_of files b leaders laid n r) window)))) (take (width_of files b leaders laid n r) window)
+      new ≡ filled (kind_at files b leaders laid n r) (value_of files b leaders laid n r (pos (number_of (take (width_of files b leaders laid n r) window)))) (take (width_of files b leaders laid n r) window)
       ++ drop (width_of files b leaders laid n r) window →
       (j : ℕ) → j < 8 → slice_index new j ≡ slice_index (put files b leaders laid n r state) (at_of files b leaders laid n r + j)
   window_put r state window new few long fits shows is j lt =
       let p = at_of files b leaders laid n r in
       let w = width_of files b leaders laid n r in
       let held : take w window ≡ take w (drop p state) = window_held window state p w few long fits shows in
-      let give : List ℕ → List ℕ = λ place. filled r (value_of files b leaders laid n r (pos (number_of place))) place in
+      let give : List ℕ → List ℕ = λ place. filled (kind_at files b leaders laid n r) (value_of files b leaders laid n r (pos (number_of place))) place in
       let part : List ℕ = give (take w (drop p state)) in
-      let size : length part ≡ w = filled_length r _ (take w (drop p state)) ∙ length-take-le w (drop p state) (omega (arith, length-drop p state, fits)) in
+      let size : length part ≡ w = filled_length (kind_at files b leaders laid n r) _ (take w (drop p state)) ∙ length-take-le w (drop p state) (omega (arith, length-drop p state, fits)) in
       let same : new ≡ part ++ drop w window = is ∙ ap (λ place. give place ++ drop w window) held in
       elim (cases_lt j w) [
         | inl less ↦

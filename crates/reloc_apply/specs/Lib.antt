@@ -5,3 +5,4 @@ pub mod Values
 pub mod Relocated
 pub mod Sites
 pub mod Founds
+pub mod Standing

@@ -1,15 +1,18 @@
 -- The bytes of a section with its relocations done, and what is wrong with them (RISC-V ELF psABI, "Relocations").
-use Rattle.std.specs.Prelude.{ℕ, ◌+◌, ◌-◌, ◌==◌, ◌&&◌, not, nat_lt, min, max, ℤ, pos, Bool, Option, Some, None, is_some, if◌then◌else◌, List, [], ◌∷◌, ◌++◌, take, drop, flat_map, slice_index_or}
+use Rattle.std.specs.Prelude.{ℕ, ◌+◌, ◌-◌, ◌==◌, ◌&&◌, not, nat_lt, min, max, ℤ, pos, ◌-ℤ◌, Bool, Option, Some, None, is_some, if◌then◌else◌, List, [], ◌∷◌, ◌++◌, take, drop, flat_map, slice_index_or}
+use Rattle.std.specs.Int.{to_le_bytes, w64}
 use Rattle.std.specs.List.{list_any, range_with_len}
 use Rattle.lk_base.specs.Arithmetic.{bits_of}
 use Rattle.lk_base.specs.Reaches.{misfit_of}
-use Rattle.lk_base.specs.RelocKinds.{kind_of, is_lower}
+use Rattle.lk_base.specs.RelocKinds.{Kind, is_lower}
 use Rattle.lk_base.specs.declared.abi.TheConstants.{IMAGE_BASE, SHT_NOBITS}
 use Rattle.lk_base.specs.declared.defects.Defect.{Defect}
 use Rattle.lk_base.specs.declared.defects.Misfit.{Misfit}
 use Rattle.lk_base.specs.declared.defects.Misfit.TheVariants.{Odd, Range}
 use Rattle.lk_base.specs.declared.kinds.DefectKind.{DefectKind}
 use Rattle.lk_base.specs.declared.kinds.TheConstants as kinds
+use Rattle.lk_tables.specs.declared.bounds.Bound.{Bound}
+use Rattle.lk_tables.specs.declared.bounds.Bound.TheVariants.{InSection, Number, Linker, Nobody}
 use Rattle.lk_tables.specs.declared.objects.Reloc.{Reloc}
 use Rattle.lk_tables.specs.declared.section_places.SectionPlace.{SectionPlace}
 use Rattle.lk_tables.specs.Binding.{Bindings}
@@ -17,9 +20,15 @@ use Rattle.lk_tables.specs.Files.{File, file_at, no_reloc, section_at, section_t
 use Rattle.lk_tables.specs.Sections.{contents_of}
 use Rattle.lk_tables.specs.Sites as sites
 use Rattle.lk_tables.specs.Sites.{relocs_of}
+use Rattle.lk_tables.specs.Targets.{bound}
+use Rattle.link_sections.specs.declared.got.GotEntry.{GotEntry}
+use Rattle.link_sections.specs.declared.got.GotUse.{GotUse}
+use Rattle.link_sections.specs.declared.got.GotUse.TheVariants.{Address, ThreadOffset, GeneralDynamic}
 use Rattle.link_sections.specs.declared.members.Content.{Content}
 use Rattle.link_sections.specs.declared.members.Content.TheVariants.{Section, Pool, Got}
 use Rattle.link_sections.specs.declared.members.Member.{Member}
+use Rattle.link_sections.specs.Addresses.{no_pool, symbol_address}
+use Rattle.link_sections.specs.Calls.{acting_kind, acting_width}
 use Rattle.link_sections.specs.InputSections.{input_at}
 use Rattle.link_sections.specs.LaidOut.{LaidOut, cuts_at, start_at}
 use Rattle.link_sections.specs.Leaders.{is_number, leads}
@@ -39,21 +48,34 @@ misfit_defects place r v (Some Odd) = reloc_defect kinds.ODD place r (bits_of v)
 misfit_defects place r v (Some Range) = reloc_defect kinds.RANGE place r (bits_of v) ∷ []
 
 -- a value that its field does not take
-abbrev pub value_defects : SectionPlace → Reloc → Option ℤ → List Defect
-value_defects place r None = []
-value_defects place r (Some v) = misfit_defects place r v (misfit_of (kind_of r.kind).reach v)
+abbrev pub value_defects : SectionPlace → Reloc → Kind → Option ℤ → List Defect
+value_defects place r kind None = []
+value_defects place r kind (Some v) = misfit_defects place r v (misfit_of kind.reach v)
 
 -- the bytes of a place with a value in its field; without a value as they were
-abbrev pub filled : Reloc → Option ℤ → (place : List ℕ) → List ℕ
-filled r None place = place
-filled r (Some v) place = patched (kind_of r.kind).field v place
+abbrev pub filled : Kind → Option ℤ → (place : List ℕ) → List ℕ
+filled kind None place = place
+filled kind (Some v) place = patched kind.field v place
+
+-- the words of an entry of the linker's table: the address; the offset from the thread pointer; module 1 and the offset there, of which the
+-- ABI takes 0x800 away. A symbol that nothing defines gives 0
+abbrev pub offset_word : Bound → (address from : ℕ) → ℕ
+offset_word Nobody address from = 0
+offset_word (InSection section offset) address from = bits_of (pos address -ℤ pos from)
+offset_word (Number n) address from = bits_of (pos address -ℤ pos from)
+offset_word (Linker n) address from = bits_of (pos address -ℤ pos from)
+
+abbrev pub entry_words : GotUse → Bound → (address thread : ℕ) → List ℕ
+entry_words Address bound address thread = bits_of (pos address) ∷ []
+entry_words ThreadOffset bound address thread = offset_word bound address thread ∷ []
+entry_words GeneralDynamic bound address thread = 1 ∷ offset_word bound address (thread + 0x800) ∷ []
 
 module _ (files : List File) (b : Bindings) (leaders : List (Option ℕ)) (laid : LaidOut) where
   -- a lower part without a partner, or a value that does not fit; the kinds that add to what their place holds take every value
   unfoldable pub reloc_defects : (n : ℕ) → Reloc → List Defect
   reloc_defects n r = if is_lower r.kind && not (is_some (partner_of files b leaders laid n r))
       then reloc_defect kinds.NO_PARTNER (sites.place_of files n) r 0 ∷ []
-      else value_defects (sites.place_of files n) r (value_of files b leaders laid n r (pos 0))
+      else value_defects (sites.place_of files n) r (acting_kind (cuts_at laid n) r) (value_of files b leaders laid n r (pos 0))
 
   -- of the relocations of a section, if it leads itself
   unfoldable pub section_defects : (n : ℕ) → List Defect
@@ -67,9 +89,10 @@ module _ (files : List File) (b : Bindings) (leaders : List (Option ℕ)) (laid 
   abbrev pub put : (n : ℕ) → Reloc → List ℕ → List ℕ
   put n r bytes =
       let at = offset_of files b leaders laid n r in
-      let width = (kind_of r.kind).width in
+      let kind = acting_kind (cuts_at laid n) r in
+      let width = kind.width in
       take at bytes
-      ++ (filled r (value_of files b leaders laid n r (held_in width at bytes)) (take width (drop at bytes)) ++ drop (at + width) bytes)
+      ++ (filled kind (value_of files b leaders laid n r (held_in width at bytes)) (take width (drop at bytes)) ++ drop (at + width) bytes)
 
   -- relocations of section n done, in order
   abbrev pub relocated : (n : ℕ) → List Reloc → List ℕ → List ℕ
@@ -93,7 +116,7 @@ module _ (files : List File) (b : Bindings) (leaders : List (Option ℕ)) (laid 
   unfoldable pub value_at : (n k : ℕ) → Option ℤ
   value_at n k =
       let r = slice_index_or (relocs_of files n) k no_reloc in
-      value_of files b leaders laid n r (held_in (kind_of r.kind).width (offset_of files b leaders laid n r) (bytes_after n k))
+      value_of files b leaders laid n r (held_in (acting_width (cuts_at laid n) r) (offset_of files b leaders laid n r) (bytes_after n k))
 
   -- the bytes of section n in the executable
   unfoldable pub section_bytes : (n : ℕ) → List ℕ
@@ -109,13 +132,30 @@ module _ (files : List File) (b : Bindings) (leaders : List (Option ℕ)) (laid 
   written_in (Pool p) = None
   written_in Got = None
 
-  -- its piece: an address stands at itself less IMAGE_BASE
-  abbrev pub written_pieces : (start : ℕ) → Option ℕ → List Piece
-  written_pieces start None = []
-  written_pieces start (Some n) = piece (start - IMAGE_BASE) (section_bytes n) ∷ []
+  -- the pieces of pool p, each at its position from an offset of the file on
+  abbrev pub placed_pieces : (at : ℕ) → (positions : List ℕ) → (texts : List (List ℕ)) → List Piece
+  placed_pieces at [] texts = []
+  placed_pieces at (position ∷ positions) [] = []
+  placed_pieces at (position ∷ positions) (text ∷ texts) = piece (at + position) text ∷ placed_pieces at positions texts
+
+  unfoldable pub pool_pieces : (at p : ℕ) → List Piece
+  pool_pieces at p = placed_pieces at (slice_index_or laid.merging.pools p no_pool).positions (slice_index_or laid.merging.pools p no_pool).pieces
+
+  -- the words of the linker's table, in order, as bytes
+  unfoldable pub words_of : GotEntry → List ℕ
+  words_of e = entry_words e.usage (bound files b e.file e.symbol) (symbol_address files b leaders laid e.file e.symbol) laid.bounds.tls_start
+
+  unfoldable pub table_bytes : List ℕ
+  table_bytes = flat_map (to_le_bytes w64) (flat_map words_of laid.table)
+
+  -- what a member has in the file: an address stands at itself less IMAGE_BASE
+  unfoldable pub content_pieces : (at : ℕ) → Content → List Piece
+  content_pieces at (Section n) = if has_bits n then piece at (section_bytes n) ∷ [] else []
+  content_pieces at (Pool p) = pool_pieces at p
+  content_pieces at Got = piece at table_bytes ∷ []
 
   unfoldable pub member_pieces : Member → List Piece
-  member_pieces m = written_pieces m.start (written_in m.content)
+  member_pieces m = content_pieces (m.start - IMAGE_BASE) m.content
 
   -- of all members with bytes in the file, in order of address
   unfoldable pub relocated_pieces : List Piece
@@ -129,7 +169,7 @@ module _ (files : List File) (b : Bindings) (leaders : List (Option ℕ)) (laid 
   unfoldable pub touches : (from len n : ℕ) → Reloc → Bool
   touches from len n r =
       let at = start_at laid n - IMAGE_BASE + offset_of files b leaders laid n r in
-      nat_lt (max at from) (min (at + (kind_of r.kind).width) (from + len))
+      nat_lt (max at from) (min (at + acting_width (cuts_at laid n) r) (from + len))
 
   -- the defects of the relocations that touch them, in the same order
   unfoldable pub section_touching : (from len n : ℕ) → List Defect

@@ -1,13 +1,15 @@
 -- A section by its number, and what its bytes in the executable are made from.
-use Rattle.std.specs.Prelude.{◌≡◌, ℕ, ◌+◌, ◌-◌, ◌<◌, ◌≤◌, ◌^◌, Option, List, length, slice_index, All}
+use Rattle.std.specs.Prelude.{◌≡◌, ℕ, ◌+◌, ◌-◌, ◌<◌, ◌≤◌, ◌^◌, false, Bool, Option, if◌then◌else◌, List, [], ◌∷◌, length, slice_index, All}
 use Rattle.std.specs.List.Sorted.{IsNonDecreasingBy}
-use Rattle.lk_base.specs.RelocKinds.{kind_of}
-use Rattle.lk_base.specs.declared.abi.TheConstants.{IMAGE_BASE}
+use Rattle.lk_base.specs.RelocKinds.{is_among}
+use Rattle.lk_base.specs.declared.abi.TheConstants.{IMAGE_BASE, R_RISCV_32, R_RISCV_32_PCREL, R_RISCV_64, R_RISCV_SET16, R_RISCV_SET32, R_RISCV_SET8}
 use Rattle.lk_tables.specs.declared.objects.Reloc.{Reloc}
 use Rattle.lk_tables.specs.Binding.{Bindings}
-use Rattle.lk_tables.specs.Files.{File, section_total}
+use Rattle.lk_tables.specs.Files.{File, file_at, section_total}
 use Rattle.lk_tables.specs.Sites.{IsPlaceOf, place_of, relocs_of}
+use Rattle.link_sections.specs.declared.cuts.Cut.{Cut as HeldCut}
 use Rattle.link_sections.specs.declared.views.View.{View}
+use Rattle.link_sections.specs.Calls.{acting_width}
 use Rattle.link_sections.specs.CutsView.{AreCuts, cut_views}
 use Rattle.link_sections.specs.LaidOut.{LaidOut, cuts_at, start_at}
 use Rattle.link_sections.specs.Views.{binding_in, files_in, laid_in, leaders_in}
@@ -23,6 +25,10 @@ pub record IsSite (files : List File) (site : Site) : Type 0 where
   pub place : site.place ≡ place_of files site.section
   pub law : IsPlaceOf files site.section site.place
 
+-- a relocation's symbol is one of the section's file
+abbrev pub HasSymbol : List File → Site → Reloc → Type 0
+HasSymbol files site r = r.symbol < length (file_at files site.place.file).head.symbols
+
 -- what is lent is the section's, which stands low in the file, with its cuts and the places of its relocations in it
 pub record IsSource (files : List File) (b : Bindings) (leaders : List (Option ℕ)) (laid : LaidOut) (s : Source) : Type 0 where
   pub site : IsSite files s.site
@@ -30,17 +36,21 @@ pub record IsSource (files : List File) (b : Bindings) (leaders : List (Option �
   pub raw : s.raw.now ≡ contents_at files b leaders laid s.site.section
   pub cuts : cut_views s.cuts.now ≡ cuts_at laid s.site.section
   pub relocs : s.relocs.now ≡ relocs_of files s.site.section
+  pub symbols : All (HasSymbol files s.site) s.relocs.now
   pub sound : AreCuts s.cuts.now
   pub within : All (λ c. c.at + c.whole ≤ length s.raw.now) (cut_views s.cuts.now)
   pub low : s.at < 2 ^ 32
   pub short : length s.raw.now < 2 ^ 33
-  pub places : All (λ r. offset_of files b leaders laid s.site.section r + (kind_of r.kind).width ≤ length (staying_at files b leaders laid s.site.section)) s.relocs.now
+  pub places : All (λ r. offset_of files b leaders laid s.site.section r + acting_width (cuts_at laid s.site.section) r ≤ length (staying_at files b leaders laid s.site.section)) s.relocs.now
   pub size : length (staying_at files b leaders laid s.site.section) < 2 ^ 32
   pub rising : IsNonDecreasingBy (offset_of files b leaders laid s.site.section) s.relocs.now
 
 -- the same words by a view of the tables
 abbrev pub IsIn : View → Site → Type 0
 IsIn view site = IsSite (files_in view) site
+
+abbrev pub HasSymbolIn : View → Site → Reloc → Type 0
+HasSymbolIn view site r = HasSymbol (files_in view) site r
 
 abbrev pub IsMadeFrom : View → Source → Type 0
 IsMadeFrom view s = IsSource (files_in view) (binding_in view) (leaders_in view) (laid_in view) s
@@ -49,7 +59,14 @@ abbrev pub offset_by : View → Source → Reloc → ℕ
 offset_by view s r = offset_of (files_in view) (binding_in view) (leaders_in view) (laid_in view) s.site.section r
 
 abbrev pub end_by : View → Source → Reloc → ℕ
-end_by view s r = offset_by view s r + (kind_of r.kind).width
+end_by view s r = offset_by view s r + acting_width (cuts_at (laid_in view) s.site.section) r
+
+-- the kinds whose values set all bits of their places, whatever these held; and how many bytes a relocation sets so
+unfoldable pub sets_all : (kind : ℕ) → Bool
+sets_all = is_among (R_RISCV_32 ∷ R_RISCV_64 ∷ R_RISCV_SET8 ∷ R_RISCV_SET16 ∷ R_RISCV_SET32 ∷ R_RISCV_32_PCREL ∷ [])
+
+abbrev pub set_by : View → Source → Reloc → ℕ
+set_by view s r = if sets_all r.kind then acting_width (cuts_at (laid_in view) s.site.section) r else 0
 
 abbrev pub first_bytes : View → Source → List ℕ
 first_bytes view s = staying_at (files_in view) (binding_in view) (leaders_in view) (laid_in view) s.site.section
@@ -69,3 +86,7 @@ IsFresh first bytes from = (place : ℕ) → from ≤ place → slice_index byte
 abbrev pub IsOver : (from at : ℕ) → (bytes before after : List ℕ) → Type 0
 IsOver from at bytes before after =
     (i : ℕ) → i < length before → slice_index after i ≡ over (piece at bytes) (slice_index before i) (from + i)
+
+-- what stands past the end of a section's cuts
+abbrev pub no_held : HeldCut
+no_held = record { at = 0; whole = 0; kept = 0; is_align = false; new_at = 0 }

@@ -1,9 +1,9 @@
--- What a relocation puts into its place (RISC-V ELF psABI, "Relocations": S, A, P and V).
-use Rattle.std.specs.Prelude.{ℕ, ◌==◌, ◌&&◌, ◌||◌, not, ℤ, pos, ◌+ℤ◌, ◌-ℤ◌, Bool, Option, Some, None, is_some, option_and_then, if◌then◌else◌, List, find, take, drop}
+-- What a relocation puts into its place (RISC-V ELF psABI, "Relocations": S, A, P, G, V; "Thread Local Storage": the thread pointer T).
+use Rattle.std.specs.Prelude.{ℕ, ◌+◌, ◌*◌, ◌==◌, ◌&&◌, ◌||◌, not, ℤ, pos, ◌+ℤ◌, ◌-ℤ◌, Bool, true, false, Option, Some, None, is_some, unwrap_or, option_and_then, if◌then◌else◌, List, find, take, drop}
 use Rattle.lk_base.specs.RelocKinds.{kind_of, has_value, is_lower, is_upper}
 use Rattle.lk_base.specs.declared.relocations.Calculation.{Calculation}
-use Rattle.lk_base.specs.declared.relocations.Calculation.TheVariants.{Address, Distance, Increase, Decrease}
-use Rattle.lk_tables.specs.declared.bounds.Target.{Target}
+use Rattle.lk_base.specs.declared.relocations.Calculation.TheVariants.{Address, Distance, GotDistance, ThreadOffset, Increase, Decrease}
+use Rattle.lk_tables.specs.declared.bounds.Target.{Target as Spot}
 use Rattle.lk_tables.specs.declared.bounds.Target.TheVariants.{Section, Number, Zero, Linker, Unbound}
 use Rattle.lk_tables.specs.declared.objects.Reloc.{Reloc}
 use Rattle.lk_tables.specs.Binding.{Bindings}
@@ -12,35 +12,46 @@ use Rattle.lk_tables.specs.Sites as sites
 use Rattle.lk_tables.specs.Sites.{relocs_of}
 use Rattle.lk_tables.specs.Targets.{target_of}
 use Rattle.link_sections.specs.Cuts.{new_offset}
-use Rattle.link_sections.specs.LaidOut.{LaidOut, address_in, cuts_at, start_at}
+use Rattle.link_sections.specs.declared.got.GotEntry.{GotEntry}
+use Rattle.link_sections.specs.declared.got.GotUse.{GotUse}
+use Rattle.link_sections.specs.declared.targets.Target.{Target}
+use Rattle.link_sections.specs.declared.targets.Target.TheVariants as targets
+use Rattle.link_sections.specs.Addresses.{target_address}
+use Rattle.link_sections.specs.GotEntries.{key_of, use_of, word_of}
+use Rattle.link_sections.specs.LaidOut.{LaidOut, cuts_at, start_at}
+use Rattle.link_sections.specs.PieceTargets.{piece_target}
 use Rattle.rv_code.specs.Places.{number_of}
 
--- S
-abbrev pub symbol_in : (leaders : List (Option ℕ)) → LaidOut → Target → ℕ
-symbol_in leaders laid (Section section offset rest) = address_in leaders laid section offset
-symbol_in leaders laid (Number n) = n
-symbol_in leaders laid Zero = 0
-symbol_in leaders laid (Linker n) = 0
-symbol_in leaders laid Unbound = 0
-
--- A: of a section, what is to be added to the byte that is meant
+-- A: of a section and of a piece, what is to be added to the byte that is meant
 abbrev pub addend_of : Target → Reloc → ℤ
-addend_of (Section section offset rest) r = rest
-addend_of (Number n) r = r.addend
-addend_of Zero r = r.addend
-addend_of (Linker n) r = r.addend
-addend_of Unbound r = r.addend
+addend_of (targets.Section section offset rest) r = rest
+addend_of (targets.Piece pool piece offset rest) r = rest
+addend_of (targets.Number n) r = r.addend
+addend_of targets.Zero r = r.addend
+addend_of (targets.Linker n) r = r.addend
+addend_of targets.Unbound r = r.addend
 
--- a calculation, from S + A, P and V
-abbrev pub computed : Calculation → (sum place held : ℤ) → Option ℤ
-computed Address sum place held = Some sum
-computed Distance sum place held = Some (sum -ℤ place)
-computed Increase sum place held = Some (held +ℤ sum)
-computed Decrease sum place held = Some (held -ℤ sum)
-computed _ sum place held = None
+-- a symbol that nothing defines is at the thread pointer
+abbrev pub is_zero : Target → Bool
+is_zero targets.Zero = true
+is_zero (targets.Section section offset rest) = false
+is_zero (targets.Piece pool piece offset rest) = false
+is_zero (targets.Number n) = false
+is_zero (targets.Linker n) = false
+is_zero targets.Unbound = false
+
+-- a calculation, from S + A, P, S + A - T, G + A and V
+abbrev pub computed : Calculation → (sum place thread entry held : ℤ) → Option ℤ
+computed Address sum place thread entry held = Some sum
+computed Distance sum place thread entry held = Some (sum -ℤ place)
+computed GotDistance sum place thread entry held = Some (entry -ℤ place)
+computed ThreadOffset sum place thread entry held = Some thread
+computed Increase sum place thread entry held = Some (held +ℤ sum)
+computed Decrease sum place thread entry held = Some (held -ℤ sum)
+computed _ sum place thread entry held = None
 
 -- the offset of a label, if it stands in the section of this number
-abbrev pub label_in : (own : ℕ) → Target → Option ℕ
+abbrev pub label_in : (own : ℕ) → Spot → Option ℕ
 label_in own (Section section offset rest) = if section == own then Some offset else None
 label_in own (Number n) = None
 label_in own Zero = None
@@ -56,9 +67,12 @@ abbrev pub held_in : (width at : ℕ) → (bytes : List ℕ) → ℤ
 held_in width at bytes = pos (number_of (take width (drop at bytes)))
 
 module _ (files : List File) (b : Bindings) (leaders : List (Option ℕ)) (laid : LaidOut) where
-  -- what relocation r of section n stands for
-  abbrev pub target_in : (n : ℕ) → Reloc → Target
-  target_in n r = target_of files b (sites.place_of files n).file r
+  -- what relocation r of section n stands for: where its byte was in the input, and where it is once equal pieces are merged
+  abbrev pub spot_in : (n : ℕ) → Reloc → Spot
+  spot_in n r = target_of files b (sites.place_of files n).file r
+
+  unfoldable pub target_in : (n : ℕ) → Reloc → Target
+  target_in n r = piece_target laid.merging.merged (spot_in n r)
 
   -- the offset of a relocation's place, once the bytes that do not stay are gone, and P
   abbrev pub offset_of : (n : ℕ) → Reloc → ℕ
@@ -69,15 +83,31 @@ module _ (files : List File) (b : Bindings) (leaders : List (Option ℕ)) (laid 
 
   -- S + A
   unfoldable pub sum_of : (n : ℕ) → Reloc → ℤ
-  sum_of n r = pos (symbol_in leaders laid (target_in n r)) +ℤ addend_of (target_in n r) r
+  sum_of n r = pos (target_address files b leaders laid (target_in n r)) +ℤ addend_of (target_in n r) r
+
+  -- S + A - T; of a symbol that nothing defines A
+  unfoldable pub thread_of : (n : ℕ) → Reloc → ℤ
+  thread_of n r = if is_zero (target_in n r) then r.addend else sum_of n r -ℤ pos laid.bounds.tls_start
+
+  -- the first word of the symbol's entry of the linker's table, for what a kind takes from there
+  abbrev pub word_for : List GotEntry → (key : ℕ) → Option GotUse → ℕ
+  word_for table key None = 0
+  word_for table key (Some usage) = unwrap_or (word_of table key usage) 0
+
+  unfoldable pub word_at : (n : ℕ) → Reloc → ℕ
+  word_at n r = word_for laid.table (key_of files (sites.place_of files n).file r.symbol) (use_of r.kind)
+
+  -- G + A
+  unfoldable pub entry_of : (n : ℕ) → Reloc → ℤ
+  entry_of n r = pos (laid.got + 8 * word_at n r) +ℤ r.addend
 
   -- the value of a relocation that takes it from its own symbol
   unfoldable pub direct_value : (n : ℕ) → Reloc → (held : ℤ) → Option ℤ
-  direct_value n r held = computed (kind_of r.kind).calculation (sum_of n r) (place_of n r) held
+  direct_value n r held = computed (kind_of r.kind).calculation (sum_of n r) (place_of n r) (thread_of n r) (entry_of n r) held
 
   -- the partner of a lower part: the first upper part at its label, in its own section
   unfoldable pub partner_of : (n : ℕ) → Reloc → Option Reloc
-  partner_of n r = option_and_then (λ offset. find (is_upper_at offset) (relocs_of files n)) (label_in n (target_in n r))
+  partner_of n r = option_and_then (λ offset. find (is_upper_at offset) (relocs_of files n)) (label_in n (spot_in n r))
 
   -- the value of relocation r of section n, whose place holds a number: a lower part has that of its partner
   unfoldable pub value_of : (n : ℕ) → Reloc → (held : ℤ) → Option ℤ

@@ -1,6 +1,6 @@
 //! Which relocations can't be done: the first that lacks its partner, or whose value its field does not take.
 
-ghost use Rattle.std.specs.Prelude.{◌≡◌, ℕ, ◌-◌, ◌<◌, ◌≤◌, ◌++◌, [], ◌∷◌, length, flat_map, Some, IfOk, OnOk};
+ghost use Rattle.std.specs.Prelude.{◌≡◌, ◌-◌, ◌<◌, ◌≤◌, ◌++◌, [], ◌∷◌, length, flat_map, Some, All, IfOk, OnOk};
 ghost use Rattle.std.specs.List.{range_with_len};
 ghost use Rattle.lk_base.specs.Firsts.{Goes, IsFirst};
 ghost use Rattle.lk_tables.specs.Files.{by_section, file_at, relocs_at, section_total};
@@ -8,9 +8,10 @@ ghost use Rattle.lk_tables.specs.TablesView.{files_of};
 ghost use Rattle.lk_tables.proofs.ByNumber.{section_row};
 ghost use Rattle.link_sections.specs.Views.{binding_in, files_in, laid_in, leaders_in};
 ghost use Rattle.reloc_apply.specs.Relocated as spec;
-ghost use Rattle.reloc_apply.specs.Sites.{IsSite};
+ghost use Rattle.reloc_apply.specs.Sites.{HasSymbol, IsSite};
 ghost use Rattle.work_split.specs.Pieces.{Tiles};
 
+use crate::calls::acting_kind;
 use crate::sites::{Site, relocs_at, site_of};
 use crate::values::value_of;
 use link_sections::{View, leads};
@@ -117,7 +118,8 @@ fn check_section(view: &View, section: SecNo) -> Option<Defect>
 
 /// The first defect of some relocations of a section.
 fn check_relocs(view: &View, site: Site, relocs: &[Reloc]) -> Option<Defect>
-    requires { IsSite (files_in view.now) site }
+    requires site { IsSite (files_in view.now) site }
+    requires symbols { All (HasSymbol (files_in view.now) site) relocs.now }
     ensures { IsFirst (flat_map (spec.reloc_defects (files_in view.now) (binding_in view.now) (leaders_in view.now) (laid_in view.now) site.section) relocs.now) result }
 {
     for reloc in relocs {
@@ -131,7 +133,8 @@ fn check_relocs(view: &View, site: Site, relocs: &[Reloc]) -> Option<Defect>
 /// The defect of one relocation of a section, if it can't be done.
 #[tactic(auto, unfolding(crate::specs::Relocated::reloc_defects))]
 pub fn check_reloc(view: &View, site: Site, reloc: &Reloc) -> Option<Defect>
-    requires { IsSite (files_in view.now) site }
+    requires site { IsSite (files_in view.now) site }
+    requires symbol { HasSymbol (files_in view.now) site reloc.now }
     ensures { IsFirst (spec.reloc_defects (files_in view.now) (binding_in view.now) (leaders_in view.now) (laid_in view.now) site.section reloc.now) result }
 {
     let Ok(value) = value_of(view, site, reloc, 0) else {
@@ -140,7 +143,7 @@ pub fn check_reloc(view: &View, site: Site, reloc: &Reloc) -> Option<Defect>
     let Some(v) = value else {
         return None;
     };
-    if let Err(misfit) = fits(reloc.kind, v) {
+    if let Err(misfit) = fits(acting_kind(view, site.section, reloc), v) {
         return Some(misfit_defect(site.place, reloc, v, misfit));
     }
     None

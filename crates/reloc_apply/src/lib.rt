@@ -1,29 +1,29 @@
-//! Relocations done: the address of each symbol, the value of each relocation, and the bytes of a block of the executable with its
-//! relocations done (RISC-V ELF psABI, "Relocations").
+//! Relocations done: the value of each relocation, and the bytes of a block of the executable with its relocations done (RISC-V ELF
+//! psABI, "Relocations"). The addresses of symbols, sections and pieces are those of `symbol_addresses`.
 //!
-//! `addresses` gives each symbol its address by the layout, `uppers` lists the upper parts of each section, `values` computes what a
-//! relocation puts into its place, `checks` finds the first that can't be done, `image` writes a piece of a file into a block of it,
-//! `staying` the bytes of a section that stay, `scanning` does the relocations of a section that reach a block, and `relocated` writes
-//! all sections that meet a block.
+//! `uppers` lists the upper parts of each section, `values` computes what a relocation puts into its place, `calls` says what becomes of
+//! a call that loses bytes, `checks` finds the first relocation that can't be done, `image` writes a piece of a file into a block of it,
+//! `staying` the bytes of a section that stay, `scanning` does the relocations of a section that reach a block, `pool_pieces` writes the
+//! merged pieces and `table_words` the global offset table, and `relocated` writes all members of the layout that meet a block.
 #![tactic(auto)]
 
-mod addresses;
+mod calls;
 mod checks;
 mod founds;
 mod image;
+mod pool_pieces;
 mod relocated;
 mod scanning;
 mod sites;
 mod sources;
 mod staying;
+mod table_words;
 mod touching;
 mod uppers;
 mod values;
 
-pub use addresses::find_addresses;
 pub use checks::check_relocations;
 pub use image::{Piece, fill_piece};
 pub use relocated::{apply, write_block};
 pub use scanning::value;
 pub use uppers::find_uppers;
-pub use values::entry_address;

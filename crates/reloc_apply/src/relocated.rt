@@ -1,27 +1,33 @@
-//! All sections that meet a block of the executable, written with their relocations done.
+//! All members of the layout that meet a block of the executable, written: sections with their relocations done, pools of merged pieces,
+//! and the global offset table.
 
-ghost use Rattle.std.specs.Prelude.{◌≡◌, ℕ, ◌+◌, ◌-◌, ◌^◌, ◌<◌, ◌≤◌, min, length, OnErr, OnOk, slice_index_or, if◌then◌else◌, Some, None};
+ghost use Rattle.std.specs.Prelude.{◌≡◌, ℕ, ◌+◌, ◌-◌, ◌^◌, ◌<◌, ◌≤◌, true, min, length, OnErr, OnOk, slice_index_or, if◌then◌else◌, Some, None};
 ghost use Rattle.lk_base.specs.Firsts.{IsFirst, Passes};
 ghost use Rattle.lk_base.specs.declared.abi.TheConstants.{IMAGE_BASE};
 ghost use Rattle.lk_tables.specs.Files.{section_total};
+ghost use Rattle.link_sections.specs.declared.members.Content.TheVariants.{Section};
+ghost use Rattle.link_sections.specs.LaidOut.{start_at};
 ghost use Rattle.link_sections.specs.Views.{binding_in, files_in, laid_in, leaders_in};
 ghost use Rattle.reloc_apply.specs.Image.{ShowsFrom};
 ghost use Rattle.reloc_apply.specs.Relocated as spec;
 ghost use Rattle.reloc_apply.specs.Founds.{AreOneAfterOther, IsFound, no_member};
 
 use crate::founds::{Found, earlier};
+use crate::pool_pieces::write_pool;
 use crate::scanning::relocate;
 use crate::sites::site_of;
 use crate::sources::{has_bits, source_of};
 use crate::staying::fill_staying;
+use crate::table_words::write_table;
 use crate::touching::first_touching;
 use link_sections::{Content, Member, View};
 use lk_base::abi::IMAGE_BASE;
 use lk_base::{Defect, SecNo};
 
-/// Writes what the sections have in a block of the executable that starts at the file offset `from`, with their relocations done. The
-/// relocations that touch the block are tested before the first byte is written: the first defect of one, in order of file, section and
-/// offset, is the answer, and the block is then as it was. Takes no memory.
+/// Writes what the members of the layout have in a block of the executable that starts at the file offset `from`: sections with their
+/// relocations done, pools of merged pieces, and the global offset table. The relocations that touch the block are tested before the first
+/// byte is written: the first defect of one, in order of file, section and offset, is the answer, and the block is then as it was. Takes no
+/// memory.
 pub fn apply(block: &mut [u8], from: u64, view: &View) -> Result<(), Defect>
     requires { from + length block.old < 2 ^ 63 }
     ensures goes { Passes result (spec.touching_defects (files_in view.now) (binding_in view.now) (leaders_in view.now) (laid_in view.now) from (length block.old)) }
@@ -35,8 +41,8 @@ pub fn apply(block: &mut [u8], from: u64, view: &View) -> Result<(), Defect>
     Ok(())
 }
 
-/// Writes what the sections have in a block of the executable that starts at the file offset `from`, with their relocations done, and
-/// tests none. Takes no memory.
+/// Writes what the members of the layout have in a block of the executable that starts at the file offset `from`, with the relocations
+/// of sections done, and tests none. Takes no memory.
 #[tactic(auto, unfolding(crate::specs::Relocated::relocated_pieces))]
 pub fn write_block(block: &mut [u8], from: u64, view: &View)
     requires { from + length block.old < 2 ^ 63 }
@@ -49,7 +55,7 @@ pub fn write_block(block: &mut [u8], from: u64, view: &View)
 }
 
 /// How many members end at a file offset or before it.
-#[tactic(auto, unfolding(link_sections::specs::LaidOut::layout_view))]
+#[tactic(auto, unfolding(link_sections::specs::LaidOut::layout_view, link_sections::specs::LaidOut::with_contents))]
 fn members_past(view: &View, offset: u64) -> usize
     requires { offset < 2 ^ 63 }
     ensures bound { result ≤ length (laid_in view.now).members }
@@ -59,7 +65,7 @@ fn members_past(view: &View, offset: u64) -> usize
 }
 
 /// How many members start before a file offset.
-#[tactic(auto, unfolding(link_sections::specs::LaidOut::layout_view))]
+#[tactic(auto, unfolding(link_sections::specs::LaidOut::layout_view, link_sections::specs::LaidOut::with_contents))]
 fn members_before(view: &View, offset: u64) -> usize
     requires { offset < 2 ^ 63 }
     ensures bound { result ≤ length (laid_in view.now).members }
@@ -94,28 +100,54 @@ fn begun_before(members: &[Member], address: u64) -> usize
     members.partition_point(|member| member.start < address)
 }
 
-/// Writes what a member, by its number, has in the block, if it is a section with bytes in its file.
+/// Writes what a member, by its number, has in the block.
 #[tactic(auto, unfolding(crate::specs::Relocated::member_pieces))]
 fn write_member(block: &mut [u8], from: u64, view: &View, k: usize)
     requires block { from + length block.old < 2 ^ 63 }
     requires member { k < length (laid_in view.now).members }
     ensures { ShowsFrom from block.old block.new (spec.member_pieces (files_in view.now) (binding_in view.now) (leaders_in view.now) (laid_in view.now) (slice_index_or (laid_in view.now).members k no_member)) }
 {
-    let Some(section) = section_in(view, k) else {
+    let member = member_at(view, k);
+    let at = member.start - IMAGE_BASE;
+    match member.content {
+        Content::Section(section) => write_section(block, from, view, section, at),
+        Content::Pool(pool) => write_pool(block, from, view, pool, at),
+        Content::Got => write_table(block, from, view, at),
+    }
+}
+
+/// A member by its number.
+#[tactic(auto, unfolding(link_sections::specs::LaidOut::layout_view, link_sections::specs::LaidOut::with_contents))]
+fn member_at(view: &View, k: usize) -> Member
+    requires { k < length (laid_in view.now).members }
+    ensures { result ≡ slice_index_or (laid_in view.now).members k no_member }
+{
+    view.layout.members[k]
+}
+
+/// Writes what a section of the layout has in the block, if it has bytes in its file.
+#[tactic(auto, unfolding(crate::specs::Relocated::content_pieces))]
+fn write_section(block: &mut [u8], from: u64, view: &View, section: SecNo, at: u64)
+    requires block { from + length block.old < 2 ^ 63 }
+    requires number { section < section_total (files_in view.now) }
+    requires laid { spec.has_bits (files_in view.now) (binding_in view.now) (leaders_in view.now) (laid_in view.now) section ≡ true → spec.is_laid (files_in view.now) (binding_in view.now) (leaders_in view.now) (laid_in view.now) section ≡ true }
+    requires place { at ≡ start_at (laid_in view.now) section - IMAGE_BASE }
+    ensures { ShowsFrom from block.old block.new (spec.content_pieces (files_in view.now) (binding_in view.now) (leaders_in view.now) (laid_in view.now) at (Section section)) }
+{
+    if !has_bits(view, site_of(view.tables, section)) {
         return;
-    };
+    }
     let source = source_of(view, section);
     fill_staying(block, from, source.at, source.raw, source.cuts);
     relocate(block, from, view, &source);
 }
 
 /// The number of a member's section, if it is one with bytes in its file.
-#[tactic(auto, unfolding(link_sections::specs::LaidOut::layout_view))]
 fn section_in(view: &View, k: usize) -> Option<SecNo>
     requires { k < length (laid_in view.now).members }
     ensures { result ≡ spec.written_in (files_in view.now) (binding_in view.now) (leaders_in view.now) (laid_in view.now) (slice_index_or (laid_in view.now).members k no_member).content }
 {
-    match view.layout.members[k].content {
+    match member_at(view, k).content {
         Content::Section(section) => with_bits(view, section),
         Content::Pool(_) => None,
         Content::Got => None,

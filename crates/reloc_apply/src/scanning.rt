@@ -1,19 +1,23 @@
 //! Relocations of a section done in order, in a window of eight bytes: what stands at a place is in it once the relocations before are
 //! done, whether a block has all of the place or not. Takes no memory.
 
-ghost use Rattle.std.specs.Prelude.{◌≡◌, ℕ, ◌+◌, ◌^◌, ◌<◌, ◌≤◌, ◌++◌, true, pos, length, take, drop, slice_index, slice_index_or, is_some, All, IfSome, List};
-ghost use Rattle.lk_base.specs.RelocKinds.{HasValue, kind_of};
+ghost use Rattle.std.specs.Prelude.{◌≡◌, ℕ, ◌+◌, ◌^◌, ◌<◌, ◌≤◌, ◌++◌, true, pos, length, take, drop, slice_index_or, is_some, All, IfSome, List};
+ghost use Rattle.lk_base.specs.RelocKinds.{HasValue};
+ghost use Rattle.link_sections.specs.Calls.{acting_kind as spec_kind, acting_number, acting_width};
 ghost use Rattle.lk_tables.specs.Files.{no_reloc, section_total};
 ghost use Rattle.lk_tables.specs.Sites.{relocs_of};
 ghost use Rattle.link_sections.specs.CutsView.{AreCuts, cut_views};
+ghost use Rattle.link_sections.specs.LaidOut.{cuts_at};
 ghost use Rattle.link_sections.specs.Leaders.{leads};
 ghost use Rattle.link_sections.specs.Views.{binding_in, files_in, laid_in, leaders_in};
 ghost use Rattle.reloc_apply.specs.Relocated.{filled, put, section_bytes, value_at};
-ghost use Rattle.reloc_apply.specs.Sites.{IsFresh, IsIn, IsMadeFrom, IsOver, Shows, bytes_by, end_by, first_bytes, offset_by};
+ghost use Rattle.reloc_apply.specs.Sites.{HasSymbolIn, IsFresh, IsIn, IsMadeFrom, IsOver, Shows, bytes_by, end_by, first_bytes, offset_by, set_by};
+ghost use Rattle.reloc_apply.specs.Sites as spec_sites;
 ghost use Rattle.reloc_apply.specs.Staying.{staying};
 ghost use Rattle.reloc_apply.specs.Values as spec;
 ghost use Rattle.rv_code.specs.Places.{number_of};
 
+use crate::calls::{acting_kind, width_of};
 use crate::image::{Piece, fill_piece};
 use crate::sites::{Site, relocs_at, site_of};
 use crate::sources::{Source, source_of};
@@ -22,6 +26,9 @@ use crate::values::{offset_of, value_of};
 use byteorder::{ByteOrder, LittleEndian};
 use link_sections::{Cut, View};
 use lk_base::SecNo;
+use lk_base::abi::{
+    R_RISCV_32, R_RISCV_32_PCREL, R_RISCV_64, R_RISCV_SET8, R_RISCV_SET16, R_RISCV_SET32,
+};
 use lk_base::relocations::{has_value, kind_of};
 use lk_tables::Reloc;
 use rv_code::patch_bits;
@@ -55,25 +62,27 @@ fn value_by(view: &View, source: &Source, reloc: usize) -> Option<i128>
     let at = scan(&mut [], 0, view, source, first, reloc, &mut window);
     let offset = offset_of(view, source.site.section, own);
     slide(&mut window, at, source.raw, source.cuts, offset);
-    value_in(view, source.site, own, held_in(&window, own))
+    let width = width_of(view, source.site.section, own);
+    value_in(view, source.site, own, held_in(&window, width))
 }
 
-/// V: the number that a place holds of which the window holds the bytes.
-fn held_in(window: &[u8], reloc: &Reloc) -> u64
-    requires { length window.now ≡ 8 }
-    ensures { result ≡ number_of (take (kind_of reloc.now.kind).width window.now) }
+/// V: the number that so many bytes of a window hold.
+fn held_in(window: &[u8], width: u64) -> u64
+    requires window { length window.now ≡ 8 }
+    requires few { width ≤ 8 }
+    ensures { result ≡ number_of (take width window.now) }
 {
-    let width = kind_of(reloc.kind).width as usize;
     if width == 0 {
         return 0;
     }
-    LittleEndian::read_uint(window, width)
+    LittleEndian::read_uint(window, width as usize)
 }
 
 /// The value of a relocation whose place holds a number, if it has one.
 #[tactic(auto, unfolding(crate::specs::Values::value_of))]
 fn value_in(view: &View, site: Site, reloc: &Reloc, held: u64) -> Option<i128>
-    requires { IsIn view.now site }
+    requires site { IsIn view.now site }
+    requires symbol { HasSymbolIn view.now site reloc.now }
     ensures value { result ≡ spec.value_of (files_in view.now) (binding_in view.now) (leaders_in view.now) (laid_in view.now) site.section reloc.now (pos held) }
     ensures kind { IfSome result (λ _. HasValue reloc.now.kind) }
 {
@@ -132,27 +141,53 @@ fn count_below(view: &View, source: &Source, limit: u64) -> usize
     source.relocs.partition_point(|reloc| offset_of(view, source.site.section, reloc) < limit)
 }
 
-/// The relocation from which those up to number k are done: no place before its own reaches past its start.
+/// The relocation from which those up to number k are done: no place before its own reaches past its start. If it is another one, it may
+/// set all bits of its place; then no place before reaches past its end.
 fn chain_start(view: &View, source: &Source, k: usize) -> usize
     requires source { IsMadeFrom view.now source.now }
     requires reloc { k < length source.now.relocs.now }
     ensures bound { result ≤ k }
     ensures clear { (j : ℕ) → j < result → end_by view.now source.now (slice_index_or source.now.relocs.now j no_reloc)
+        ≤ offset_by view.now source.now (slice_index_or source.now.relocs.now result no_reloc) + set_by view.now source.now (slice_index_or source.now.relocs.now result no_reloc) }
+    ensures own { result ≡ k → (j : ℕ) → j < result → end_by view.now source.now (slice_index_or source.now.relocs.now j no_reloc)
         ≤ offset_by view.now source.now (slice_index_or source.now.relocs.now result no_reloc) }
 {
     let mut first = k;
+    let mut limit = offset_of(view, source.site.section, &source.relocs[k]);
     for back in 0..k {
         let other = &source.relocs[k - 1 - back];
         let offset = offset_of(view, source.site.section, other);
-        let limit = offset_of(view, source.site.section, &source.relocs[first]);
         if offset + 8 <= limit {
             return first;
         }
-        if offset + kind_of(other.kind).width > limit {
+        if offset + width_of(view, source.site.section, other) > limit {
             first = k - 1 - back;
+            limit = offset + set_in(view, source, other);
         }
     }
     first
+}
+
+/// How many bytes a relocation sets whatever they held: all of its place, or none.
+fn set_in(view: &View, source: &Source, reloc: &Reloc) -> u64
+    ensures value { result ≡ set_by view.now source.now reloc.now }
+    ensures few { result ≤ 8 }
+{
+    if !sets_all(reloc.kind) {
+        return 0;
+    }
+    width_of(view, source.site.section, reloc)
+}
+
+/// Whether the values of a kind set all bits of their places.
+#[tactic(auto, unfolding(crate::specs::Sites::sets_all))]
+fn sets_all(kind: u32) -> bool
+    ensures { result ≡ spec_sites.sets_all kind }
+{
+    matches!(
+        kind,
+        R_RISCV_32 | R_RISCV_64 | R_RISCV_SET8 | R_RISCV_SET16 | R_RISCV_SET32 | R_RISCV_32_PCREL
+    )
 }
 
 /// Does the relocations of a section from number `first` on and before number `last`, and writes their places into the block as far as
@@ -172,6 +207,8 @@ fn scan(
     requires last { last ≤ length source.now.relocs.now }
     requires some { first < length source.now.relocs.now }
     requires clear { (j : ℕ) → j < first → end_by view.now source.now (slice_index_or source.now.relocs.now j no_reloc)
+        ≤ offset_by view.now source.now (slice_index_or source.now.relocs.now first no_reloc) + set_by view.now source.now (slice_index_or source.now.relocs.now first no_reloc) }
+    requires own { first ≡ last → (j : ℕ) → j < first → end_by view.now source.now (slice_index_or source.now.relocs.now j no_reloc)
         ≤ offset_by view.now source.now (slice_index_or source.now.relocs.now first no_reloc) }
     requires shown { IsOver from source.now.at (bytes_by view.now source.now first) block.old block.old }
     requires window { length window.old ≡ 8 }
@@ -200,46 +237,52 @@ fn step(
 ) -> u64
     requires block { from + length block.old < 2 ^ 63 }
     requires source { IsMadeFrom view.now source.now }
+    requires symbol { HasSymbolIn view.now source.now.site reloc.now }
     requires fits { end_by view.now source.now reloc.now ≤ length (first_bytes view.now source.now) }
     requires rises { at ≤ offset_by view.now source.now reloc.now }
     requires window { length window.old ≡ 8 }
     ensures at { result ≡ offset_by view.now source.now reloc.now }
     ensures bytes { (state : List ℕ) → Shows state at window.old → IsFresh (first_bytes view.now source.now) state (at + 8) → length state ≡ length (first_bytes view.now source.now)
         → Shows (put (files_in view.now) (binding_in view.now) (leaders_in view.now) (laid_in view.now) source.now.site.section reloc.now state) result window.new }
-    ensures over { IsOver from (source.now.at + offset_by view.now source.now reloc.now) (take (kind_of reloc.now.kind).width window.new) block.old block.new }
+    ensures over { IsOver from (source.now.at + offset_by view.now source.now reloc.now) (take (acting_width (cuts_at (laid_in view.now) source.now.site.section) reloc.now) window.new) block.old block.new }
 {
     let offset = offset_of(view, source.site.section, reloc);
     slide(window, at, source.raw, source.cuts, offset);
-    put_in(view, source.site, reloc, window);
+    let kind = acting_kind(view, source.site.section, reloc);
+    put_in(view, source.site, reloc, kind, window);
     let place = Piece {
         at: source.at + offset,
-        bytes: &window[..kind_of(reloc.kind).width as usize],
+        bytes: &window[..kind_of(kind).width as usize],
     };
     fill_piece(block, from, &place);
     offset
 }
 
-/// Puts the value of a relocation into the window that stands at its place.
-fn put_in(view: &View, site: Site, reloc: &Reloc, window: &mut [u8])
+/// Puts the value of a relocation into the window that stands at its place, which a kind fills.
+fn put_in(view: &View, site: Site, reloc: &Reloc, kind: u32, window: &mut [u8])
     requires site { IsIn view.now site }
+    requires symbol { HasSymbolIn view.now site reloc.now }
+    requires kind { kind ≡ acting_number (cuts_at (laid_in view.now) site.section) reloc.now }
     requires window { length window.old ≡ 8 }
-    ensures { window.new ≡ filled reloc.now (spec.value_of (files_in view.now) (binding_in view.now) (leaders_in view.now) (laid_in view.now) site.section reloc.now (pos (number_of (take (kind_of reloc.now.kind).width window.old)))) (take (kind_of reloc.now.kind).width window.old) ++ drop (kind_of reloc.now.kind).width window.old }
+    ensures { window.new ≡ filled (spec_kind (cuts_at (laid_in view.now) site.section) reloc.now) (spec.value_of (files_in view.now) (binding_in view.now) (leaders_in view.now) (laid_in view.now) site.section reloc.now (pos (number_of (take (acting_width (cuts_at (laid_in view.now) site.section) reloc.now) window.old)))) (take (acting_width (cuts_at (laid_in view.now) site.section) reloc.now) window.old) ++ drop (acting_width (cuts_at (laid_in view.now) site.section) reloc.now) window.old }
 {
-    let held = held_in(window, reloc);
-    let place = &mut window[..kind_of(reloc.kind).width as usize];
-    fill_place(view, site, reloc, held, place);
+    let width = kind_of(kind).width;
+    let held = held_in(window, width);
+    fill_place(view, site, reloc, kind, held, &mut window[..width as usize]);
 }
 
-/// Puts the value of a relocation into its place, which holds a number.
-fn fill_place(view: &View, site: Site, reloc: &Reloc, held: u64, place: &mut [u8])
+/// Puts the value of a relocation into its place, which holds a number and is filled by a kind.
+fn fill_place(view: &View, site: Site, reloc: &Reloc, kind: u32, held: u64, place: &mut [u8])
     requires site { IsIn view.now site }
-    requires width { length place.old ≡ (kind_of reloc.now.kind).width }
-    ensures { place.new ≡ filled reloc.now (spec.value_of (files_in view.now) (binding_in view.now) (leaders_in view.now) (laid_in view.now) site.section reloc.now (pos held)) place.old }
+    requires symbol { HasSymbolIn view.now site reloc.now }
+    requires kind { kind ≡ acting_number (cuts_at (laid_in view.now) site.section) reloc.now }
+    requires width { length place.old ≡ acting_width (cuts_at (laid_in view.now) site.section) reloc.now }
+    ensures { place.new ≡ filled (spec_kind (cuts_at (laid_in view.now) site.section) reloc.now) (spec.value_of (files_in view.now) (binding_in view.now) (leaders_in view.now) (laid_in view.now) site.section reloc.now (pos held)) place.old }
 {
     let Some(v) = value_in(view, site, reloc, held) else {
         return;
     };
-    patch_bits(reloc.kind, place, v);
+    patch_bits(kind, place, v);
 }
 
 /// Fills a window with the bytes of a section that stay, from an offset on, with no relocation done.

@@ -1,20 +1,17 @@
 //! What the bytes of a section in the executable are made from.
 
-ghost use Rattle.std.specs.Prelude.{◌≡◌, ◌<◌, ◌≢◌, true, take, drop, length, ◌+◌, ◌≤◌};
+ghost use Rattle.std.specs.Prelude.{◌≡◌, ◌<◌, true, take, drop, length, ◌+◌, ◌≤◌};
 ghost use Rattle.lk_base.specs.declared.abi.TheConstants.{SHT_NOBITS};
-ghost use Rattle.lk_tables.specs.Files.{section_total};
-ghost use Rattle.link_sections.specs.CutsView.{AreCuts, cut_views};
-ghost use Rattle.link_sections.specs.LaidOut.{cuts_at, start_at};
 ghost use Rattle.link_sections.specs.Views.{binding_in, files_in, laid_in, leaders_in};
 ghost use Rattle.reloc_apply.specs.Relocated.{contents_at, has_bits, is_laid};
 ghost use Rattle.reloc_apply.specs.Sites.{IsSite, IsSource};
 
-use crate::addresses::number_at;
 use crate::sites::{Site, relocs_at, site_of};
 use link_sections::{Cut, View, input_in};
 use lk_base::SecNo;
 use lk_base::abi::{IMAGE_BASE, SHT_NOBITS};
 use lk_tables::Reloc;
+use symbol_addresses::start_of;
 
 /// A section with bytes in its file, which stand in the executable.
 #[derive(Clone, Copy)]
@@ -31,7 +28,6 @@ pub struct Source<'t, 'a> {
 }
 
 /// That of a section, by its number.
-#[tactic(auto, unfolding(link_sections::specs::LaidOut::layout_view))]
 pub fn source_of<'t, 'a>(view: &View<'t, 'a>, section: SecNo) -> Source<'t, 'a>
     requires { is_laid (files_in view.now) (binding_in view.now) (leaders_in view.now) (laid_in view.now) section ≡ true }
     ensures source { IsSource (files_in view.now) (binding_in view.now) (leaders_in view.now) (laid_in view.now) result }
@@ -40,7 +36,7 @@ pub fn source_of<'t, 'a>(view: &View<'t, 'a>, section: SecNo) -> Source<'t, 'a>
     let site = site_of(view.tables, section);
     Source {
         site,
-        at: number_at(view.layout.starts.as_slice(), section as usize) - IMAGE_BASE,
+        at: start_of(view.layout, section) - IMAGE_BASE,
         raw: contents(view, site),
         cuts: view.layout.sizes.cuts(section),
         relocs: relocs_at(view.tables, site),

@@ -2,10 +2,12 @@
 
 ghost use Rattle.std.specs.Prelude.{◌≡◌, ℕ, ◌+◌, ◌-◌, ◌<◌, ◌≤◌, ◌^◌, All, length, slice_index, slice_index_or, take, drop, min};
 ghost use Rattle.link_sections.specs.CutsView.{AreCuts, cut_view, cut_views};
+ghost use Rattle.rv_code.specs.Places.{number_of};
 ghost use Rattle.reloc_apply.specs.Image.{over, piece};
 ghost use Rattle.reloc_apply.specs.Staying as spec;
 
 use crate::image::{Piece, fill_piece};
+use byteorder::{ByteOrder, LittleEndian};
 use link_sections::Cut;
 
 /// Copies what the bytes of a section that stay have in the block that starts at the file offset `from`, if their first one stands at
@@ -89,7 +91,7 @@ fn part_of(raw: &[u8], start: usize, end: usize) -> &[u8]
     &raw[start..end]
 }
 
-/// Copies what a cut keeps: its first bytes, or nops if it is an alignment.
+/// Copies what a cut keeps: nops of an alignment, and else a jump in place of a call.
 fn fill_kept(block: &mut [u8], from: u64, at: u64, raw: &[u8], cut: &Cut)
     requires block { from + length block.old < 2 ^ 64 }
     requires kept { cut.now.kept ≤ cut.now.whole }
@@ -101,8 +103,62 @@ fn fill_kept(block: &mut [u8], from: u64, at: u64, raw: &[u8], cut: &Cut)
     if cut.is_align {
         fill_nops(block, from, at, cut.kept);
     } else {
-        fill_part(block, from, at, raw, cut.at, cut.at + cut.kept);
+        fill_call(block, from, at, &raw[cut.at as usize..], cut.kept);
     }
+}
+
+/// Copies what so many bytes of a call are, of which these are the first ones and all after them: `jal` with the register of the second
+/// instruction, or `c.j`, and else the first bytes.
+#[tactic(auto, unfolding(crate::specs::Staying::call_bytes))]
+fn fill_call(block: &mut [u8], from: u64, at: u64, raw: &[u8], size: u64)
+    requires block { from + length block.old < 2 ^ 64 }
+    requires within { size ≤ length raw.now }
+    requires small { at + size < 2 ^ 64 }
+    ensures bytes { (i : ℕ) → i < length block.old → slice_index block.new i ≡ over (piece at (spec.call_bytes size raw.now)) (slice_index block.old i) (from + i) }
+    ensures same { length block.new ≡ length block.old }
+{
+    match size {
+        4 => fill_bytes(block, from, at, &jal_word(second_word(raw)).to_le_bytes()),
+        2 => fill_bytes(block, from, at, &0xa001u16.to_le_bytes()),
+        _ => fill_bytes(block, from, at, &raw[..size as usize]),
+    }
+}
+
+/// Copies what some bytes have in a block.
+fn fill_bytes(block: &mut [u8], from: u64, at: u64, bytes: &[u8])
+    requires block { from + length block.old < 2 ^ 64 }
+    requires small { at + length bytes.now < 2 ^ 64 }
+    ensures bytes { (i : ℕ) → i < length block.old → slice_index block.new i ≡ over (piece at bytes.now) (slice_index block.old i) (from + i) }
+    ensures same { length block.new ≡ length block.old }
+{
+    fill_piece(block, from, &Piece { at, bytes });
+}
+
+/// `jal` with the register of an instruction, and no displacement.
+fn jal_word(word: u64) -> u32
+    ensures { result ≡ spec.jal_word (spec.register_of word) }
+{
+    0x6f + (word / 128 % 32) as u32 * 128
+}
+
+/// The number that the second four bytes hold, or those of them that are there.
+fn second_word(raw: &[u8]) -> u64
+    ensures { result ≡ number_of (take 4 (drop 4 raw.now)) }
+{
+    let (_, rest) = raw.split_at(raw.len().min(4));
+    let (word, _) = rest.split_at(rest.len().min(4));
+    number_in(word)
+}
+
+/// The number that at most eight bytes hold.
+fn number_in(bytes: &[u8]) -> u64
+    requires { length bytes.now ≤ 8 }
+    ensures { result ≡ number_of bytes.now }
+{
+    if bytes.is_empty() {
+        return 0;
+    }
+    LittleEndian::read_uint(bytes, bytes.len())
 }
 
 /// Writes what so many bytes of nops have in a block.

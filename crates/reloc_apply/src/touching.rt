@@ -1,19 +1,19 @@
 //! The relocations that touch a block, tested.
 
-ghost use Rattle.std.specs.Prelude.{◌≡◌, ℕ, ◌+◌, ◌^◌, ◌<◌, ◌≤◌, [], length, flat_map, if◌then◌else◌};
+ghost use Rattle.std.specs.Prelude.{◌≡◌, ◌+◌, ◌^◌, ◌<◌, [], flat_map, if◌then◌else◌};
 ghost use Rattle.lk_base.specs.Firsts.{IsFirst};
 ghost use Rattle.lk_tables.specs.declared.objects.Reloc.{Reloc};
 ghost use Rattle.link_sections.specs.Views.{binding_in, files_in, laid_in, leaders_in};
 ghost use Rattle.reloc_apply.specs.Relocated as spec;
-ghost use Rattle.reloc_apply.specs.Sites.{IsMadeFrom};
+ghost use Rattle.reloc_apply.specs.Sites.{HasSymbolIn, IsMadeFrom};
 
+use crate::calls::width_of;
 use crate::checks::check_reloc;
 use crate::scanning::{first_after, first_near};
 use crate::sources::Source;
 use crate::values::offset_of;
 use link_sections::View;
 use lk_base::Defect;
-use lk_base::relocations::kind_of;
 use lk_tables::Reloc;
 
 /// The first relocation of a section that touches `len` bytes of the file from an offset on, and can't be done.
@@ -41,6 +41,7 @@ fn check_touching(
 ) -> Option<Defect>
     requires block { from + len < 2 ^ 63 }
     requires source { IsMadeFrom view.now source.now }
+    requires symbol { HasSymbolIn view.now source.now.site reloc.now }
     ensures { IsFirst (if spec.touches (files_in view.now) (binding_in view.now) (leaders_in view.now) (laid_in view.now) from len source.now.site.section reloc.now then spec.reloc_defects (files_in view.now) (binding_in view.now) (leaders_in view.now) (laid_in view.now) source.now.site.section reloc.now else []) result }
 {
     if !touches(view, source, reloc, from, len) {
@@ -59,6 +60,6 @@ fn touches(view: &View, source: &Source, reloc: &Reloc, from: u64, len: u64) -> 
     let at = source
         .at
         .saturating_add(offset_of(view, source.site.section, reloc));
-    let end = at.saturating_add(kind_of(reloc.kind).width);
+    let end = at.saturating_add(width_of(view, source.site.section, reloc));
     at.max(from) < end.min(from + len)
 }

@@ -1,6 +1,6 @@
 //! The upper parts of a link, listed once, and those of a section found among them.
 
-ghost use Rattle.std.specs.Prelude.{◌≡◌, ℕ, ◌++◌, ◌+◌, ◌<◌, ◌^◌, ◌∷◌, [], filter, length, slice_index, slice_index_or, IfOk, OnOk, List};
+ghost use Rattle.std.specs.Prelude.{◌≡◌, ◌++◌, ◌+◌, ◌<◌, ◌^◌, ◌∷◌, [], filter, length, slice_index, slice_index_or, IfOk, OnOk, List};
 ghost use Rattle.lk_base.specs.RelocKinds.{is_upper};
 ghost use Rattle.lk_tables.specs.declared.objects.Reloc.{Reloc};
 ghost use Rattle.lk_tables.specs.TablesView.{files_of};

@@ -1,61 +1,21 @@
-//! What a relocation puts into its place (RISC-V ELF psABI, "Relocations").
+//! What a relocation puts into its place (RISC-V ELF psABI, "Relocations"; "Thread Local Storage").
 
-ghost use Rattle.std.specs.Prelude.{◌≡◌, ℕ, [], ◌+◌, ◌^◌, ◌<◌, ◌≤◌, length, ◌==◌, ◌&&◌, not, true, false, ◌≤ℤ◌, ◌+ℤ◌, pos, negsuc, IfOk, IfSome, IsTrue, MatchResult, is_some, find, filter, slice_index_or};
+ghost use Rattle.std.specs.Prelude.{◌≡◌, ℕ, ◌+◌, ◌*◌, ◌^◌, ◌<◌, ◌≤◌, length, ◌==◌, ◌&&◌, not, true, false, Some, ◌≤ℤ◌, ◌+ℤ◌, pos, negsuc, IfOk, IfSome, MatchResult, is_some, find, filter, slice_index_or};
 ghost use Rattle.std.specs.List.Sorted.{IsNonDecreasingBy};
-ghost use Rattle.lk_base.specs.Arithmetic.{bits_of};
-ghost use Rattle.lk_base.specs.RelocKinds.{HasValue, is_lower, is_upper, puts_value};
-ghost use Rattle.lk_tables.specs.Files as spec_file;
-ghost use Rattle.lk_tables.specs.Files.{file_at, symbol_at};
+ghost use Rattle.lk_base.specs.RelocKinds.{HasValue, is_lower, is_upper};
 ghost use Rattle.lk_tables.specs.Sites.{relocs_of};
-ghost use Rattle.lk_tables.specs.Targets.{entry_bound};
 ghost use Rattle.link_sections.specs.Addresses as addresses;
-ghost use Rattle.link_sections.specs.LaidOut as laid;
-ghost use Rattle.link_sections.specs.LaidOut.{layout_view};
 ghost use Rattle.link_sections.specs.Views.{binding_in, files_in, laid_in, leaders_in};
-ghost use Rattle.reloc_apply.specs.Sites.{IsSite};
+ghost use Rattle.reloc_apply.specs.Sites.{HasSymbol, IsSite};
 ghost use Rattle.reloc_apply.specs.Values as spec;
 
-use crate::addresses::{leader_of, number_at, offset_in, start_of};
 use crate::sites::Site;
 use crate::uppers::uppers_of;
-use link_sections::{Layout, View};
+use link_sections::{Target, View, key_of, use_of};
+use lk_base::SecNo;
 use lk_base::relocations::{Calculation, is_lower, kind_of};
-use lk_base::{FileNo, SecNo, SymNo, low_bits};
-use lk_tables::{Bound, Reloc, Target, is_section_symbol, target_in};
-
-/// The address at which the executable starts: that of what the entry's name is bound to.
-pub fn entry_address(view: &View) -> u64
-    ensures { result ≡ bits_of (pos (addresses.address_of (leaders_in view.now) (laid_in view.now) (entry_bound (files_in view.now) (binding_in view.now)))) }
-{
-    low_bits(wide_address(
-        view.leaders,
-        view.layout,
-        view.binding.entry_bound(view.tables),
-    ))
-}
-
-/// The address of what a name stands for, or its number, in more bits than any sum takes.
-fn wide_address(leaders: &[Option<SecNo>], layout: &Layout, bound: Bound) -> i128
-    ensures { result ≡ pos (addresses.address_of leaders.now (layout_view layout.now) bound) }
-{
-    match bound {
-        Bound::InSection { section, offset } => wide_in(leaders, layout, section, offset),
-        Bound::Number(number) => number as i128,
-        Bound::Linker(_) => 0,
-        Bound::Nobody => 0,
-    }
-}
-
-/// The address of an offset of a section.
-#[tactic(auto, unfolding(link_sections::specs::LaidOut::address_in))]
-fn wide_in(leaders: &[Option<SecNo>], layout: &Layout, section: SecNo, offset: u64) -> i128
-    ensures value { result ≡ pos (laid.address_in leaders.now (layout_view layout.now) section offset) }
-    ensures low { pos 0 ≤ℤ result }
-    ensures high { result ≤ℤ pos (2 ^ 65) }
-{
-    let leader = leader_of(leaders, section);
-    start_of(layout, leader) as i128 + offset_in(layout, leader, offset) as i128
-}
+use lk_tables::{Reloc, is_section_symbol, target_in};
+use symbol_addresses::{offset_in, piece_address, section_address, start_of, symbol_address};
 
 /// The upper part that a lower part belongs to is not there.
 #[derive(Clone, Copy, Debug)]
@@ -69,7 +29,8 @@ pub fn value_of(
     reloc: &Reloc,
     held: u64,
 ) -> Result<Option<i128>, NoPartner>
-    requires { IsSite (files_in view.now) site }
+    requires site { IsSite (files_in view.now) site }
+    requires symbol { HasSymbol (files_in view.now) site reloc.now }
     ensures value { IfOk result (λ v. v ≡ spec.value_of (files_in view.now) (binding_in view.now) (leaders_in view.now) (laid_in view.now) site.section reloc.now (pos held)) }
     ensures kind { IfOk result (λ v. IfSome v (λ x. HasValue reloc.now.kind)) }
     ensures partner { MatchResult result (λ _. (is_lower reloc.now.kind && not (is_some (spec.partner_of (files_in view.now) (binding_in view.now) (leaders_in view.now) (laid_in view.now) site.section reloc.now))) ≡ false)
@@ -87,97 +48,133 @@ pub fn value_of(
 /// The value of a relocation that takes it from its own symbol.
 #[tactic(auto, unfolding(crate::specs::Values::direct_value, lk_base::specs::RelocKinds::has_value))]
 fn direct_value(view: &View, site: Site, reloc: &Reloc, held: u64) -> Option<i128>
-    requires { IsSite (files_in view.now) site }
+    requires site { IsSite (files_in view.now) site }
+    requires symbol { HasSymbol (files_in view.now) site reloc.now }
     ensures value { result ≡ spec.direct_value (files_in view.now) (binding_in view.now) (leaders_in view.now) (laid_in view.now) site.section reloc.now (pos held) }
     ensures kind { IfSome result (λ _. HasValue reloc.now.kind) }
 {
-    computed(
-        kind_of(reloc.kind).calculation,
-        sum_of(view, site, reloc),
-        place_of(view, site.section, reloc),
-        held,
-    )
-}
-
-/// A calculation, from S + A, P and V.
-fn computed(calculation: Calculation, sum: i128, place: i128, held: u64) -> Option<i128>
-    requires some { negsuc (2 ^ 63) ≤ℤ sum }
-    requires most { sum ≤ℤ pos (2 ^ 66) }
-    requires low { pos 0 ≤ℤ place }
-    requires high { place ≤ℤ pos (2 ^ 65) }
-    ensures value { result ≡ spec.computed calculation sum place (pos held) }
-    ensures puts { IfSome result (λ _. IsTrue (puts_value calculation)) }
-{
-    match calculation {
-        Calculation::Address => Some(sum),
-        Calculation::Distance => Some(sum - place),
-        Calculation::Increase => Some(held as i128 + sum),
-        Calculation::Decrease => Some(held as i128 - sum),
+    match kind_of(reloc.kind).calculation {
+        Calculation::Address => Some(sum_of(view, site, reloc)),
+        Calculation::Distance => {
+            Some(sum_of(view, site, reloc) - place_of(view, site.section, reloc))
+        }
+        Calculation::GotDistance => {
+            Some(entry_of(view, site, reloc) - place_of(view, site.section, reloc))
+        }
+        Calculation::ThreadOffset => Some(thread_of(view, site, reloc)),
+        Calculation::Increase => Some(held as i128 + sum_of(view, site, reloc)),
+        Calculation::Decrease => Some(held as i128 - sum_of(view, site, reloc)),
         _ => None,
     }
 }
 
 /// S + A: the address of a relocation's symbol, and its addend. A SECTION symbol's addend chooses a byte of its section, which moves
-/// where the section loses bytes.
+/// where the section loses bytes or is merged.
 fn sum_of(view: &View, site: Site, reloc: &Reloc) -> i128
     requires { IsSite (files_in view.now) site }
     ensures value { result ≡ spec.sum_of (files_in view.now) (binding_in view.now) (leaders_in view.now) (laid_in view.now) site.section reloc.now }
     ensures low { negsuc (2 ^ 63) ≤ℤ result }
-    ensures high { result ≤ℤ pos (2 ^ 66) }
+    ensures high { result ≤ℤ pos (2 ^ 67) }
 {
-    if may_move(view, site.place.file, reloc) {
-        let target = target_in(view.tables, view.binding, site.place.file, reloc);
-        return moved_sum(view.leaders, view.layout, target, reloc);
+    let symbol = view
+        .tables
+        .file(site.place.file)
+        .symbol(reloc.symbol as usize);
+    if is_section_symbol(&symbol) {
+        return target_sum(view, site, reloc, target_of(view, site, reloc));
     }
     symbol_address(view, site.place.file, reloc.symbol) as i128 + reloc.addend as i128
 }
 
-/// Whether the byte that a relocation means may move by another number of bytes than its symbol: that is a SECTION symbol, and some
-/// section loses bytes.
-fn may_move(view: &View, file: FileNo, reloc: &Reloc) -> bool
-    requires { file < length (files_in view.now) }
-    ensures { result ≡ false → spec_file.is_section_symbol (symbol_at (file_at (files_in view.now) file) reloc.now.symbol) ≡ true → (n : ℕ) → laid.cuts_at (laid_in view.now) n ≡ [] }
+/// What a relocation stands for.
+#[tactic(auto, unfolding(crate::specs::Values::target_in, link_sections::specs::LaidOut::with_contents, link_sections::specs::PoolViews::pools_view))]
+fn target_of(view: &View, site: Site, reloc: &Reloc) -> Target
+    requires { IsSite (files_in view.now) site }
+    ensures { result ≡ spec.target_in (files_in view.now) (binding_in view.now) (leaders_in view.now) (laid_in view.now) site.section reloc.now }
 {
-    if view.layout.sizes.is_empty() {
-        return false;
-    }
-    is_section_symbol(&view.tables.file(file).symbol(reloc.symbol as usize))
+    view.pools.piece_target(target_in(view.tables, view.binding, site.place.file, reloc))
 }
 
 /// S + A by what a relocation stands for.
-fn moved_sum(leaders: &[Option<SecNo>], layout: &Layout, target: Target, reloc: &Reloc) -> i128
-    ensures value { result ≡ pos (spec.symbol_in leaders.now (layout_view layout.now) target) +ℤ spec.addend_of target reloc.now }
+fn target_sum(view: &View, site: Site, reloc: &Reloc, target: Target) -> i128
+    requires site { IsSite (files_in view.now) site }
+    requires target { target ≡ spec.target_in (files_in view.now) (binding_in view.now) (leaders_in view.now) (laid_in view.now) site.section reloc.now }
+    ensures value { result ≡ pos (addresses.target_address (files_in view.now) (binding_in view.now) (leaders_in view.now) (laid_in view.now) target) +ℤ spec.addend_of target reloc.now }
     ensures low { negsuc (2 ^ 63) ≤ℤ result }
-    ensures high { result ≤ℤ pos (2 ^ 66) }
+    ensures high { result ≤ℤ pos (2 ^ 67) }
 {
     match target {
         Target::Section {
             section,
             offset,
             rest,
-        } => wide_in(leaders, layout, section, offset) + rest as i128,
+        } => section_address(view, section, offset) + rest as i128,
+        Target::Piece {
+            pool,
+            piece,
+            offset,
+            rest,
+        } => piece_address(view, pool, piece, offset) + rest as i128,
         Target::Number(number) => number as i128 + reloc.addend as i128,
+        Target::Linker(_) => {
+            symbol_address(view, site.place.file, reloc.symbol) as i128 + reloc.addend as i128
+        }
         Target::Zero => reloc.addend as i128,
-        Target::Linker(_) => reloc.addend as i128,
         Target::Unbound => reloc.addend as i128,
     }
 }
 
-/// The address of what a symbol of a file stands for, or its number.
-fn symbol_address(view: &View, file: FileNo, symbol: SymNo) -> u64
-    requires { file < length (files_in view.now) }
-    ensures { result ≡ addresses.symbol_address (files_in view.now) (binding_in view.now) (leaders_in view.now) (laid_in view.now) file symbol }
+/// S + A - T: the offset of a thread-local symbol from the thread pointer, and the addend; one that nothing defines is at the pointer.
+#[tactic(auto, unfolding(crate::specs::Values::thread_of))]
+fn thread_of(view: &View, site: Site, reloc: &Reloc) -> i128
+    requires { IsSite (files_in view.now) site }
+    ensures { result ≡ spec.thread_of (files_in view.now) (binding_in view.now) (leaders_in view.now) (laid_in view.now) site.section reloc.now }
 {
-    if view.tables.file(file).symbols().len() <= symbol as usize {
-        return 0;
+    let target = target_of(view, site, reloc);
+    if is_zero(target) {
+        return reloc.addend as i128;
     }
-    number_at(
-        view.addresses.symbols.as_slice(),
-        view.tables.symbol_no(file as usize, symbol as usize),
-    )
+    target_sum(view, site, reloc, target) - view.layout.bounds.tls_start as i128
+}
+
+/// Whether a relocation stands for a symbol that nothing defines.
+fn is_zero(target: Target) -> bool
+    ensures { result ≡ spec.is_zero target }
+{
+    matches!(target, Target::Zero)
+}
+
+/// G + A: the address of the symbol's entry of the linker's table, and the addend.
+#[tactic(auto, unfolding(crate::specs::Values::entry_of))]
+fn entry_of(view: &View, site: Site, reloc: &Reloc) -> i128
+    requires site { IsSite (files_in view.now) site }
+    requires symbol { HasSymbol (files_in view.now) site reloc.now }
+    ensures value { result ≡ spec.entry_of (files_in view.now) (binding_in view.now) (leaders_in view.now) (laid_in view.now) site.section reloc.now }
+    ensures low { negsuc (2 ^ 63) ≤ℤ result }
+    ensures high { result ≤ℤ pos (2 ^ 68) }
+{
+    view.layout.got as i128 + 8 * word_at(view, site, reloc) as i128 + reloc.addend as i128
+}
+
+/// The number of the first word of that entry.
+#[tactic(auto, unfolding(crate::specs::Values::word_at))]
+fn word_at(view: &View, site: Site, reloc: &Reloc) -> u64
+    requires site { IsSite (files_in view.now) site }
+    requires symbol { HasSymbol (files_in view.now) site reloc.now }
+    ensures { result ≡ spec.word_at (files_in view.now) (binding_in view.now) (leaders_in view.now) (laid_in view.now) site.section reloc.now }
+{
+    let Some(usage) = use_of(reloc.kind) else {
+        return 0;
+    };
+    let key = key_of(view.tables, view.numbers, site.place.file, reloc.symbol);
+    match view.got.word_of(key, usage) {
+        Some(word) => word,
+        None => 0,
+    }
 }
 
 /// P: the address of a relocation's place.
+#[tactic(auto, unfolding(link_sections::specs::LaidOut::with_contents))]
 fn place_of(view: &View, section: SecNo, reloc: &Reloc) -> i128
     ensures value { result ≡ spec.place_of (files_in view.now) (binding_in view.now) (leaders_in view.now) (laid_in view.now) section reloc.now }
     ensures low { pos 0 ≤ℤ result }
@@ -187,6 +184,7 @@ fn place_of(view: &View, section: SecNo, reloc: &Reloc) -> i128
 }
 
 /// The offset of a relocation's place in its section, once the bytes that do not stay are gone.
+#[tactic(auto, unfolding(link_sections::specs::LaidOut::with_contents))]
 pub fn offset_of(view: &View, section: SecNo, reloc: &Reloc) -> u64
     ensures value { result ≡ spec.offset_of (files_in view.now) (binding_in view.now) (leaders_in view.now) (laid_in view.now) section reloc.now }
     ensures most { result ≤ reloc.now.offset }
@@ -198,7 +196,8 @@ pub fn offset_of(view: &View, section: SecNo, reloc: &Reloc) -> u64
 #[tactic(auto, unfolding(crate::specs::Values::partner_of))]
 fn partner_of(view: &View, site: Site, reloc: &Reloc) -> Option<Reloc>
     requires { IsSite (files_in view.now) site }
-    ensures { result ≡ spec.partner_of (files_in view.now) (binding_in view.now) (leaders_in view.now) (laid_in view.now) site.section reloc.now }
+    ensures symbol { IfSome result (HasSymbol (files_in view.now) site) }
+    ensures value { result ≡ spec.partner_of (files_in view.now) (binding_in view.now) (leaders_in view.now) (laid_in view.now) site.section reloc.now }
 {
     let target = target_in(view.tables, view.binding, site.place.file, reloc);
     let Some(offset) = label_in(site.section, target) else {
@@ -208,11 +207,11 @@ fn partner_of(view: &View, site: Site, reloc: &Reloc) -> Option<Reloc>
 }
 
 /// The offset of a label, if it stands in the section of this number.
-fn label_in(own: SecNo, target: Target) -> Option<u64>
+fn label_in(own: SecNo, target: lk_tables::Target) -> Option<u64>
     ensures { result ≡ spec.label_in own target }
 {
     match target {
-        Target::Section {
+        lk_tables::Target::Section {
             section,
             offset,
             rest: _,
@@ -222,10 +221,10 @@ fn label_in(own: SecNo, target: Target) -> Option<u64>
             }
             Some(offset)
         }
-        Target::Number(_) => None,
-        Target::Zero => None,
-        Target::Linker(_) => None,
-        Target::Unbound => None,
+        lk_tables::Target::Number(_) => None,
+        lk_tables::Target::Zero => None,
+        lk_tables::Target::Linker(_) => None,
+        lk_tables::Target::Unbound => None,
     }
 }
 

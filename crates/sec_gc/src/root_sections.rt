@@ -1,7 +1,7 @@
 //! The sections that are kept whatever refers to them.
 
 ghost use Rattle.std.specs.Prelude.{◌≡◌, ◌<◌, ◌++◌, All, length, IfOk, OnOk};
-ghost use Rattle.lk_tables.specs.Binding.{IsBindingOf};
+ghost use Rattle.lk_tables.specs.BoundNames.{IsBindingOf};
 ghost use Rattle.lk_tables.specs.BindingView.{binding_view};
 ghost use Rattle.lk_tables.specs.Files.{section_total};
 ghost use Rattle.lk_tables.specs.Targets.{entry_bound};

@@ -1,12 +1,13 @@
 -- A set of sections that is closed by the rules is one that has, with each section, the ends of its list.
 use Rattle.std.proofs.Common.{◌≡◌, ◌≢◌, ℕ, zero, suc, ◌+◌, ◌-◌, ◌<◌, ◌≤◌, ◌==◌, ◌&&◌, ℤ, Bool, true, false, not, List, [], ◌∷◌, ◌++◌, length, map, flat_map, get_or, All, Contains, bit_and, refl, sym, ap, ◌∙◌, subst, arith, inl, inr}
-use Rattle.std.specs.Prelude.{◌↔◌, if◌then◌else◌, nat_lt, slice_index_or}
+use Rattle.std.specs.Prelude.{◌↔◌, filter, nat_lt, slice_index_or}
 use Rattle.std.specs.List.{range_with_len}
 use Rattle.std.proofs.lemmas.Bool.{and_parts, cases_Bool, cases_lt, cond-true, cond-false, eq-eqb, eqb-true, ltb-true, lt-ltb, ne_eqb}
+use Rattle.std.specs.Str.{bytes_eq}
+use Rattle.std.proofs.lemmas.Slice.Eq.{bytes_eq-Decides}
 use Rattle.std.proofs.lemmas.List.{get_or_past}
 use Rattle.std.proofs.lemmas.List.Elements.{All-nil, All-cons, All-head, All-tail, All-append, All-map, All-weaker, All-contains, All-contains_itself}
-use Rattle.std.proofs.lemmas.List.FromFn.{get_or-range_with_len, length-range_with_len}
-use Rattle.link_sections.specs.InputSections.{is_own, may_stay}
+use Rattle.link_sections.specs.InputSections.{input_at, input_of, is_own, may_stay, may_stay_at}
 use Rattle.lk_base.specs.RelocKinds.{names_a_symbol}
 use Rattle.lk_base.specs.declared.abi.TheConstants.{SHF_LINK_ORDER}
 use Rattle.lk_tables.specs.declared.bounds.Target.{Target}
@@ -15,51 +16,21 @@ use Rattle.lk_tables.specs.declared.heads.Section.{Section}
 use Rattle.lk_tables.specs.declared.objects.Reloc.{Reloc}
 use Rattle.lk_tables.specs.Binding.{Bindings}
 use Rattle.lk_tables.specs.Files.{File, by_section, file_at, first_section, no_section, relocs_at, section_at, section_count, section_no, section_total}
+use Rattle.lk_tables.specs.declared.section_places.SectionPlace.{SectionPlace}
+use Rattle.lk_tables.specs.LinkerSymbols.{all_named, bound_section, bound_sections, is_bound_no, is_named}
 use Rattle.lk_tables.specs.Objects.{GroupView}
+use Rattle.lk_tables.specs.Sites.{place_of}
 use Rattle.lk_tables.specs.Targets.{target_of}
 use Rattle.lk_tables.proofs.BoundHas.{each_flat, each_if, one_if}
 use Rattle.lk_tables.proofs.ByNumber.{length_by_section, read_by_section}
-use Rattle.lk_tables.proofs.FirstNumbers.{section_more}
+use Rattle.lk_tables.proofs.FirstNumbers.{section_more, section_within}
 use Rattle.lk_tables.proofs.LiveFiles.{counted}
-use Rattle.lk_tables.proofs.Owners.{IsOwner}
+use Rattle.lk_tables.proofs.Owners.{IsOwner, place_is, place_of_number}
 use Rattle.sec_graph.specs.declared.pairs.Pair.{Pair}
 use Rattle.sec_graph.specs.Graph.{chain, edges, ends_in, is_linked, joined_in, link_at, links_in, member_at, pair, pairs_from, ring, ring_in, section_in, target_in, targets_in}
 use Rattle.sec_graph.specs.Kept.{HasEnds, IsClosedByRules, IsInTable, MayStay}
+use Rattle.sec_graph.proofs.ListParts.{all_if, all_left, all_right, each_of, each_passed, head_if, one_passed, part_of, range_has}
 use Rattle.sec_graph.proofs.Within.{live_from}
-
--- lists that are put one after the other
-all_left : {X : Type 0} (P : X → Type 0) (xs ys : List X) → All P (xs ++ ys) → All P xs
-all_left P [] ys all = All-nil P
-all_left P (x ∷ xs) ys all = All-cons P x xs (All-head P x (xs ++ ys) all) (all_left P xs ys (All-tail P x (xs ++ ys) all))
-
-all_right : {X : Type 0} (P : X → Type 0) (xs ys : List X) → All P (xs ++ ys) → All P ys
-all_right P [] ys all = all
-all_right P (x ∷ xs) ys all = all_right P xs ys (All-tail P x (xs ++ ys) all)
-
-flat_all : {X Y : Type 0} (P : Y → Type 0) (g : X → List Y) (xs : List X) → All (λ x. All P (g x)) xs → All P (flat_map g xs)
-flat_all P g [] all = All-nil P
-flat_all P g (x ∷ xs) all =
-    let Q : _ → Type 0 = λ x. All P (g x) in
-    All-append P (g x) (flat_map g xs) (All-head Q x xs all) (flat_all P g xs (All-tail Q x xs all))
-
-flat_parts : {X Y : Type 0} (P : Y → Type 0) (g : X → List Y) (xs : List X) → All P (flat_map g xs) → All (λ x. All P (g x)) xs
-flat_parts P g [] all = All-nil (λ x. All P (g x))
-flat_parts P g (x ∷ xs) all =
-    All-cons (λ x. All P (g x)) x xs (all_left P (g x) (flat_map g xs) all) (flat_parts P g xs (all_right P (g x) (flat_map g xs) all))
-
-each_of : {X Y : Type 0} (P : Y → Type 0) (g : X → List Y) (xs : List X) → ((x : X) → Contains xs x → All P (g x)) → All P (flat_map g xs)
-each_of P g xs each = flat_all P g xs (All-weaker (Contains xs) (λ x. All P (g x)) each xs (All-contains_itself xs))
-
-part_of : {X Y : Type 0} (P : Y → Type 0) (g : X → List Y) (xs : List X) (x : X) → All P (flat_map g xs) → Contains xs x → All P (g x)
-part_of P g xs x all has = All-contains (λ x. All P (g x)) xs x (flat_parts P g xs all) has
-
-head_if : {X : Type 0} (P : X → Type 0) (d : Bool) (x : X) → d ≡ true → All P (if d then x ∷ [] else []) → P x
-head_if P true x is all = All-head P x [] all
-head_if P false x is all = let no : ⊥ = cc in absurd no
-
-all_if : {X : Type 0} (P : X → Type 0) (d : Bool) (xs : List X) → d ≡ true → All P (if d then xs else []) → All P xs
-all_if P true xs is all = all
-all_if P false xs is all = let no : ⊥ = cc in absurd no
 
 -- a member of a set, and a pair that leads from a section into it
 abbrev In : (ℕ → Bool) → ℕ → Type 0
@@ -171,12 +142,37 @@ owned files n (suc h) le lt = elim (cases_lt n (first_section files h)) [
 ]
 
 -- the rules say it of each section's list
-section_all : (P : ℕ → Type 0) (t : Target) → ((section offset : ℕ) (rest : ℤ) → t ≡ targets.Section section offset rest → P section) → All P (section_in t)
-section_all P (targets.Section section offset rest) each = All-cons P section [] (each section offset rest refl) (All-nil P)
-section_all P (targets.Number n) each = All-nil P
-section_all P targets.Zero each = All-nil P
-section_all P (targets.Linker n) each = All-nil P
-section_all P targets.Unbound each = All-nil P
+section_all : (files : List File) (b : Bindings) (P : ℕ → Type 0) (t : Target) → ((section offset : ℕ) (rest : ℤ) → t ≡ targets.Section section offset rest → P section) →
+    ((n : ℕ) → t ≡ targets.Linker n → All P (bound_sections files b n)) → All P (section_in files b t)
+section_all files b P (targets.Section section offset rest) each bounds = All-cons P section [] (each section offset rest refl) (All-nil P)
+section_all files b P (targets.Number n) each bounds = All-nil P
+section_all files b P targets.Zero each bounds = All-nil P
+section_all files b P (targets.Linker n) each bounds = bounds n refl
+section_all files b P targets.Unbound each bounds = All-nil P
+
+-- the sections of the name whose start or end a relocation refers to
+bounds_closed : (files : List File) (b : Bindings) (s : ℕ → Bool) (f k : ℕ) (r : Reloc) (n : ℕ) → IsClosedByRules files b s → MayStay files b f k →
+    s (section_no files f k) ≡ true → Contains (relocs_at (file_at files f) k) r → names_a_symbol r.kind ≡ true → target_of files b f r ≡ targets.Linker n →
+    All (In s) (bound_sections files b n)
+unfolding bound_sections all_named is_named
+bounds_closed files b s f k r n rules stays is has names same =
+    let text = (input_at files b (bound_section n)).name in
+    each_if (In s) (is_bound_no n) (filter (is_named files b text) (range_with_len 0 (section_total files))) (λ bounds.
+    each_passed (In s) (is_named files b text) 0 (section_total files) (λ m lt named.
+    let both = and_parts (may_stay_at files b m) (bytes_eq (input_at files b m).name text) named in
+    let place = place_of_number files m (omega (arith, lt)) in
+    let other : MayStay files b (place_of files m).file (place_of files m).index = record { file = place.file; index = place.index; stays = both.0 } in
+    subst (In s) place.number
+    (rules.bounds f k (place_of files m).file (place_of files m).index r n stays is has names same bounds other ((bytes_eq-Decides (input_at files b m).name text).0 both.1))))
+
+-- these may be kept
+pub bounds_stay : (files : List File) (b : Bindings) (n : ℕ) → All (λ m. may_stay_at files b m ≡ true) (bound_sections files b n)
+unfolding bound_sections all_named is_named
+bounds_stay files b n =
+    let text = (input_at files b (bound_section n)).name in
+    let P : ℕ → Type 0 = λ m. may_stay_at files b m ≡ true in
+    each_if P (is_bound_no n) (filter (is_named files b text) (range_with_len 0 (section_total files))) (λ _.
+    each_passed P (is_named files b text) 0 (section_total files) (λ m lt named. (and_parts (may_stay_at files b m) (bytes_eq (input_at files b m).name text) named).0))
 
 same_index : (files : List File) (f i k : ℕ) → section_no files f i ≡ section_no files f k → i ≡ k
 same_index files f i k same = omega (arith, same)
@@ -186,8 +182,9 @@ targets_closed : (files : List File) (b : Bindings) (s : ℕ → Bool) (f k : �
 unfolding target_in
 targets_closed files b s f k rules stays is =
     each_of (In s) (target_in files b f) (relocs_at (file_at files f) k) (λ r has.
-    each_if (In s) (names_a_symbol r.kind) (section_in (target_of files b f r)) (λ names.
-    section_all (In s) (target_of files b f r) (λ section offset rest same. rules.targets f k r section offset rest stays is has names same)))
+    each_if (In s) (names_a_symbol r.kind) (section_in files b (target_of files b f r)) (λ names.
+    section_all files b (In s) (target_of files b f r) (λ section offset rest same. rules.targets f k r section offset rest stays is has names same)
+    (λ n same. bounds_closed files b s f k r n rules stays is has names same)))
 
 nonzero : (d : ℕ) → not (d == 0) ≡ true → d ≢ 0
 nonzero d is none = let yes : (d == 0) ≡ true = eq-eqb d 0 none in let no : ⊥ = cc in absurd no
@@ -261,6 +258,10 @@ has_ends files b s rules n is =
       | inr past ↦ subst P (sym (lists_past files b n past)) (All-nil (In s))
     ]
 
+both_true : (a c : Bool) → a ≡ true → c ≡ true → (a && c) ≡ true
+both_true true c one other = other
+both_true false c one other = one
+
 -- and the lists say what the rules do
 ends_are : (files : List File) (b : Bindings) (s : ℕ → Bool) (f k : ℕ) → AllEnds (edges files b) s → MayStay files b f k → s (section_no files f k) ≡ true →
     All (In s) (targets_in files b f k ++ map (λ (p : Pair). p.to) (pairs_from (section_no files f k) (joined_in files b f)))
@@ -280,27 +281,51 @@ joined_are files b s f k has stays is =
     leads_all s (section_no files f k) (joined_in files b f)
     (map_all (In s) (λ (p : Pair). p.to) from (all_right (In s) (targets_in files b f k) (map (λ (p : Pair). p.to) from) (ends_are files b s f k has stays is)))
 
+targets_are : (files : List File) (b : Bindings) (s : ℕ → Bool) (f k : ℕ) (r : Reloc) → AllEnds (edges files b) s → MayStay files b f k →
+    s (section_no files f k) ≡ true → Contains (relocs_at (file_at files f) k) r → names_a_symbol r.kind ≡ true → All (In s) (section_in files b (target_of files b f r))
+unfolding target_in
+targets_are files b s f k r has stays is among names =
+    let from = pairs_from (section_no files f k) (joined_in files b f) in
+    let all = all_left (In s) (targets_in files b f k) (map (λ (p : Pair). p.to) from) (ends_are files b s f k has stays is) in
+    all_if (In s) (names_a_symbol r.kind) (section_in files b (target_of files b f r)) names
+    (part_of (In s) (target_in files b f) (relocs_at (file_at files f) k) r all among)
+
 target_follows : (files : List File) (b : Bindings) (s : ℕ → Bool) → AllEnds (edges files b) s → (f k : ℕ) (r : Reloc) (section offset : ℕ) (rest : ℤ) →
     MayStay files b f k → s (section_no files f k) ≡ true → Contains (relocs_at (file_at files f) k) r → names_a_symbol r.kind ≡ true →
     target_of files b f r ≡ targets.Section section offset rest → s section ≡ true
-unfolding target_in
 target_follows files b s has f k r section offset rest stays is among names same =
-    let from = pairs_from (section_no files f k) (joined_in files b f) in
-    let all = all_left (In s) (targets_in files b f k) (map (λ (p : Pair). p.to) from) (ends_are files b s f k has stays is) in
-    let own = all_if (In s) (names_a_symbol r.kind) (section_in (target_of files b f r)) names
-    (part_of (In s) (target_in files b f) (relocs_at (file_at files f) k) r all among) in
-    let P : Target → Type 0 = λ t. All (In s) (section_in t) in
-    All-head (In s) section [] (subst P same own)
+    let P : Target → Type 0 = λ t. All (In s) (section_in files b t) in
+    All-head (In s) section [] (subst P same (targets_are files b s f k r has stays is among names))
 
-range_has : (n j : ℕ) → j < n → Contains (range_with_len 0 n) j
-range_has n j lt = (j, omega (arith, lt, length-range_with_len 0 n), let at = get_or-range_with_len 0 n j j lt in omega (arith, at))
+-- the place of a section's number
+place_at : (files : List File) (f k : ℕ) → f < length files → k < section_count (file_at files f) → place_of files (section_no files f k) ≡ record { file = f; index = k }
+place_at files f k lt below =
+    let n : ℕ = section_no files f k in
+    let index : n - first_section files f ≡ k = omega arith in
+    place_is files n f (record { file = lt; from = omega arith; below = omega (arith, below, section_more files f lt) })
+    ∙ ap (λ i. record { file = f; index = i }) index
+
+bound_follows : (files : List File) (b : Bindings) (s : ℕ → Bool) → AllEnds (edges files b) s → (f k g j : ℕ) (r : Reloc) (n : ℕ) →
+    MayStay files b f k → s (section_no files f k) ≡ true → Contains (relocs_at (file_at files f) k) r → names_a_symbol r.kind ≡ true →
+    target_of files b f r ≡ targets.Linker n → is_bound_no n ≡ true → MayStay files b g j → (input_of files b g j).name ≡ (input_at files b (bound_section n)).name →
+    s (section_no files g j) ≡ true
+unfolding bound_sections all_named is_named
+bound_follows files b s has f k g j r n stays is among names same bounds other called =
+    let text = (input_at files b (bound_section n)).name in
+    let x = section_no files g j in
+    let all = range_with_len 0 (section_total files) in
+    let P : Target → Type 0 = λ t. All (In s) (section_in files b t) in
+    let own : All (In s) (filter (is_named files b text) all) =
+    all_if (In s) (is_bound_no n) (filter (is_named files b text) all) bounds (subst P same (targets_are files b s f k r has stays is among names)) in
+    let place = place_at files g j other.file other.index in
+    let below : x < section_total files = omega (arith, other.index, section_within files g other.file) in
+    let may : may_stay_at files b x ≡ true = ap (λ (p : SectionPlace). may_stay files b p.file p.index) place ∙ other.stays in
+    let name : (input_at files b x).name ≡ text = ap (λ (p : SectionPlace). (input_of files b p.file p.index).name) place ∙ called in
+    one_passed (In s) (is_named files b text) all x own (range_has (section_total files) x below)
+    (both_true (may_stay_at files b x) (bytes_eq (input_at files b x).name text) may ((bytes_eq-Decides (input_at files b x).name text).1 name))
 
 test_nonzero : (d : ℕ) → d ≢ 0 → not (d == 0) ≡ true
 test_nonzero d other = ap (λ b. not b) (ne_eqb d 0 other)
-
-both_true : (a c : Bool) → a ≡ true → c ≡ true → (a && c) ≡ true
-both_true true c one other = other
-both_true false c one other = one
 
 link_follows : (files : List File) (b : Bindings) (s : ℕ → Bool) → AllEnds (edges files b) s → (f k j : ℕ) → MayStay files b f k → IsInTable files f k →
     s (section_no files f k) ≡ true → MayStay files b f j → bit_and (section_at (file_at files f) j).flags SHF_LINK_ORDER ≢ 0 →
@@ -351,6 +376,7 @@ group_follows files b s has f i j group of i_in j_in i_stays i_own j_stays j_own
 closed_by_rules : (files : List File) (b : Bindings) (s : ℕ → Bool) → AllEnds (edges files b) s → IsClosedByRules files b s
 closed_by_rules files b s has = record {
   targets = target_follows files b s has;
+  bounds = bound_follows files b s has;
   links = link_follows files b s has;
   groups = group_follows files b s has;
 }

@@ -41,7 +41,7 @@ module _ (files : List File) (b : Bindings) (merged : List (Option Merged)) (kep
       one_section (is_foldable files b kept n) (item_of files b merged n) n (flat_map (item_if files b merged kept) ns) (filter (is_foldable files b kept) ns)
       (own_section n) (sections_kept ns)
 
-  sections_are : sections_of (items files b merged kept) ≡ filter (is_foldable files b kept) (range_with_len 0 (section_total files))
+  pub sections_are : sections_of (items files b merged kept) ≡ filter (is_foldable files b kept) (range_with_len 0 (section_total files))
   unfolding items sections_of
   sections_are = sections_kept (range_with_len 0 (section_total files))
 

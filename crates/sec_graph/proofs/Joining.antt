@@ -1,7 +1,7 @@
 -- The parts of all files, one after the other, are the lists of all sections.
 use Rattle.std.proofs.Common.{◌≡◌, ℕ, ◌<◌, List, [], ◌∷◌, ◌++◌, length, flat_map, All, refl, sym, ap, ◌∙◌, subst}
 use Rattle.std.specs.List.{range_with_len}
-use Rattle.lk_tables.specs.Binding.{IsBindingOf}
+use Rattle.lk_tables.specs.BoundNames.{IsBindingOf}
 use Rattle.lk_tables.specs.Binding.{Bindings}
 use Rattle.lk_tables.specs.Files.{AreFew, File, by_section, section_total}
 use Rattle.lk_tables.proofs.ByNumber.{length_by_section, section_row}

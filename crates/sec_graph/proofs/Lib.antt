@@ -1,6 +1,9 @@
 pub mod Closing
+pub mod FoldKept
 pub mod FoldOrder
 pub mod Joining
+pub mod ListParts
+pub mod NamedLists
 pub mod Runs
 pub mod Unbound
 pub mod Within

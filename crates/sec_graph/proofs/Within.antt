@@ -1,20 +1,21 @@
 -- The ends of all sections are section numbers.
 use Rattle.std.proofs.Common.{◌≡◌, ℕ, zero, suc, ◌+◌, ◌<◌, ◌==◌, ◌&&◌, Bool, true, false, not, List, [], ◌∷◌, ◌++◌, length, map, flat_map, All, refl, arith}
-use Rattle.std.specs.Prelude.{if◌then◌else◌}
+use Rattle.std.specs.Prelude.{filter, if◌then◌else◌}
 use Rattle.std.specs.List.{range_with_len}
 use Rattle.std.proofs.lemmas.Bool.{and_parts, ltb-true}
 use Rattle.std.proofs.lemmas.List.Elements.{All-nil, All-cons, All-head, All-tail, All-append, All-filter, All-map}
 use Rattle.lk_base.specs.declared.abi.TheConstants.{STB_WEAK}
-use Rattle.link_sections.specs.InputSections.{is_own, may_stay}
+use Rattle.link_sections.specs.InputSections.{input_at, is_own, may_stay}
 use Rattle.lk_base.specs.RelocKinds.{goes_by_got, names_a_symbol}
 use Rattle.lk_tables.specs.declared.bounds.Bound.{Bound}
 use Rattle.lk_tables.specs.declared.bounds.Bound.TheVariants.{InSection, Number, Linker, Nobody}
 use Rattle.lk_tables.specs.declared.bounds.Target.TheVariants as targets
 use Rattle.lk_tables.specs.declared.heads.Symbol.{Symbol}
 use Rattle.lk_tables.specs.declared.objects.Reloc.{Reloc}
-use Rattle.lk_tables.specs.Binding.{IsBindingOf}
+use Rattle.lk_tables.specs.BoundNames.{IsBindingOf}
 use Rattle.lk_tables.specs.Binding.{Bindings}
 use Rattle.lk_tables.specs.Files.{AreFew, File, by_section, commons_before, file_at, is_section_symbol, relocs_at, section_at, section_count, section_no, section_total, symbol_at}
+use Rattle.lk_tables.specs.LinkerSymbols.{all_named, bound_section, bound_sections, is_bound_no, is_named}
 use Rattle.lk_tables.specs.Objects.{GroupView}
 use Rattle.lk_tables.specs.Targets.{bound, target_by, target_of}
 use Rattle.lk_tables.proofs.BoundWithin.{IsWithin, bound_within}
@@ -23,6 +24,7 @@ use Rattle.lk_tables.proofs.FirstNumbers.{section_within}
 use Rattle.lk_tables.proofs.LiveFiles.{counted}
 use Rattle.sec_graph.specs.declared.pairs.Pair.{Pair}
 use Rattle.sec_graph.specs.Graph.{chain, edges, ends_in, is_linked, joined_in, link_at, links_in, member_at, pair, pairs_from, ring, ring_in, section_in, target_in, targets_in}
+use Rattle.sec_graph.proofs.ListParts.{each_passed}
 
 -- the sections of a live file have numbers below the total
 pub own_below : (files : List File) (f k : ℕ) → f < length files → (file_at files f).live ≡ true → k < length (file_at files f).head.sections →
@@ -33,16 +35,24 @@ own_below files f k lt live below = omega (arith, counted (file_at files f) live
 one_section : (total section : ℕ) → section < total → All (λ n. n < total) (section ∷ [])
 one_section total section lt = All-cons (λ n. n < total) section [] lt (All-nil (λ n. n < total))
 
-target_below : (files : List File) (found : Bound) (file : File) (s : Symbol) (r : Reloc) → IsWithin files found →
-    All (λ n. n < section_total files) (section_in (target_by found file s r))
-target_below files (InSection section offset) file s r lt =
+bounds_below : (files : List File) (b : Bindings) (n : ℕ) → All (λ n. n < section_total files) (bound_sections files b n)
+unfolding bound_sections all_named
+bounds_below files b n =
+    let P : ℕ → Type 0 = λ n. n < section_total files in
+    let test = is_named files b (input_at files b (bound_section n)).name in
+    each_if P (is_bound_no n) (filter test (range_with_len 0 (section_total files))) (λ _.
+    each_passed P test 0 (section_total files) (λ k lt named. omega (arith, lt)))
+
+target_below : (files : List File) (b : Bindings) (found : Bound) (file : File) (s : Symbol) (r : Reloc) → IsWithin files found →
+    All (λ n. n < section_total files) (section_in files b (target_by found file s r))
+target_below files b (InSection section offset) file s r lt =
     let one = one_section (section_total files) section lt in
-    either (λ t. All (λ n. n < section_total files) (section_in t)) (is_section_symbol s && not (goes_by_got r.kind)) _ _ one one
-target_below files (Number n) file s r lt = All-nil (λ n. n < section_total files)
-target_below files (Linker n) file s r lt = All-nil (λ n. n < section_total files)
-target_below files Nobody file s r lt =
+    either (λ t. All (λ n. n < section_total files) (section_in files b t)) (is_section_symbol s && not (goes_by_got r.kind)) _ _ one one
+target_below files b (Number n) file s r lt = All-nil (λ n. n < section_total files)
+target_below files b (Linker n) file s r lt = bounds_below files b n
+target_below files b Nobody file s r lt =
     let none = All-nil (λ n. n < section_total files) in
-    either (λ t. All (λ n. n < section_total files) (section_in t)) (s.binding == STB_WEAK) targets.Zero targets.Unbound none none
+    either (λ t. All (λ n. n < section_total files) (section_in files b t)) (s.binding == STB_WEAK) targets.Zero targets.Unbound none none
 
 targets_below : (files : List File) (b : Bindings) (f : ℕ) (rs : List Reloc) → IsBindingOf files b → AreFew files → f < length files → (file_at files f).live ≡ true →
     All (λ n. n < section_total files) (flat_map (target_in files b f) rs)
@@ -51,8 +61,8 @@ targets_below files b f [] is few lt live = All-nil (λ n. n < section_total fil
 targets_below files b f (r ∷ rs) is few lt live =
     let P : ℕ → Type 0 = λ n. n < section_total files in
     All-append P (target_in files b f r) (flat_map (target_in files b f) rs)
-    (each_if P (names_a_symbol r.kind) (section_in (target_of files b f r)) (λ names.
-    target_below files (bound files b f r.symbol) (file_at files f) (symbol_at (file_at files f) r.symbol) r (bound_within files b f r.symbol is few lt live)))
+    (each_if P (names_a_symbol r.kind) (section_in files b (target_of files b f r)) (λ names.
+    target_below files b (bound files b f r.symbol) (file_at files f) (symbol_at (file_at files f) r.symbol) r (bound_within files b f r.symbol is few lt live)))
     (targets_below files b f rs is few lt live)
 
 -- and what sections of a file lead to

@@ -1,12 +1,13 @@
 -- Which sections may be folded, and what decides with which others (System V gABI, "Sections": what a section's header says of it).
-use Rattle.std.specs.Prelude.{ℕ, ◌+◌, ◌&&◌, ◌||◌, ◌==◌, not, nat_le, bit_and, Bool, Option, Some, None, if◌then◌else◌, List, [], ◌∷◌, map, flat_map, slice_index, codes}
-use Rattle.std.specs.List.{list_all, range_with_len}
+use Rattle.std.specs.Prelude.{ℕ, ◌+◌, ◌&&◌, ◌||◌, ◌==◌, not, bit_and, Bool, Option, Some, None, if◌then◌else◌, List, [], ◌∷◌, map, flat_map, codes}
+use Rattle.std.specs.List.{range_with_len}
 use Rattle.std.specs.Str.{bytes_eq}
 use Rattle.lk_base.specs.RelocKinds.{names_a_symbol}
 use Rattle.lk_base.specs.declared.abi.TheConstants.{SHF_ALLOC, SHF_EXECINSTR, SHF_GNU_RETAIN, SHF_LINK_ORDER, SHF_MERGE, SHF_TLS, SHF_WRITE, SHT_PROGBITS}
 use Rattle.lk_tables.specs.declared.objects.Reloc.{Reloc}
 use Rattle.lk_tables.specs.Binding.{Bindings}
 use Rattle.lk_tables.specs.Files.{File, file_at, is_section_symbol, relocs_at, section_total, symbol_at}
+use Rattle.lk_tables.specs.LinkerSymbols.{is_c_identifier}
 use Rattle.lk_tables.specs.OutputNames.{output_name}
 use Rattle.lk_tables.specs.Sites.{place_of}
 use Rattle.lk_tables.specs.Targets.{target_of}
@@ -18,20 +19,6 @@ use Rattle.link_sections.specs.Leaders.{is_kept}
 use Rattle.link_sections.specs.MergeSections.{contents}
 use Rattle.link_sections.specs.PieceTargets.{piece_target}
 use Rattle.link_sections.specs.PoolViews.{Merged}
-
--- A to Z, a to z and `_`; 0 to 9
-abbrev pub is_letter : ℕ → Bool
-is_letter c = (nat_le 65 c && nat_le c 90) || ((nat_le 97 c && nat_le c 122) || c == 95)
-
-abbrev pub is_digit : ℕ → Bool
-is_digit c = nat_le 48 c && nat_le c 57
-
-abbrev pub is_letter_or_digit : ℕ → Bool
-is_letter_or_digit c = is_letter c || is_digit c
-
--- an identifier of C: letters and digits, a letter first; the linker has symbols for the start and the end of a section of such a name
-unfoldable pub is_c_identifier : List ℕ → Bool
-is_c_identifier name = is_letter (slice_index name 0) && list_all is_letter_or_digit name
 
 -- functions to call at the start and at the end are made of sections of these names
 abbrev pub is_init_or_fini : List ℕ → Bool

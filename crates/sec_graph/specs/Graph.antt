@@ -1,5 +1,5 @@
--- Which sections each section leads to, by section number: the sections that its relocations name, those that go with it (System V gABI,
--- "Sections": SHF_LINK_ORDER), and those of its groups ("Section Groups").
+-- Which sections each section leads to, by section number: the sections that its relocations name, by a symbol or by the start or the end of
+-- their name, those that go with it (System V gABI, "Sections": SHF_LINK_ORDER), and those of its groups ("Section Groups").
 use Rattle.std.specs.Prelude.{◌≡◌, ℕ, ◌&&◌, ◌==◌, not, nat_lt, bit_and, Bool, if◌then◌else◌, List, [], ◌∷◌, ◌++◌, length, map, filter, flat_map}
 use Rattle.std.specs.List.{range_with_len}
 use Rattle.std.specs.List.Sorted.{IsNonDecreasingBy}
@@ -12,20 +12,13 @@ use Rattle.lk_tables.specs.declared.heads.Section.{Section}
 use Rattle.lk_tables.specs.declared.objects.Reloc.{Reloc}
 use Rattle.lk_tables.specs.Binding.{Bindings}
 use Rattle.lk_tables.specs.Files.{File, file_at, section_at, section_no, relocs_at, by_section}
+use Rattle.lk_tables.specs.LinkerSymbols.{bound_sections}
 use Rattle.lk_tables.specs.Objects.{GroupView}
 use Rattle.lk_tables.specs.Targets.{target_of}
 use Rattle.sec_graph.specs.declared.pairs.Pair.{Pair}
 
 abbrev pub pair : (from to : ℕ) → Pair
 pair from to = record { from = from; to = to }
-
--- the section in which a target stands, if it stands in one
-abbrev pub section_in : Target → List ℕ
-section_in (targets.Section section offset rest) = section ∷ []
-section_in (targets.Number n) = []
-section_in targets.Zero = []
-section_in (targets.Linker n) = []
-section_in targets.Unbound = []
 
 -- a section goes with another one of its file: it is flagged LINK_ORDER, and its sh_link names a section (0, SHN_UNDEF, names none)
 unfoldable pub is_linked : File → Section → Bool
@@ -55,7 +48,15 @@ pub record AreBySection (pairs sorted : List Pair) : Type 0 where
   pub same : (section : ℕ) → pairs_from section sorted ≡ pairs_from section pairs
 
 module _ (files : List File) (b : Bindings) where
-  -- the section that relocation r of file f names
+  -- the section in which a target stands, if it stands in one; the start or the end of a name means all sections of that name
+  abbrev pub section_in : Target → List ℕ
+  section_in (targets.Section section offset rest) = section ∷ []
+  section_in (targets.Number n) = []
+  section_in targets.Zero = []
+  section_in (targets.Linker n) = bound_sections files b n
+  section_in targets.Unbound = []
+
+  -- the sections that relocation r of file f names
   unfoldable pub target_in : (f : ℕ) → Reloc → List ℕ
   target_in f r = if names_a_symbol r.kind then section_in (target_of files b f r) else []
 

@@ -1,5 +1,6 @@
 pub mod Foldable
 pub mod Graph
 pub mod Kept
+pub mod NamedSections
 pub mod Rows
 pub mod Undefined

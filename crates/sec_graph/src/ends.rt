@@ -4,15 +4,18 @@ ghost use Rattle.std.specs.Prelude.{◌≡◌, ◌<◌, ◌++◌, ◌∷◌, [],
 ghost use Rattle.lk_tables.specs.BindingView.{binding_view};
 ghost use Rattle.lk_tables.specs.Files.{file_at, section_count};
 ghost use Rattle.lk_tables.specs.TablesView.{files_of};
+ghost use Rattle.lk_tables.specs.LinkerSymbols.{bound_section, bound_sections, is_bound_no};
 ghost use Rattle.lk_tables.proofs.ByNumber.{section_row};
 ghost use Rattle.sec_graph.specs.Graph as spec;
+ghost use Rattle.sec_graph.specs.NamedSections.{HasNamed, IsKnown};
 
+use crate::named_sections::{NamedSections, sections_named};
 use crate::pairs::{Pair, pairs_from, pairs_of};
 use flat_rows::Rows;
-use link_sections::may_stay;
+use link_sections::{input_section, may_stay};
 use lk_base::relocations::names_a_symbol;
 use lk_base::{FileNo, SecNo};
-use lk_tables::{Binding, Reloc, Tables, Target, section_count, target_in};
+use lk_tables::{Binding, Reloc, Tables, Target, bound_section, section_count, target_in};
 use std::alloc::{AllocError, Global};
 
 /// For each section number of a file, in order, the sections to which that leads.
@@ -20,16 +23,18 @@ pub fn file_ends(
     alloc: Global,
     tables: &Tables,
     binding: &Binding,
+    named: &NamedSections,
     file: FileNo,
 ) -> Result<Rows<SecNo>, AllocError>
-    requires { file < length (files_of tables.now) }
+    requires file { file < length (files_of tables.now) }
+    requires named { HasNamed (files_of tables.now) (binding_view binding.now) named.now }
     ensures { IfOk result (λ rows. rows ≡ section_row (files_of tables.now) (spec.ends_in (files_of tables.now) (binding_view binding.now)) file) }
 {
     if !tables.file(file).is_live() {
         return Rows::empty(alloc);
     }
     let pairs = pairs_of(alloc, tables, binding, file)?;
-    live_ends(alloc, tables, binding, file, pairs.as_slice())
+    live_ends(alloc, tables, binding, named, file, pairs.as_slice())
 }
 
 /// The same of a file that takes part, of which the pairs are known.
@@ -37,17 +42,20 @@ fn live_ends(
     alloc: Global,
     tables: &Tables,
     binding: &Binding,
+    named: &NamedSections,
     file: FileNo,
     pairs: &[Pair],
 ) -> Result<Rows<SecNo>, AllocError>
     requires file { file < length (files_of tables.now) }
+    requires live { (file_at (files_of tables.now) file).live ≡ true }
+    requires named { HasNamed (files_of tables.now) (binding_view binding.now) named.now }
     requires pairs { spec.AreBySection (spec.joined_in (files_of tables.now) (binding_view binding.now) file) pairs.now }
     ensures { IfOk result (λ rows. rows ≡ section_row (files_of tables.now) (spec.ends_in (files_of tables.now) (binding_view binding.now)) file) }
 {
     tables.is_few();
     let mut rows = Rows::empty(alloc)?;
     for index in 0..section_count(tables.file(file)) {
-        let ends = section_ends(alloc, tables, binding, file, index as u32, pairs)?;
+        let ends = section_ends(alloc, tables, binding, named, file, index as u32, pairs)?;
         rows.push(ends.as_slice())?;
     }
     Ok(rows)
@@ -59,11 +67,14 @@ fn section_ends(
     alloc: Global,
     tables: &Tables,
     binding: &Binding,
+    named: &NamedSections,
     file: FileNo,
     index: u32,
     pairs: &[Pair],
 ) -> Result<Vec<SecNo>, AllocError>
     requires file { file < length (files_of tables.now) }
+    requires live { (file_at (files_of tables.now) file).live ≡ true }
+    requires named { HasNamed (files_of tables.now) (binding_view binding.now) named.now }
     requires pairs { spec.AreBySection (spec.joined_in (files_of tables.now) (binding_view binding.now) file) pairs.now }
     ensures { IfOk result (λ ends. ends.items ≡ spec.ends_in (files_of tables.now) (binding_view binding.now) file index) }
 {
@@ -71,7 +82,14 @@ fn section_ends(
     if !may_stay(tables, binding, file, index) {
         return Ok(ends);
     }
-    push_targets(&mut ends, tables, binding, file, tables.relocs(file, index))?;
+    push_targets(
+        &mut ends,
+        tables,
+        binding,
+        named,
+        file,
+        tables.relocs(file, index),
+    )?;
     let number = tables.section_no(file as usize, index as usize);
     push_seconds(&mut ends, pairs_from(pairs, number))?;
     Ok(ends)
@@ -82,37 +100,67 @@ fn push_targets(
     ends: &mut Vec<SecNo>,
     tables: &Tables,
     binding: &Binding,
+    named: &NamedSections,
     file: FileNo,
     relocs: &[Reloc],
 ) -> Result<(), AllocError>
-    requires { file < length (files_of tables.now) }
+    requires file { file < length (files_of tables.now) }
+    requires live { (file_at (files_of tables.now) file).live ≡ true }
+    requires named { HasNamed (files_of tables.now) (binding_view binding.now) named.now }
     ensures { OnOk result (ends.new.items ≡ ends.old.items ++ flat_map (spec.target_in (files_of tables.now) (binding_view binding.now) file) relocs.now) }
 {
     for reloc in relocs {
-        push_target(ends, tables, binding, file, reloc)?;
+        push_target(ends, tables, binding, named, file, reloc)?;
     }
     Ok(())
 }
 
-/// Adds the section that a relocation names, if its symbol stands in one.
+/// Adds the section that a relocation names, or all those of the name to whose start or end it refers.
 #[tactic(auto, unfolding(crate::specs::Graph::target_in))]
 fn push_target(
     ends: &mut Vec<SecNo>,
     tables: &Tables,
     binding: &Binding,
+    named: &NamedSections,
     file: FileNo,
     reloc: &Reloc,
 ) -> Result<(), AllocError>
-    requires { file < length (files_of tables.now) }
+    requires file { file < length (files_of tables.now) }
+    requires live { (file_at (files_of tables.now) file).live ≡ true }
+    requires named { HasNamed (files_of tables.now) (binding_view binding.now) named.now }
     ensures { OnOk result (ends.new.items ≡ ends.old.items ++ spec.target_in (files_of tables.now) (binding_view binding.now) file reloc.now) }
 {
     if !names_a_symbol(reloc.kind) {
         return Ok(());
     }
-    let Target::Section { section, .. } = target_in(tables, binding, file, reloc) else {
+    match target_in(tables, binding, file, reloc) {
+        Target::Section { section, .. } => {
+            ends.push(section)?;
+            Ok(())
+        }
+        Target::Linker(number) => push_bound(ends, tables, binding, named, number),
+        _ => Ok(()),
+    }
+}
+
+/// Adds all sections of the name whose start or end a symbol of the linker's is; none if it has a fixed name.
+#[tactic(auto, unfolding(lk_tables::specs::LinkerSymbols::bound_sections))]
+fn push_bound(
+    ends: &mut Vec<SecNo>,
+    tables: &Tables,
+    binding: &Binding,
+    named: &NamedSections,
+    number: u32,
+) -> Result<(), AllocError>
+    requires named { HasNamed (files_of tables.now) (binding_view binding.now) named.now }
+    requires known { is_bound_no number ≡ true → IsKnown (files_of tables.now) (binding_view binding.now) named.now.names (bound_section number) }
+    ensures { OnOk result (ends.new.items ≡ ends.old.items ++ bound_sections (files_of tables.now) (binding_view binding.now) number) }
+{
+    let Some(section) = bound_section(number) else {
         return Ok(());
     };
-    ends.push(section)?;
+    let input = input_section(tables, binding, section);
+    push_seconds(ends, sections_named(named, input.name))?;
     Ok(())
 }
 

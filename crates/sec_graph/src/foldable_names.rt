@@ -10,6 +10,7 @@ use lk_base::abi::{
     SHF_ALLOC, SHF_EXECINSTR, SHF_GNU_RETAIN, SHF_LINK_ORDER, SHF_MERGE, SHF_TLS, SHF_WRITE,
     SHT_PROGBITS,
 };
+use lk_tables::is_c_identifier;
 
 /// The flags of sections that are more than their bytes.
 const BARRING: u64 = SHF_WRITE + SHF_MERGE + SHF_TLS + SHF_GNU_RETAIN + SHF_LINK_ORDER;
@@ -44,41 +45,4 @@ fn is_init_or_fini(name: &[u8]) -> bool
     ensures { result ≡ spec.is_init_or_fini name.now }
 {
     name == b".init".as_slice() || name == b".fini".as_slice()
-}
-
-/// Whether a name is an identifier of C.
-#[tactic(auto, unfolding(crate::specs::Foldable::is_c_identifier))]
-fn is_c_identifier(name: &[u8]) -> bool
-    ensures { result ≡ spec.is_c_identifier name.now }
-{
-    is_letter(first_of(name)) && all_pass(name)
-}
-
-/// The first byte of a name, 0 if it has none.
-fn first_of(name: &[u8]) -> u8
-    ensures { result ≡ slice_index name.now 0 }
-{
-    match name.get(0) {
-        Some(byte) => *byte,
-        None => 0,
-    }
-}
-
-/// Whether a name has letters and digits alone.
-fn all_pass(name: &[u8]) -> bool
-    ensures { result ≡ list_all spec.is_letter_or_digit name.now }
-{
-    name.iter().all(|byte| is_letter_or_digit(*byte))
-}
-
-fn is_letter_or_digit(byte: u8) -> bool
-    ensures { result ≡ spec.is_letter_or_digit byte }
-{
-    is_letter(byte) || (b'0' <= byte && byte <= b'9')
-}
-
-fn is_letter(byte: u8) -> bool
-    ensures { result ≡ spec.is_letter byte }
-{
-    (b'A' <= byte && byte <= b'Z') || ((b'a' <= byte && byte <= b'z') || byte == b'_')
 }

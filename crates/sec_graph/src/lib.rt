@@ -1,14 +1,15 @@
 //! Which sections each section leads to, and the first reference that stands for nothing.
 //!
-//! `pairs` lists the sections of a file that go together without a relocation, `ends` joins these with what relocations name, `graph` does
-//! so for all files, and `undefined_symbols` finds what a kept section refers to though nothing defines it. `fold_lists` lists what may be
-//! folded, with what its relocations refer to; no link asks for that yet.
+//! `pairs` lists the sections of a file that go together without a relocation, `named_sections` finds the sections of each name to whose
+//! start or end symbols refer, `ends` joins both with what relocations name, `graph` does so for all files, and `undefined_symbols` finds
+//! what a kept section refers to though nothing defines it. `fold_lists` lists what may be folded, with what its relocations refer to.
 #![tactic(auto)]
 
 mod ends;
 mod fold_lists;
 mod foldable_names;
 mod graph;
+mod named_sections;
 mod pairs;
 mod undefined_symbols;
 

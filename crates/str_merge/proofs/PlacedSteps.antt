@@ -1,16 +1,21 @@
 -- The pieces of a pool, placed one after the other.
-use Rattle.std.proofs.Common.{◌≡◌, ℕ, suc, ◌+◌, ◌<◌, List, [], ◌∷◌, ◌++◌, length, map, get_or, drop, sym, ap, ◌∙◌, arith, append_assoc}
+use Rattle.std.proofs.Common.{◌≡◌, ℕ, suc, ◌+◌, ◌<◌, ◌≤◌, List, [], ◌∷◌, ◌++◌, length, map, get_or, drop, refl, sym, ap, ◌∙◌, subst, arith, append_assoc, inl, inr}
 use Rattle.std.proofs.Math.Seq.{drop-cons}
-use Rattle.std.proofs.lemmas.List.{map-append, append-nil}
+use Rattle.std.proofs.lemmas.Bool.{cases_lt}
+use Rattle.std.proofs.lemmas.List.{map-append, append-nil, get_or_append_left, get_or_push, length-append}
+use Rattle.std.proofs.lemmas.List.Elements.{All-append, All-cons, All-nil}
 use Rattle.std.specs.List.{range_with_len}
 use Rattle.lk_base.specs.Arithmetic.{up}
+use Rattle.lk_base.proofs.Multiples.{up_least}
 use Rattle.lk_tables.specs.declared.spans.Span.{Span}
 use Rattle.lk_tables.specs.Names.{no_name}
 use Rattle.link_sections.specs.declared.pieces.Part.{Part}
 use Rattle.link_sections.specs.declared.pieces.Piece.{Piece}
+use Rattle.link_sections.specs.declared.pools.Pool.{Pool}
 use Rattle.link_sections.specs.Merging.{end_from, positions_from}
+use Rattle.link_sections.specs.Pools.{IsPile}
 use Rattle.str_merge.specs.Parts.{parts_by}
-use Rattle.str_merge.specs.Placing.{chosen}
+use Rattle.str_merge.specs.Placing.{chosen, fitted}
 use Rattle.str_merge.proofs.ListSteps.{by_index, drop_past, view_step}
 
 abbrev pub rest_of : (texts : List (List ℕ)) → (firsts : List ℕ) → (n : ℕ) → List (List ℕ)
@@ -18,24 +23,54 @@ rest_of texts firsts n = chosen texts [] (drop n firsts)
 
 -- the first n are placed, up to an end
 pub record AreUpTo (spans : List Span) (texts : List (List ℕ)) (firsts : List ℕ) (align n : ℕ) (pieces : List Piece) (end : ℕ) : Type 0 where
-  pub spans_are : map (λ (p : Piece). p.text) pieces ≡ map (λ i. get_or spans (get_or firsts i 0) no_name) (range_with_len 0 n)
+  pub spans_are : map (λ (p : Piece). p.text) pieces ≡ map (λ i. fitted (get_or spans (get_or firsts i 0) no_name) (get_or texts (get_or firsts i 0) [])) (range_with_len 0 n)
   pub positions : map (λ (p : Piece). p.position) pieces ++ positions_from align end (rest_of texts firsts n) ≡ positions_from align 0 (chosen texts [] firsts)
   pub end_is : end_from align end (rest_of texts firsts n) ≡ end_from align 0 (chosen texts [] firsts)
+  pub piled : (pool : Pool) → pool.size ≡ end → IsPile pool pieces
 
 rest_at : (texts : List (List ℕ)) (firsts : List ℕ) (n : ℕ) → n < length firsts → rest_of texts firsts n ≡ get_or texts (get_or firsts n 0) [] ∷ rest_of texts firsts (n + 1)
 rest_at texts firsts n lt =
     let one : suc n ≡ n + 1 = omega arith in
     ap (chosen texts []) (drop-cons firsts n 0 lt) ∙ ap (λ k. get_or texts (get_or firsts n 0) [] ∷ chosen texts [] (drop k firsts)) one
 
+-- one piece more, after the end of the others
+pile_next : (old new : List Piece) (p : Piece) (end next : ℕ) → ((pool : Pool) → pool.size ≡ end → IsPile pool old) → new ≡ old ++ p ∷ [] → end ≤ p.position →
+    p.position + p.text.len ≡ next → (pool : Pool) → pool.size ≡ next → IsPile pool new
+pile_next old new p end next held is from to pool size =
+    let before : Pool = record { first = 0; size = end } in
+    let piled = held before refl in
+    let P : List Piece → Type 0 = λ l. IsPile pool l in
+    let Inside : Piece → Type 0 = λ q. q.position + q.text.len ≤ pool.size in
+    subst P (sym is) (record {
+      inside = All-append Inside old (p ∷ [])
+          (λ i d lt. let low = piled.inside i d lt in omega (arith, low, from, to, size))
+          (All-cons Inside p [] (omega (arith, to, size)) (All-nil Inside));
+      order = λ i d lt. elim (cases_lt (i + 1) (length old)) [
+        | inl both ↦
+            let low = piled.order i d both in
+            let first = get_or_append_left old (p ∷ []) d i (omega arith) in
+            let second = get_or_append_left old (p ∷ []) d (i + 1) both in
+            omega (arith, low, ap (λ (q : Piece). q.position + q.text.len) first, ap (λ (q : Piece). q.position) second)
+        | inr last ↦
+            let at : i + 1 ≡ length old = omega (arith, lt, last, length-append old (p ∷ [])) in
+            let low = piled.inside i d (omega (arith, at)) in
+            let first = get_or_append_left old (p ∷ []) d i (omega (arith, at)) in
+            let second = get_or_push old p d (i + 1) (sym at) in
+            omega (arith, low, from, ap (λ (q : Piece). q.position + q.text.len) first, ap (λ (q : Piece). q.position) second)
+      ];
+    })
+
 pub placed_next : (spans : List Span) (texts : List (List ℕ)) (firsts : List ℕ) (align n : ℕ) (old new : List Piece) (end position next : ℕ) (p : Piece) →
-    n < length firsts → AreUpTo spans texts firsts align n old end → new ≡ old ++ p ∷ [] → p.text ≡ get_or spans (get_or firsts n 0) no_name → p.position ≡ up end align →
+    1 ≤ align → n < length firsts → AreUpTo spans texts firsts align n old end → new ≡ old ++ p ∷ [] →
+    p.text ≡ fitted (get_or spans (get_or firsts n 0) no_name) (get_or texts (get_or firsts n 0) []) → p.position ≡ up end align →
     next ≡ up end align + length (get_or texts (get_or firsts n 0) []) → AreUpTo spans texts firsts align (n + 1) new next
-placed_next spans texts firsts align n old new end position next p lt held is text at to =
+placed_next spans texts firsts align n old new end position next p some lt held is text at to =
     let piece = get_or texts (get_or firsts n 0) [] in
     let start = up end align in
     let rest = rest_of texts firsts (n + 1) in
     record {
-      spans_are = view_step (λ (p : Piece). p.text) (λ i. get_or spans (get_or firsts i 0) no_name) n old new p held.spans_are is text;
+      spans_are =
+          view_step (λ (p : Piece). p.text) (λ i. fitted (get_or spans (get_or firsts i 0) no_name) (get_or texts (get_or firsts i 0) [])) n old new p held.spans_are is text;
       positions =
           ap (λ l. map (λ (p : Piece). p.position) l ++ positions_from align next rest) is
           ∙ ap (λ l. l ++ positions_from align next rest) (map-append (λ (p : Piece). p.position) old (p ∷ []))
@@ -46,6 +81,7 @@ placed_next spans texts firsts align n old new end position next p lt held is te
           ∙ held.positions;
       end_is =
           ap (λ k. end_from align k rest) to ∙ ap (end_from align end) (sym (rest_at texts firsts n lt)) ∙ held.end_is;
+      piled = pile_next old new p end next held.piled is (omega (arith, at, up_least end align some)) (omega (arith, at, to, ap (λ (s : Span). s.len) text));
     }
 
 -- parts one after the other
@@ -79,11 +115,12 @@ parts_all texts numbers n start parts e held =
 
 -- all are placed
 pub placed_all : (spans : List Span) (texts : List (List ℕ)) (firsts : List ℕ) (align n : ℕ) (pieces : List Piece) (size : ℕ) → n ≡ length firsts →
-    AreUpTo spans texts firsts align n pieces size → (map (λ (p : Piece). p.text) pieces ≡ chosen spans no_name firsts)
+    AreUpTo spans texts firsts align n pieces size →
+    (map (λ (p : Piece). p.text) pieces ≡ map (λ i. fitted (get_or spans i no_name) (get_or texts i [])) firsts)
     × (map (λ (p : Piece). p.position) pieces ≡ positions_from align 0 (chosen texts [] firsts)) × (size ≡ end_from align 0 (chosen texts [] firsts))
 placed_all spans texts firsts align n pieces size e held =
     let none : rest_of texts firsts n ≡ [] = ap (chosen texts []) (drop_past firsts n (omega arith)) in (
-      held.spans_are ∙ by_index (λ i. get_or spans i no_name) firsts 0 n e,
+      held.spans_are ∙ by_index (λ i. fitted (get_or spans i no_name) (get_or texts i [])) firsts 0 n e,
       sym (append-nil (map (λ (p : Piece). p.position) pieces)) ∙ ap (λ l. map (λ (p : Piece). p.position) pieces ++ positions_from align size l) (sym none) ∙ held.positions,
       ap (end_from align size) (sym none) ∙ held.end_is,
     )

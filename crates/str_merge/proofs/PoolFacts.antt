@@ -7,19 +7,19 @@ use Rattle.std.specs.Str.{bytes_eq}
 use Rattle.std.proofs.Math.ListN.{get_or-map as get_or-map_default}
 use Rattle.std.proofs.Math.Seq.{drop-cons, drop-nil, take-nil}
 use Rattle.std.proofs.lemmas.Bool.{eqb-true}
-use Rattle.std.proofs.lemmas.List.{append-nil, get_or-map, map-append}
+use Rattle.std.proofs.lemmas.List.{append-nil, get_or-map, length-take, map-append, take_min}
 use Rattle.std.proofs.lemmas.List.Elements.{All-filter, filter_passes}
 use Rattle.std.proofs.lemmas.List.FromFn.{length-range_with_len, get_or-range_with_len}
 use Rattle.std.proofs.lemmas.Simd.{map-map}
 use Rattle.std.proofs.lemmas.Slice.Eq.{bytes_eq-Decides}
 use Rattle.lk_tables.specs.declared.spans.Span.{Span}
-use Rattle.lk_tables.specs.Files.{File}
+use Rattle.lk_tables.specs.Files.{File, file_at}
 use Rattle.lk_tables.specs.Names.{no_name, text_of}
 use Rattle.link_sections.specs.declared.pieces.Piece.{Piece}
 use Rattle.link_sections.specs.MergeSections.{pool_key}
 use Rattle.link_sections.specs.Merging.{Site, no_site, pool_members, pool_number, site_key, site_pieces, sites}
 use Rattle.link_sections.specs.PoolViews.{piece_text}
-use Rattle.str_merge.specs.Placing.{chosen}
+use Rattle.str_merge.specs.Placing.{chosen, fitted}
 use Rattle.str_merge.specs.Sites.{cut_views, gathered, span_lists, span_text, span_texts}
 use Rattle.str_merge.specs.Works.{members_at, nth_site}
 use Rattle.str_merge.proofs.ListSteps.{by_index, drop_past}
@@ -125,12 +125,22 @@ module _ (files : List File) (kept : List Bool) where
       ∙ pool_texts_are (map (site_pieces files) all) pool refl
 
 -- pieces that are chosen by place
-pub chosen_texts : (files : List File) (spans : List Span) (firsts : List ℕ) → All (λ i. i < length spans) firsts →
-    map (span_text files) (chosen spans no_name firsts) ≡ chosen (span_texts files spans) [] firsts
-chosen_texts files spans [] within = refl
-chosen_texts files spans (i ∷ firsts) within =
-    ap (λ t. t ∷ map (span_text files) (chosen spans no_name firsts)) (sym (get_or-map (span_text files) spans i no_name [] (within 0 i (omega arith))))
-    ∙ ap (λ l. get_or (span_texts files spans) i [] ∷ l) (chosen_texts files spans firsts (λ k d lt. within (suc k) d (omega arith)))
+fit_text : (bytes : List ℕ) (s : Span) → text_of bytes (fitted s (text_of bytes s)) ≡ text_of bytes s
+unfolding text_of
+fit_text bytes s =
+    let rest = drop s.from bytes in
+    ap (λ n. take n rest) (length-take s.len rest) ∙ take_min s.len rest
+
+pub fitted_texts : (files : List File) (spans : List Span) (texts : List (List ℕ)) (firsts : List ℕ) → texts ≡ span_texts files spans → All (λ i. i < length spans) firsts →
+    map (span_text files) (map (λ i. fitted (get_or spans i no_name) (get_or texts i [])) firsts) ≡ chosen texts [] firsts
+fitted_texts files spans texts [] are within = refl
+fitted_texts files spans texts (i ∷ firsts) are within =
+    let s = get_or spans i no_name in
+    let own : get_or texts i [] ≡ span_text files s = ap (λ l. get_or l i []) are ∙ get_or-map (span_text files) spans i no_name [] (within 0 i (omega arith)) in
+    ap (λ t. span_text files (fitted s t) ∷ map (span_text files) (map (λ i. fitted (get_or spans i no_name) (get_or texts i [])) firsts))
+    own
+    ∙ ap (λ t. t ∷ map (span_text files) (map (λ i. fitted (get_or spans i no_name) (get_or texts i [])) firsts)) (fit_text (file_at files s.file).bytes s ∙ sym own)
+    ∙ ap (λ l. get_or texts i [] ∷ l) (fitted_texts files spans texts firsts are (λ k d lt. within (suc k) d (omega arith)))
 
 pub piece_texts : (files : List File) (pieces : List Piece) → map (piece_text files) pieces ≡ map (span_text files) (map (λ (p : Piece). p.text) pieces)
 piece_texts files pieces = sym (map-map (span_text files) (λ (p : Piece). p.text) pieces)

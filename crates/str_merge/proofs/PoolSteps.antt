@@ -3,7 +3,7 @@ use Rattle.std.proofs.Common.{◌≡◌, ℕ, zero, suc, ◌+◌, ◌<◌, ◌==
 use Rattle.std.specs.Prelude.{All}
 use Rattle.std.specs.List.{filter, range_with_len}
 use Rattle.std.proofs.lemmas.Bool.{cases_lt, eq-eqb}
-use Rattle.std.proofs.lemmas.List.{length-append}
+use Rattle.std.proofs.lemmas.List.{get_or_append_left, get_or_push, length-append}
 use Rattle.std.proofs.lemmas.List.FromFn.{length-range_with_len, get_or-range_with_len}
 use Rattle.std.proofs.lemmas.List.Sums.{sum_by_push}
 use Rattle.lk_base.proofs.Loops.{map_step}
@@ -15,7 +15,7 @@ use Rattle.link_sections.specs.declared.pieces.Piece.{Piece}
 use Rattle.link_sections.specs.declared.pools.Pool.{Pool}
 use Rattle.link_sections.specs.Merging.{pool_number, pool_of, pool_pieces, pool_site, positions_from, sites}
 use Rattle.link_sections.specs.PoolViews.{piece_text, pool_view, pool_views}
-use Rattle.link_sections.specs.Pools.{AreInOrder, pool_bytes}
+use Rattle.link_sections.specs.Pools.{AreInOrder, ArePiles, IsPile, pool_bytes}
 use Rattle.str_merge.specs.declared.filling.Filled.{Filled}
 use Rattle.str_merge.specs.declared.pooling.Pooled.{Pooled}
 use Rattle.str_merge.specs.declared.pooling.Work.{Work}
@@ -31,6 +31,22 @@ views_push files [] [] pool row same = refl
 views_push files [] (r ∷ rows) pool row same = absurd (omega (arith, same))
 views_push files (p ∷ pools) [] pool row same = absurd (omega (arith, same))
 views_push files (p ∷ pools) (r ∷ rows) pool row same = ap (λ l. pool_view files p r ∷ l) (views_push files pools rows pool row (omega (arith, same)))
+
+-- each with its pieces in it
+piles_push : (pools : List Pool) (rows : List (List Piece)) (pool : Pool) (row : List Piece) → length pools ≡ length rows → ArePiles pools rows → IsPile pool row →
+    ArePiles (pools ++ pool ∷ []) (rows ++ row ∷ [])
+piles_push pools rows pool row same piled own = λ i d lt. elim (cases_lt i (length pools)) [
+  | inl before ↦
+      let P : Pool → Type 0 = λ q. IsPile q (get_or (rows ++ row ∷ []) i []) in
+      let Q : List Piece → Type 0 = λ l. IsPile (get_or pools i d) l in
+      subst P (sym (get_or_append_left pools (pool ∷ []) d i before))
+      (subst Q (sym (get_or_append_left rows (row ∷ []) [] i (omega (arith, before, same)))) (piled i d before))
+  | inr past ↦
+      let at : length pools ≡ i = omega (arith, lt, past, length-append pools (pool ∷ [])) in
+      let P : Pool → Type 0 = λ q. IsPile q (get_or (rows ++ row ∷ []) i []) in
+      let Q : List Piece → Type 0 = λ l. IsPile pool l in
+      subst P (sym (get_or_push pools pool d i at)) (subst Q (sym (get_or_push rows row [] i (sym same ∙ at))) own)
+]
 
 -- the record of a pool
 view_is : (files : List File) (kept : List Bool) (pool first : ℕ) (p : Pooled) → IsPooled files kept pool p → first ≡ (pool_site files kept pool).section →
@@ -91,6 +107,10 @@ filled_next w pool first p old mid new is held pooled start adds answered =
           ∙ views_push files old.pools.items old.rows.pieces here pieces held.paired
           ∙ ap (λ v. pool_views files old.pools.items old.rows.pieces ++ v ∷ []) (view_is files kept pool first p pooled start));
       paired = ap length pools ∙ length-append old.pools.items (here ∷ []) ∙ ap (λ n. n + 1) held.paired ∙ sym (length-append old.rows.pieces (pieces ∷ [])) ∙ ap length (sym rows);
+      piled =
+          let P : List Pool → Type 0 = λ l. ArePiles l new.rows.pieces in
+          let R : List (List Piece) → Type 0 = λ l. ArePiles (old.pools.items ++ here ∷ []) l in
+          subst P (sym pools) (subst R (sym rows) (piles_push old.pools.items old.rows.pieces here pieces held.paired held.piled (pooled.piled here refl)));
       bytes_are = ap pool_bytes pools ∙ sum_by_push (λ (x : Pool). x.size) old.pools.items here ∙ ap (λ n. n + p.placed.size) held.bytes_are ∙ sym adds.bytes ∙ sym answered.bytes;
       small = omega (arith, small, answered.bytes);
       ordered = answered.ordered (subst Q (sym adds.parts) held.ordered);

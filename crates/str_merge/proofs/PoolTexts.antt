@@ -15,7 +15,7 @@ use Rattle.str_merge.specs.Placing.{IsPlaced, chosen}
 use Rattle.str_merge.specs.Pooling.{IsPooled, pool_align}
 use Rattle.str_merge.specs.Sites.{span_text, span_texts}
 use Rattle.str_merge.specs.Texts.{lent_texts}
-use Rattle.str_merge.proofs.PoolFacts.{bytes_same, chosen_texts, piece_texts}
+use Rattle.str_merge.proofs.PoolFacts.{bytes_same, fitted_texts, piece_texts}
 use Rattle.str_merge.proofs.Ranking.{distinct_is, firsts_within, numbers, numbers_first, ranks_are}
 
 numbers_are : (texts : List (List ℕ)) → text_numbers texts ≡ numbers bytes_eq [] texts bytes_same
@@ -60,8 +60,8 @@ pooled_is files kept pool spans ns fs align p lent own numbered first ranked ali
           ∙ piece_numbers (distinct bytes_eq [] texts) texts
           ∙ ap (λ k. map (piece_number k) texts) (sym known);
       pieces_are =
-          piece_texts files p.placed.pieces.items ∙ ap (map (span_text files)) placed.spans_are ∙ chosen_texts files spans fs within
-          ∙ ap (λ l. chosen l [] fs) (sym lent) ∙ all;
+          piece_texts files p.placed.pieces.items ∙ ap (map (span_text files)) placed.spans_are ∙ fitted_texts files spans texts fs lent within ∙ all;
       positions_are = placed.positions ∙ ap (λ a. positions_from a 0 (chosen texts [] fs)) aligned ∙ ap (positions_from (pool_align files kept pool) 0) all;
+      piled = placed.piled;
       size_is = placed.size_is ∙ ap (λ a. end_from a 0 (chosen texts [] fs)) aligned ∙ ap (end_from (pool_align files kept pool) 0) all;
     }

@@ -6,7 +6,7 @@ use Rattle.link_sections.specs.declared.pieces.Merged.{Merged}
 use Rattle.link_sections.specs.declared.pieces.Part.{Part}
 use Rattle.link_sections.specs.Merging.{merged_of, pool_number, pool_of}
 use Rattle.link_sections.specs.PoolViews.{merged_view, pool_views}
-use Rattle.link_sections.specs.Pools.{AreInOrder, pool_bytes}
+use Rattle.link_sections.specs.Pools.{AreInOrder, ArePiles, pool_bytes}
 use Rattle.str_merge.specs.declared.filling.Filled.{Filled}
 use Rattle.str_merge.specs.declared.placing.Placed.{Placed}
 use Rattle.str_merge.specs.declared.pooling.Work.{Work}
@@ -52,6 +52,7 @@ pub record AreAnswered (w : Work) (members : List ℕ) (old new : Filled) : Type
 pub record IsFilledTo (w : Work) (pools : ℕ) (filled : Filled) : Type 0 where
   pub pools_are : pool_views (files_of w.tables.now) filled.pools.items filled.rows.pieces ≡ map (pool_of (files_of w.tables.now) w.kept.now) (range_with_len 0 pools)
   pub paired : length filled.pools.items ≡ length filled.rows.pieces
+  pub piled : ArePiles filled.pools.items filled.rows.pieces
   pub bytes_are : pool_bytes filled.pools.items ≡ filled.bytes
   pub small : filled.bytes < 2 ^ 60
   pub ordered : All AreInOrder filled.rows.parts

@@ -2,8 +2,10 @@
 use Rattle.std.specs.Prelude.{◌≡◌, ℕ, Bool, List, map, flat_map}
 use Rattle.lk_tables.specs.Files.{File}
 use Rattle.link_sections.specs.declared.pieces.Piece.{Piece}
+use Rattle.link_sections.specs.declared.pools.Pool.{Pool}
 use Rattle.link_sections.specs.Merging.{end_from, piece_number, pool_members, pool_pieces, pool_site, positions_from, site_key, site_pieces}
 use Rattle.link_sections.specs.PoolViews.{piece_text}
+use Rattle.link_sections.specs.Pools.{IsPile}
 use Rattle.str_merge.specs.declared.pooling.Pooled.{Pooled}
 use Rattle.str_merge.specs.Texts.{lent_texts}
 
@@ -16,3 +18,4 @@ pub record IsPooled (files : List File) (kept : List Bool) (pool : ℕ) (p : Poo
   pub pieces_are : map (piece_text files) p.placed.pieces.items ≡ pool_pieces files kept pool
   pub positions_are : map (λ (piece : Piece). piece.position) p.placed.pieces.items ≡ positions_from (pool_align files kept pool) 0 (pool_pieces files kept pool)
   pub size_is : p.placed.size ≡ end_from (pool_align files kept pool) 0 (pool_pieces files kept pool)
+  pub piled : (q : Pool) → q.size ≡ p.placed.size → IsPile q p.placed.pieces.items

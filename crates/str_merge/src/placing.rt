@@ -3,7 +3,7 @@
 ghost use Rattle.std.specs.Prelude.{◌≡◌, ◌+◌, ◌<◌, ◌≤◌, ◌^◌, All, length, map, IfOk};
 ghost use Rattle.lk_base.specs.Arithmetic.{up};
 ghost use Rattle.link_sections.specs.Merging.{end_from, positions_from};
-ghost use Rattle.str_merge.specs.Placing.{IsPlaced, chosen};
+ghost use Rattle.str_merge.specs.Placing.{IsPlaced, chosen, fitted};
 ghost use Rattle.str_merge.specs.Texts.{lent_texts};
 
 use link_sections::Piece;
@@ -41,13 +41,25 @@ pub fn place_pieces(
     for n in 0..firsts.len() {
         let at = firsts[n] as usize;
         let position = next_position(size, align)?;
-        pieces.push(Piece {
-            text: spans[at],
-            position,
-        })?;
+        pieces.push(piece_at(&spans[at], texts[at], position))?;
         size = end_of(position, texts[at].len())?;
     }
     Ok(Placed { pieces, size })
+}
+
+/// A text that starts where a span does, at a position.
+fn piece_at(span: &Span, text: &[u8], position: u64) -> Piece
+    ensures text { result.text ≡ fitted span.now text.now }
+    ensures position { result.position ≡ position }
+{
+    Piece {
+        text: Span {
+            file: span.file,
+            from: span.from,
+            len: text.len() as u64,
+        },
+        position,
+    }
 }
 
 /// The next multiple of an alignment.

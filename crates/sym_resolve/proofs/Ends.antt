@@ -4,20 +4,18 @@ use Rattle.std.specs.Prelude.{flat_map}
 use Rattle.std.specs.List.{range_with_len}
 use Rattle.std.specs.Str.{bytes_eq}
 use Rattle.std.proofs.lemmas.List.Elements.{All-filter, filter-append, filter_passes, Contains-get_or}
-use Rattle.std.proofs.lemmas.Bool.{cond-true, cond-false, cases_lt, ltb-true, ltb-false, eq-eqb, ne_eqb, not-true}
+use Rattle.std.proofs.lemmas.Bool.{cond-true, cond-false, cases_lt, ltb-true, ltb-false, eq-eqb, ne_eqb}
 use Rattle.std.proofs.lemmas.Slice.Eq.{bytes_eq-Decides}
 use Rattle.claim_core.specs.declared.events.Event.{Event}
 use Rattle.claim_core.specs.Events.{none_of, after}
 use Rattle.lk_base.specs.declared.defects.Defect.{Defect}
-use Rattle.lk_base.specs.declared.abi.TheConstants.{STB_LOCAL}
 use Rattle.lk_base.specs.Firsts.{BeginsWith, IsFirst}
-use Rattle.lk_tables.specs.Files.{File, by_symbol, file_at, symbol_at, symbol_name, symbol_no, symbol_total}
-use Rattle.lk_tables.specs.Binding.{Offer, no_entry, least_rank, is_strong, is_offer, is_discarded, class_of, offer_at, offers_in, offers, bound_rank, rank_bound, live_rank, bindings, duplicates_of, duplicate_defects, entry_defects, first_phase}
+use Rattle.lk_tables.specs.Files.{File, file_at, symbol_at, symbol_total}
+use Rattle.lk_tables.specs.Binding.{Bindings, Offer, no_entry, least_rank, is_strong, is_offer, is_discarded, class_of, offer_at, offered_bindings, offers_in, offers, bound_rank, duplicates_of, duplicate_defects, first_phase}
+use Rattle.lk_tables.specs.BoundNames.{bindings, entry_defects, with_linker}
 use Rattle.lk_tables.specs.Ranks.{no_rank, rank_of}
-use Rattle.lk_tables.proofs.ByNumber.{read_by_symbol}
 use Rattle.lk_tables.proofs.FirstNumbers.{first_within}
 use Rattle.sym_resolve.specs.Claims.{claims, rank_at}
-use Rattle.sym_resolve.specs.Law.{IsBound, EachIsBound}
 use Rattle.sym_resolve.specs.StrongPairs.{no_clash, least_clash, defect_of}
 use Rattle.sym_resolve.specs.Symbols.{in_file, over_symbols}
 use Rattle.sym_resolve.proofs.Walks.{Splits, through_symbols, live_within}
@@ -138,26 +136,6 @@ least_offered text (o ∷ os) =
     let d = bytes_eq-Decides o.name text in
     least_next text o os (least_rank text os) (bytes_eq o.name text) d.0 (least_offered text os)
 
-pub bound_law : (files : List File) (gone : List Bool) (name : List ℕ) → IsBound (offers files gone) name (bound_rank files gone name)
-unfolding bound_rank
-bound_law files gone name = record {
-  offered = least_offered name (offers files gone);
-  least = λ o has same. least_below name (offers files gone) o has same;
-}
-
--- each rank of the table
-pub each_bound : (files : List File) (gone : List Bool) (entry : List ℕ) → EachIsBound files gone (bindings files gone entry)
-unfolding bindings live_rank rank_bound
-each_bound files gone entry f i live lt seen =
-    let s = symbol_at (file_at files f) i in
-    let name = symbol_name (file_at files f) i in
-    let at : get_or (by_symbol files (live_rank files gone)) (symbol_no files f i) no_rank ≡ bound_rank files gone name =
-    read_by_symbol files (live_rank files gone) f i no_rank (live_within files f live) lt
-    ∙ cond-true (file_at files f).live (rank_bound files gone f i) no_rank live
-    ∙ cond-false (s.binding == STB_LOCAL) no_rank (bound_rank files gone name) (not-true (s.binding == STB_LOCAL) seen) in
-    let P : ℕ → Type 0 = λ k. IsBound (offers files gone) name k in
-    subst P (sym at) (bound_law files gone name)
-
 module _ (files : List File) (gone : List Bool) (row : List ℕ) (is : row ≡ after (none_of (symbol_total files)) (claims files gone)) where
   strong_agrees : Agrees (λ t. rank_at row (word_of files t)) (filter is_strong (offers files gone))
   unfolding bound_rank
@@ -191,10 +169,21 @@ first_passes a later none = ap (λ l. first_phase (l ∷ later)) none
 pub first_stops : (a : List Defect) (later : List (List Defect)) (d : Defect) → BeginsWith a d → BeginsWith (first_phase (a ∷ later)) d
 first_stops a later d first = (first.0, ap (λ l. first_phase (l ∷ later)) first.1)
 
-pub entry_missing : (files : List File) (gone : List Bool) (entry : List ℕ) (rank : ℕ) → rank ≡ bound_rank files gone entry → rank ≡ no_rank → entry_defects files gone entry ≡ no_entry ∷ []
+pub entry_missing : (files : List File) (gone : List Bool) (entry : List ℕ) (rank : ℕ) → rank ≡ (bindings files gone entry).entry → rank ≡ no_rank → entry_defects files gone entry ≡ no_entry ∷ []
 unfolding entry_defects
-entry_missing files gone entry rank is none = cond-true (bound_rank files gone entry == no_rank) (no_entry ∷ []) [] (eq-eqb (bound_rank files gone entry) no_rank (sym is ∙ none))
+entry_missing files gone entry rank is none =
+    let own = (bindings files gone entry).entry in cond-true (own == no_rank) (no_entry ∷ []) [] (eq-eqb own no_rank (sym is ∙ none))
 
-pub entry_there : (files : List File) (gone : List Bool) (entry : List ℕ) (rank : ℕ) → rank ≡ bound_rank files gone entry → (rank ≡ no_rank → ⊥) → entry_defects files gone entry ≡ []
+pub entry_there : (files : List File) (gone : List Bool) (entry : List ℕ) (rank : ℕ) → rank ≡ (bindings files gone entry).entry → (rank ≡ no_rank → ⊥) → entry_defects files gone entry ≡ []
 unfolding entry_defects
-entry_there files gone entry rank is some = cond-false (bound_rank files gone entry == no_rank) (no_entry ∷ []) [] (ne_eqb (bound_rank files gone entry) no_rank (λ e. some (is ∙ e)))
+entry_there files gone entry rank is some =
+    let own = (bindings files gone entry).entry in cond-false (own == no_rank) (no_entry ∷ []) [] (ne_eqb own no_rank (λ e. some (is ∙ e)))
+
+-- a binding by offers, and with the linker's symbols
+pub offered_again : (files : List File) (gone : List Bool) (entry : List ℕ) (b : Bindings) → b ≡ offered_bindings files gone entry → b ≡ offered_bindings files b.discarded entry
+unfolding offered_bindings
+offered_again files gone entry b is = is ∙ ap (λ g. offered_bindings files g entry) (sym (ap (λ (n : Bindings). n.discarded) is))
+
+pub bindings_are : (files : List File) (gone : List Bool) (entry : List ℕ) (b after : Bindings) → b ≡ offered_bindings files gone entry → after ≡ with_linker files b entry → after ≡ bindings files gone entry
+unfolding bindings
+bindings_are files gone entry b after is more = more ∙ ap (λ n. with_linker files n entry) is

@@ -15,26 +15,28 @@ use Rattle.lk_tables.specs.declared.binding.Binding.{Binding}
 use Rattle.lk_tables.specs.declared.commons.BoundCommon.{BoundCommon}
 use Rattle.lk_tables.specs.Symbols.{is_common}
 use Rattle.lk_tables.specs.Files.{File, common_no, commons_before, file_at, no_file, symbol_at, symbol_name, symbol_total}
-use Rattle.lk_tables.specs.Binding.{Bindings, Offer, offers, bound_rank, rank_bound, demands, greatest_size, greatest_align, bound_common_at, bound_commons_in, bindings}
+use Rattle.lk_tables.specs.Binding.{Bindings, Offer, offers, bound_rank, rank_bound, demands, greatest_size, greatest_align, bound_common_at, bound_commons_in, offered_bindings}
+use Rattle.lk_tables.specs.BoundNames.{bindings, with_linker}
 use Rattle.lk_tables.specs.BindingView.{binding_view}
 use Rattle.lk_tables.specs.NameNumbers.{name_number}
 use Rattle.lk_tables.specs.Ranks.{no_rank, rank_of}
 use Rattle.lk_tables.proofs.FirstNumbers.{first_within}
 use Rattle.sym_resolve.specs.Asks.{room_at, rooms_asked, common_by, common_from}
 use Rattle.sym_resolve.specs.Claims.{rank_by}
-use Rattle.sym_resolve.specs.Law.{IsBound, IsCommonIn, IsBoundCommon, HasItsRoom, IsLawful}
+use Rattle.sym_resolve.specs.Law.{IsCommonIn, IsBoundCommon, IsOffered, HasItsRoom, IsLawful}
 use Rattle.sym_resolve.specs.Symbols.{in_file}
 use Rattle.name_numbers.proofs.Walks.{all_if}
 use Rattle.sym_resolve.proofs.Walks.{all_in_file, in_own_file, live_within}
 use Rattle.name_numbers.proofs.Runs.{in_map}
 use Rattle.sym_resolve.proofs.Meaning.{common_of}
 use Rattle.name_numbers.proofs.LeastClaims.{least_most}
-use Rattle.sym_resolve.proofs.Ends.{offer, bound_law, each_bound}
+use Rattle.sym_resolve.proofs.BoundLaw.{IsLeast, bound_law, each_bound, least_from, least_law, offered_from}
+use Rattle.sym_resolve.proofs.Ends.{offer}
 use Rattle.sym_resolve.proofs.CommonNumbers.{before_rises}
 use Rattle.sym_resolve.proofs.CommonRoom.{size_is_most, align_is_most}
 
 -- one rank is bound, if it is not none
-one_rank : (all : List Offer) (name : List ℕ) (a b : ℕ) → a < no_rank → b ≤ no_rank → IsBound all name a → IsBound all name b → a ≡ b
+one_rank : (all : List Offer) (name : List ℕ) (a b : ℕ) → a < no_rank → b ≤ no_rank → IsLeast all name a → IsLeast all name b → a ≡ b
 one_rank all name a b some most x y = ⊎_elim
     (λ (none : a ≡ no_rank). absurd (omega arith))
     (λ (has : Contains all (offer name a)).
@@ -173,10 +175,11 @@ module _ (files : List File) (gone : List Bool) where
         let parts = and_parts (is_common s.place) (rank_bound files gone f i == rank_of 1 f i) is in
         let c : IsCommonIn files f i = record { live = live; within = lt; common = parts.0 } in
         let taken = taken_if (s.binding == STB_LOCAL) no_rank (bound_rank files gone name) (rank_of 1 f i) (eqb-true (rank_bound files gone f i) (rank_of 1 f i) parts.1) (own_below f i live lt) in
-        let P : ℕ → Type 0 = IsBound (offers files gone) name in
+        let P : ℕ → Type 0 = IsLeast (offers files gone) name in
+        let own : IsOffered (offers files gone) name (rank_of 1 f i) = offered_from (offers files gone) name (rank_of 1 f i) (own_below f i live lt) (subst P taken.1 (least_law files gone name)) in
         record {
           file_is = refl;
-          bound = record { common = c; visible = not_from_false (s.binding == STB_LOCAL) taken.0; own = subst P taken.1 (bound_law files gone name) };
+          bound = record { common = c; visible = not_from_false (s.binding == STB_LOCAL) taken.0; own = own };
           section_is = refl;
           size_is = size_is_most files f i c;
           align_is = align_is_most files f i c;
@@ -191,7 +194,7 @@ module _ (files : List File) (gone : List Bool) where
     bound_there f i b =
         let s = symbol_at (file_at files f) i in
         let name = symbol_name (file_at files f) i in
-        let own : rank_of 1 f i ≡ bound_rank files gone name = one_rank (offers files gone) name (rank_of 1 f i) (bound_rank files gone name) (own_below f i b.common.live b.common.within) (least_most name (offers files gone)) b.own (bound_law files gone name) in
+        let own : rank_of 1 f i ≡ bound_rank files gone name = one_rank (offers files gone) name (rank_of 1 f i) (bound_rank files gone name) (own_below f i b.common.live b.common.within) (least_most name (offers files gone)) (least_from (offers files gone) name (rank_of 1 f i) b.own) (least_law files gone name) in
         let rank : rank_bound files gone f i ≡ rank_of 1 f i = cond-false (s.binding == STB_LOCAL) no_rank (bound_rank files gone name) (not-true (s.binding == STB_LOCAL) b.visible) ∙ sym own in
         let is : is_entry f i ≡ true = and_from (is_common s.place) (rank_bound files gone f i == rank_of 1 f i) b.common.common (eq-eqb (rank_bound files gone f i) (rank_of 1 f i) rank) in
         let one : bound_common_at files gone f i ≡ entry_of f i ∷ [] = cond-true (is_entry f i) (entry_of f i ∷ []) [] is in
@@ -199,12 +202,12 @@ module _ (files : List File) (gone : List Bool) where
         in_own_file files (bound_common_at files gone) f i (entry_of f i) b.common.live b.common.within (subst P (sym one) (0, omega arith, refl))
 
     pub lawful : (entry : List ℕ) → IsLawful files gone entry (bindings files gone entry)
-    unfolding bindings
+    unfolding bindings with_linker offered_bindings
     lawful entry =
         let list = λ (f : ℕ). list_at f (map (bound_commons_in files gone) (range_with_len 0 (length files))) refl in
         record {
-          symbols = each_bound files gone entry;
-          entry = bound_law files gone entry;
+          symbols = each_bound files gone entry many few;
+          entry = bound_law files gone entry entry many few;
           commons = record {
             only = λ f. let P : List BoundCommon → Type 0 = All (HasItsRoom files gone f) in subst P (sym (list f)) (rooms f);
             each = λ f i b.

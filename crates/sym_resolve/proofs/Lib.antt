@@ -3,10 +3,13 @@ pub mod Runs
 pub mod Claiming
 pub mod CommonNumbers
 pub mod GreatestAsks
+pub mod Linking
 pub mod Meaning
 pub mod Clashes
 pub mod Ends
+pub mod BoundLaw
 pub mod CommonRoom
 pub mod FloatAbis
 pub mod NamedRanks
+pub mod NamedSections
 pub mod Lawful

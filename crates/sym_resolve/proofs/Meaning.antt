@@ -12,7 +12,7 @@ use Rattle.lk_tables.specs.declared.heads.Symbol.{Symbol}
 use Rattle.lk_tables.specs.declared.commons.BoundCommon.{BoundCommon}
 use Rattle.lk_tables.specs.Symbols.{is_common, is_undef}
 use Rattle.lk_tables.specs.Files.{File, by_symbol, common_no, file_at, is_visible, symbol_at, symbol_name, symbol_total}
-use Rattle.lk_tables.specs.Binding.{Offer, Demand, Bindings, is_offer, is_discarded, class_of, offer_at, offers_in, offers, demand_at, demands_in, demands, greatest_size, greatest_align, bound_rank, rank_bound, live_rank, bound_common_at, bound_commons_in, bindings}
+use Rattle.lk_tables.specs.Binding.{Offer, Demand, Bindings, is_offer, is_discarded, class_of, offer_at, offers_in, offers, demand_at, demands_in, demands, greatest_size, greatest_align, bound_rank, rank_bound, live_rank, bound_common_at, bound_commons_in, offered_bindings}
 use Rattle.lk_tables.specs.NameNumbers.{is_named, name_number}
 use Rattle.lk_tables.specs.Ranks.{no_rank, rank_of}
 use Rattle.lk_tables.proofs.ByNumber.{by_symbol_same}
@@ -26,7 +26,7 @@ use Rattle.name_numbers.proofs.LeastClaims.{Tells, claims_fit, least_claimed}
 use Rattle.name_numbers.proofs.NameWords.{IsName, word_of, word_named, word_below, words_apart, is_name_of_symbol}
 use Rattle.sym_resolve.proofs.GreatestAsks.{HasRoom, after_greatest}
 
-maps_split : {X Y : Type 0} (f : X → Y) → Splits (map f)
+pub maps_split : {X Y : Type 0} (f : X → Y) → Splits (map f)
 maps_split f = record { none = refl; both = λ xs ys. map-append f xs ys }
 
 map_if : {X Y : Type 0} (g v : X → Y) (b : Bool) (x : X) → (b ≡ true → g x ≡ v x) → map g (if b then x ∷ [] else []) ≡ map v (if b then x ∷ [] else [])
@@ -187,8 +187,8 @@ module _ (files : List File) (gone : List Bool) where
 
     -- the table is that of the names
     pub tables_are : (d : List Bool) (ranks : List ℕ) (commons : List (List BoundCommon)) (rank : ℕ) (entry : List ℕ) → d ≡ gone → ranks ≡ by_symbol files (rank_by files row)
-        → commons ≡ map (in_file files (common_by files row)) (range_with_len 0 (length files)) → rank ≡ bound_rank files gone entry → made_of d ranks rank commons ≡ bindings files gone entry
-    unfolding bindings
+        → commons ≡ map (in_file files (common_by files row)) (range_with_len 0 (length files)) → rank ≡ bound_rank files gone entry → made_of d ranks rank commons ≡ offered_bindings files gone entry
+    unfolding offered_bindings
     tables_are d ranks commons rank entry left filled listed bound =
         ap (λ k. made_of k ranks rank commons) left
         ∙ ap (λ l. made_of gone l rank commons) (filled ∙ by_symbol_same files (rank_by files row) (live_rank files gone) rank_same)

@@ -3,7 +3,8 @@
 ghost use Rattle.std.specs.Prelude.{◌≡◌, ◌∷◌, ◌≤◌, ℕ, List, [], length, IfOk};
 ghost use Rattle.claim_core.specs.Events.{none_of, after};
 ghost use Rattle.lk_base.specs.Firsts.{Goes};
-ghost use Rattle.lk_tables.specs.Binding.{bindings, binding_defects, bound_rank, duplicate_defects, entry_defects, first_phase};
+ghost use Rattle.lk_tables.specs.Binding.{bound_rank, duplicate_defects, first_phase, offered_bindings};
+ghost use Rattle.lk_tables.specs.BoundNames.{bindings, binding_defects, entry_defects};
 ghost use Rattle.lk_tables.specs.BindingView.{binding_view};
 ghost use Rattle.lk_tables.specs.Files.{symbol_total};
 ghost use Rattle.lk_tables.specs.NameNumbers.{NumbersNames, heads_alone};
@@ -17,6 +18,7 @@ use crate::counts::pieces_of;
 use crate::duplicates::duplicate;
 use crate::entry::rank_of_name;
 use crate::flags::float_clash;
+use crate::linker::bind_linker;
 use crate::offers::offers_of;
 use crate::ranks::ranks_of;
 use claim_rows::least_offers;
@@ -29,8 +31,13 @@ use std::ops::Range;
 use std::thread::Threads;
 use work_split::Gate;
 
-/// Binds the names of a link: `discarded` has the sections that were discarded with their groups, by their numbers in the link. If the
-/// files' names are not numbered yet, they are numbered here. It answers the same whatever the number of workers.
+/// Binds the names of a link: `discarded` has the sections that were discarded with their groups, by their numbers in the link. A name
+/// is bound to the strongest offer of a file; one that no file offers, also if each of its symbols is WEAK, to the linker's own symbol of
+/// that name, if there is one. If the files' names are not numbered yet, they are numbered here. It answers the same whatever the number
+/// of workers.
+///
+/// The defects, in this order: files of different float ABIs, a name with two strong definitions, an entry whose name is bound to nothing.
+/// Else the only error is out of memory.
 pub fn bind<R: Threads + Sync, G: Gate>(
     rt: &R,
     alloc: Global,
@@ -82,25 +89,35 @@ fn bind_names<R: Threads + Sync, G: Gate>(
     if let Some(duplicate) = duplicate(least.as_slice(), offers.as_slice()) {
         return Err(LinkStop::Defect(duplicate));
     }
-    let bound = rank_of_name(tables, offers.as_slice(), entry);
-    if bound == NO_RANK {
-        return Err(LinkStop::Defect(Defect::linkwide(NO_ENTRY, 0, 0)));
-    }
-    Ok(table(
+    let rank = rank_of_name(tables, offers.as_slice(), entry);
+    let mut binding = offered_binding(
         rt,
         alloc,
         tables,
         names,
         discarded,
         least.as_slice(),
-        bound,
+        rank,
         pieces.as_slice(),
         gate,
-    )?)
+    )?;
+    bind_linker(
+        rt,
+        alloc,
+        tables,
+        &mut binding,
+        entry,
+        pieces.as_slice(),
+        gate,
+    )?;
+    if binding.entry_rank() == NO_RANK {
+        return Err(LinkStop::Defect(Defect::linkwide(NO_ENTRY, 0, 0)));
+    }
+    Ok(binding)
 }
 
-// The binding that the least ranks give.
-fn table<R: Threads + Sync, G: Gate>(
+// The binding that the least ranks give: the offers of files alone.
+fn offered_binding<R: Threads + Sync, G: Gate>(
     rt: &R,
     alloc: Global,
     tables: &Tables,
@@ -115,7 +132,7 @@ fn table<R: Threads + Sync, G: Gate>(
     requires least { least.now ≡ after (none_of (symbol_total (files_of tables.now))) (claims (files_of tables.now) discarded.now) }
     requires tiles { Tiles 0 (length (files_of tables.now)) pieces.now }
     requires most { length pieces.now ≤ 64 }
-    ensures { IfOk result (λ b. (name : List ℕ) → entry ≡ bound_rank (files_of tables.now) discarded.now name → binding_view b ≡ bindings (files_of tables.now) discarded.now name) }
+    ensures { IfOk result (λ b. (name : List ℕ) → entry ≡ bound_rank (files_of tables.now) discarded.now name → binding_view b ≡ offered_bindings (files_of tables.now) discarded.now name) }
 {
     let ranks = ranks_of(rt, alloc, tables, names, least, pieces, gate)?;
     let commons = commons_of(alloc, tables, names, least)?;

@@ -8,6 +8,7 @@ ghost use Rattle.lk_tables.specs.TablesView.{files_of};
 ghost use Rattle.sym_resolve.specs.Claims.{claims};
 ghost use Rattle.sym_resolve.specs.NamedOffers.{lesser_named, least_named};
 
+use lk_base::{FileNo, SymNo};
 use lk_tables::{NO_RANK, Tables, file_of, symbol_of};
 use rank_claims::Offer;
 
@@ -44,8 +45,15 @@ fn lesser_named(tables: &Tables, name: &[u8], least: u64, rank: u64) -> u64
 fn offered_name<'a>(tables: &Tables<'a>, rank: u64) -> &'a [u8]
     ensures { result.now ≡ symbol_name (file_at (files_of tables.now) (spec.file_of rank)) (spec.symbol_of_rank rank) }
 {
-    match tables.files().get(file_of(rank) as usize) {
-        Some(file) => file.symbol_name(symbol_of(rank) as usize),
+    symbol_name(tables, file_of(rank), symbol_of(rank))
+}
+
+/// The name of a symbol of a file; none past the last file.
+pub fn symbol_name<'a>(tables: &Tables<'a>, file: FileNo, symbol: SymNo) -> &'a [u8]
+    ensures { result.now ≡ symbol_name (file_at (files_of tables.now) file) symbol }
+{
+    match tables.files().get(file as usize) {
+        Some(file) => file.symbol_name(symbol as usize),
         None => b"",
     }
 }

@@ -2,18 +2,18 @@
 
 use crate::Image;
 
-const STACK: [u64; 7] = [0x6474_e551, 6, 0, 0, 0, 0, 16];
+pub const STACK: [u64; 7] = [0x6474_e551, 6, 0, 0, 0, 0, 16];
 
 /// The headers of an executable of three program headers, and of one of four.
-const READ: [u64; 7] = [1, 4, 0, 0x10000, 232, 232, 4096];
+pub const READ: [u64; 7] = [1, 4, 0, 0x10000, 232, 232, 4096];
 
-const READ_OF_FOUR: [u64; 7] = [1, 4, 0, 0x10000, 288, 288, 4096];
+pub const READ_OF_FOUR: [u64; 7] = [1, 4, 0, 0x10000, 288, 288, 4096];
 
-const NAMES: &[u8] = b"\0.text\0.shstrtab\0";
+pub const NAMES: &[u8] = b"\0.text\0.shstrtab\0";
 
-const NAMES_WITH_BSS: &[u8] = b"\0.text\0.bss\0.shstrtab\0";
+pub const NAMES_WITH_BSS: &[u8] = b"\0.text\0.bss\0.shstrtab\0";
 
-const NAMES_WITH_DATA: &[u8] = b"\0.text\0.data\0.shstrtab\0";
+pub const NAMES_WITH_DATA: &[u8] = b"\0.text\0.data\0.shstrtab\0";
 
 /// A jump to the function behind it.
 pub const FIRST: Image = Image {

@@ -4,6 +4,7 @@ ghost use Rattle.lk_base.specs.Limits.{IsWithinStandard};
 
 use super::images::{COMMON_OF_8, FIRST, TWO_FILES};
 use super::libraries::{Library, ONE_MEMBER};
+use super::merged::FOUR_ALONE;
 use super::{Store, WORKERS, files_of, words_of};
 use crate::{Image, image_of};
 use link_command::command_of;
@@ -14,10 +15,11 @@ use std::alloc::{AllocError, Global};
 use std::test::Fail;
 use std::thread::Threads;
 
-/// A link with limits: its words, its archives, the limits, and the defect that it has, or its executable.
+/// A link with limits: its words, its files and archives, the limits, and the defect that it has, or its executable.
 #[derive(Clone, Copy)]
 struct Bounded<'a> {
     words: &'a [&'a str],
+    store: Store,
     libraries: &'a [Library<'a>],
     limits: Limits,
     defect: Option<Defect>,
@@ -47,6 +49,7 @@ const OF_OBJECTS: Limits = Limits {
 
 const TWO_OBJECTS: Bounded = Bounded {
     words: &["rvld", "-s", "a.o", "h.o"],
+    store: Store::Objects,
     libraries: &[],
     limits: OF_OBJECTS,
     defect: None,
@@ -214,6 +217,72 @@ const COUNTED: [Bounded; 6] = [
     },
 ];
 
+/// What an object with four constants just keeps.
+const OF_PIECES: Limits = Limits {
+    file: 1000,
+    files: 2,
+    symbols: 5,
+    sections: 12,
+    pieces: 4,
+    outputs: 2,
+    image: 0x1005,
+};
+
+const WITH_PIECES: Bounded = Bounded {
+    words: &["rvld", "-s", "four.o"],
+    store: Store::Merged,
+    limits: OF_PIECES,
+    image: FOUR_ALONE,
+    ..TWO_OBJECTS
+};
+
+/// Pieces count in each section that may be merged, equal or not, kept or not.
+const PIECES: [Bounded; 5] = [
+    WITH_PIECES,
+    Bounded {
+        limits: Limits {
+            pieces: 3,
+            ..OF_PIECES
+        },
+        defect: Some(Defect { place: 4, ..PASSED }),
+        ..WITH_PIECES
+    },
+    Bounded {
+        words: &["rvld", "-s", "--gc-sections", "four.o"],
+        limits: Limits {
+            pieces: 3,
+            ..OF_PIECES
+        },
+        defect: Some(Defect { place: 4, ..PASSED }),
+        ..WITH_PIECES
+    },
+    Bounded {
+        words: &["rvld", "-s", "four.o", "again.o"],
+        limits: Limits {
+            pieces: 9,
+            ..OF_PIECES
+        },
+        defect: Some(Defect {
+            place: 10,
+            ..PASSED
+        }),
+        ..WITH_PIECES
+    },
+    Bounded {
+        words: &["rvld", "-s", "four.o", "again.o"],
+        limits: Limits {
+            sections: 3,
+            pieces: 9,
+            ..OF_PIECES
+        },
+        defect: Some(Defect {
+            place: 11,
+            ..PASSED
+        }),
+        ..WITH_PIECES
+    },
+];
+
 /// These limits, or the standard ones where those are less.
 fn within_standard(limits: &Limits) -> Limits
     ensures { IsWithinStandard result }
@@ -279,7 +348,7 @@ fn is_bounded<R: Threads + Sync>(
     let Some(command) = command_of(alloc, words.as_slice())? else {
         return Ok(false);
     };
-    let files = files_of(alloc, Store::Objects, bounded.libraries)?;
+    let files = files_of(alloc, bounded.store, bounded.libraries)?;
     let inputs = inputs_of(alloc, command.inputs.names(), files.as_slice())?;
     let limits = within_standard(&bounded.limits);
     let answer = link(rt, alloc, &command, &inputs, &limits, &OpenGate);
@@ -314,6 +383,17 @@ fn each_limit_is_kept_up_to_its_number(rt: HostRuntime) -> Result<(), Fail> {
 #[test]
 fn common_symbols_and_members_count(rt: HostRuntime) -> Result<(), Fail> {
     for (index, bounded) in COUNTED.iter().enumerate() {
+        assert!(rt;
+            is_bounded_by_any(&rt, rt.alloc(), bounded)?,
+            "example {index}"
+        );
+    }
+    Ok(())
+}
+
+#[test]
+fn each_piece_counts(rt: HostRuntime) -> Result<(), Fail> {
+    for (index, bounded) in PIECES.iter().enumerate() {
         assert!(rt;
             is_bounded_by_any(&rt, rt.alloc(), bounded)?,
             "example {index}"

@@ -263,7 +263,7 @@ const ALONE: Object = Object {
 };
 
 /// `w`, weak and not defined.
-const WEAKLY: Symbol = Symbol {
+pub const WEAKLY: Symbol = Symbol {
     name: b"w",
     binding: 2,
     sort: 0,

@@ -32,26 +32,51 @@ refine-requires-clause-firsts g c κs within =
     (first_numbers c.args.items.now c.as_slice-3.result.now c.as_slice-4.result.now c.in_ok-rows.rows c.in_ok-start.start.items
     (c.as_slice-3.ensures.value ∙ c.in_ok-bytes.ensures) (c.as_slice-4.ensures.value ∙ c.in_ok-outputs.ensures) c.in_ok-rows.ensures c.in_ok-start.ensures)
 
+pub returns-clause-value : goal.returns-clause-value
+returns-clause-value g c =
+    let all = folded c.args.items.now c.as_slice-3.result.now c.as_slice-4.result.now c.in_ok-rows.rows c.in_ok-ends.ends c.in_ok-start.start.items c.in_ok-leaders.leaders.items
+    (c.as_slice-3.ensures.value ∙ c.in_ok-bytes.ensures) (c.as_slice-4.ensures.value ∙ c.in_ok-outputs.ensures) c.in_ok-rows.ensures c.in_ok-start.ensures
+    c.requires.order c.in_ok-ends.ensures c.in_ok-leaders.ensures.stable c.in_ok-leaders.ensures.refining in
+    all.value
+
 pub returns-clause-leaders : goal.returns-clause-leaders
 returns-clause-leaders g c =
-    let step = first_numbers c.args.items.now c.as_slice-3.result.now c.as_slice-4.result.now c.in_ok-rows.rows c.in_ok-start.start.items
-    (c.as_slice-3.ensures.value ∙ c.in_ok-bytes.ensures) (c.as_slice-4.ensures.value ∙ c.in_ok-outputs.ensures) c.in_ok-rows.ensures c.in_ok-start.ensures in
-    let all = folded c.args.items.now c.in_ok-ends.ends c.in_ok-start.start.items c.in_ok-leaders.leaders.items c.requires.order c.in_ok-ends.ensures step
-    c.in_ok-leaders.ensures.stable c.in_ok-leaders.ensures.refining in
+    let all = folded c.args.items.now c.as_slice-3.result.now c.as_slice-4.result.now c.in_ok-rows.rows c.in_ok-ends.ends c.in_ok-start.start.items c.in_ok-leaders.leaders.items
+    (c.as_slice-3.ensures.value ∙ c.in_ok-bytes.ensures) (c.as_slice-4.ensures.value ∙ c.in_ok-outputs.ensures) c.in_ok-rows.ensures c.in_ok-start.ensures
+    c.requires.order c.in_ok-ends.ensures c.in_ok-leaders.ensures.stable c.in_ok-leaders.ensures.refining in
     all.leaders
 
 pub returns-clause-congruence : goal.returns-clause-congruence
 returns-clause-congruence g c =
-    let step = first_numbers c.args.items.now c.as_slice-3.result.now c.as_slice-4.result.now c.in_ok-rows.rows c.in_ok-start.start.items
-    (c.as_slice-3.ensures.value ∙ c.in_ok-bytes.ensures) (c.as_slice-4.ensures.value ∙ c.in_ok-outputs.ensures) c.in_ok-rows.ensures c.in_ok-start.ensures in
-    let all = folded c.args.items.now c.in_ok-ends.ends c.in_ok-start.start.items c.in_ok-leaders.leaders.items c.requires.order c.in_ok-ends.ensures step
-    c.in_ok-leaders.ensures.stable c.in_ok-leaders.ensures.refining in
+    let all = folded c.args.items.now c.as_slice-3.result.now c.as_slice-4.result.now c.in_ok-rows.rows c.in_ok-ends.ends c.in_ok-start.start.items c.in_ok-leaders.leaders.items
+    (c.as_slice-3.ensures.value ∙ c.in_ok-bytes.ensures) (c.as_slice-4.ensures.value ∙ c.in_ok-outputs.ensures) c.in_ok-rows.ensures c.in_ok-start.ensures
+    c.requires.order c.in_ok-ends.ensures c.in_ok-leaders.ensures.stable c.in_ok-leaders.ensures.refining in
     all.congruence
 
 pub returns-clause-greatest : goal.returns-clause-greatest
 returns-clause-greatest g c =
-    let step = first_numbers c.args.items.now c.as_slice-3.result.now c.as_slice-4.result.now c.in_ok-rows.rows c.in_ok-start.start.items
-    (c.as_slice-3.ensures.value ∙ c.in_ok-bytes.ensures) (c.as_slice-4.ensures.value ∙ c.in_ok-outputs.ensures) c.in_ok-rows.ensures c.in_ok-start.ensures in
-    let all = folded c.args.items.now c.in_ok-ends.ends c.in_ok-start.start.items c.in_ok-leaders.leaders.items c.requires.order c.in_ok-ends.ensures step
-    c.in_ok-leaders.ensures.stable c.in_ok-leaders.ensures.refining in
+    let all = folded c.args.items.now c.as_slice-3.result.now c.as_slice-4.result.now c.in_ok-rows.rows c.in_ok-ends.ends c.in_ok-start.start.items c.in_ok-leaders.leaders.items
+    (c.as_slice-3.ensures.value ∙ c.in_ok-bytes.ensures) (c.as_slice-4.ensures.value ∙ c.in_ok-outputs.ensures) c.in_ok-rows.ensures c.in_ok-start.ensures
+    c.requires.order c.in_ok-ends.ensures c.in_ok-leaders.ensures.stable c.in_ok-leaders.ensures.refining in
     all.greatest
+
+pub returns-clause-places : goal.returns-clause-places
+returns-clause-places g c =
+    let all = folded c.args.items.now c.as_slice-3.result.now c.as_slice-4.result.now c.in_ok-rows.rows c.in_ok-ends.ends c.in_ok-start.start.items c.in_ok-leaders.leaders.items
+    (c.as_slice-3.ensures.value ∙ c.in_ok-bytes.ensures) (c.as_slice-4.ensures.value ∙ c.in_ok-outputs.ensures) c.in_ok-rows.ensures c.in_ok-start.ensures
+    c.requires.order c.in_ok-ends.ensures c.in_ok-leaders.ensures.stable c.in_ok-leaders.ensures.refining in
+    all.places
+
+pub returns-clause-own : goal.returns-clause-own
+returns-clause-own g c =
+    let all = folded c.args.items.now c.as_slice-3.result.now c.as_slice-4.result.now c.in_ok-rows.rows c.in_ok-ends.ends c.in_ok-start.start.items c.in_ok-leaders.leaders.items
+    (c.as_slice-3.ensures.value ∙ c.in_ok-bytes.ensures) (c.as_slice-4.ensures.value ∙ c.in_ok-outputs.ensures) c.in_ok-rows.ensures c.in_ok-start.ensures
+    c.requires.order c.in_ok-ends.ensures c.in_ok-leaders.ensures.stable c.in_ok-leaders.ensures.refining in
+    all.own
+
+pub returns-clause-least : goal.returns-clause-least
+returns-clause-least g c =
+    let all = folded c.args.items.now c.as_slice-3.result.now c.as_slice-4.result.now c.in_ok-rows.rows c.in_ok-ends.ends c.in_ok-start.start.items c.in_ok-leaders.leaders.items
+    (c.as_slice-3.ensures.value ∙ c.in_ok-bytes.ensures) (c.as_slice-4.ensures.value ∙ c.in_ok-outputs.ensures) c.in_ok-rows.ensures c.in_ok-start.ensures
+    c.requires.order c.in_ok-ends.ensures c.in_ok-leaders.ensures.stable c.in_ok-leaders.ensures.refining in
+    all.least

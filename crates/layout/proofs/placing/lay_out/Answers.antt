@@ -5,6 +5,8 @@ use Rattle.lk_tables.specs.BindingView.{binding_view}
 use Rattle.lk_tables.specs.Files.{section_total}
 use Rattle.lk_tables.specs.TablesView.{files_of}
 use Rattle.link_sections.specs.CutsView.{cut_views}
+use Rattle.link_sections.specs.GotEntries.{word_count}
+use Rattle.link_sections.specs.GotView.{entries_of}
 use Rattle.link_sections.specs.SizesView.{sizes_of}
 use Rattle.layout.specs.Items.{Item}
 use Rattle.layout.specs.ItemViews.{items_view}
@@ -21,7 +23,7 @@ walk_items-requires-clause-there c =
     let b = binding_view c.args.binding.now in
     let pools = c.args.pools.now.pools.items in
     let sizes = sizes_of c.args.sizes.now in
-    let there = there_of files b pools c.args.got.now.words c.args.leaders.now sizes c.requires.leaders c.requires.sizes in
+    let there = there_of files b pools (word_count (entries_of c.args.got.now)) c.args.leaders.now sizes c.requires.leaders c.requires.sizes in
     let P : List Item → Type 0 = λ l. All (IsThere sizes (section_total files) (length pools)) l in
     let here = subst P (sym (ap items_view c.deref.ensures.value ∙ c.in_ok-items.ensures.items)) there in
     let Q : ℕ → Type 0 = λ n. All (IsThere sizes n (length pools)) (items_view c.deref.result.now) in
@@ -45,7 +47,7 @@ returns-in_err-cuts-clause-goes c =
     let pools = c.args.pools.now.pools.items in
     let sizes = sizes_of c.args.sizes.now in
     let leaders = c.args.leaders.now in
-    let words = c.args.got.now.words in
+    let words = (word_count (entries_of c.args.got.now)) in
     let laid = laid_now files b pools c.pools.result.now words leaders sizes c.in_ok-items.items.items c.deref.result.now c.in_ok-walked.walked c.in_ok-walked.bounds c.section_count.result
     c.deref.ensures.value c.in_ok-items.ensures.items c.section_count.ensures c.pools.ensures.value c.in_ok-walked.ensures.bounds c.in_ok-walked.ensures.trail in
     let cuts = cuts_are c.in_ok-walked.walked c.in_ok-walked.bounds leaders sizes (section_total files) (layout_of files b pools words leaders sizes) laid in
@@ -61,7 +63,7 @@ returns-clause-goes c =
     let pools = c.args.pools.now.pools.items in
     let sizes = sizes_of c.args.sizes.now in
     let leaders = c.args.leaders.now in
-    let words = c.args.got.now.words in
+    let words = (word_count (entries_of c.args.got.now)) in
     let laid = laid_now files b pools c.pools.result.now words leaders sizes c.in_ok-items.items.items c.deref.result.now c.in_ok-walked.walked c.in_ok-walked.bounds c.section_count.result
     c.deref.ensures.value c.in_ok-items.ensures.items c.section_count.ensures c.pools.ensures.value c.in_ok-walked.ensures.bounds c.in_ok-walked.ensures.trail in
     let cuts = cuts_are c.in_ok-walked.walked c.in_ok-walked.bounds leaders sizes (section_total files) (layout_of files b pools words leaders sizes) laid in
@@ -75,7 +77,7 @@ returns-clause-found c =
     let pools = c.args.pools.now.pools.items in
     let sizes = sizes_of c.args.sizes.now in
     let leaders = c.args.leaders.now in
-    let words = c.args.got.now.words in
+    let words = (word_count (entries_of c.args.got.now)) in
     let laid = laid_now files b pools c.pools.result.now words leaders sizes c.in_ok-items.items.items c.deref.result.now c.in_ok-walked.walked c.in_ok-walked.bounds c.section_count.result
     c.deref.ensures.value c.in_ok-items.ensures.items c.section_count.ensures c.pools.ensures.value c.in_ok-walked.ensures.bounds c.in_ok-walked.ensures.trail in
     let cuts = ap (map cut_views) c.of.ensures ∙ c.in_ok-cuts.ensures.rows ∙ ap (λ l. all_cuts leaders sizes l (section_total files)) c.deref-2.ensures.value in

@@ -1,11 +1,11 @@
 use Rattle.std.proofs.Common.{◌≡◌, ◌<◌, length, map, arith, ◌∙◌, sym, append-nil}
 use Rattle.std.proofs.lemmas.Bool.Decides.{nat_tests}
 use Rattle.std.proofs.lemmas.List.Elements.{All-drop}
-use Rattle.link_sections.specs.LaidOut.{output_view}
+use Rattle.link_sections.specs.LaidOut.{output_view, place_view}
 use Rattle.link_sections.specs.SizesView.{sizes_of}
 use Rattle.layout.specs.ItemViews.{items_view}
 use Rattle.layout.specs.Walk.{IsReady}
-use Rattle.layout.proofs.Splitting.{next_end, next_members, next_sections, next_stands, nothing_left, runs_is}
+use Rattle.layout.proofs.Splitting.{next_end, next_members, next_places, next_sections, next_stands, nothing_left, runs_is}
 use Rattle.layout.proofs.Weights.{weight_split}
 use Rattle.layout.proofs.walk.walk_class.Goals as goal
 
@@ -29,6 +29,7 @@ loop-rest-preserved c =
       end = next_end sizes at end _ _ _ e c.in_ok-at.ensures.end ∙ inv.end;
       those = next_sections sizes at end _ _ _ e c.in_ok-at.ensures.end (items_view c.args.from.now.items.now) c.args.class _ _ c.in_ok-at.ensures.outputs ∙ inv.those;
       follow = next_members sizes at end _ _ _ e c.in_ok-at.ensures.end _ _ c.in_ok-at.ensures.members ∙ inv.follow;
+      stand = next_places sizes at end _ _ _ e c.in_ok-at.ensures.end (items_view c.args.from.now.items.now) c.args.class _ _ c.in_ok-at.ensures.extents ∙ inv.stand;
       all = next_stands sizes at end _ _ _ e c.in_ok-at.ensures.end _ _ c.in_ok-at.ensures.stands ∙ inv.all;
     }
 
@@ -46,6 +47,11 @@ pub returns-clause-members : goal.returns-clause-members
 returns-clause-members c =
     let none : length c.loop-rest.rest.now ≡ 0 = grind (arith, nat_tests) in
     sym (append-nil c.loop-rest.members.items) ∙ rw (nothing_left _ none) at c.loop-rest.invariant.follow
+
+pub returns-clause-extents : goal.returns-clause-extents
+returns-clause-extents c =
+    let none : length c.loop-rest.rest.now ≡ 0 = grind (arith, nat_tests) in
+    sym (append-nil (map place_view c.loop-rest.extents.items)) ∙ rw (nothing_left _ none) at c.loop-rest.invariant.stand
 
 pub returns-clause-stands : goal.returns-clause-stands
 returns-clause-stands c =

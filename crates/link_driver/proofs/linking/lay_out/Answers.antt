@@ -1,13 +1,54 @@
+use Rattle.std.proofs.Common.{◌≡◌, List, Option, ℕ, ap, sym, subst, ◌∙◌}
+use Rattle.layout.specs.Items.{HaveFirsts}
+use Rattle.link_sections.specs.declared.pools.Pool.{Pool}
+use Rattle.link_sections.specs.GotView.{entries_of}
+use Rattle.link_sections.specs.Merging.{pools_of}
+use Rattle.link_sections.specs.PoolViews.{pool_heads, pools_view}
+use Rattle.link_sections.specs.SizesView.{sizes_of}
+use Rattle.link_sections.proofs.PoolHeads.{pool_heads_are}
 use Rattle.lk_tables.specs.BindingView.{binding_view}
 use Rattle.lk_tables.specs.TablesView.{files_of}
-use Rattle.link_sections.specs.SizesView.{sizes_of}
-use Rattle.link_driver.proofs.Fitting.{leaders_lead, sizes_fit}
+use Rattle.lk_base.specs.declared.defects.Defect.{Defect}
+use Rattle.lk_base.specs.Firsts.{StopsAt}
+use Rattle.link_sections.specs.LaidOut.{layout_view}
+use Rattle.link_driver.specs.Tables.{wished}
+use Rattle.link_driver.proofs.Fitting.{firsts_stay, sizes_fit}
+use Rattle.link_driver.proofs.Leading.{defects_are, laid_are}
 use Rattle.link_driver.proofs.linking.lay_out.Goals as goal
 
-pub place-requires-clause-leaders : goal.place-requires-clause-leaders
-place-requires-clause-leaders c = leaders_lead (files_of c.args.tables.now) (binding_view c.args.binding.now) c.args.kept.now c.args.leaders.now c.requires.leaders c.requires.stay
+pub place-requires-clause-pools : goal.place-requires-clause-pools
+place-requires-clause-pools c =
+    let files = files_of c.args.tables.now in
+    let b = binding_view c.args.binding.now in
+    let P : List Pool → Type 0 = λ pools. HaveFirsts files b pools in
+    subst P (sym (ap pool_heads c.requires.pools) ∙ pool_heads_are files c.args.pools.now) (firsts_stay files b c.args.kept.now c.requires.stay)
 
 pub place-requires-clause-sizes : goal.place-requires-clause-sizes
 place-requires-clause-sizes c =
     sizes_fit (files_of c.args.tables.now) (binding_view c.args.binding.now) (sizes_of c.in_ok-sizes.sizes)
     c.in_ok-sizes.ensures.fit
+
+pub returns-in-Ok-clause-goes : goal.returns-in-Ok-clause-goes
+returns-in-Ok-clause-goes c =
+    let files = files_of c.args.tables.now in
+    let b = binding_view c.args.binding.now in
+    let w = wished c.args.options in
+    sym (defects_are w files b c.args.kept.now c.args.pools.now c.requires.pools c.args.leaders.now c.requires.leaders (entries_of c.args.got.now) c.requires.table
+    (sizes_of c.in_ok-sizes.sizes) c.in_ok-sizes.ensures.cuts c.args.limits.now) ∙ c.in-Ok.ensures.goes
+
+pub returns-in-Ok-clause-laid : goal.returns-in-Ok-clause-laid
+returns-in-Ok-clause-laid c =
+    let files = files_of c.args.tables.now in
+    let b = binding_view c.args.binding.now in
+    let w = wished c.args.options in
+    laid_are w files b c.args.kept.now c.args.pools.now c.requires.pools c.args.leaders.now c.requires.leaders (entries_of c.args.got.now) c.requires.table
+    (sizes_of c.in_ok-sizes.sizes) c.in_ok-sizes.ensures.cuts (layout_view c.in-Ok.layout) c.in-Ok.ensures.found
+
+pub returns-clause-goes : goal.returns-clause-goes
+returns-clause-goes c =
+    let files = files_of c.args.tables.now in
+    let b = binding_view c.args.binding.now in
+    let w = wished c.args.options in
+    let P : List Defect → Type 0 = λ ds. StopsAt c.in-Err.stop ds in
+    subst P (defects_are w files b c.args.kept.now c.args.pools.now c.requires.pools c.args.leaders.now c.requires.leaders (entries_of c.args.got.now) c.requires.table
+    (sizes_of c.in_ok-sizes.sizes) c.in_ok-sizes.ensures.cuts c.args.limits.now) c.in-Err.ensures.goes

@@ -1,27 +1,33 @@
-use Rattle.std.proofs.Common.{◌≡◌, ◌∙◌, List, ap, sym, subst, ℕ}
+use Rattle.std.proofs.Common.{◌≡◌, ◌∙◌, List, [], ap, sym, subst, ℕ}
 use Rattle.std.specs.Prelude.{string_bytes}
 use Rattle.comdat.specs.Discarded.{discarded}
 use Rattle.link_command.specs.Command.{asks}
 use Rattle.lk_base.specs.Firsts.{StopsAt}
-use Rattle.lk_tables.specs.Binding.{binding_defects}
+use Rattle.lk_tables.specs.BoundNames.{binding_defects}
 use Rattle.lk_tables.specs.BindingView.{binding_view}
 use Rattle.lk_tables.specs.TablesView.{files_of}
 use Rattle.link_driver.specs.Contents.{sources_of}
-use Rattle.link_driver.specs.Link.{bound_names, kept_of, last_phases}
+use Rattle.elf_out.specs.Standing.{SectionsStand}
+use Rattle.link_driver.specs.Link.{Wishes, bound_names, executable_with, kept_of, laid_out, last_phases, leaders_in}
 use Rattle.lk_tables.specs.Binding.{first_phase}
-use Rattle.link_driver.proofs.Chain.{at_reading, at_binding, at_last, no_defects}
+use Rattle.link_driver.proofs.Chain.{at_reading, at_binding, at_last, at_pieces, no_defects}
 use Rattle.link_driver.proofs.Handing.{binding_is, bound_are, collected_are, gives_executable, stand_so}
 use Rattle.link_driver.proofs.linking.link_sources.Goals as goal
 
 pub returns-in-Err : goal.returns-in-Err
 returns-in-Err g c = at_reading c.args.limits.now (asks c.args.command.now) (sources_of c.args.sources.now) c.in-Err.stop c.in-Err.ensures.goes
 
+pub returns-in-Err-check_pieces : goal.returns-in-Err-check_pieces
+returns-in-Err-check_pieces g c =
+    at_pieces c.args.limits.now (asks c.args.command.now) (sources_of c.args.sources.now) c.in-Ok.ensures.goes
+    (files_of c.in-Ok.tables) c.in-Ok.ensures.tables c.in-Err-check_pieces.stop c.in-Err-check_pieces.ensures
+
 pub returns-in-Err-bind_names : goal.returns-in-Err-bind_names
 returns-in-Err-bind_names g c =
     let files = files_of c.in-Ok.tables in
     let P : List ℕ → Type 0 = λ entry. StopsAt c.in-Err-bind_names.stop (binding_defects files (discarded files) entry) in
     at_binding c.args.limits.now (asks c.args.command.now) (sources_of c.args.sources.now) c.in-Ok.ensures.goes
-    files c.in-Ok.ensures.tables c.in-Err-bind_names.stop
+    files c.in-Ok.ensures.tables c.in-Ok-check_pieces.ensures c.in-Err-bind_names.stop
     (subst P c.as_str-entry.ensures.value c.in-Err-bind_names.ensures.goes)
 
 pub find_kept-requires-clause-bound : goal.find_kept-requires-clause-bound
@@ -37,10 +43,12 @@ returns-in-Err-link_kept g c =
     let asked = asks c.args.command.now in
     let files = files_of c.in-Ok.tables in
     let names = c.in-Ok-bind_names.ensures.names ∙ ap (bound_names files) c.as_str-entry.ensures.value in
-    at_last c.args.limits.now asked (sources_of c.args.sources.now) c.in-Ok.ensures.goes files c.in-Ok.ensures.tables
+    at_last c.args.limits.now asked (sources_of c.args.sources.now) c.in-Ok.ensures.goes files c.in-Ok.ensures.tables c.in-Ok-check_pieces.ensures
     (ap (binding_defects files (discarded files)) (sym c.as_str-entry.ensures.value) ∙ c.in-Ok-bind_names.ensures.goes)
     (binding_view c.in-Ok-bind_names.binding) names c.as_slice.result.now (c.as_slice.ensures.value ∙ c.in_ok-kept.ensures.kept)
-    c.in-Err-link_kept.stop c.in-Err-link_kept.ensures.goes
+    c.in-Err-link_kept.stop
+    (let P : Wishes → Type 0 = λ w. StopsAt c.in-Err-link_kept.stop (first_phase (last_phases c.args.limits.now w files (binding_view c.in-Ok-bind_names.binding) c.as_slice.result.now)) in
+    subst P c.options_of.ensures c.in-Err-link_kept.ensures.goes)
 
 pub returns : goal.returns
 returns g c =
@@ -50,18 +58,23 @@ returns g c =
     let b = binding_view c.in-Ok-bind_names.binding in
     let names = c.in-Ok-bind_names.ensures.names ∙ ap (bound_names files) c.as_str-entry.ensures.value in
     let stays = c.as_slice.ensures.value ∙ c.in_ok-kept.ensures.kept in
+    let kept = c.as_slice.result.now in
+    let exe = c.in-Ok-link_kept.exe.items in
+    let P : Wishes → Type 0 = λ w. first_phase (last_phases c.args.limits.now w files b kept) ≡ [] in
+    let Q : Wishes → Type 0 = λ w. SectionsStand files b (leaders_in w files b kept) (laid_out w files b kept) exe in
+    let R : Wishes → Type 0 = λ w. exe ≡ executable_with w files b kept in
     record {
-      sound = no_defects c.args.limits.now asked ss c.in-Ok.ensures.goes files c.in-Ok.ensures.tables
+      sound = no_defects c.args.limits.now asked ss c.in-Ok.ensures.goes files c.in-Ok.ensures.tables c.in-Ok-check_pieces.ensures
           (ap (binding_defects files (discarded files)) (sym c.as_str-entry.ensures.value) ∙ c.in-Ok-bind_names.ensures.goes)
-          b names c.as_slice.result.now stays c.in-Ok-link_kept.ensures.goes;
+          b names c.as_slice.result.now stays (subst P c.options_of.ensures c.in-Ok-link_kept.ensures.goes);
       taking_part = c.in-Ok.ensures.taking_part;
       bound = bound_are c.as_str-entry.result.now asked.entry files ss
           c.in-Ok.ensures.tables c.as_str-entry.ensures.value c.in-Ok-bind_names.ensures.least;
       collected = λ gc. collected_are asked ss files b c.in_ok-kept.kept.items c.in-Ok.ensures.tables names c.in_ok-kept.ensures.kept (c.in_ok-kept.ensures.collected gc);
-      stands = stand_so asked ss files b c.as_slice.result.now c.in-Ok-link_kept.exe.items c.in-Ok.ensures.tables names stays c.in-Ok-link_kept.ensures.stands;
+      stands = stand_so asked ss files b c.as_slice.result.now c.in-Ok-link_kept.exe.items c.in-Ok.ensures.tables names stays (subst Q c.options_of.ensures c.in-Ok-link_kept.ensures.stands);
       gives = record {
         executable = gives_executable asked ss files b c.as_slice.result.now c.in-Ok-link_kept.exe.items
-            c.in-Ok.ensures.tables names stays c.in-Ok-link_kept.ensures.written;
+            c.in-Ok.ensures.tables names stays (subst R c.options_of.ensures c.in-Ok-link_kept.ensures.written);
         map = c.new.ensures.items;
         report = c.new-2.ensures.items;
       };

@@ -1,5 +1,7 @@
 use Rattle.std.proofs.Common.{ℕ, ◌+◌, ◌∙◌, ap, sym, subst, arith, List, slice_index}
 use Rattle.lk_base.proofs.TableLines.{width_few}
+use Rattle.link_sections.specs.Calls.{acting_number}
+use Rattle.link_sections.specs.LaidOut.{cuts_at}
 use Rattle.link_sections.specs.Views.{binding_in, files_in, laid_in, leaders_in}
 use Rattle.reloc_apply.specs.Relocated.{put}
 use Rattle.reloc_apply.specs.Sites.{IsFresh}
@@ -20,7 +22,7 @@ returns-clause-bytes c = λ state shows fresh long j lt.
     let P : List ℕ → Type 0 = λ xs. IsFresh xs state (c.args.at + 8) in
     let at = c.offset_of-offset.ensures.value in
     let held = c.slide.ensures state shows (subst P (first_is view s c.requires.source) fresh) in
-    let few = width_few r.kind in
+    let few = width_few (acting_number (cuts_at laid n) r) in
     let fits = c.requires.fits in
     window_put files b leaders laid n r state c.slide.new.window c.put_in.new.window few (omega (arith, c.slide.auto.window, c.requires.window))
     (omega (arith, fits, long))

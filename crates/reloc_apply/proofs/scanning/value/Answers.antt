@@ -18,7 +18,7 @@ returns-then-not-has_value-clause-some c =
     let has = kind_has (files_in view) c.args.section c.site_of.result.section c.args.reloc c.relocs_at.result.now c.has_value.result false
     c.relocs_at.ensures c.site_of.ensures.section c.has_value.ensures c.if-not-has_value.true in
     ap is_some (sym (none_at (files_in view) (binding_in view) (leaders_in view) (laid_in view) c.args.section c.args.reloc has))
-    ∙ some_at (files_in view) (binding_in view) (leaders_in view) (laid_in view) c.args.section c.args.reloc (all_sound view.tables.now) c.requires.number c.requires.reloc
+    ∙ some_at (files_in view) (binding_in view) (leaders_in view) (laid_in view) c.args.section c.args.reloc
 
 pub source_of-requires : goal.source_of-requires
 source_of-requires c =
@@ -33,4 +33,4 @@ returns-clause-some c =
     let view = c.args.view.now in
     ap is_some (c.value_by.ensures
     ∙ ap (λ n. value_at (files_in view) (binding_in view) (leaders_in view) (laid_in view) n c.args.reloc) c.source_of.ensures.section)
-    ∙ some_at (files_in view) (binding_in view) (leaders_in view) (laid_in view) c.args.section c.args.reloc (all_sound view.tables.now) c.requires.number c.requires.reloc
+    ∙ some_at (files_in view) (binding_in view) (leaders_in view) (laid_in view) c.args.section c.args.reloc

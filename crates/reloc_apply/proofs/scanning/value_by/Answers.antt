@@ -1,4 +1,5 @@
-use Rattle.std.proofs.Common.{ℕ, ◌+◌, ◌∙◌, ap, arith, List, slice_index, subst}
+use Rattle.std.proofs.Common.{take, ℕ, ◌+◌, ◌∙◌, ap, arith, List, slice_index, subst}
+use Rattle.rv_code.specs.Places.{number_of}
 use Rattle.reloc_apply.specs.Sites.{IsFresh, bytes_by}
 use Rattle.reloc_apply.proofs.ScanSteps.{first_is, value_is}
 use Rattle.reloc_apply.proofs.scanning.value_by.Goals as goal
@@ -13,4 +14,4 @@ returns c =
     c.value_in.ensures.value
     ∙ value_is view s c.requires.source k c.held_in.result c.slide.new.window c.requires.reloc (omega (arith, c.slide.auto.window))
     (λ j lt. shows j (omega (arith, lt, c.slide.auto.window)) ∙ ap (λ p. slice_index (bytes_by view s k) (p + j)) c.offset_of-offset.ensures.value)
-    c.held_in.ensures
+    (c.held_in.ensures ∙ ap (λ w. number_of (take w c.slide.new.window)) c.width_of-width.ensures.value)

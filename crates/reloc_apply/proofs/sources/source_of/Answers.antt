@@ -1,7 +1,7 @@
-use Rattle.std.proofs.Common.{ℕ, ◌-◌, ◌∙◌, ap, arith, sym, List, slice_index}
+use Rattle.std.proofs.Common.{◌-◌, ◌∙◌, ap, arith, sym}
 use Rattle.lk_base.specs.declared.abi.TheConstants.{IMAGE_BASE}
 use Rattle.link_sections.specs.CutsView.{cut_views}
-use Rattle.link_sections.specs.LaidOut.{cuts_at, layout_view, start_at}
+use Rattle.link_sections.specs.LaidOut.{cuts_at, start_at, with_contents}
 use Rattle.link_sections.specs.Views.{binding_in, files_in, laid_in, leaders_in}
 use Rattle.reloc_apply.specs.Relocated.{is_laid}
 use Rattle.reloc_apply.proofs.LaidCuts.{cuts_of}
@@ -16,14 +16,14 @@ site_of-site-requires c =
     (known (files_in view) (binding_in view) (leaders_in view) (laid_in view) c.args.section view.sound c.requires).section.number
 
 pub overflow_sub-result : goal.overflow_sub-result
-unfolding layout_view
+unfolding with_contents
 overflow_sub-result c =
     let view = c.args.view.now in
     let is = known (files_in view) (binding_in view) (leaders_in view) (laid_in view) c.args.section view.sound c.requires in
-    omega (arith, is.low, is.section.start, c.number_at.ensures, ap (λ (l : List ℕ). slice_index l c.args.section) c.as_slice.ensures.value)
+    omega (arith, is.low, is.section.start, c.start_of.ensures)
 
 pub returns-clause-source : goal.returns-clause-source
-unfolding layout_view
+unfolding with_contents
 returns-clause-source c =
     let view = c.args.view.now in
     let files = files_in view in
@@ -34,7 +34,7 @@ returns-clause-source c =
     source_is files b leaders laid _ view.sound (all_sound view.tables.now)
     (ap (is_laid files b leaders laid) same ∙ c.requires)
     c.site_of-site.ensures.site
-    (ap (λ n. n - IMAGE_BASE) (c.number_at.ensures ∙ ap (λ (l : List ℕ). slice_index l c.args.section) c.as_slice.ensures.value ∙ ap (start_at laid) (sym same)))
+    (ap (λ n. n - IMAGE_BASE) (c.start_of.ensures ∙ ap (start_at laid) (sym same)))
     c.contents.ensures
     (ap cut_views c.cuts.ensures.value ∙ sym (cuts_of view.layout.now c.args.section) ∙ ap (cuts_at laid) (sym same))
     c.relocs_at.ensures

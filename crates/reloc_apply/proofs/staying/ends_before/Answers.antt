@@ -3,7 +3,8 @@ use Rattle.std.proofs.lemmas.List.{length-map}
 use Rattle.link_sections.specs.CutsView.{cut_view, cut_views}
 use Rattle.link_sections.specs.Cuts.{new_offset}
 use Rattle.reloc_apply.specs.Staying.{new_before, no_cut, old_before}
-use Rattle.reloc_apply.proofs.CutViews.{cut_is, no_held}
+use Rattle.reloc_apply.specs.Sites.{no_held}
+use Rattle.reloc_apply.proofs.CutViews.{cut_is}
 use Rattle.reloc_apply.proofs.staying.ends_before.Goals as goal
 
 pub overflow_add-result : goal.overflow_add-result

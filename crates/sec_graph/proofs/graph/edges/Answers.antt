@@ -12,7 +12,7 @@ use Rattle.sec_graph.proofs.graph.edges.Goals.{In_ok-rows}
 rows_are : (g : _) (c : In_ok-rows g) → c.in_ok-rows.rows ≡ edges (files_of c.args.tables.now) (binding_view c.args.binding.now)
 rows_are g c =
     joined_rows (files_of c.args.tables.now) (binding_view c.args.binding.now) c.in_ok-parts.parts.items c.in_ok-rows.rows c.in_ok-parts.ensures
-    (c.in_ok-rows.ensures ∙ ap (flat_map (λ part. part)) c.as_slice.ensures.value)
+    (c.in_ok-rows.ensures ∙ ap (flat_map (λ part. part)) c.as_slice-3.ensures.value)
 
 pub from_rows-requires-clause-within : goal.from_rows-requires-clause-within
 from_rows-requires-clause-within g c =

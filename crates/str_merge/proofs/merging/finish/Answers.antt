@@ -15,6 +15,7 @@ of-requires c =
       rising = filled_rises c.args.work.now c.args.filled c.requires.work c.requires.filled;
       small = omega (arith, small, c.requires.filled.bytes_are);
       ordered = c.requires.filled.ordered;
+      piled = c.requires.filled.piled;
     }
 
 pub returns : goal.returns

@@ -1,0 +1,126 @@
+-- What the passes before the layout hand on, together: leaders, and where everything stands.
+use Rattle.std.proofs.Common.{◌≡◌, ℕ, ◌<◌, Bool, true, false, List, Option, length, refl, sym, ap, ◌∙◌, subst, arith}
+use Rattle.std.specs.List.{All}
+use Rattle.std.specs.Prelude.{if◌then◌else◌, slice_index}
+use Rattle.std.specs.List.Sorted.{IsStrictlyIncreasing}
+use Rattle.std.proofs.lemmas.List.{length-map}
+use Rattle.std.proofs.lemmas.Bool.{and_parts, cond-false, cond-true}
+use Rattle.std.proofs.lemmas.List.Elements.{All-map}
+use Rattle.icf_part.specs.Leaders.{leaders_of}
+use Rattle.layout.specs.Items.{AreLeaders}
+use Rattle.layout.specs.Layout.{layout_defects, layout_of, limit_defects}
+use Rattle.lk_base.specs.declared.defects.Defect.{Defect}
+use Rattle.lk_base.specs.declared.limits.Limits.{Limits}
+use Rattle.lk_tables.specs.Binding.{Bindings}
+use Rattle.lk_tables.specs.Files.{File, section_total}
+use Rattle.lk_tables.proofs.BoundHas.{each_flat, one_if}
+use Rattle.link_sections.specs.declared.got.GotEntry.{GotEntry}
+use Rattle.link_sections.specs.declared.pools.Pool.{Pool}
+use Rattle.link_sections.specs.declared.pools.Pools.{Pools}
+use Rattle.link_sections.specs.Cuts.{Cut}
+use Rattle.link_sections.specs.declared.fold_items.FoldItem.{FoldItem as LentItem}
+use Rattle.link_sections.specs.FoldItems.{FoldItem, item_view, item_views, section_of, sections_of}
+use Rattle.link_sections.specs.GotEntries.{word_count}
+use Rattle.link_sections.specs.LaidOut.{LaidOut, with_contents}
+use Rattle.link_sections.specs.Leaders.{folded_leaders, is_kept, own_leaders}
+use Rattle.link_sections.specs.Merging.{pools_of}
+use Rattle.link_sections.specs.PoolViews.{Merged, PoolsView, merged_views, pool_heads, pools_view}
+use Rattle.link_sections.proofs.Folded.{LeadItems, folded_lead}
+use Rattle.link_sections.proofs.OwnLeaders.{own_lead}
+use Rattle.link_sections.proofs.PoolHeads.{pool_heads_are}
+use Rattle.relax.specs.CallSizes.{cuts_of}
+use Rattle.sec_graph.specs.Foldable.{is_foldable, item_if, item_in, item_of, items}
+use Rattle.link_driver.specs.Link.{Wishes, cuts_in, laid_out, leaders_in, table_of}
+use Rattle.link_driver.specs.Tables.{MayStay}
+use Rattle.link_driver.proofs.Fitting.{lead_so}
+
+-- the sections that may be folded are kept
+pub items_kept : (files : List File) (b : Bindings) (merged : List (Option Merged)) (kept : List Bool) →
+    All (λ n. is_kept kept n ≡ true) (sections_of (items files b merged kept))
+unfolding sections_of items is_foldable item_in
+items_kept files b merged kept =
+    let P : FoldItem → Type 0 = λ i. is_kept kept i.section ≡ true in
+    All-map (λ n. is_kept kept n ≡ true) section_of (items files b merged kept)
+    (each_flat P (item_if files b merged kept) 0 (section_total files) (λ n lt.
+    one_if P (is_foldable files b kept n) (item_of files b merged n)
+    (λ on. (and_parts (is_kept kept n) _ on).0)))
+
+-- what stands in pools and in the table is no matter of the layout's defects
+without_contents : (limits : Limits) (files : List File) (l : LaidOut) (v : PoolsView) (t : List GotEntry) →
+    layout_defects limits files l ≡ layout_defects limits files (with_contents l v t)
+unfolding layout_defects limit_defects with_contents
+without_contents limits files l v t = refl
+
+module _ (w : Wishes) (files : List File) (b : Bindings) (kept : List Bool) (pools : Pools) (are : pools_view files pools ≡ pools_of files kept) where
+  -- without folding
+  pub own_are : (leaders : List (Option ℕ)) → w.icf ≡ false → leaders ≡ own_leaders kept (merged_views pools) → leaders ≡ leaders_in w files b kept
+  unfolding leaders_in pools_view
+  own_are leaders off is = is ∙ ap (λ (v : PoolsView). own_leaders kept v.merged) are ∙ sym (cond-false w.icf _ _ off)
+
+  -- with it
+  pub folded_are : (own leaders : List (Option ℕ)) (list : List FoldItem) (places : List ℕ) → w.icf ≡ true → own ≡ own_leaders kept (merged_views pools) →
+      list ≡ items files b (merged_views pools) kept → places ≡ leaders_of list → leaders ≡ folded_leaders list places own → leaders ≡ leaders_in w files b kept
+  unfolding leaders_in pools_view
+  folded_are own leaders list places on own_is list_is places_are is =
+      let give : List FoldItem → List (Option ℕ) → List (Option ℕ) = λ l o. folded_leaders l (leaders_of l) o in
+      is ∙ ap (λ ps. folded_leaders list ps own) places_are ∙ ap (λ l. give l own) list_is ∙ ap (give (items files b (merged_views pools) kept)) own_is
+      ∙ ap (λ (v : PoolsView). give (items files b v.merged kept) (own_leaders kept v.merged)) are ∙ sym (cond-true w.icf _ _ on)
+
+  module _ (leaders : List (Option ℕ)) (lead : leaders ≡ leaders_in w files b kept) (entries : List GotEntry) (listed : entries ≡ table_of w files b kept)
+      (sizes : List (List Cut)) (cut : sizes ≡ cuts_of files b (pools_view files pools) leaders w.relax) where
+    abbrev plain : LaidOut
+    plain = layout_of files b (pool_heads (pools_of files kept)) (word_count (table_of w files b kept)) (leaders_in w files b kept) (cuts_in w files b kept)
+
+    cuts_are : sizes ≡ cuts_in w files b kept
+    unfolding cuts_in
+    cuts_are = cut ∙ ap (λ v. cuts_of files b v leaders w.relax) are ∙ ap (λ l. cuts_of files b (pools_of files kept) l w.relax) lead
+
+    plain_is : layout_of files b pools.pools.items (word_count entries) leaders sizes ≡ plain
+    plain_is =
+        ap (λ ps. layout_of files b ps (word_count entries) leaders sizes) (sym (pool_heads_are files pools) ∙ ap pool_heads are)
+        ∙ ap (λ es. layout_of files b (pool_heads (pools_of files kept)) (word_count es) leaders sizes) listed
+        ∙ ap (λ l. layout_of files b (pool_heads (pools_of files kept)) (word_count (table_of w files b kept)) l sizes) lead
+        ∙ ap (layout_of files b (pool_heads (pools_of files kept)) (word_count (table_of w files b kept)) (leaders_in w files b kept)) cuts_are
+
+    pub laid_are : (view : LaidOut) → view ≡ layout_of files b pools.pools.items (word_count entries) leaders sizes →
+        with_contents view (pools_view files pools) entries ≡ laid_out w files b kept
+    unfolding laid_out
+    laid_are view is =
+        ap (λ v. with_contents v (pools_view files pools) entries) (is ∙ plain_is)
+        ∙ ap (λ v. with_contents plain v entries) are ∙ ap (with_contents plain (pools_of files kept)) listed
+
+    pub defects_are : (limits : Limits) →
+        layout_defects limits files (layout_of files b pools.pools.items (word_count entries) leaders sizes) ≡ layout_defects limits files (laid_out w files b kept)
+    unfolding laid_out
+    defects_are limits = ap (layout_defects limits files) plain_is ∙ without_contents limits files plain (pools_of files kept) (table_of w files b kept)
+
+-- the places of leaders, as they are found
+pub lead_items : (items : List LentItem) (l : List ℕ) → length l ≡ length (item_views items) → All (λ p. p < length items) l →
+    ((a : ℕ) → slice_index l (slice_index l a) ≡ slice_index l a) → LeadItems (length (item_views items)) l
+lead_items items l count places own = record {
+  count = count;
+  within = λ a lt.
+      let low : a < length l = omega (arith, lt, count) in
+      let below : slice_index l a < length items = places a 0 low in
+      omega (arith, below, length-map items item_view);
+  own = λ a lt. own a;
+}
+
+-- folded sections have leaders that may stay and lead themselves
+pub folded_stay : (files : List File) (b : Bindings) (kept : List Bool) (pools : Pools) (own leaders : List (Option ℕ)) (list : List FoldItem) (places : List ℕ) →
+    own ≡ own_leaders kept (merged_views pools) → list ≡ items files b (merged_views pools) kept → IsStrictlyIncreasing (sections_of list) →
+    LeadItems (length list) places → leaders ≡ folded_leaders list places own → MayStay files b kept → AreLeaders files b leaders
+folded_stay files b kept pools own leaders list places own_is list_is order lead is stay =
+    let merged = merged_views pools in
+    let P : List FoldItem → Type 0 = λ l. All (λ n. is_kept kept n ≡ true) (sections_of l) in
+    let kept_are = subst P (sym list_is) (items_kept files b merged kept) in
+    let whole = is ∙ ap (folded_leaders list places) own_is in
+    let Q : List (Option ℕ) → Type 0 = λ l. AreLeaders files b l in
+    subst Q (sym whole) (lead_so files b kept (folded_leaders list places (own_leaders kept merged)) (folded_lead kept merged list places order kept_are lead) stay)
+
+-- and without folding
+pub own_stay : (files : List File) (b : Bindings) (kept : List Bool) (pools : Pools) (own : List (Option ℕ)) → own ≡ own_leaders kept (merged_views pools) →
+    MayStay files b kept → AreLeaders files b own
+own_stay files b kept pools own is stay =
+    let Q : List (Option ℕ) → Type 0 = λ l. AreLeaders files b l in
+    subst Q (sym is) (lead_so files b kept (own_leaders kept (merged_views pools)) (own_lead kept (merged_views pools)) stay)

@@ -1,0 +1,6 @@
+pub mod CalledObjects
+pub mod Decimals
+pub mod HeaderWalk
+pub mod Lengths
+pub mod NamedSymbols
+pub mod Whole

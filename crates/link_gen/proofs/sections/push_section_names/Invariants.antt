@@ -1,0 +1,8 @@
+use Rattle.std.proofs.Common.{◌≡◌, ◌++◌, map, drop, flat_map}
+use Rattle.link_gen.specs.Contents.{row_name, section_names}
+use Rattle.link_gen.specs.Elf.{zero_ended}
+use Rattle.link_gen.proofs.sections.push_section_names.Given as goal
+
+abbrev pub invariant-loop-section : goal.invariant-loop-section
+invariant-loop-section l =
+    l.out.items ++ flat_map zero_ended (map row_name (drop l.section-index l.sections)) ≡ l.fn.out.items ++ section_names l.sections

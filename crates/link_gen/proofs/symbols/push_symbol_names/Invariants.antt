@@ -1,0 +1,9 @@
+use Rattle.std.proofs.Common.{◌≡◌, ◌++◌, map, drop, flat_map}
+use Rattle.link_gen.specs.Contents.{symbol_names, symbol_view}
+use Rattle.link_gen.specs.Elf.{zero_ended}
+use Rattle.link_gen.proofs.symbols.push_symbol_names.Given as goal
+
+abbrev pub invariant-loop-symbol : goal.invariant-loop-symbol
+invariant-loop-symbol l =
+    l.out.items ++ flat_map zero_ended (map (λ s. s.name) (map symbol_view (drop l.symbol-index l.symbols)))
+    ≡ l.fn.out.items ++ symbol_names (map symbol_view l.symbols)

@@ -1,0 +1,64 @@
+//! Numbers as an object's bytes and names have them.
+
+ghost use Rattle.std.specs.Prelude.{◌≡◌, ◌≤◌, ◌++◌, length, decimal, OnOk};
+ghost use Rattle.link_gen.specs.Elf as spec;
+
+use std::alloc::AllocError;
+
+/// Adds a number of two bytes.
+#[tactic(auto, unfolding(crate::specs::Elf::half))]
+pub fn push_half(out: &mut Vec<u8>, n: u16) -> Result<(), AllocError>
+    ensures { OnOk result (out.new.items ≡ out.old.items ++ spec.half n) }
+{
+    out.extend_from_slice(&n.to_le_bytes())
+}
+
+/// Adds a number of four bytes.
+#[tactic(auto, unfolding(crate::specs::Elf::word))]
+pub fn push_word(out: &mut Vec<u8>, n: u32) -> Result<(), AllocError>
+    ensures { OnOk result (out.new.items ≡ out.old.items ++ spec.word n) }
+{
+    out.extend_from_slice(&n.to_le_bytes())
+}
+
+/// Adds a number of eight bytes.
+#[tactic(auto, unfolding(crate::specs::Elf::long))]
+pub fn push_long(out: &mut Vec<u8>, n: u64) -> Result<(), AllocError>
+    ensures { OnOk result (out.new.items ≡ out.old.items ++ spec.long n) }
+{
+    out.extend_from_slice(&n.to_le_bytes())
+}
+
+/// Adds zero bytes.
+pub fn push_zeros(out: &mut Vec<u8>, count: u64) -> Result<(), AllocError>
+    ensures { OnOk result (out.new.items ≡ out.old.items ++ spec.zeros count) }
+{
+    for _zero in 0..count {
+        out.push(0)?;
+    }
+    Ok(())
+}
+
+/// Adds a number's decimal digits.
+pub fn push_decimal(out: &mut Vec<u8>, n: u32) -> Result<(), AllocError>
+    ensures { OnOk result (out.new.items ≡ out.old.items ++ decimal n) }
+{
+    if n < 10 {
+        out.push(b'0' + n as u8)?;
+        return Ok(());
+    }
+    push_decimal(out, n / 10)?;
+    out.push(b'0' + (n % 10) as u8)?;
+    Ok(())
+}
+
+/// How many decimal digits a number has.
+pub fn digit_count(n: u32) -> u64
+    ensures value { result ≡ length (decimal n) }
+    ensures small { result ≤ 10 }
+{
+    if n < 10 {
+        return 1;
+    }
+    digit_count(n / 10) + 1
+}

@@ -1,0 +1,258 @@
+//! Symbols that the linker defines where no file does (the conventions of GNU ld's scripts, which start files and C libraries name; RISC-V
+//! ELF psABI, "Global Pointer").
+
+ghost use Rattle.std.specs.Prelude.{◌≡◌, ◌<◌, ◌^◌, length, map, slice_index_or};
+ghost use Rattle.std.specs.List.{position_or_len};
+ghost use Rattle.std.specs.Str.{bytes_eq};
+ghost use Rattle.lk_tables.specs.declared.linker_symbols.Edge.TheVariants as edges;
+ghost use Rattle.lk_tables.specs.LinkerSymbols as spec;
+
+use crate::identifiers::is_c_identifier;
+use lk_base::SecNo;
+
+/// What the address of a symbol of a fixed name is.
+#[derive(Clone, Copy, Debug, PartialEq, Eq)]
+pub enum Edge {
+    /// The start of the image, where the file header stands.
+    ImageStart,
+    /// The end of what is executed.
+    CodeEnd,
+    /// The end of what is written and has bytes in the file, where the zeros after it start.
+    BitsEnd,
+    /// The end of these zeros.
+    ZerosEnd,
+    /// The linker's global offset table.
+    Table,
+    /// What the global pointer register holds.
+    GlobalPointer,
+    /// The start of the output section `.preinit_array`.
+    PreinitStart,
+    /// Its end.
+    PreinitEnd,
+    /// The start of the output section `.init_array`.
+    InitStart,
+    /// Its end.
+    InitEnd,
+    /// The start of the output section `.fini_array`.
+    FiniStart,
+    /// Its end.
+    FiniEnd,
+}
+
+/// How many fixed names there are. The linker's symbols have numbers: first those of fixed names, then for each section number two, for the
+/// start and the end of the sections of its name.
+pub const FIXED_SYMBOLS: u32 = 18;
+
+/// A fixed name, and what its address is.
+#[derive(Clone, Copy)]
+struct FixedSymbol {
+    name: &'static [u8],
+    edge: Edge,
+}
+
+macro_rules! fixed {
+    ($name:literal, $edge:ident) => {
+        FixedSymbol {
+            name: $name,
+            edge: Edge::$edge,
+        }
+    };
+}
+
+// Each by its number.
+const FIXED: [FixedSymbol; 18] = [
+    fixed!(b"__ehdr_start", ImageStart),
+    fixed!(b"__rela_iplt_start", ImageStart),
+    fixed!(b"__rela_iplt_end", ImageStart),
+    fixed!(b"_etext", CodeEnd),
+    fixed!(b"etext", CodeEnd),
+    fixed!(b"_edata", BitsEnd),
+    fixed!(b"edata", BitsEnd),
+    fixed!(b"__bss_start", BitsEnd),
+    fixed!(b"_end", ZerosEnd),
+    fixed!(b"end", ZerosEnd),
+    fixed!(b"_GLOBAL_OFFSET_TABLE_", Table),
+    fixed!(b"__global_pointer$", GlobalPointer),
+    fixed!(b"__preinit_array_start", PreinitStart),
+    fixed!(b"__preinit_array_end", PreinitEnd),
+    fixed!(b"__init_array_start", InitStart),
+    fixed!(b"__init_array_end", InitEnd),
+    fixed!(b"__fini_array_start", FiniStart),
+    fixed!(b"__fini_array_end", FiniEnd),
+];
+
+/// The number of the linker's symbol of a fixed name.
+#[tactic(auto, unfolding(crate::specs::LinkerSymbols::fixed_no, crate::specs::LinkerSymbols::fixed_symbols))]
+pub fn fixed_no(name: &[u8]) -> Option<u32>
+    ensures { result ≡ spec.fixed_if name.now }
+{
+    let number = place_of(&FIXED, name);
+    if number < FIXED_SYMBOLS {
+        Some(number)
+    } else {
+        None
+    }
+}
+
+// The place of a name in a table, or the table's length.
+fn place_of(table: &[FixedSymbol], name: &[u8]) -> u32
+    requires { length table.now < 100 }
+    ensures { result ≡ position_or_len (λ s. bytes_eq s.name.now name.now) table.now }
+{
+    for (i, known) in table.iter().enumerate() {
+        if known.name == name {
+            return i as u32;
+        }
+    }
+    table.len() as u32
+}
+
+/// What the address of a symbol of a fixed name is, by its number.
+#[tactic(auto, unfolding(crate::specs::LinkerSymbols::edge_of, crate::specs::LinkerSymbols::fixed_symbols))]
+pub fn edge_of(number: u32) -> Edge
+    ensures { result ≡ spec.edge_of number }
+{
+    edge_in(&FIXED, number as usize)
+}
+
+// The edge of a number, that of the first past the end of a table.
+fn edge_in(table: &[FixedSymbol], number: usize) -> Edge
+    ensures { result ≡ slice_index_or (map (λ s. s.edge) table.now) number edges.ImageStart }
+{
+    match table.get(number) {
+        Some(symbol) => symbol.edge,
+        None => Edge::ImageStart,
+    }
+}
+
+/// The X of a name `__start_X`, if X is an identifier of C.
+#[tactic(auto, unfolding(crate::specs::LinkerSymbols::start_prefix))]
+pub fn start_of(name: &[u8]) -> Option<&[u8]>
+    ensures { spec.text_if result ≡ spec.identifier_after spec.start_prefix name.now }
+{
+    identifier_after(b"__start_".as_slice(), name)
+}
+
+/// The X of a name `__stop_X`, if X is an identifier of C.
+#[tactic(auto, unfolding(crate::specs::LinkerSymbols::stop_prefix))]
+pub fn stop_of(name: &[u8]) -> Option<&[u8]>
+    ensures { spec.text_if result ≡ spec.identifier_after spec.stop_prefix name.now }
+{
+    identifier_after(b"__stop_".as_slice(), name)
+}
+
+/// What follows a prefix, if it is an identifier of C.
+#[tactic(auto, unfolding(crate::specs::LinkerSymbols::identifier_after))]
+fn identifier_after<'a>(prefix: &[u8], name: &'a [u8]) -> Option<&'a [u8]>
+    ensures { spec.text_if result ≡ spec.identifier_after prefix.now name.now }
+{
+    let rest = name.strip_prefix(prefix)?;
+    if is_c_identifier(rest) {
+        Some(rest)
+    } else {
+        None
+    }
+}
+
+/// The number of the symbol for the start of the sections that have the name of a section.
+pub fn start_no(section: SecNo) -> u32
+    requires { section < 2 ^ 28 }
+    ensures { result ≡ spec.start_no section }
+{
+    FIXED_SYMBOLS + 2 * section
+}
+
+/// The number of the symbol for the end of the sections that have the name of a section.
+pub fn stop_no(section: SecNo) -> u32
+    requires { section < 2 ^ 28 }
+    ensures { result ≡ spec.stop_no section }
+{
+    FIXED_SYMBOLS + 2 * section + 1
+}
+
+/// The section whose name's start or end a symbol of the linker's is; none for a fixed name.
+pub fn bound_section(number: u32) -> Option<SecNo>
+    ensures { result ≡ spec.bound_if number }
+{
+    if number < FIXED_SYMBOLS {
+        return None;
+    }
+    Some((number - FIXED_SYMBOLS) / 2)
+}
+
+/// Whether it is the end.
+pub fn is_stop(number: u32) -> bool
+    ensures { result ≡ spec.is_stop_no number }
+{
+    number.saturating_sub(FIXED_SYMBOLS) % 2 == 1
+}
+
+#[cfg(test)]
+mod tests {
+    use super::*;
+
+    /// A fixed name, its number and what its address is.
+    type Row = (&'static [u8], u32, Edge);
+
+    const NAMES: [Row; 18] = [
+        (b"__ehdr_start", 0, Edge::ImageStart),
+        (b"__rela_iplt_start", 1, Edge::ImageStart),
+        (b"__rela_iplt_end", 2, Edge::ImageStart),
+        (b"_etext", 3, Edge::CodeEnd),
+        (b"etext", 4, Edge::CodeEnd),
+        (b"_edata", 5, Edge::BitsEnd),
+        (b"edata", 6, Edge::BitsEnd),
+        (b"__bss_start", 7, Edge::BitsEnd),
+        (b"_end", 8, Edge::ZerosEnd),
+        (b"end", 9, Edge::ZerosEnd),
+        (b"_GLOBAL_OFFSET_TABLE_", 10, Edge::Table),
+        (b"__global_pointer$", 11, Edge::GlobalPointer),
+        (b"__preinit_array_start", 12, Edge::PreinitStart),
+        (b"__preinit_array_end", 13, Edge::PreinitEnd),
+        (b"__init_array_start", 14, Edge::InitStart),
+        (b"__init_array_end", 15, Edge::InitEnd),
+        (b"__fini_array_start", 16, Edge::FiniStart),
+        (b"__fini_array_end", 17, Edge::FiniEnd),
+    ];
+
+    #[test]
+    fn fixed_names(rt: HostRuntime) {
+        for (name, number, edge) in NAMES.iter() {
+            assert_eq!(rt; fixed_no(*name), Some(*number));
+            assert_eq!(rt; edge_of(*number), *edge);
+        }
+        for name in [b"__end".as_slice(), b"_en", b"", b"__start_COMMON"] {
+            assert_eq!(rt; fixed_no(name), None);
+        }
+    }
+
+    /// A name, and the identifiers of C that follow `__start_` and `__stop_`.
+    type Edges = (&'static [u8], Option<&'static [u8]>, Option<&'static [u8]>);
+
+    const EDGES: [Edges; 9] = [
+        (b"__start_COMMON", Some(b"COMMON"), None),
+        (b"__stop_COMMON", None, Some(b"COMMON")),
+        (b"__start__2", Some(b"_2"), None),
+        (b"__stop_stop_2", None, Some(b"stop_2")),
+        (b"__start_2", None, None),
+        (b"__start_", None, None),
+        (b"__stop_.text", None, None),
+        (b"__start_a.b", None, None),
+        (b"_start_a", None, None),
+    ];
+
+    #[test]
+    fn names_of_sections(rt: HostRuntime) {
+        for (name, start, stop) in EDGES.iter() {
+            assert_eq!(rt; start_of(*name), *start);
+            assert_eq!(rt; stop_of(*name), *stop);
+        }
+        for section in [0, 1, 70000] {
+            assert_eq!(rt; bound_section(start_no(section)), Some(section));
+            assert_eq!(rt; bound_section(stop_no(section)), Some(section));
+            assert!(rt; !is_stop(start_no(section)));
+            assert!(rt; is_stop(stop_no(section)));
+        }
+        assert_eq!(rt; bound_section(17), None);
+    }
+}

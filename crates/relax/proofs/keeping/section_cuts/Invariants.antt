@@ -1,0 +1,13 @@
+use Rattle.std.proofs.Common.{◌≡◌, ◌*◌, ◌≤◌}
+use Rattle.link_sections.specs.CutsView.{cut_views}
+use Rattle.relax.specs.CallSizes.{size_in}
+use Rattle.relax.specs.Placing.{ArePlaced}
+use Rattle.relax.proofs.CutSteps.{cuts_upto}
+use Rattle.relax.proofs.keeping.section_cuts.Given as goal
+
+abbrev pub invariant-loop-k : goal.invariant-loop-k
+invariant-loop-k l = record {
+  views : cut_views l.cuts.items ≡ cuts_upto (size_in l.calls l.sizes l.member) l.relocs l.k;
+  placed : ArePlaced l.cuts.items l.lost;
+  few : l.lost ≤ l.k * 18446744073709551615;
+}

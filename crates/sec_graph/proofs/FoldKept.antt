@@ -1,0 +1,21 @@
+-- The items stand for kept sections.
+use Rattle.std.proofs.Common.{◌≡◌, ℕ, Bool, true, List, sym, subst}
+use Rattle.std.specs.Prelude.{All, Option}
+use Rattle.std.proofs.lemmas.Bool.{and_parts}
+use Rattle.lk_tables.specs.Binding.{Bindings}
+use Rattle.lk_tables.specs.Files.{File, section_total}
+use Rattle.lk_tables.specs.Sites.{place_of}
+use Rattle.link_sections.specs.FoldItems.{sections_of}
+use Rattle.link_sections.specs.InputSections.{input_of}
+use Rattle.link_sections.specs.Leaders.{is_kept}
+use Rattle.link_sections.specs.PoolViews.{Merged}
+use Rattle.sec_graph.specs.Foldable.{is_foldable, is_foldable_input, items}
+use Rattle.sec_graph.proofs.FoldOrder.{sections_are}
+use Rattle.sec_graph.proofs.ListParts.{each_passed}
+
+pub items_kept : (files : List File) (b : Bindings) (merged : List (Option Merged)) (kept : List Bool) → All (λ n. is_kept kept n ≡ true) (sections_of (items files b merged kept))
+unfolding is_foldable
+items_kept files b merged kept =
+    let P : List ℕ → Type 0 = All (λ n. is_kept kept n ≡ true) in
+    subst P (sym (sections_are files b merged kept)) (each_passed (λ n. is_kept kept n ≡ true) (is_foldable files b kept) 0 (section_total files) (λ n lt is.
+    (and_parts (is_kept kept n) (is_foldable_input (input_of files b (place_of files n).file (place_of files n).index)) is).0))

@@ -1,0 +1,10 @@
+pub mod ByteRooms
+pub mod FoundPlaces
+pub mod LinkerAddresses
+pub mod Near
+pub mod NoFiles
+pub mod NotedSteps
+pub mod PastSymbols
+pub mod PoolPositions
+pub mod RowSteps
+pub mod SectionNames

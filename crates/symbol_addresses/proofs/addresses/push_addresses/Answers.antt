@@ -1,0 +1,22 @@
+use Rattle.std.proofs.Common.{ap, arith, length}
+use Rattle.lk_tables.specs.Files.{File}
+use Rattle.lk_tables.proofs.FirstNumbers.{first_within}
+use Rattle.symbol_addresses.specs.Links.{link_files}
+use Rattle.symbol_addresses.specs.Sources.{address_in}
+use Rattle.symbol_addresses.proofs.RowSteps.{row_step}
+use Rattle.symbol_addresses.proofs.addresses.push_addresses.Goals as goal
+
+pub overflow_cast-symbol : goal.overflow_cast-symbol
+overflow_cast-symbol c =
+    omega (
+      arith,
+      ap length c.symbols-symbol-end.ensures,
+      ap (λ (file : File). length file.head.symbols) c.file.ensures,
+      c.is_few.ensures.symbol_count,
+      first_within (link_files c.args.sources.now.link) c.args.file c.requires.file,
+    )
+
+pub loop-symbol-preserved : goal.loop-symbol-preserved
+loop-symbol-preserved c =
+    row_step (address_in c.args.sources.now.link c.args.file) c.loop-symbol.symbol
+    c.args.found.now.items c.loop-symbol.found.items c.push.new.self.items c.symbol_in.result c.loop-symbol.invariant c.in_ok-push.ensures.items c.symbol_in.ensures

@@ -1,0 +1,5 @@
+pub mod Extents
+pub mod Links
+pub mod Noted
+pub mod Positions
+pub mod Sources

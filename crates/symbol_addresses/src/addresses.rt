@@ -1,0 +1,142 @@
+//! The addresses of all symbols.
+
+ghost use Rattle.std.specs.Prelude.{◌≡◌, ◌-◌, ◌<◌, ◌≤◌, ◌++◌, length, flat_map, IfOk, OnOk};
+ghost use Rattle.std.specs.List.{range_with_len};
+ghost use Rattle.lk_tables.specs.BoundNames.{IsBindingOf};
+ghost use Rattle.lk_tables.specs.BindingView.{binding_view};
+ghost use Rattle.lk_tables.specs.TablesView.{files_of};
+ghost use Rattle.lk_tables.proofs.ByNumber.{symbol_row};
+ghost use Rattle.link_sections.specs.Addresses as spec;
+ghost use Rattle.link_sections.specs.GotView.{entries_of};
+ghost use Rattle.link_sections.specs.LaidOut.{layout_view, with_contents};
+ghost use Rattle.link_sections.specs.PoolViews.{pools_view};
+ghost use Rattle.link_sections.specs.Sound.{IsSound};
+ghost use Rattle.symbol_addresses.specs.Links.{link_files};
+ghost use Rattle.symbol_addresses.specs.Sources.{address_in, addresses_of};
+ghost use Rattle.work_split.specs.Pieces.{Tiles};
+ghost use Rattle.work_split.specs.Runs.{IsRun};
+
+use crate::edges::find_fixed;
+use crate::extents::Extents;
+use crate::links::LaidLink;
+use crate::sources::{Sources, symbol_in};
+use link_sections::{Addresses, Got, Layout, Pools};
+use lk_base::{FileNo, LinkStop, SecNo};
+use lk_tables::{Binding, Tables};
+use std::alloc::{AllocError, Global};
+use std::ops::Range;
+use std::thread::Threads;
+use work_split::{Gate, over_shares, pieces_by_weight};
+
+/// What each symbol stands for once everything has its place: an address or a number. The list has one entry for each symbol of all files,
+/// by symbol number: 0 for those of a file that takes no part, and for one that stands for nothing. A symbol in a section that is merged
+/// has the address of its byte in the pool; one of the linker's own has that of what its name says. The symbols are shared among so many
+/// workers, by files. The only error is out of memory.
+pub fn find_addresses<R: Threads + Sync, G: Gate>(
+    rt: &R,
+    alloc: Global,
+    tables: &Tables,
+    binding: &Binding,
+    pools: &Pools,
+    leaders: &[Option<SecNo>],
+    got: &Got,
+    layout: &Layout,
+    workers: u32,
+    gate: &G,
+) -> Result<Addresses, AllocError>
+    requires some { 1 ≤ workers }
+    requires most { workers ≤ 64 }
+    requires bound { IsBindingOf (files_of tables.now) (binding_view binding.now) }
+    requires sound { IsSound (files_of tables.now) (binding_view binding.now) leaders.now (with_contents (layout_view layout.now) (pools_view (files_of tables.now) pools.now) (entries_of got.now)) }
+    ensures { IfOk result (λ found. found.symbols.items ≡ spec.symbol_addresses (files_of tables.now) (binding_view binding.now) leaders.now (with_contents (layout_view layout.now) (pools_view (files_of tables.now) pools.now) (entries_of got.now))) }
+{
+    let link = LaidLink {
+        tables,
+        binding,
+        pools,
+        leaders,
+        got,
+        layout,
+    };
+    let fixed = find_fixed(alloc, &link)?;
+    let extents = Extents::of(alloc, layout)?;
+    let sources = Sources {
+        link,
+        fixed: fixed.as_slice(),
+        extents: &extents,
+    };
+    let symbols = find_symbols(rt, alloc, &sources, workers, gate)?;
+    Ok(Addresses { symbols })
+}
+
+/// The addresses of all symbols. The workers each find those of one piece of the files.
+fn find_symbols<R: Threads + Sync, G: Gate>(
+    rt: &R,
+    alloc: Global,
+    sources: &Sources,
+    workers: u32,
+    gate: &G,
+) -> Result<Vec<u64>, AllocError>
+    requires some { 1 ≤ workers }
+    requires most { workers ≤ 64 }
+    ensures { IfOk result (λ found. found.items ≡ addresses_of sources.now.link) }
+{
+    let pieces = pieces_of(alloc, sources.link.tables, workers)?;
+    let found = over_shares(
+        rt,
+        alloc,
+        gate,
+        pieces.as_slice(),
+        |piece: Range<usize>| -> Result<Vec<u64>, LinkStop>
+            requires piece { piece.end ≤ length (link_files sources.now.link) }
+            ensures { IsRun (symbol_row (link_files sources.entry.now.link) (address_in sources.entry.now.link)) piece result }
+        { Ok(addresses_in(alloc, sources, piece)?) },
+    );
+    match found {
+        Ok(list) => Ok(list),
+        Err(_) => Err(AllocError),
+    }
+}
+
+/// The files cut into pieces of about as many symbols each, one for each worker.
+fn pieces_of(alloc: Global, tables: &Tables, workers: u32) -> Result<Vec<Range<usize>>, AllocError>
+    requires some { 1 ≤ workers }
+    requires most { workers ≤ 64 }
+    ensures tiles { IfOk result (λ pieces. Tiles 0 (length (files_of tables.now)) pieces.items) }
+    ensures most { IfOk result (λ pieces. length pieces.items ≤ 64) }
+{
+    let mut counts = Vec::with_capacity(alloc, tables.file_count())?;
+    for file in tables.files() {
+        counts.push(file.symbols().len() as u64)?;
+    }
+    pieces_by_weight(alloc, counts.as_slice(), workers)
+}
+
+/// The addresses of the symbols of a run of files.
+fn addresses_in(
+    alloc: Global,
+    sources: &Sources,
+    piece: Range<usize>,
+) -> Result<Vec<u64>, AllocError>
+    requires piece { piece.end ≤ length (link_files sources.now.link) }
+    ensures { IfOk result (λ found. found.items ≡ flat_map (symbol_row (link_files sources.now.link) (address_in sources.now.link)) (range_with_len piece.start (piece.end - piece.start))) }
+{
+    sources.link.tables.is_few();
+    let mut found = Vec::new(alloc);
+    for file in piece.start..piece.end {
+        push_addresses(&mut found, sources, file as u32)?;
+    }
+    Ok(found)
+}
+
+/// The addresses of one file's symbols.
+fn push_addresses(found: &mut Vec<u64>, sources: &Sources, file: FileNo) -> Result<(), AllocError>
+    requires file { file < length (link_files sources.now.link) }
+    ensures { OnOk result (found.new.items ≡ found.old.items ++ symbol_row (link_files sources.now.link) (address_in sources.now.link) file) }
+{
+    sources.link.tables.is_few();
+    for symbol in 0..sources.link.tables.file(file).symbols().len() {
+        found.push(symbol_in(sources, file, symbol as u32))?;
+    }
+    Ok(())
+}

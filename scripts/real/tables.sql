@@ -1,0 +1,21 @@
+create table person(id integer primary key, name text, born integer);
+create table made(person integer references person(id), what text, year integer);
+create index made_year on made(year, what);
+insert into person(name, born) values ('Ada', 1815), ('Grace', 1906), ('Edsger', 1930), ('Barbara', 1939);
+insert into made select id, name || '''s first', born + 30 from person;
+insert into made select id, name || '''s second', born + 40 from person where born > 1900;
+select name, count(*), min(year), group_concat(what, '; ') from person join made on person = id group by id order by born;
+with recursive step(n, a, b) as (values(1, 0, 1) union all select n + 1, b, a + b from step where n < 60)
+    select n, a from step where n % 20 = 0;
+select name, rank() over (order by length(name) desc, name) from person order by 2;
+select printf('%08.3f|%x|%s', avg(born), sum(born), upper(max(name))) from person;
+select json_group_array(json_object('name', name, 'born', born)) from person where name glob '*a*';
+create table many as with recursive c(x) as (values(1) union all select x + 1 from c where x < 20000) select x, x * x % 9973 as y, hex(x) as z from c;
+create index many_y on many(y);
+select count(*), sum(y), count(distinct y), max(z) from many;
+select count(*) from many a join many b on a.y = b.y and a.x < b.x where a.x < 500;
+begin; delete from many where y % 2; rollback;
+update many set z = lower(z) || 'x' where x between 100 and 200;
+select count(*), typeof(z), abs(-5), round(2.567, 2), substr('wording', 2, 3), strftime('%Y-%m-%d', 86400 * 365, 'unixepoch') from many where z like '%x';
+pragma integrity_check;
+select 'end of tables';
