@@ -771,13 +771,9 @@ const CALLERS: usize = 300;
 const ROUND: usize = 1000;
 
 /// A function that jumps to the second symbol.
-const CALLER: Object = Object {
-    flags: 0,
-    sections: &[Section {
-        relocs: &[TO_SECOND],
-        ..JUMPS
-    }],
-    symbols: &[],
+const CALLER: Section = Section {
+    relocs: &[TO_SECOND],
+    ..JUMPS
 };
 
 /// The name of one of the functions in a row; the first begins the program.
@@ -798,13 +794,17 @@ fn push_caller(
 ) -> Result<(), AllocError> {
     let own = name_of(alloc, number)?;
     let other = name_of(alloc, called)?;
+    let bytes = caller_of(alloc, own.as_bytes(), other.as_bytes())?;
+    files.push((own, bytes))?;
+    Ok(())
+}
+
+/// An object of one function, which calls another by its name.
+fn caller_of<'n>(alloc: Global, own: &'n [u8], other: &'n [u8]) -> Result<Vec<u8>, AllocError> {
     let symbols = [
+        Symbol { name: own, ..START },
         Symbol {
-            name: own.as_bytes(),
-            ..START
-        },
-        Symbol {
-            name: other.as_bytes(),
+            name: other,
             sort: 0,
             section: 0,
             size: 0,
@@ -812,12 +812,11 @@ fn push_caller(
         },
     ];
     let object = Object {
+        flags: 0,
+        sections: &[CALLER],
         symbols: &symbols,
-        ..CALLER
     };
-    let bytes = object_of(alloc, &object)?;
-    files.push((own, bytes))?;
-    Ok(())
+    object_of(alloc, &object)
 }
 
 /// Adds a file of one function that calls none.
@@ -896,26 +895,16 @@ fn is_folded<R: Threads + Sync>(
     Ok(status == 0 && depot.bytes("a.out") == Some(whole.as_slice()))
 }
 
-/// What the functions of the chain are when none is folded.
+/// What the functions of the chain are when none is folded, and the names of the sections after them.
 fn chain_code(alloc: Global) -> Result<Vec<u8>, AllocError> {
     let mut code = Vec::new(alloc);
     for _ in 0..CALLERS {
         code.extend_from_slice(b"\xef\0\x80\0\x67\x80\0\0")?;
     }
     code.extend_from_slice(b"\x67\x80\0\0")?;
+    code.extend_from_slice(NAMES)?;
     Ok(code)
 }
-
-/// The executable of the chain, but for its contents.
-const CHAIN: Image = Image {
-    segments: &[READ, [1, 5, 0x1000, 0x11000, 2404, 2404, 4096], STACK],
-    table: 0x1978,
-    sections: &[
-        [1, 1, 6, 0x11000, 0x1000, 2404, 4],
-        [7, 3, 0, 0, 0x1964, 17, 1],
-    ],
-    ..FIRST
-};
 
 /// The executable of the ring: one function, which calls itself.
 const RING: Image = Image {
@@ -933,10 +922,17 @@ const WORKERS: [&[&str]; 3] = [
 fn what_ends_differently_stays_apart(rt: HostRuntime) -> Result<(), Fail> {
     let alloc = rt.alloc();
     let code = chain_code(alloc)?;
-    let contents = [(0x1000usize, code.as_slice()), (0x1964usize, NAMES)];
+    let contents = [(0x1000usize, code.as_slice())];
     let image = Image {
+        entry: 0x11000,
+        flags: 0,
+        segments: &[READ, [1, 5, 0x1000, 0x11000, 2404, 2404, 4096], STACK],
         contents: &contents,
-        ..CHAIN
+        table: 0x1978,
+        sections: &[
+            [1, 1, 6, 0x11000, 0x1000, 2404, 4],
+            [7, 3, 0, 0, 0x1964, 17, 1],
+        ],
     };
     for workers in &WORKERS {
         let files = chain(alloc)?;
