@@ -93,7 +93,13 @@ TAKEN = [
     ('-static -rpath /lib -rpath-link=/lib a.o', 'a.o'),
     ('-E --export-dynamic --exclude-libs ALL -Bsymbolic-functions --enable-new-dtags a.o', 'a.o'),
     ('--unresolved-symbols=report-all --oformat=elf64-littleriscv -b elf64-littleriscv a.o', 'a.o'),
+    ('--Map=m a.o', '--Map=m a.o'),
+    ('-Map m a.o', '--Map=m a.o'),
+    ('-o prog -Map=prog.map -s a.o', '--output=prog --Map=prog.map -s a.o'),
+    ('--Map first --no-print-map --Map=second a.o', '--Map=second a.o'),
+    ('-s --strip-all -strip-all a.o', '-s a.o'),
     ('--self-input 4', '--self-input=4'),
+    ('--self-input=4 -o prog --gc-sections --icf=all', '--self-input=4 --output=prog --icf=all --gc-sections'),
     ('@words', '--output=a file.out a.o d/liba.a'),
     ('@nothing a.o', '@nothing a.o'),
     ('-v a.o', 'a.o'),
@@ -134,7 +140,16 @@ REFUSED = [
     ('--icf some a.o', '--icf=some: rvld folds all equal code or none: --icf=all or --icf=none'),
     ('-M a.o', '-M: rvld writes the map to a file: -Map=FILE'),
     ('--print-map a.o', '--print-map: rvld writes the map to a file: -Map=FILE'),
+    ('-print-map a.o', '-print-map: rvld writes the map to a file: -Map=FILE'),
     ('-Map=- a.o', '-Map=-: rvld writes the map to a file: -Map=FILE'),
+    ('-Map - a.o', '-Map: rvld writes the map to a file: -Map=FILE'),
+    ('a.o -Map', '-Map: its value is missing'),
+    ('-Map= a.o', '-Map=: its value is missing'),
+    ('--self-input=4 a.o', '--self-input=4: it stands in place of files, and here are both'),
+    ('--self-input=0', '--self-input=0: the number of generated objects is 1 to 65536'),
+    ('--self-input 65537', '--self-input=65537: the number of generated objects is 1 to 65536'),
+    ('--self-input=all', '--self-input=all: the number of generated objects is 1 to 65536'),
+    ('--strip-all=yes a.o', '--strip-all=yes: not known, or not with a value'),
     ('-Map=prog -o prog a.o', 'prog: named for the program and for the map'),
     ('--print-gc-sections a.o', '--print-gc-sections: what is left out stands in the map: -Map=FILE'),
     ('-t a.o', '-t: what is linked stands in the map: -Map=FILE'),
@@ -169,6 +184,13 @@ REFUSED = [
     ("a.o '-la\nb%'", 'cannot find -la%0Ab%25'),
     ('@around', '@around: too many response files; one may name itself'),
 ]
+
+# Words of other linkers that rvld-ld does not know. Each is refused in one line that names it, by itself and through a driver.
+UNKNOWN = '''
+    --strange --no-strange -strange -Wstrange -plt --stats --verbose --time-trace --print-memory-usage --sort-section=name --orphan-handling=error
+    --symbol-ordering-file=order --call-graph-profile-sort=none --pack-dyn-relocs=relr --thinlto-cache-dir=cache --lto-O2 --out-implib=a.lib
+    --spare-dynamic-tags=5 --target2=abs --cmse-implib --be8 --fix-cortex-a53-843419 --print-archive-stats=file --reproduce=a.tar --vs-diagnostics
+'''.split()
 
 
 class Tests:
@@ -262,6 +284,20 @@ class Tests:
                 status, _, err, got = self.run(words + given)
                 self.check(' '.join(words + given), (status, err, got), (0, '', ['--output=prog', 'a.o', 'd/liba.a']))
 
+    def unknown(self):
+        """Words that are not known: one line, and the driver hands it on."""
+        for word in UNKNOWN:
+            self.refused(word + ' a.o', word + (': not known, or not with a value' if '=' in word else ': not known'))
+        for words in ('riscv64-linux-gnu-gcc -static -nostdlib -B bin', 'riscv64-unknown-elf-gcc -nostdlib -B bin',
+                      'clang --target=riscv64-unknown-elf -nostdlib --ld-path=bin/ld'):
+            words = words.split()
+            if shutil.which(words[0]) is None:
+                self.skip('unknown words through ' + words[0], words[0])
+                continue
+            for word in UNKNOWN[:3]:
+                status, _, err, got = self.run(words + ['a.o', '-Wl,' + word])
+                self.check(' '.join(words + [word]), (status != 0, err.split('\n')[0], got), (True, 'rvld-ld: %s: not known' % word, None))
+
     def asked(self):
         """Questions of configure scripts."""
         for words in ('--version', '-v', '-V', '-m elf64lriscv --version'):
@@ -301,6 +337,7 @@ def main():
             tests.refused(words, line)
         for words, wanted in DRIVERS:
             tests.driver(words, wanted)
+        tests.unknown()
         tests.called()
         tests.asked()
         tests.found()

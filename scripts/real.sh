@@ -1,11 +1,14 @@
 #!/usr/bin/env bash
-# Builds programs that stand on real C libraries, links each with rvld and with ld.lld (scripts/real/peer: or mold), runs both under
-# qemu-riscv64, and compares what they write and how they end. Each link is made with several options, and with 1, 2 and 64 workers, which must give the same bytes.
-# Also calls compiler drivers with scripts/rvld-ld as their linker, and runs the commands of docs/guide.md.
+# Builds programs that people know, links each with rvld, and runs it under qemu: without a system, and on picolibc, musl and glibc, Lua,
+# zlib's minigzip and SQLite's shell among them. Each has to write what scripts/real/said has, which is what the same sources give on another
+# machine, and so has what ld.lld (scripts/real/peer: or mold) makes of the same files. Each link is made with several options, and with 1, 2
+# and 64 workers, which must give the same bytes. Then compiler drivers are called with scripts/rvld-ld as their linker; inputs that rvld
+# refuses must be so by the line that docs/rules.md has; and the commands of README.md, docs/guide.md and docs/rules.md are run.
 #
-# Usage: scripts/real.sh [PART..]     PART: free picolibc musl glibc guide; without any, all of them
+# Usage: scripts/real.sh [PART..]     PART: free picolibc musl glibc refused guide; without any, all of them
 #   RVLD=PROGRAM      the linker; else crates/rvld/out/rvld. scripts/real/peer puts the other in its place
-#   RVLD_WORDS=..     words that each of its links gets, as -s
+#   RVLD_WORDS=..     words that each of its links gets; if it is not set, -s where rvld takes no command without it
+#   REAL_ONCE=1       each program is linked once, with --gc-sections: for a build of rvld that is slow, as one with checks
 #   REAL_WORK=DIR     where to work, kept for the next run: packages, sources and objects are made once; else a folder that is removed
 #   REAL_MIRROR=URI   a mirror of Debian's archive; else the one that apt uses here
 # A line for each program whose links are all OK; else one for each link that `differs`, with how, or that rvld `refused`, with its line.
@@ -14,6 +17,7 @@
 set -u
 top=$(cd "$(dirname "${BASH_SOURCE[0]}")/.." && pwd)
 sources=$top/scripts/real
+said=$sources/said
 ok=0 differ=0 refused=0 skipped=0
 
 tell() { echo "real: $*"; }
@@ -43,30 +47,37 @@ first_line() { head -n 1 "$1" | cut -c 1-300; }
 
 emulate() { timeout 120 qemu-riscv64 "$@"; }
 
-# run_words EXECUTABLE: how most programs are run; what it writes must end with a line `end of ..`
+# run_words EXECUTABLE: how most programs are run
 run_words() { emulate "$1" one 'two words'; }
 
-# made NAME RUN FILE..: links the files with the other linker and with rvld, runs both by the function RUN, and compares. Each link
-# counts; where all are OK there is one line
+# run_machine EXECUTABLE: a program with scripts/real/machine.c on a machine without a system; what it writes comes out of its UART
+run_machine() {
+    local entry
+    entry=$("$sources/image.py" "$1" "$1.image") || return 1
+    timeout 120 qemu-system-riscv64 -machine virt -bios none -m 128M -display none -monitor none -serial stdio -no-reboot \
+        -device "loader,file=$1.image,addr=0x80000000,force-raw=on" -device "loader,addr=$(printf '%#x' $((0x80000000 + 0x$entry))),cpu-num=0"
+}
+
+# made NAME RUN KNOWN WORD..: links the files among the words with the other linker and with rvld; what both make, run by the function RUN, has to
+# write what the file KNOWN of scripts/real/said has. Each link of rvld's counts; where all are OK there is one line
 made() {
-    local name=$1 run=$2 short=${1// /-} before=$((differ + refused)) links=0 wanted options
-    shift 2
-    if ! "$sources/peer" -o "$short.peer" "$@" >said 2>&1; then skip "$name" "the other linker does not link it: $(first_line said)"; return; fi
-    "$run" "./$short.peer" >"$short.wanted" 2>&1
-    wanted=$?
-    if ! grep -aqE '^end of ' "$short.wanted"; then
-        skip "$name" "it does not run as the other linker links it: $(tail -n 1 "$short.wanted")"
-        rm "$short.wanted"
-        return
+    local name=$1 run=$2 known=$said/$3 short=${1// /-} before=$((differ + refused)) links=0 beside=", as ld.lld's" options
+    shift 3
+    if ! timeout 300 "$sources/peer" -o "$short.peer" "$@" >told 2>&1; then
+        beside=
+        skip "$name beside ld.lld" "it does not link it: $(first_line told)"
+    elif ! as_known "$run" "$short.peer" "$known"; then
+        beside=
+        skip "$name beside ld.lld" "as it links it $how"
     fi
-    for options in "" "--no-relax" "--gc-sections" "--gc-sections --icf all" "-s"; do
+    for options in "${trials[@]}"; do
         if linked "$name${options:+ $options}" "$short.rvld" "$options" "$@"; then
-            runs "$name${options:+ $options}" "$run" "$short" "$wanted" && links=$((links + 1))
-        elif [ -z "$options" ]; then
-            return # what can't be linked without options is not tried with them
+            if as_known "$run" "$short.rvld" "$known"; then links=$((links + 1)); else differs "$name${options:+ $options}" "$how"; fi
+        elif [ "$options" = "${trials[0]}" ]; then
+            return # what can't be linked at first is not tried with other options
         fi
     done
-    for options in 1 2 64; do
+    for options in "${workers[@]}"; do
         linked "$name --threads $options" "$short.$options" "--threads $options" "$@" || return
         if cmp -s "$short.1" "$short.$options"; then
             links=$((links + 1))
@@ -74,102 +85,121 @@ made() {
             differs "$name --threads $options" "its bytes are not those of --threads 1"
         fi
     done
+    if [ "$has_map" = 1 ]; then
+        linked "$name --Map" "$short.rvld" "--gc-sections --Map $short.map" "$@" || return
+        if mapped "$short.rvld" "$short.map"; then links=$((links + 1)); else differs "$name --Map" "$how"; fi
+    fi
     ok=$((ok + links))
-    [ $((differ + refused)) != "$before" ] || tell "$name: OK ($links links)"
+    [ $((differ + refused)) != "$before" ] || tell "$name: OK ($links links$beside)"
 }
 
-# linked NAME OUT OPTIONS FILE..: whether rvld links the files
+# linked NAME OUT OPTIONS WORD..: whether rvld links the files
 linked() {
     local name=$1 out=$2 options=$3 status
     shift 3
     # shellcheck disable=SC2086
-    timeout 300 "$rvld" -o "$out" $options "$@" >said 2>&1
+    timeout 300 "$rvld" -o "$out" $options "$@" >told 2>&1
     status=$?
-    [ "$status" = 0 ] && [ ! -s said ] && return 0
-    refuses "$name" "status $status, $(first_line said)"
+    [ "$status" = 0 ] && [ ! -s told ] && return 0
+    refuses "$name" "status $status, $(first_line told)"
     return 1
 }
 
-# runs NAME RUN SHORT STATUS: whether SHORT.rvld ends with the status and writes what SHORT.wanted has
-runs() {
+# as_known RUN EXECUTABLE KNOWN: whether it ends with 0 and writes what the file has; else `how` tells what it does
+as_known() {
     local status
-    "$2" "./$3.rvld" >"$3.got" 2>&1
+    "$1" "./$2" >"$2.got" 2>&1
     status=$?
-    if [ "$status" != "$4" ]; then
-        differs "$1" "it ends with $status, not $4: $(tail -n 1 "$3.got" | cut -c 1-200)"
-        return 1
+    if [ "$status" != 0 ]; then
+        how="it ends with $status: $(tail -n 1 "$2.got" | cut -c 1-200)"
+    elif ! cmp -s "$2.got" "$3"; then
+        how="it writes $(diff "$3" "$2.got" | sed -n 2,4p | tr '\n' ' ' | cut -c 1-200)"
+    else
+        return 0
     fi
-    cmp -s "$3.got" "$3.wanted" && return 0
-    differs "$1" "it writes $(diff "$3.wanted" "$3.got" | sed -n 2,4p | tr '\n' ' ' | cut -c 1-200)"
     return 1
 }
 
-# driven NAME WANTED COMMAND..: a driver's command with scripts/rvld-ld as its linker makes the program `driven`, which is run by
-# run_words and must write what the file WANTED has
+# mapped EXECUTABLE MAP: whether the map is one, and has the names and values of the executable's symbol table; else `how` tells
+mapped() {
+    how="its map does not begin as one"
+    [ "$(head -n 1 "$2")" = "rvld map 1" ] || return 1
+    command -v riscv64-linux-gnu-nm >/dev/null 2>&1 || return 0
+    how="its map and its symbol table differ"
+    [ -n "$rvld_words" ] || cmp -s <(awk '$1 == "symbol" { print $2, $3 }' "$2" | sort) <(riscv64-linux-gnu-nm "$1" | awk '{ print $1, $3 }' | sort)
+}
+
+# driven NAME KNOWN COMMAND..: a driver's command with scripts/rvld-ld as its linker makes the program `driven`, which is run by run_words
 driven() {
-    local name=$1 wanted=$2
+    local name=$1 known=$said/$2
     shift 2
     rm -f driven
-    if ! "$@" -o driven >said 2>&1; then refuses "$name" "$(first_line said)"; return; fi
-    run_words ./driven >driven.got 2>&1
-    if cmp -s driven.got "$wanted"; then
-        ok "$name"
-    else
-        differs "$name" "it writes $(diff "$wanted" driven.got | sed -n 2,4p | tr '\n' ' ' | cut -c 1-200)"
-    fi
+    if ! "$@" -o driven >told 2>&1; then refuses "$name" "$(first_line told)"; return; fi
+    if as_known run_words driven "$known"; then ok "$name"; else differs "$name" "$how"; fi
 }
 
 # --------------------------------------------------------------------------------------------------------------- freestanding
 
 part_free() {
     local common="-O2 -Wall -Wextra -ffreestanding -ffunction-sections -fdata-sections -march=rv64gc -mabi=lp64d"
-    local cxx="-std=c++17 -fno-exceptions -fno-rtti -fno-threadsafe-statics"
+    local cxx="-std=c++17 -fno-exceptions -fno-rtti -fno-threadsafe-statics" clang="clang --target=riscv64-unknown-elf -mcmodel=medany -fno-pic" name cc
     if there "cells by clang" clang; then
         # shellcheck disable=SC2086
-        { clang --target=riscv64-unknown-elf $common -mcmodel=medany -fno-pic -c -o start-clang.o "$sources/start.c" &&
-            clang --target=riscv64-unknown-elf $common -mcmodel=medany -fno-pic $cxx -c -o cells-clang.o "$sources/cells.cpp"; } >said 2>&1 ||
-            { skip "cells by clang" "it is not compiled: $(first_line said)"; return; }
-        made "cells by clang" run_words start-clang.o cells-clang.o
-        [ ! -e cells-by-clang.wanted ] || driven "cells by the driver clang" cells-by-clang.wanted \
-            clang --target=riscv64-unknown-elf -nostdlib --ld-path=drivers/ld start-clang.o cells-clang.o
+        if { for name in start machine; do $clang $common -c -o "$name-clang.o" "$sources/$name.c" || break; done &&
+            $clang $common $cxx -c -o cells-clang.o "$sources/cells.cpp"; } >told 2>&1; then
+            made "cells by clang" run_words cells start-clang.o cells-clang.o
+            ! there "cells by clang on a machine" qemu-system-riscv64 python3 ||
+                made "cells by clang on a machine" run_machine cells -e machine machine-clang.o start-clang.o cells-clang.o
+            driven "cells by the driver clang" cells clang --target=riscv64-unknown-elf -nostdlib --ld-path=drivers/ld start-clang.o cells-clang.o
+        else
+            skip "cells by clang" "it is not compiled: $(first_line told)"
+        fi
     fi
-    if there "cells by g++" riscv64-linux-gnu-gcc riscv64-linux-gnu-g++; then
+    for cc in riscv64-linux-gnu riscv64-unknown-elf; do
+        there "cells by $cc-g++" $cc-gcc $cc-g++ || continue
         # shellcheck disable=SC2086
-        { riscv64-linux-gnu-gcc $common -fno-pie -c -o start-gcc.o "$sources/start.c" &&
-            riscv64-linux-gnu-g++ $common -fno-pie $cxx -c -o cells-gcc.o "$sources/cells.cpp"; } >said 2>&1 ||
-            { skip "cells by g++" "it is not compiled: $(first_line said)"; return; }
-        made "cells by g++" run_words start-gcc.o cells-gcc.o
+        { $cc-gcc $common -mcmodel=medany -fno-pie -c -o start-gcc.o "$sources/start.c" &&
+            $cc-g++ $common -mcmodel=medany -fno-pie $cxx -c -o cells-gcc.o "$sources/cells.cpp"; } >told 2>&1 ||
+            { skip "cells by $cc-g++" "it is not compiled: $(first_line told)"; continue; }
+        made "cells by $cc-g++" run_words cells start-gcc.o cells-gcc.o
+        driven "cells by the driver $cc-g++" cells $cc-g++ -nostdlib -static -B drivers start-gcc.o cells-gcc.o
         # the start file is position-dependent code, the program is not
         # shellcheck disable=SC2086
-        riscv64-linux-gnu-g++ $common -fPIE $cxx -c -o cells-pie.o "$sources/cells.cpp" && made "cells by g++ -fPIE" run_words start-gcc.o cells-pie.o
-        [ ! -e cells-by-g++.wanted ] || driven "cells by the driver g++" cells-by-g++.wanted \
-            riscv64-linux-gnu-g++ -nostdlib -static -B drivers start-gcc.o cells-gcc.o
-    fi
+        $cc-g++ $common -fPIE $cxx -c -o cells-pie.o "$sources/cells.cpp" && made "cells by $cc-g++ -fPIE" run_words cells start-gcc.o cells-pie.o
+    done
 }
 
 # -------------------------------------------------------------------------------------------------------------------- picolibc
 
 part_picolibc() {
-    local cc=riscv64-unknown-elf-gcc name options level folder
+    local cc=riscv64-unknown-elf-gcc name options level folder objects libraries known
     there picolibc $cc riscv64-unknown-elf-ar || return
     # the folder of its libraries is in the words that the driver would give to its linker
     folder=$($cc --specs=picolibc.specs -### start.o 2>&1 | tr ' ' '\n' | sed -n 's/^-L\(.*picolibc.*[^.]\)$/\1/p' | head -n 1)
     [ -e "${folder:-.}/libc.a" ] || { skip picolibc "it is not installed"; return; }
-    for level in O2 Os; do
-        options="--specs=picolibc.specs -$level -Wall -ffunction-sections -fdata-sections"
-        for name in start syscalls hello formats memory locals; do
+    if [ -n "${REAL_ONCE:-}" ]; then
+        # most of it is debug data
+        mkdir -p pico && cp "$folder"/lib[cm].a pico && riscv64-unknown-elf-strip -g pico/libc.a || return
+        folder=pico
+    fi
+    libraries=("$folder/libm.a" "$folder/libc.a" "$($cc -print-libgcc-file-name)")
+    for level in "${levels[@]}"; do
+        options="--specs=picolibc.specs -$level -Wall -mcmodel=medany -ffunction-sections -fdata-sections"
+        for name in start machine syscalls hello formats memory locals; do
             # shellcheck disable=SC2086
-            $cc $options -c -o "pico-$name-$level.o" "$sources/$name.c" >said 2>&1 ||
-                { skip "picolibc, $name -$level" "it is not compiled: $(first_line said)"; return; }
+            $cc $options -c -o "pico-$name-$level.o" "$sources/$name.c" >told 2>&1 ||
+                { skip "picolibc, $name -$level" "it is not compiled: $(first_line told)"; return; }
         done
         for name in hello formats memory locals; do
-            made "picolibc $name -$level" run_words "pico-start-$level.o" "pico-syscalls-$level.o" "pico-$name-$level.o" \
-                "$folder/libm.a" "$folder/libc.a" "$($cc -print-libgcc-file-name)"
+            objects=("pico-start-$level.o" "pico-syscalls-$level.o" "pico-$name-$level.o")
+            known=$name
+            [ ! -e "$said/$name.picolibc" ] || known=$name.picolibc # it writes fewer digits than others
+            made "picolibc $name -$level" run_words "$known" "${objects[@]}" "${libraries[@]}"
+            [ "$level" = Os ] || ! there "picolibc $name on a machine" qemu-system-riscv64 python3 ||
+                made "picolibc $name on a machine" run_machine "$known" -e machine "pico-machine-$level.o" "${objects[@]}" "${libraries[@]}"
+            [ "$level" = Os ] || driven "picolibc $name by the driver" "$known" $cc -nostdlib -B drivers "${objects[@]}" -L "$folder" \
+                -Wl,--start-group -lm -lc -lgcc -Wl,--end-group
         done
-    done
-    for name in hello formats; do
-        [ ! -e "picolibc-$name--O2.wanted" ] || driven "picolibc $name by the driver" "picolibc-$name--O2.wanted" $cc -nostdlib -B drivers \
-            pico-start-O2.o pico-syscalls-O2.o "pico-$name-O2.o" -L "$folder" -Wl,--start-group -lm -lc -lgcc -Wl,--end-group
     done
 }
 
@@ -179,7 +209,7 @@ part_picolibc() {
 apt_here() {
     apt-get -q -o "Dir::Etc::sourcelist=$work/apt/list.sources" -o Dir::Etc::sourceparts=- -o "Dir::State::lists=$work/apt/lists" \
         -o "Dir::Cache=$work/apt/cache" -o APT::Architecture=riscv64 -o APT::Architectures::=riscv64 -o Acquire::Languages=none \
-        -o "APT::Sandbox::User=$(id -un)" -o Debug::NoLocking=1 "$@"
+        -o "APT::Sandbox::User=$(id -un)" -o Debug::NoLocking=1 -o Acquire::Retries=1 -o Acquire::http::Timeout=20 -o Acquire::https::Timeout=20 "$@"
 }
 
 # the lists of Debian 13, from the mirror that apt uses for Debian here
@@ -244,17 +274,16 @@ run_sqlite() { emulate "$1" -batch <"$sources/tables.sql"; }
 run_minigzip() {
     cat "$sources"/*.c "$sources"/*.sql >plain || return 1
     emulate "$1" <plain >plain.packed || return 2
-    emulate "$1" -d <plain.packed >plain.again || return 3
-    cmp plain plain.again || return 4
-    cksum <plain.packed
-    echo "end of minigzip"
+    emulate "$1" -d <plain.packed | cmp - plain || return 3
+    gzip -dc <plain.packed | cmp - plain || return 4
+    echo "unpacked by itself and by gzip"
 }
 
-# musl_made NAME RUN FILE..: a program on musl of these files
+# musl_made NAME RUN KNOWN FILE..: a program on musl of these files
 musl_made() {
-    local name=$1 run=$2
-    shift 2
-    made "$name" "$run" "$musl/crt1.o" "$musl/crti.o" "$@" "$musl/libc.a" "$(riscv64-linux-gnu-gcc -print-libgcc-file-name)" "$musl/crtn.o"
+    local name=$1 run=$2 known=$3
+    shift 3
+    made "$name" "$run" "$known" "$musl/crt1.o" "$musl/crti.o" "$@" "$musl/libc.a" "$(riscv64-linux-gnu-gcc -print-libgcc-file-name)" "$musl/crtn.o"
 }
 
 # find_musl: gets the package, and sets `musl` and `musl_include`
@@ -270,24 +299,24 @@ part_musl() {
     local name
     find_musl || return
     for name in hello formats memory locals threads; do
-        cc_musl "musl-$name.o" "$sources/$name.c" -O2 >said 2>&1 || { skip "musl, $name" "it is not compiled: $(first_line said)"; return; }
-        musl_made "musl $name" run_words "musl-$name.o"
+        cc_musl "musl-$name.o" "$sources/$name.c" -O2 >told 2>&1 || { skip "musl $name" "it is not compiled: $(first_line told)"; continue; }
+        musl_made "musl $name" run_words $name "musl-$name.o"
+        driven "musl $name by the driver" $name riscv64-linux-gnu-gcc -static -nostdlib -B drivers \
+            "$musl/crt1.o" "$musl/crti.o" "musl-$name.o" -L "$musl" -lc -lgcc "$musl/crtn.o"
     done
-    [ ! -e musl-formats.wanted ] || driven "musl formats by the driver" musl-formats.wanted riscv64-linux-gnu-gcc -static -nostdlib -B drivers \
-        "$musl/crt1.o" "$musl/crti.o" musl-formats.o -L "$musl" -lc -lgcc "$musl/crtn.o"
     if ! once lua-source get_source lua5.4 lua; then
         skip "musl lua" "no source: $(tail -n 1 lua-source.log)"
     elif ! once lua-objects compile_lua; then
         skip "musl lua" "it is not compiled: $(tail -n 1 lua-objects.log)"
     else
-        musl_made "musl lua" run_lua lua/*.o
+        musl_made "musl lua" run_lua tests lua/*.o
     fi
     if ! once zlib-source get_source zlib zlib; then
         skip "musl minigzip" "no source: $(tail -n 1 zlib-source.log)"
     elif ! once zlib-objects compile_zlib; then
         skip "musl minigzip" "it is not compiled: $(tail -n 1 zlib-objects.log)"
     else
-        musl_made "musl minigzip" run_minigzip zlib/libz.a minigzip.o
+        musl_made "musl minigzip" run_minigzip minigzip zlib/libz.a minigzip.o
     fi
     there "musl sqlite" tclsh make cc || return
     if ! once sqlite-source get_source sqlite3 sqlite; then
@@ -295,7 +324,7 @@ part_musl() {
     elif ! once sqlite-objects compile_sqlite; then
         skip "musl sqlite" "it is not compiled: $(tail -n 1 sqlite-objects.log)"
     else
-        musl_made "musl sqlite" run_sqlite sqlite/*.o
+        musl_made "musl sqlite" run_sqlite tables sqlite/*.o
     fi
 }
 
@@ -310,11 +339,11 @@ mend_glibc() {
         mv mended.o libc-tls.o && riscv64-linux-gnu-ar r libc.a libc-tls.o
 }
 
-# glibc_made NAME FILE..: a static program on glibc of these files
+# glibc_made NAME KNOWN FILE..: a static program on glibc of these files
 glibc_made() {
-    local name=$1 cc=riscv64-linux-gnu-gcc
-    shift
-    made "$name" run_words "$($cc -print-file-name=crt1.o)" "$($cc -print-file-name=crti.o)" "$($cc -print-file-name=crtbeginT.o)" "$@" \
+    local name=$1 known=$2 cc=riscv64-linux-gnu-gcc
+    shift 2
+    made "$name" run_words "$known" "$($cc -print-file-name=crt1.o)" "$($cc -print-file-name=crti.o)" "$($cc -print-file-name=crtbeginT.o)" "$@" \
         "$($cc -print-file-name=libm.a)" glibc/libc.a "$($cc -print-libgcc-file-name)" \
         "$($cc -print-file-name=libgcc_eh.a)" "$($cc -print-file-name=crtend.o)" "$($cc -print-file-name=crtn.o)"
 }
@@ -324,42 +353,125 @@ part_glibc() {
     there glibc $cc riscv64-linux-gnu-ar riscv64-linux-gnu-as riscv64-linux-gnu-ld || return
     once glibc eval '(mend_glibc)' || { skip glibc "its libc.a is not there: $(tail -n 1 glibc.log)"; return; }
     for name in hello formats memory locals threads; do
-        for options in "-O2" "-O2 -fno-pie"; do
+        for options in "${ways[@]}"; do
             # shellcheck disable=SC2086
-            $cc $options -ffunction-sections -fdata-sections -c -o glibc.o "$sources/$name.c" >said 2>&1 ||
-                { skip "glibc $name $options" "it is not compiled: $(first_line said)"; continue; }
-            glibc_made "glibc $name $options" glibc.o
+            $cc $options -ffunction-sections -fdata-sections -c -o glibc.o "$sources/$name.c" >told 2>&1 ||
+                { skip "glibc $name $options" "it is not compiled: $(first_line told)"; continue; }
+            glibc_made "glibc $name $options" $name glibc.o
         done
-        [ ! -e "glibc-$name--O2.wanted" ] || driven "glibc $name by the driver" "glibc-$name--O2.wanted" $cc -static -B drivers -O2 "$sources/$name.c" -L glibc -lm
+        driven "glibc $name by the driver" $name $cc -static -B drivers -O2 "$sources/$name.c" -L glibc -lm
     done
     there "glibc streams" riscv64-linux-gnu-g++ || return
-    if riscv64-linux-gnu-g++ -O2 -std=c++17 -c -o streams.o "$sources/streams.cpp" >said 2>&1; then
-        glibc_made "glibc streams" streams.o "$(riscv64-linux-gnu-g++ -print-file-name=libstdc++.a)"
-        [ ! -e glibc-streams.wanted ] || driven "glibc streams by the driver" glibc-streams.wanted \
-            riscv64-linux-gnu-g++ -static -B drivers streams.o -L glibc
+    if riscv64-linux-gnu-g++ -O2 -std=c++17 -c -o streams.o "$sources/streams.cpp" >told 2>&1; then
+        glibc_made "glibc streams" streams streams.o "$(riscv64-linux-gnu-g++ -print-file-name=libstdc++.a)"
+        driven "glibc streams by the driver" streams riscv64-linux-gnu-g++ -static -B drivers streams.o -L glibc
     else
-        skip "glibc streams" "it is not compiled: $(first_line said)"
+        skip "glibc streams" "it is not compiled: $(first_line told)"
     fi
+}
+
+# --------------------------------------------------------------------------------------------------------------------- refused
+
+# alike FILE..: the lines with folders of names, and the numbers that differ from one build of a library to the next, left out
+alike() { sed -E 's|file=[^ ]*/|file=|; s/(section|place)=[0-9]+/\1=N/g; s/^[ |`]+//' "$@"; }
+
+# refused_so NAME LINE WORD..: rvld must refuse the words with a line like LINE, and docs/rules.md must have one like it
+refused_so() {
+    local name=$1 line=$2 status
+    shift 2
+    timeout 300 "$rvld" -o refused.out "$@" >told 2>&1
+    status=$?
+    if [ "$status" != 1 ] || [ "$(alike told)" != "$(alike <<<"$line")" ]; then
+        differs "$name" "status $status, $(first_line told)"
+    elif ! alike "$top/docs/rules.md" | grep -qF "$(alike <<<"$line")"; then
+        differs "$name" "docs/rules.md does not have $(first_line told)"
+    else
+        ok=$((ok + 1))
+        tell "$name: OK, refused: $(sed 's|file=[^ ]*/|file=|' told)"
+    fi
+}
+
+# Debian 13's glibc and what its GCC 14 made, as static archives
+get_newer() {
+    local file
+    apt_here download libc6-dev libgcc-14-dev libstdc++-14-dev || return 1
+    for file in lib{c6,gcc-14,stdc++-14}-dev_*.deb; do dpkg -x "$file" newer || return 1; done
+}
+
+part_refused() {
+    local cc=riscv64-linux-gnu-gcc crt newer
+    there "what is refused" $cc riscv64-linux-gnu-g++ || return
+    # GCC places anchors from which it reaches several variables, also past their section's end
+    if { $cc -O2 -fno-pie -c -o anchors.o "$sources/anchors.c" && $cc -O2 -fno-pie -fno-section-anchors -c -o no-anchors.o "$sources/anchors.c"; } >told 2>&1; then
+        refused_so "section anchors" "rvld: F09 BadSymbol file=anchors.o section=N place=N name= other=0" anchors.o
+        ! linked "no section anchors" anchors "" no-anchors.o || ok "no section anchors"
+    else
+        skip "section anchors" "they are not compiled: $(first_line told)"
+    fi
+    { $cc -O2 -c -o hello.o "$sources/hello.c" && riscv64-linux-gnu-g++ -O2 -c -o throws.o "$sources/throws.cpp"; } >told 2>&1 ||
+        { skip "what is refused of glibc" "it is not compiled: $(first_line told)"; return; }
+    crt=("$($cc -print-file-name=crt1.o)" "$($cc -print-file-name=crti.o)" "$($cc -print-file-name=crtn.o)" "$($cc -print-libgcc-file-name)"
+        "$($cc -print-file-name=libgcc_eh.a)")
+    if once glibc eval '(mend_glibc)'; then
+        refused_so "glibc 2.36 as it is" "rvld: F09 BadSymbol file=libc.a(libc-tls.o) section=N place=N name= other=0" "${crt[@]}" hello.o \
+            "$($cc -print-file-name=libc.a)"
+        # C++ that throws: linked, and aborted when it does
+        if linked "a C++ exception" throws "" "${crt[@]}" "$($cc -print-file-name=crtbeginT.o)" throws.o \
+            "$(riscv64-linux-gnu-g++ -print-file-name=libstdc++.a)" "$($cc -print-file-name=libm.a)" glibc/libc.a "$($cc -print-file-name=crtend.o)"; then
+            emulate ./throws >told 2>/dev/null
+            case $? in
+                0) if [ "$(head -n 1 told)" = "caught 42" ]; then ok "a C++ exception, caught"; else differs "a C++ exception" "it writes $(first_line told)"; fi ;;
+                134) ok "a C++ exception, aborted" ;;
+                *) differs "a C++ exception" "it ends with another status" ;;
+            esac
+        fi
+    else
+        skip "what is refused of glibc" "its libc.a is not there: $(tail -n 1 glibc.log)"
+    fi
+    there "what is refused of Debian 13" apt-get dpkg || return
+    once apt make_lists || { skip "what is refused of Debian 13" "no lists: $(tail -n 1 apt.log)"; return; }
+    once newer get_newer || { skip "what is refused of Debian 13" "no packages: $(tail -n 1 newer.log)"; return; }
+    newer=$(dirname "$(find newer -name libc.a)")
+    refused_so "glibc 2.41" "rvld: F12 RelocKind file=libc.a(iofclose.o) section=N place=N name= other=60" "$newer/crt1.o" "$newer/crti.o" hello.o "$newer/libc.a" \
+        "${crt[@]:3}" "$newer/crtn.o"
+    riscv64-linux-gnu-ar p "$newer/libc.a" memcpy.o >memcpy.o
+    refused_so "memcpy of glibc 2.41" "rvld: F17 Ifunc file=memcpy.o section=N place=N name= other=0" -e memcpy memcpy.o
+    refused_so "tables of GCC 14" "rvld: F12 RelocKind file=libstdc++.a(eh_alloc.o) section=N place=N name= other=60" "$newer/crt1.o" throws.o \
+        "$(find newer -name libstdc++.a)"
 }
 
 # ----------------------------------------------------------------------------------------------------------------------- guide
 
-part_guide() {
-    local words=(python3 "$sources/guide.py" "$top/docs/guide.md" "$work/guide") line
-    there guide python3 || return
-    rm -rf guide
-    mkdir guide
-    cp "$sources"/*.c "$sources"/*.cpp guide
-    find_musl && export MUSL=$musl MUSL_INCLUDE=$musl_include
-    # rvld's own lines and maps are compared where it is rvld that links
-    [ "$("$rvld" 2>&1)" = "rvld: bad command" ] || words+=(--not-its-lines)
+# followed PAGE OPTION..: the commands of a page write what it says
+followed() {
+    local page=$1 folder line
+    folder=$(basename "$page" .md)
+    shift
+    rm -rf "$folder"
+    mkdir "$folder"
+    cp "$sources"/*.c "$sources"/*.cpp "$folder"
+    ln -s "$top/scripts" "$folder/scripts"
     while IFS= read -r line; do
         case $line in
-            OK:*) ok "guide, ${line#OK: }" ;;
-            skipped:*) line=${line#skipped: }; skip "guide, ${line%%: *}" "${line#*: }" ;;
-            *) differs "guide" "$line" ;;
+            OK:*) ok "$page, ${line#OK: }" ;;
+            skipped:*) line=${line#skipped: }; skip "$page, ${line%%: *}" "${line#*: }" ;;
+            *) differs "$page" "$line" ;;
         esac
-    done < <(PATH=$top/scripts:$PATH "${words[@]}")
+    done < <(PATH=$top/scripts:$PATH python3 "$sources/guide.py" "$top/$page" "$work/$folder" "$@")
+}
+
+part_guide() {
+    local options=()
+    there guide python3 || return
+    find_musl && export MUSL=$musl MUSL_INCLUDE=$musl_include
+    # rvld's own lines and maps are compared where it is rvld that links, and their places where the assembler is that of Debian 12
+    [ "$("$rvld" 2>&1)" = "rvld: bad command" ] || options+=(--not-its-lines)
+    case $(riscv64-linux-gnu-as --version 2>/dev/null | head -n 1) in *" 2.40"*) ;; *) options+=(--places-differ) ;; esac
+    [ "$has_map" = 1 ] || options+=(--without=--Map)
+    [ "$has_input" = 1 ] || options+=(--without=--self-input)
+    followed README.md
+    followed docs/guide.md "${options[@]}"
+    followed docs/rules.md --refusals "${options[@]}"
 }
 
 # ------------------------------------------------------------------------------------------------------------------------- all
@@ -378,18 +490,32 @@ else
     trap 'rm -rf "$work"' EXIT
 fi
 cd "$work" || exit 1
+# what this rvld takes: an input that is not there is looked for once the command is accepted
+takes() { [ "$("$rvld" "$@" -o probe.out none.o 2>&1)" != "rvld: bad command" ]; }
+if [ -n "${RVLD_WORDS+set}" ]; then rvld_words=$RVLD_WORDS; elif takes; then rvld_words=; else rvld_words=-s; fi
+# how often a program is linked, by its options, and by the number of workers
+trials=("" "--no-relax" "--gc-sections" "--gc-sections --icf all") workers=(1 2 64) levels=(O2 Os) ways=("-O2" "-O2 -fno-pie")
+[ -n "$rvld_words" ] || trials+=("-s")
+[ -z "${REAL_ONCE:-}" ] || { trials=("--gc-sections"); workers=(); levels=(O2); ways=("-O2"); }
+has_map=0
+# shellcheck disable=SC2086
+[ "$("$rvld" $rvld_words --Map probe.map -o probe.out none.o 2>&1)" != "rvld: cannot read none.o" ] || has_map=1
+# shellcheck disable=SC2086
+if [ "$("$rvld" $rvld_words --self-input 2 -o probe.out 2>/dev/null | cut -c 1-9)" = "objects 2" ]; then has_input=1; else has_input=0; fi
 # a program `rvld` on the path, and the linker of the drivers
 mkdir -p bin drivers
-rm -f bin/rvld
-printf '#!/bin/sh\nexec "%s" %s "$@"\n' "$rvld" "${RVLD_WORDS:-}" >bin/rvld
+cat >bin/rvld <<END
+#!/bin/sh
+case " \$* " in *" -s "*) ;; *) set -- $rvld_words "\$@" ;; esac
+exec "$rvld" "\$@"
+END
 chmod +x bin/rvld
 ln -sf "$top/scripts/rvld-ld" drivers/ld
 rvld=$work/bin/rvld
 export RVLD=$rvld PATH=$work/bin:$PATH
-rm -f ./*.wanted
 
 parts=("$@")
-[ ${#parts[@]} -gt 0 ] || parts=(free picolibc musl glibc guide)
+[ ${#parts[@]} -gt 0 ] || parts=(free picolibc musl glibc refused guide)
 for part in "${parts[@]}"; do
     if declare -F "part_$part" >/dev/null; then "part_$part"; else tell "no part $part"; exit 2; fi
 done

@@ -66,7 +66,7 @@ rm a.out
 printf 'more than rvld writes%.0s' $(seq 1 1000) >a.out
 chmod 644 a.out
 if run a.o 0 ""; then
-    if cmp -s a.out "$samples/a.out" && [ -x a.out ]; then passed=$((passed + 1)); else say "a.out that was there is not emptied and made to run"; fi
+    if cmp -s a.out "$samples/a.out" && [ -x a.out ]; then passed=$((passed + 1)); else say "a.out that was there does not make way for the executable"; fi
 fi
 "$rvld" 2>line; status=$?
 if [ "$status" = 2 ] && [ "$(cat line)" = "rvld: bad command" ]; then passed=$((passed + 1)); else say "no words: status $status"; fi

@@ -1,21 +1,26 @@
 #!/usr/bin/env python3
 """Times rvld beside ld.lld, mold and GNU ld, each where it is there, on objects and archives made for it.
 
-Usage: scripts/speed.py MODE [RVLD] [--runs 5] [--peers lld,mold,ld] [--threads 1,2,4] [--keep DIR]
+Usage: scripts/speed.py MODE [RVLD] [--runs 5] [--peers lld,mold,ld] [--threads 1,2,4] [--keep DIR] [--figures DIR]
 
   objects    1000, 4000 and 16000 small objects that call each other in a binary tree
   symbols    one object of 100,000 symbols and 300,000 relocations, and one of twice as many
   sections   one object of 30,000 sections, and one of 60,000
   archive    an archive of 10,000 members of which a chain of 5,000 is live, and one of twice as many
   all        all of these
+  plots      all of these at four or five sizes each, with 1 and 4 workers, and with pictures in docs/figures
+  draw       measures nothing: makes the pictures anew from the figures that are kept beside them
   --small    a hundredth of each size, to try the script
 
 The linkers take turns, run by run. A row has the median time, the fastest, the greatest memory of a run, and the time for each
 megabyte of input; then its ratio to rvld with as many workers, and how both grew from the size before.
+With --figures (docs/figures for `plots` and `draw`) the folder gets MODE.tsv, the figures; pictures (SVG) of time and memory against size; and
+README.md, the page of all of them.
 RVLD is crates/rvld/out/rvld where it is not named; `none` leaves it out.
 """
 import argparse
 import hashlib
+import math
 import multiprocessing
 import os
 import resource
@@ -26,6 +31,7 @@ import sys
 import tempfile
 import threading
 import time
+from xml.sax.saxutils import escape
 
 sys.path.insert(0, os.path.dirname(os.path.abspath(__file__)))
 from elf_objects import (ALLOC, CALL, EXECINSTR, FUNC, GLOBAL, INFO_LINK, LOCAL, NOTYPE, PROGBITS, R_64, R_CALL_PLT, RELA, RETURN,
@@ -135,12 +141,12 @@ def chain(folder, count):
     return [root, write(os.path.join(folder, 'lib-%d.a' % count), chain_archive(count))]
 
 
-# mode: the maker of its files, what it counts, the sizes
+# mode: the maker of its files, what it counts, the sizes, those of its pictures, and what is linked
 MODES = {
-    'objects': (tree, 'objects', (1000, 4000, 16000)),
-    'symbols': (wide, 'symbols', (100000, 200000)),
-    'sections': (sections, 'sections', (30000, 60000)),
-    'archive': (chain, 'members', (10000, 20000)),
+    'objects': (tree, 'objects', (1000, 4000, 16000), (1000, 2000, 4000, 8000, 16000), 'Small objects that call each other in a binary tree'),
+    'symbols': (wide, 'symbols', (100000, 200000), (25000, 50000, 100000, 200000), 'One object: its symbols, and three times as many relocations'),
+    'sections': (sections, 'sections', (30000, 60000), (7500, 15000, 30000, 60000), 'One object of many sections'),
+    'archive': (chain, 'members', (10000, 20000), (2500, 5000, 10000, 20000), 'An archive of which a chain of half the members is live'),
 }
 
 
@@ -241,18 +247,178 @@ def measure(what, files, rows, runs, limit, out):
     return {key: (statistics.median(list_), min(list_), memory[key]) for key, list_ in times.items() if key not in gone}, megabytes, gone
 
 
+# ------------------------------------------------------------------------------------------------------------------ pictures
+
+HERE = os.path.dirname(os.path.abspath(__file__))
+NAMES = {'rvld': 'rvld', 'lld': 'ld.lld', 'mold': 'mold', 'ld': 'GNU ld'}
+COLOURS = {'rvld': '#c2410c', 'lld': '#1d4ed8', 'mold': '#15803d', 'ld': '#6b7280'}
+WIDTH, HEIGHT, LEFT, RIGHT, TOP, BOTTOM = 640, 380, 64, 92, 58, 48
+
+
+def ticks(least, most):
+    """Round numbers of an axis whose steps are ratios, from below the least to above the most value."""
+    steps, at = [], 10.0 ** math.floor(math.log10(least))
+    while not steps or steps[-1] < most:
+        steps += [at * digit for digit in (1, 2, 5)]
+        at *= 10
+    first = max(k for k, step in enumerate(steps) if step <= least * 1.0001)
+    last = min(k for k, step in enumerate(steps) if step >= most * 0.9999)
+    return steps[first:max(last, first + 1) + 1]
+
+
+def spelled(number):
+    return '{:,}'.format(int(number)) if number >= 1 else '%g' % number
+
+
+def picture(title, below, across, upwards, lines):
+    """An SVG picture. Lines: [(name, colour, is dashed, [(x, y)])]; both axes have ratios as steps, so a straight line at 45 degrees grows as its input."""
+    points = [point for _, _, _, line in lines for point in line]
+    xs, ys = sorted({x for x, _ in points}), ticks(min(y for _, y in points), max(y for _, y in points))
+    low, high = (xs[0], xs[-1]) if len(xs) > 1 else (xs[0] / 2, xs[0] * 2)
+
+    def at_x(x):
+        return LEFT + (WIDTH - LEFT - RIGHT) * math.log(x / low) / math.log(high / low)
+
+    def at_y(y):
+        return HEIGHT - BOTTOM - (HEIGHT - TOP - BOTTOM) * math.log(y / ys[0]) / math.log(ys[-1] / ys[0])
+
+    def text(x, y, words, **more):
+        more = ''.join(' %s="%s"' % (name.replace('_', '-'), value) for name, value in more.items())
+        return '<text x="%.1f" y="%.1f"%s>%s</text>' % (x, y, more, escape(words))
+
+    out = ['<svg xmlns="http://www.w3.org/2000/svg" viewBox="0 0 %d %d" width="%d" height="%d" font-family="sans-serif" font-size="12" fill="#374151">'
+           % (WIDTH, HEIGHT, WIDTH, HEIGHT), '<title>%s</title>' % escape(title), '<rect width="100%" height="100%" fill="#ffffff"/>',
+           text(LEFT, 22, title, font_size=15, font_weight='bold', fill='#111827'), text(LEFT, 40, below)]
+    for y in ys:
+        out.append('<path d="M%d %.1fH%d" stroke="#e5e7eb"/>' % (LEFT, at_y(y), WIDTH - RIGHT))
+        out.append(text(LEFT - 8, at_y(y) + 4, spelled(y), text_anchor='end'))
+    for x in xs:
+        out.append('<path d="M%.1f %dV%d" stroke="#e5e7eb"/>' % (at_x(x), TOP, HEIGHT - BOTTOM))
+        out.append(text(at_x(x), HEIGHT - BOTTOM + 18, spelled(x), text_anchor='middle'))
+    out.append(text((LEFT + WIDTH - RIGHT) / 2, HEIGHT - 10, across, text_anchor='middle'))
+    out.append(text(16, (TOP + HEIGHT - BOTTOM) / 2, upwards, text_anchor='middle',
+                    transform='rotate(-90 16 %.1f)' % ((TOP + HEIGHT - BOTTOM) / 2)))
+    # names stand at the lines' ends, moved apart where these are close
+    ends, last = {}, -math.inf
+    for name, _, _, line in sorted(lines, key=lambda each: at_y(each[3][-1][1])):
+        ends[name] = last = max(at_y(line[-1][1]), last + 15)
+    over = max(0, last - (HEIGHT - BOTTOM))
+    for name, colour, is_dashed, line in lines:
+        path = 'M' + 'L'.join('%.1f %.1f' % (at_x(x), at_y(y)) for x, y in line)
+        out.append('<path d="%s" fill="none" stroke="%s" stroke-width="2"%s/>' % (path, colour, ' stroke-dasharray="5 4"' if is_dashed else ''))
+        out += ['<circle cx="%.1f" cy="%.1f" r="3" fill="%s"/>' % (at_x(x), at_y(y), colour) for x, y in line]
+        out.append(text(at_x(line[-1][0]) + 9, ends[name] + 4 - over, name, fill=colour, font_weight='bold'))
+    return '\n'.join(out + ['</svg>', ''])
+
+
+def draw(folder, mode, rows, how):
+    """The pictures of a mode's figures, [(size, linker, workers, median, least, memory)] in ms and MB. Gives their names, with what each shows."""
+    counted = MODES[mode][1]
+    some = sorted({workers for _, _, workers, _, _, _ in rows})
+
+    def lines(workers, column):
+        """For each linker its points with that many workers; GNU ld has one."""
+        for linker in NAMES:
+            own = 1 if linker == 'ld' else workers
+            points = sorted((row[0], row[column]) for row in rows if row[1] == linker and row[2] == own and row[column] > 0)
+            if points:
+                yield NAMES[linker], COLOURS[linker], linker == 'ld' and workers != 1, points
+
+    made = []
+    for workers, column, upwards, name in [(n, 3, 'milliseconds', '%d' % n) for n in some] + [(some[-1], 5, 'MB', 'memory')]:
+        found = list(lines(workers, column))
+        if found:
+            threads = '%d thread%s' % (workers, '' if workers == 1 else 's')
+            title = 'Time with ' + threads if column == 3 else 'Greatest memory with ' + threads
+            dashed = '; GNU ld (dashed) has one' if any(is_dashed for _, _, is_dashed, _ in found) else ''
+            file = '%s-%s.svg' % (mode, name)
+            with open(os.path.join(folder, file), 'w') as out:
+                out.write(picture('%s, by %s' % (title, counted), how.split(', ')[0] + dashed, counted, upwards, found))
+            made.append((file, title + dashed))
+    return made
+
+
+def keep(folder, mode, rows, how):
+    """Writes a mode's figures, for pictures to be drawn of later, with how they were measured."""
+    with open(os.path.join(folder, mode + '.tsv'), 'w') as out:
+        out.write('# %s\n# size\tlinker\tthreads\tmedian ms\tleast ms\tMB\n' % how)
+        for row in rows:
+            out.write('%d\t%s\t%d\t%.1f\t%.1f\t%.1f\n' % row)
+
+
+def kept(folder, mode):
+    """The figures that were kept of a mode, and how they were measured; none where there are none."""
+    rows, how = [], ''
+    path = os.path.join(folder, mode + '.tsv')
+    if os.path.exists(path):
+        with open(path) as lines:
+            how = next(lines)[2:].strip()
+            for line in lines:
+                if not line.startswith('#'):
+                    size, linker, workers, *measured = line.split('\t')
+                    rows.append((int(size), linker, int(workers), *map(float, measured)))
+    return rows, how
+
+
+def page(folder):
+    """Pictures of all figures that are kept in the folder, and a page with them and with tables."""
+    out = ['# Figures with pictures', '', 'Made by `scripts/speed.py plots`, and drawn anew from the kept figures by `scripts/speed.py draw`. All link statically, without relaxing, and',
+           'strip. Time is what passes on the clock, loading and writing included. Rows have milliseconds with so many threads, and megabytes with',
+           'the most. In the pictures each step of an axis is a ratio: what takes twice as long for twice as much rises by the same angle everywhere.']
+    for mode, (_, counted, _, _, what) in MODES.items():
+        rows, how = kept(folder, mode)
+        if not rows:
+            continue
+        out += ['', '## %s' % what, '', how, '']
+        out += ['![%s](%s)' % made[::-1] for made in draw(folder, mode, rows, how)]
+        found = {(size, linker, workers): (median, memory) for size, linker, workers, median, _, memory in rows}
+        columns = sorted({(list(NAMES).index(linker), linker, workers) for _, linker, workers, _, _, _ in rows})
+        out += ['', '| %s | %s |' % (counted, ' | '.join(['%s, %d' % (NAMES[linker], n) for _, linker, n in columns]
+                                                       + ['%s, MB' % NAMES[linker] for linker in NAMES if any(linker == each for _, each, _ in columns)])),
+                '|---' * (1 + len(columns) + len({linker for _, linker, _ in columns})) + '|']
+        for size in sorted({row[0] for row in rows}):
+            cells = ['%.0f' % found[size, linker, n][0] if (size, linker, n) in found else '' for _, linker, n in columns]
+            for linker in NAMES:
+                own = [n for _, each, n in columns if each == linker]
+                if own:
+                    cells.append('%.0f' % found[size, linker, max(own)][1] if (size, linker, max(own)) in found else '')
+            out.append('| %s | %s |' % (spelled(size), ' | '.join(cells)))
+    with open(os.path.join(folder, 'README.md'), 'w') as file:
+        file.write('\n'.join(out) + '\n')
+
+
+def measured_how(peers, runs):
+    """A sentence on how much was measured, where, and beside which linkers."""
+    said = []
+    for peer, program in (('lld', 'ld.lld'), ('mold', 'mold'), ('ld', 'riscv64-linux-gnu-ld')):
+        if peer in peers and shutil.which(program):
+            line = subprocess.run([program, '--version'], capture_output=True, text=True).stdout.split('\n')[0]
+            number = [word for word in line.replace('(', ' ').split() if word[:1].isdigit()]
+            said.append('%s %s' % (NAMES[peer], number[-1] if peer == 'ld' else number[0]) if number else NAMES[peer])
+    return '%s, on a machine with %d processors%s.' % ('Medians of %d runs' % runs if runs > 1 else 'One run', os.cpu_count() or 1,
+                                                       ', beside ' + ', '.join(said) if said else '')
+
+
 def main():
     reader = argparse.ArgumentParser(usage=__doc__)
-    reader.add_argument('mode', choices=list(MODES) + ['all'])
+    reader.add_argument('mode', choices=list(MODES) + ['all', 'plots', 'draw'])
     reader.add_argument('rvld', nargs='?')
     reader.add_argument('--runs', type=int, default=5)
     reader.add_argument('--peers', default='lld,mold,ld')
-    reader.add_argument('--threads', default='1,2,4')
+    reader.add_argument('--threads')
     reader.add_argument('--limit', type=float, default=120, help='seconds after which a run is ended')
     reader.add_argument('--keep', help='a folder for the files, which then stay')
+    reader.add_argument('--figures', help='a folder for figures and pictures')
     reader.add_argument('--small', action='store_true')
     words = reader.parse_args()
-    rvld = words.rvld or os.path.join(os.path.dirname(os.path.abspath(__file__)), '../crates/rvld/out/rvld')
+    is_plots = words.mode == 'plots'
+    figures = words.figures or (os.path.join(HERE, '../docs/figures') if words.mode in ('plots', 'draw') else None)
+    if figures:
+        os.makedirs(figures, exist_ok=True)
+    if words.mode == 'draw':
+        return page(figures)
+    words.threads = words.threads or ('1,4' if is_plots else '1,2,4')
+    rvld = words.rvld or os.path.join(HERE, '../crates/rvld/out/rvld')
     if rvld == 'none':
         rvld = None
     elif not os.access(rvld, os.X_OK):
@@ -267,12 +433,12 @@ def main():
     os.makedirs(folder, exist_ok=True)
     passed = failed = 0
     try:
-        for mode in MODES if words.mode == 'all' else [words.mode]:
-            make, counted, sizes = MODES[mode]
-            before = {}
+        for mode in MODES if words.mode in ('all', 'plots') else [words.mode]:
+            make, counted, sizes, more_sizes, _ = MODES[mode]
+            before, noted = {}, []
             print('%-16s %-5s %7s %9s %9s %8s %8s %8s %7s' %
                   (mode, 'by', 'workers', 'median ms', 'least ms', 'MB', 'ms / MB', 'to rvld', 'growth'))
-            for size in sizes:
+            for size in more_sizes if is_plots else sizes:
                 size //= 100 if words.small else 1
                 what = '%d %s' % (size, counted)
                 files = made_apart(make, folder, size)
@@ -280,6 +446,7 @@ def main():
                 passed += len(found)
                 failed += len(gone)
                 for (linker, workers), (median, least, peak) in found.items():
+                    noted.append((size, linker, workers, median * 1e3, least * 1e3, peak))
                     own = found.get(('rvld', workers))
                     print('%-16s %-5s %7d %9.1f %9.1f %8.1f %8.2f %8s %7s' %
                           (what, linker, workers, median * 1e3, least * 1e3, peak, median * 1e3 / megabytes,
@@ -287,6 +454,10 @@ def main():
                            '%.2f' % (median / before[linker, workers]) if (linker, workers) in before else '-'), flush=True)
                 before = {key: median for key, (median, _, _) in found.items()}
                 print('%-16s input of %.1f MB in %d files' % ('', megabytes, len(files)))
+            if figures and noted:
+                keep(figures, mode, noted, measured_how(words.peers.split(','), words.runs))
+        if figures:
+            page(figures)
     finally:
         if not words.keep:
             shutil.rmtree(folder)

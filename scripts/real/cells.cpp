@@ -3,17 +3,9 @@
 #include <stddef.h>
 #include <stdint.h>
 
-static long ask(long number, long a, long b, long c) {
-    register long a7 __asm__("a7") = number;
-    register long a0 __asm__("a0") = a;
-    register long a1 __asm__("a1") = b;
-    register long a2 __asm__("a2") = c;
-    __asm__ volatile("ecall" : "+r"(a0) : "r"(a1), "r"(a2), "r"(a7) : "memory");
-    return a0;
-}
-
 typedef void call(void);
 extern "C" {
+long ask(long number, long a, long b, long c); // start.c's
 extern call *const __fini_array_start[], *const __fini_array_end[];
 [[noreturn]] void exit(int status) {
     for (call *const *each = __fini_array_end; each != __fini_array_start;)

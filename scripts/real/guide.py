@@ -2,9 +2,11 @@
 """Runs the commands of a guide: each block fenced as `sh`, in one shell for each section (`## ..`), in the folder that is named.
 
 A block fenced as `text` right after one of `sh` is what that block has to write. A command that fails is a fault, unless the block itself
-deals with it. A section whose tools or variables are not there is skipped. With --not-its-lines texts that show lines or maps of rvld's are
-not compared. Writes a line for each section: `OK: SECTION`, `skipped: SECTION: WHAT is not there`, or `SECTION: what is wrong`.
-Usage: guide.py GUIDE FOLDER [--not-its-lines]
+deals with it. A section whose tools or variables are not there is skipped, and with --without=WORD one whose commands have the word.
+With --not-its-lines texts that show lines or maps of rvld's are not compared; with --refusals a command `rvld ..` may fail; with
+--places-differ the sections and places in its lines are not compared.
+Writes a line for each section: `OK: SECTION`, `skipped: SECTION: WHAT is not there`, or `SECTION: what is wrong`.
+Usage: guide.py GUIDE FOLDER [--not-its-lines] [--refusals] [--places-differ] [--without=WORD]
 """
 import os
 import re
@@ -12,8 +14,10 @@ import shutil
 import subprocess
 import sys
 
-TOOL = re.compile(r'(?:^|[|;(]\s*|\$\()((?:riscv64-[a-z0-9-]+-|llvm-)[a-z+]+|clang(?:\+\+)?|qemu-riscv64|rvld(?:-ld)?|cmp|make)\b', re.M)
+TOOL = re.compile(r'(?:^|[|;(]\s*|\$\()((?:riscv64-[a-z0-9-]+-|llvm-)[a-z+]+|clang(?:\+\+)?|qemu-(?:system-)?riscv64|rvld(?:-ld)?|cmp|make)\b', re.M)
 ITS_LINES = re.compile(r'^(rvld[: ]|rvld-ld: cannot run|status )', re.M)
+
+PLACES = re.compile(r'(?<= section=)[0-9]+|(?<= place=)[0-9]+')
 
 
 class Section:
@@ -44,9 +48,13 @@ def sections_of(lines):
     return [section for section in found if section.blocks]
 
 
-def missing(section):
+def missing(section, options):
     """What of the section is not there, or None."""
     text = '\n'.join(commands for commands, _ in section.blocks)
+    for option in options:
+        kind, _, word = option.partition('=')
+        if kind == '--without' and word in text.split():
+            return word
     for tool in TOOL.findall(text):
         if shutil.which(tool) is None:
             return tool
@@ -59,9 +67,10 @@ def missing(section):
     return None
 
 
-def run(section, folder, its_lines):
+def run(section, folder, options):
     """What is wrong with the section, or None."""
-    script = ["trap 'echo \"$BASH_COMMAND\" >>.failed' ERR\n: >.failed\n"]
+    ignored = ' [[ $BASH_COMMAND == "rvld "* ]] ||' if '--refusals' in options else ''
+    script = ["trap '%s echo \"$BASH_COMMAND\" >>.failed' ERR\n: >.failed\n" % ignored]
     for number, (commands, _) in enumerate(section.blocks):
         script.append('{\n%s} >.said.%d 2>&1\n' % (commands, number))
     subprocess.run(['bash', '-c', ''.join(script)], cwd=folder, stdin=subprocess.DEVNULL)
@@ -72,7 +81,9 @@ def run(section, folder, its_lines):
         with open(path, errors='replace') as file:
             said = file.read()
         os.remove(path)
-        if wanted is not None and said != wanted and (its_lines or not ITS_LINES.search(wanted)):
+        if wanted is None or '--not-its-lines' in options and ITS_LINES.search(wanted):
+            continue
+        if said != wanted and not ('--places-differ' in options and PLACES.sub('', said) == PLACES.sub('', wanted)):
             return 'block %d writes %r, not %r' % (number + 1, said[:400], wanted[:400])
     with open(os.path.join(folder, '.failed')) as file:
         failed = file.read().strip()
@@ -80,16 +91,15 @@ def run(section, folder, its_lines):
 
 
 def main():
-    guide, folder = sys.argv[1:3]
-    its_lines = '--not-its-lines' not in sys.argv[3:]
+    guide, folder, options = sys.argv[1], sys.argv[2], sys.argv[3:]
     with open(guide) as file:
         sections = sections_of(file)
     for section in sections:
-        what = missing(section)
+        what = missing(section, options)
         if what is not None:
             print('skipped: %s: %s is not there' % (section.name, what), flush=True)
             continue
-        wrong = run(section, folder, its_lines)
+        wrong = run(section, folder, options)
         print('OK: %s' % section.name if wrong is None else '%s: %s' % (section.name, wrong), flush=True)
 
 

@@ -10,6 +10,7 @@ extern call *const __preinit_array_start[], *const __preinit_array_end[];
 extern call *const __init_array_start[], *const __init_array_end[];
 
 int main(int count, char **words);
+long ask(long number, long a, long b, long c);
 _Noreturn void exit(int status);
 
 __asm__(".section .text._start, \"ax\"\n"
@@ -25,6 +26,16 @@ __asm__(".section .text._start, \"ax\"\n"
         "    call start\n"
         ".size _start, . - _start\n"
         ".text\n");
+
+/* A call of the system. It is weak: a machine without a system has one of its own (machine.c). */
+__attribute__((weak)) long ask(long number, long a, long b, long c) {
+    register long a7 __asm__("a7") = number;
+    register long a0 __asm__("a0") = a;
+    register long a1 __asm__("a1") = b;
+    register long a2 __asm__("a2") = c;
+    __asm__ volatile("ecall" : "+r"(a0) : "r"(a1), "r"(a2), "r"(a7) : "memory");
+    return a0;
+}
 
 enum { TLS = 7, ROOM = 4096, ALIGNMENT = 64 };
 

@@ -1,18 +1,11 @@
-/* What picolibc asks of a system, for a program that runs on Linux or under qemu-riscv64: the end, output and memory. */
+/* What picolibc asks of a system, by the calls of start.c: the end, output and memory. */
 #include <stddef.h>
 #include <stdio.h>
 #include <unistd.h>
 
 enum { WRITE = 64, EXIT = 93, BRK = 214 };
 
-static long ask(long number, long a, long b, long c) {
-    register long a7 __asm__("a7") = number;
-    register long a0 __asm__("a0") = a;
-    register long a1 __asm__("a1") = b;
-    register long a2 __asm__("a2") = c;
-    __asm__ volatile("ecall" : "+r"(a0) : "r"(a1), "r"(a2), "r"(a7) : "memory");
-    return a0;
-}
+long ask(long number, long a, long b, long c); /* start.c's */
 
 static char line[256];
 static size_t filled;

@@ -1,4 +1,6 @@
 pub mod Appends
+pub mod EndSteps
+pub mod EntryBytes
 pub mod FlagSteps
 pub mod Framing
 pub mod Laying

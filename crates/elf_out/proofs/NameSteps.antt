@@ -1,10 +1,11 @@
 -- The headers of output sections one after the other, each with the offset of its name.
-use Rattle.std.proofs.Common.{◌≡◌, ℕ, suc, ◌+◌, ◌<◌, ◌≤◌, ◌^◌, List, [], ◌∷◌, ◌++◌, length, map, drop, get_or, append_assoc, length-append, refl, ap, sym, ◌∙◌, arith}
+use Rattle.std.proofs.Common.{◌≡◌, ℕ, Option, suc, ◌+◌, ◌<◌, ◌≤◌, ◌^◌, List, [], ◌∷◌, ◌++◌, length, map, drop, get_or, append_assoc, length-append, refl, ap, sym, ◌∙◌, arith}
 use Rattle.std.proofs.Math.Seq.{drop-cons}
 use Rattle.link_sections.specs.declared.layouts.Output.{Output}
 use Rattle.link_sections.specs.LaidOut.{OutputSection, output_view}
 use Rattle.elf_out.specs.declared.header_bytes.SectionHeader.{SectionHeader}
-use Rattle.elf_out.specs.Headers.{names_section, null_section, output_headers, output_names, output_section, own_name, section_header, section_headers, section_names, zero_ended}
+use Rattle.elf_out.specs.Headers.{null_section, output_headers, output_names, output_section, own_name, section_header, section_headers, section_names, strings_section, table_headers, table_names}
+use Rattle.elf_out.specs.Symbols.{SymbolTables, zero_ended}
 
 pub record Along (all rest : List OutputSection) (old now : List ℕ) (name : ℕ) : Type 0 where
   pub written : now ++ output_headers name rest ≡ old ++ output_headers 1 all
@@ -51,44 +52,53 @@ along_step xs i d old now next name k h h_is pushed k_is lt a =
     (k_is ∙ ap (λ n. name + (length n + 1)) (sym (name_is (get_or xs i d)))) a
 
 -- the names of the output sections are a part of all names
-pub names_shorter : (outputs : List OutputSection) → length (output_names outputs) ≤ length (section_names outputs)
+pub names_shorter : (outputs : List OutputSection) (tables : Option SymbolTables) → length (output_names outputs) ≤ length (section_names outputs tables)
 unfolding section_names
-names_shorter outputs = omega (arith, length-append (output_names outputs) own_name)
+names_shorter outputs tables = omega (arith, length-append (output_names outputs) (table_names tables ++ own_name))
 
 -- the whole table
-pub table_is : (outputs : List OutputSection) (offset size name : ℕ) (o0 o1 o2 o3 : List ℕ) (h : SectionHeader) → o0 ≡ []
+pub table_is : (outputs : List OutputSection) (tables : Option SymbolTables) (at offset size strings name own : ℕ) (o0 o1 o2 o3 o4 : List ℕ) (h : SectionHeader) → o0 ≡ []
     → o1 ≡ o0 ++ section_header null_section → o2 ≡ o1 ++ output_headers 1 outputs → name ≡ 1 + length (output_names outputs)
-    → size ≡ length (section_names outputs) → h ≡ names_section name offset size → o3 ≡ o2 ++ section_header h
-    → o3 ≡ section_headers outputs offset
+    → strings ≡ length outputs + 2 → o3 ≡ o2 ++ table_headers name at strings tables → own ≡ name + length (table_names tables)
+    → size ≡ length (section_names outputs tables) → h ≡ strings_section own offset size → o4 ≡ o3 ++ section_header h
+    → o4 ≡ section_headers outputs tables at offset
 unfolding section_headers
-table_is outputs offset size name o0 o1 o2 o3 h e0 e1 e2 name_at size_is h_is e3 =
+table_is outputs tables at offset size strings name own o0 o1 o2 o3 o4 h e0 e1 e2 name_at count e3 own_at size_is h_is e4 =
+    let n : ℕ = 1 + length (output_names outputs) in
     let front : List ℕ = section_header null_section in
     let middle : List ℕ = output_headers 1 outputs in
+    let more : List ℕ = table_headers n at (length outputs + 2) tables in
+    let last : h ≡ strings_section (n + length (table_names tables)) offset (length (section_names outputs tables)) =
+    h_is ∙ ap (λ k. strings_section k offset size) (own_at ∙ ap (λ k. k + length (table_names tables)) name_at)
+    ∙ ap (λ k. strings_section (n + length (table_names tables)) offset k) size_is in
     let first : o1 ≡ front = e1 ∙ ap (λ l. l ++ front) e0 in
     let both : o2 ≡ front ++ middle = e2 ∙ ap (λ l. l ++ middle) first in
-    let last : h ≡ names_section (1 + length (output_names outputs)) offset (length (section_names outputs)) =
-    h_is ∙ ap (λ n. names_section n offset size) name_at ∙ ap (λ n. names_section (1 + length (output_names outputs)) offset n) size_is in
-    e3 ∙ ap (λ l. l ++ section_header h) both ∙ append_assoc front middle (section_header h)
-    ∙ ap (λ s. front ++ (middle ++ section_header s)) last
+    let three : o3 ≡ (front ++ middle) ++ more =
+    e3 ∙ ap (λ l. l ++ table_headers name at strings tables) both
+    ∙ ap (λ k. (front ++ middle) ++ table_headers k at strings tables) name_at
+    ∙ ap (λ k. (front ++ middle) ++ table_headers n at k tables) count in
+    e4 ∙ ap (λ l. l ++ section_header h) three ∙ append_assoc (front ++ middle) more (section_header h)
+    ∙ append_assoc front middle (more ++ section_header h)
+    ∙ ap (λ s. front ++ (middle ++ (more ++ section_header s))) last
 
 -- how many bytes the names have
-pub record Counted (all rest : List OutputSection) (size : ℕ) : Type 0 where
-  pub total : size + length (output_names rest) ≡ length (section_names all)
+pub record Counted (all rest : List OutputSection) (tables : Option SymbolTables) (size : ℕ) : Type 0 where
+  pub total : size + length (output_names rest) ≡ length (section_names all tables)
   pub small : size < 2 ^ 62
 
-pub counted_first : (outputs : List OutputSection) (size : ℕ) → size ≡ 11 → Counted outputs outputs size
-unfolding section_names own_name
-counted_first outputs size is = record {
-  total = omega (arith, is, length-append (output_names outputs) own_name);
-  small = omega (arith, is);
+pub counted_first : (outputs : List OutputSection) (tables : Option SymbolTables) (size : ℕ) → size ≡ length (section_names [] tables) → size < 100 → Counted outputs outputs tables size
+unfolding section_names
+counted_first outputs tables size is few = record {
+  total = omega (arith, is, length-append (output_names outputs) (table_names tables ++ own_name));
+  small = omega (arith, few);
 }
 
-pub counted_step : (xs : List Output) (i : ℕ) (d : Output) (size sum : ℕ) → i < length xs → sum ≡ size + (length (get_or xs i d).name.now + 1)
-    → sum < 2 ^ 62 → Counted (map output_view xs) (map output_view (drop i xs)) size
-    → Counted (map output_view xs) (map output_view (drop (i + 1) xs)) sum
-counted_step xs i d size sum lt is few held =
+pub counted_step : (xs : List Output) (tables : Option SymbolTables) (i : ℕ) (d : Output) (size sum : ℕ) → i < length xs → sum ≡ size + (length (get_or xs i d).name.now + 1)
+    → sum < 2 ^ 62 → Counted (map output_view xs) (map output_view (drop i xs)) tables size
+    → Counted (map output_view xs) (map output_view (drop (i + 1) xs)) tables sum
+counted_step xs tables i d size sum lt is few held =
     let long = names_long (map output_view (drop i xs)) (map output_view (drop (i + 1) xs)) (output_view (get_or xs i d)) (rest_is xs i d lt) in
     record { total = omega (arith, is, held.total, long); small = few }
 
-pub counted_last : (all : List OutputSection) (size : ℕ) → Counted all [] size → size ≡ length (section_names all)
-counted_last all size held = omega (arith, held.total)
+pub counted_last : (all : List OutputSection) (tables : Option SymbolTables) (size : ℕ) → Counted all [] tables size → size ≡ length (section_names all tables)
+counted_last all tables size held = omega (arith, held.total)

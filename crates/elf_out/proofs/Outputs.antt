@@ -1,11 +1,12 @@
 -- What a view knows of its output sections.
-use Rattle.std.proofs.Common.{◌≡◌, ◌+◌, ◌<◌, ◌^◌, length, map, refl, ap, arith}
+use Rattle.std.proofs.Common.{◌≡◌, ◌+◌, ◌<◌, ◌^◌, Option, length, map, refl, ap, arith}
 use Rattle.std.proofs.lemmas.List.{length-map}
 use Rattle.lk_base.specs.declared.abi.TheConstants.{IMAGE_BASE}
 use Rattle.link_sections.specs.declared.views.View.{View}
 use Rattle.link_sections.specs.LaidOut.{layout_view, output_view, with_contents}
 use Rattle.link_sections.specs.Views.{laid_in}
 use Rattle.elf_out.specs.Headers.{section_names, segments}
+use Rattle.elf_out.specs.Symbols.{SymbolTables}
 
 -- they are those of the layout
 pub outputs_are : (v : View) → (laid_in v).outputs ≡ map output_view v.layout.now.outputs.items
@@ -21,7 +22,7 @@ unfolding layout_view with_contents
 count_is v = length-map v.layout.now.outputs.items output_view
 
 -- 16 bits count the section headers
-pub few_outputs : (v : View) → length v.layout.now.outputs.items + 2 < 65536
+pub few_outputs : (v : View) → length v.layout.now.outputs.items + 4 < 65536
 few_outputs v = omega (arith, v.sound.few, count_is v)
 
 -- 31 bits hold the file offset of each byte of a section
@@ -32,5 +33,5 @@ low_end v = v.sound.small
 pub segments_are : (v : View) → length (segments (laid_in v).bounds) ≡ length (segments v.layout.now.bounds)
 segments_are v = ap (λ b. length (segments b)) (bounds_are v)
 
-pub names_are : (v : View) → section_names (laid_in v).outputs ≡ section_names (map output_view v.layout.now.outputs.items)
-names_are v = ap section_names (outputs_are v)
+pub names_are : (v : View) (t : Option SymbolTables) → section_names (laid_in v).outputs t ≡ section_names (map output_view v.layout.now.outputs.items) t
+names_are v t = ap (λ os. section_names os t) (outputs_are v)

@@ -17,8 +17,8 @@ use Rattle.link_sections.specs.Addresses.{no_pool}
 use Rattle.link_sections.specs.InputSections.{input_at}
 use Rattle.link_sections.specs.LaidOut.{LaidOut, start_at}
 use Rattle.link_sections.specs.Sound.{IsSectionMember, IsSound, is_section}
-use Rattle.elf_out.specs.Executable.{end_pieces, file_length, header_count, names_offset, table_offset}
-use Rattle.elf_out.specs.Headers.{section_headers, section_names}
+use Rattle.elf_out.specs.Executable.{after_tables, end_pieces, file_length, header_count, names_bytes, names_offset, symbols_offset, table_bytes, table_offset, table_pieces}
+use Rattle.elf_out.specs.Symbols.{SymbolTables}
 use Rattle.elf_out.specs.Standing.{SectionsStand}
 use Rattle.elf_out.proofs.Laying.{image_byte, image_length, over_append}
 use Rattle.reloc_apply.proofs.LaidFacts.{any_at}
@@ -67,6 +67,10 @@ silent_pieces x place u [] from lt = refl
 silent_pieces x place u (p ∷ ps) from lt =
     let own : x ≤ p.at = from.0 in
     ap (λ v. byte_over v ps place) (before_piece p.at p.bytes u place (omega (arith, own, lt))) ∙ silent_pieces x place u ps from.1 lt
+
+start_later : (x y : ℕ) (ps : List Piece) → x ≤ y → StartFrom y ps → StartFrom x ps
+start_later x y [] le from = tt
+start_later x y (p ∷ ps) le from = let own : y ≤ p.at = from.0 in (omega (arith, own, le), start_later x y ps le from.1)
 
 module _ (files : List File) (b : Bindings) (leaders : List (Option ℕ)) (laid : LaidOut) where
   abbrev pub pieces_by : Member → List Piece
@@ -141,19 +145,17 @@ module _ (files : List File) (b : Bindings) (leaders : List (Option ℕ)) (laid 
       (λ i d lt. more_shown m ms (slice_index_or ms i d)
       (all_shown ms (All-tail (λ (k : Member). IMAGE_BASE ≤ k.start) m ms low) (rest_in_order m ms order) (All-tail IsSized m ms sized) i d lt))
 
-  -- in a file with headers before them and two pieces after them
-  whole_byte : (head names table : Piece) (ms : List Member) (m : Member) (n i : ℕ) → IsShown ms m → m.content ≡ Section n
-      → has_bits files b leaders laid n ≡ true → i < m.size
-      → m.start - IMAGE_BASE + m.size ≤ names.at → m.start - IMAGE_BASE + m.size ≤ table.at
-      → byte_over 0 (head ∷ flat_map pieces_by ms ++ (names ∷ table ∷ [])) (m.start - IMAGE_BASE + i)
+  -- in a file with headers before them and other pieces after them
+  whole_byte : (head : Piece) (ends : List Piece) (ms : List Member) (m : Member) (n i : ℕ) → IsShown ms m → m.content ≡ Section n
+      → has_bits files b leaders laid n ≡ true → i < m.size → StartFrom (m.start - IMAGE_BASE + m.size) ends
+      → byte_over 0 (head ∷ flat_map pieces_by ms ++ ends) (m.start - IMAGE_BASE + i)
       ≡ slice_index (section_bytes files b leaders laid n) i
-  whole_byte head names table ms m n i shown is bits lt before_names before_table =
+  whole_byte head ends ms m n i shown is bits lt after =
       let place = m.start - IMAGE_BASE + i in
       let back : place - (m.start - IMAGE_BASE) ≡ i = omega arith in
       let under : ℕ = byte_over (over head 0 place) (flat_map pieces_by ms) place in
-      over_append (over head 0 place) place (flat_map pieces_by ms) (names ∷ table ∷ [])
-      ∙ ap (λ u. over table u place) (before_piece names.at names.bytes under place (omega (arith, lt, before_names)))
-      ∙ before_piece table.at table.bytes under place (omega (arith, lt, before_table))
+      over_append (over head 0 place) place (flat_map pieces_by ms) ends
+      ∙ silent_pieces (m.start - IMAGE_BASE + m.size) place under ends after (omega (arith, lt))
       ∙ shown n is bits (over head 0 place) place (omega arith) (omega (arith, lt))
       ∙ ap (slice_index (section_bytes files b leaders laid n)) back
 
@@ -162,11 +164,11 @@ module _ (files : List File) (b : Bindings) (leaders : List (Option ℕ)) (laid 
   HasBytes file m = (n : ℕ) → m.content ≡ Section n → has_bits files b leaders laid n ≡ true
       → take m.size (drop (m.start - IMAGE_BASE) file) ≡ section_bytes files b leaders laid n
 
-  pub stands_whole : (head names table : Piece) (size : ℕ) (ms : List Member) (m : Member) → IsShown ms m → IsSized m
-      → m.start - IMAGE_BASE + m.size ≤ names.at → m.start - IMAGE_BASE + m.size ≤ table.at → m.start - IMAGE_BASE + m.size ≤ size
-      → HasBytes (image (head ∷ flat_map pieces_by ms ++ (names ∷ table ∷ [])) size) m
-  stands_whole head names table size ms m shown sized before_names before_table before_end = λ n is bits.
-      let ps : List Piece = head ∷ flat_map pieces_by ms ++ (names ∷ table ∷ []) in
+  pub stands_whole : (head : Piece) (ends : List Piece) (size : ℕ) (ms : List Member) (m : Member) → IsShown ms m → IsSized m
+      → StartFrom (m.start - IMAGE_BASE + m.size) ends → m.start - IMAGE_BASE + m.size ≤ size
+      → HasBytes (image (head ∷ flat_map pieces_by ms ++ ends) size) m
+  stands_whole head ends size ms m shown sized after before_end = λ n is bits.
+      let ps : List Piece = head ∷ flat_map pieces_by ms ++ ends in
       let at = m.start - IMAGE_BASE in
       let long : length (section_bytes files b leaders laid n) ≡ m.size = sized n is bits in
       let rest : length (drop at (image ps size)) ≡ size - at = length-drop at (image ps size) ∙ ap (λ k. k - at) (image_length ps size) in
@@ -176,28 +178,47 @@ module _ (files : List File) (b : Bindings) (leaders : List (Option ℕ)) (laid 
       (λ i lt. let within : i < m.size = omega (arith, wide, lt) in
       get_or-take m.size (drop at (image ps size)) i 0 within ∙ get_or-drop at (image ps size) i 0
       ∙ image_byte ps size (at + i) (omega (arith, within, before_end))
-      ∙ whole_byte head names table ms m n i shown is bits within before_names before_table)
+      ∙ whole_byte head ends ms m n i shown is bits within after)
 
--- the section headers follow the names
+-- the tables follow the last byte of a section
 up_least : (x : ℕ) → x ≤ up x 8
 unfolding up
 up_least x = omega arith
 
+names_least : (last : ℕ) (tables : Option SymbolTables) → last ≤ after_tables last tables
+names_least last None = omega arith
+names_least last (Some t) = omega (arith, up_least last)
+
+tables_from : (at x : ℕ) (tables : Option SymbolTables) (rest : List Piece) → x ≤ at → StartFrom x rest → StartFrom x (table_pieces at tables ++ rest)
+tables_from at x None rest le after = after
+tables_from at x (Some t) rest le after = (le, (omega (arith, le), after))
+
+pub ends_from : (laid : LaidOut) (tables : Option SymbolTables) → StartFrom (laid.bounds.file_end - IMAGE_BASE) (end_pieces laid tables)
+ends_from laid tables =
+    let last = laid.bounds.file_end - IMAGE_BASE in
+    let names : last ≤ names_offset laid tables = names_least last tables in
+    let table : names_offset laid tables + length (names_bytes laid tables) ≤ table_offset laid tables = up_least (names_offset laid tables + length (names_bytes laid tables)) in
+    tables_from (symbols_offset laid tables) last tables
+    (piece (names_offset laid tables) (names_bytes laid tables) ∷ piece (table_offset laid tables) (table_bytes laid tables) ∷ [])
+    (up_least last) (names, (omega (arith, names, table), tt))
+
 -- each member in the executable of a sound layout
-members_stand : (files : List File) (b : Bindings) (leaders : List (Option ℕ)) (laid : LaidOut) (heads : List ℕ)
+members_stand : (files : List File) (b : Bindings) (leaders : List (Option ℕ)) (laid : LaidOut) (tables : Option SymbolTables) (heads : List ℕ)
     → IsSound files b leaders laid → All (IsSized files b leaders laid) laid.members
-    → All (HasBytes files b leaders laid (image (piece 0 heads ∷ relocated_pieces files b leaders laid ++ end_pieces laid) (file_length laid))) laid.members
+    → All (HasBytes files b leaders laid (image (piece 0 heads ∷ relocated_pieces files b leaders laid ++ end_pieces laid tables) (file_length laid tables))) laid.members
 unfolding relocated_pieces file_length
-members_stand files b leaders laid heads sound sized = λ i d lt.
+members_stand files b leaders laid tables heads sound sized = λ i d lt.
     let m : Member = slice_index_or laid.members i d in
+    let last = laid.bounds.file_end - IMAGE_BASE in
     let low : All (λ (k : Member). IMAGE_BASE ≤ k.start) laid.members = λ j e at. omega (arith, sound.low j e at) in
     let shown : All (IsShown files b leaders laid laid.members) laid.members = all_shown files b leaders laid laid.members low sound.order sized in
     let end : m.start + m.size ≤ laid.bounds.file_end = sound.inside i d lt in
     let above : IMAGE_BASE ≤ m.start = low i d lt in
-    let after : names_offset laid + length (section_names laid.outputs) ≤ table_offset laid = up_least (names_offset laid + length (section_names laid.outputs)) in
-    stands_whole files b leaders laid (piece 0 heads) (piece (names_offset laid) (section_names laid.outputs))
-    (piece (table_offset laid) (section_headers laid.outputs (names_offset laid))) (table_offset laid + SHDR_SIZE * header_count laid) laid.members m
-    (shown i d lt) (sized i d lt) (omega (arith, end, above)) (omega (arith, end, above, after)) (omega (arith, end, above, after))
+    let within : m.start - IMAGE_BASE + m.size ≤ last = omega (arith, end, above) in
+    let names : last ≤ names_offset laid tables = names_least last tables in
+    let after : names_offset laid tables + length (names_bytes laid tables) ≤ table_offset laid tables = up_least (names_offset laid tables + length (names_bytes laid tables)) in
+    stands_whole files b leaders laid (piece 0 heads) (end_pieces laid tables) (table_offset laid tables + SHDR_SIZE * header_count laid tables) laid.members m
+    (shown i d lt) (sized i d lt) (start_later (m.start - IMAGE_BASE + m.size) last (end_pieces laid tables) within (ends_from laid tables)) (omega (arith, within, names, after))
 
 -- what a member is that passes
 section_is : (n : ℕ) (c : Content) → is_section n c ≡ true → c ≡ Section n
@@ -213,11 +234,11 @@ is_not x y is = λ same.
     none
 
 -- each section in the executable of a sound layout
-pub sections_stand : (files : List File) (b : Bindings) (leaders : List (Option ℕ)) (laid : LaidOut) (heads : List ℕ)
+pub sections_stand : (files : List File) (b : Bindings) (leaders : List (Option ℕ)) (laid : LaidOut) (tables : Option SymbolTables) (heads : List ℕ)
     → IsSound files b leaders laid → All (IsSized files b leaders laid) laid.members
-    → SectionsStand files b leaders laid (image (piece 0 heads ∷ relocated_pieces files b leaders laid ++ end_pieces laid) (file_length laid))
-sections_stand files b leaders laid heads sound sized = λ n lt own bits some.
-    let file : List ℕ = image (piece 0 heads ∷ relocated_pieces files b leaders laid ++ end_pieces laid) (file_length laid) in
+    → SectionsStand files b leaders laid (image (piece 0 heads ∷ relocated_pieces files b leaders laid ++ end_pieces laid tables) (file_length laid tables))
+sections_stand files b leaders laid tables heads sound sized = λ n lt own bits some.
+    let file : List ℕ = image (piece 0 heads ∷ relocated_pieces files b leaders laid ++ end_pieces laid tables) (file_length laid tables) in
     let listed = sound.listed n lt own (is_not (input_at files b n).sh_type SHT_NOBITS bits) some in
     let any = any_at (λ (m : Member). is_section n m.content) laid.members no_member listed in
     let m : Member = slice_index_or laid.members any.0 no_member in
@@ -226,4 +247,4 @@ sections_stand files b leaders laid heads sound sized = λ n lt own bits some.
     let long : length (section_bytes files b leaders laid n) ≡ m.size = sized any.0 no_member any.1 n is bits in
     ap (λ k. take k (drop (start_at laid n - IMAGE_BASE) file)) long
     ∙ ap (λ at. take m.size (drop (at - IMAGE_BASE) file)) (sym section.start)
-    ∙ members_stand files b leaders laid heads sound sized any.0 no_member any.1 n is bits
+    ∙ members_stand files b leaders laid tables heads sound sized any.0 no_member any.1 n is bits

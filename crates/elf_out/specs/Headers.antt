@@ -1,22 +1,12 @@
 -- The headers of the executable (System V gABI, "ELF Header", "Program Header", "Section Header").
-use Rattle.std.specs.Prelude.{ℕ, ◌+◌, ◌-◌, ◌%◌, ◌^◌, if◌then◌else◌, List, [], ◌∷◌, ◌++◌, length, codes, flat_map, bit_and, bit_or}
+use Rattle.std.specs.Prelude.{ℕ, ◌+◌, ◌-◌, ◌%◌, ◌^◌, Option, Some, None, if◌then◌else◌, List, [], ◌∷◌, ◌++◌, length, codes, flat_map, bit_and, bit_or}
 use Rattle.std.specs.List.{fold}
-use Rattle.std.specs.Int.{to_le_bytes, w16, w32, w64}
-use Rattle.lk_base.specs.declared.abi.TheConstants.{ELFCLASS64, ELFDATA2LSB, EV_CURRENT, ET_EXEC, EM_RISCV, EHDR_SIZE, PHDR_SIZE, SHDR_SIZE, IMAGE_BASE, PAGE, PT_LOAD, PT_TLS, PT_GNU_STACK, PF_R, PF_W, PF_X, SHT_NULL, SHT_STRTAB, EF_RISCV_RVC, EF_RISCV_TSO, EF_RISCV_FLOAT_ABI}
+use Rattle.lk_base.specs.declared.abi.TheConstants.{ELFCLASS64, ELFDATA2LSB, EV_CURRENT, ET_EXEC, EM_RISCV, EHDR_SIZE, PHDR_SIZE, SHDR_SIZE, IMAGE_BASE, PAGE, PT_LOAD, PT_TLS, PT_GNU_STACK, PF_R, PF_W, PF_X, SHT_NULL, SHT_STRTAB, SHT_SYMTAB, SYM_SIZE, EF_RISCV_RVC, EF_RISCV_TSO, EF_RISCV_FLOAT_ABI}
 use Rattle.elf_out.specs.declared.header_bytes.ProgramHeader.{ProgramHeader}
 use Rattle.elf_out.specs.declared.header_bytes.SectionHeader.{SectionHeader}
 use Rattle.link_sections.specs.declared.layouts.Bounds.{Bounds}
 use Rattle.link_sections.specs.LaidOut.{OutputSection}
-
--- numbers of 2, 4 and 8 bytes
-unfoldable pub half : ℕ → List ℕ
-half n = to_le_bytes w16 n
-
-unfoldable pub word : ℕ → List ℕ
-word n = to_le_bytes w32 n
-
-unfoldable pub long : ℕ → List ℕ
-long n = to_le_bytes w64 n
+use Rattle.elf_out.specs.Symbols.{SymbolTables, half, long, word, zero_ended}
 
 -- 64 bits, little endian, version 1, and nine zeros
 unfoldable pub identification : List ℕ
@@ -35,11 +25,10 @@ program_header h =
     word h.kind ++ (word h.flags ++ (long h.offset ++ (long h.address ++ (long h.address ++ (long h.file_size
     ++ (long h.memory_size ++ long h.align))))))
 
--- no link, no info, no entry size
 unfoldable pub section_header : SectionHeader → List ℕ
 section_header h =
     word h.name ++ (word h.sh_type ++ (long h.flags ++ (long h.address ++ (long h.offset ++ (long h.size
-    ++ (word 0 ++ (word 0 ++ (long h.align ++ long 0))))))))
+    ++ (word h.link ++ (word h.info ++ (long h.align ++ long h.entsize))))))))
 
 -- a segment that is loaded, from one address to another, of which `bits` ends what the file has
 abbrev pub loaded : (flags start bits end : ℕ) → ProgramHeader
@@ -81,7 +70,7 @@ program_headers b = flat_map program_header (segments b)
 
 -- no section
 abbrev pub null_section : SectionHeader
-null_section = record { name = 0; sh_type = SHT_NULL; flags = 0; address = 0; offset = 0; size = 0; align = 0 }
+null_section = record { name = 0; sh_type = SHT_NULL; flags = 0; address = 0; offset = 0; size = 0; link = 0; info = 0; align = 0; entsize = 0 }
 
 -- an output section whose name starts at `name` of the string table
 abbrev pub output_section : (name : ℕ) → OutputSection → SectionHeader
@@ -92,38 +81,81 @@ output_section name s = record {
   address = s.address;
   offset = s.address - IMAGE_BASE;
   size = s.size;
+  link = 0;
+  info = 0;
   align = s.align;
+  entsize = 0;
 }
 
--- the section name string table
-abbrev pub names_section : (name offset size : ℕ) → SectionHeader
-names_section name offset size =
-    record { name = name % 2 ^ 32; sh_type = SHT_STRTAB; flags = 0; address = 0; offset = offset; size = size; align = 1 }
+-- a string table
+abbrev pub strings_section : (name offset size : ℕ) → SectionHeader
+strings_section name offset size = record {
+  name = name % 2 ^ 32;
+  sh_type = SHT_STRTAB;
+  flags = 0;
+  address = 0;
+  offset = offset;
+  size = size;
+  link = 0;
+  info = 0;
+  align = 1;
+  entsize = 0;
+}
 
--- a name as it stands in a string table
-abbrev pub zero_ended : List ℕ → List ℕ
-zero_ended name = name ++ 0 ∷ []
+-- the symbol table, whose names are in the section of number `strings`; no symbol but the null one is local
+abbrev pub symbols_section : (name offset size strings : ℕ) → SectionHeader
+symbols_section name offset size strings = record {
+  name = name % 2 ^ 32;
+  sh_type = SHT_SYMTAB;
+  flags = 0;
+  address = 0;
+  offset = offset;
+  size = size;
+  link = strings % 2 ^ 32;
+  info = 1;
+  align = 8;
+  entsize = SYM_SIZE;
+}
 
--- the section name string table: a zero byte, the names of the output sections, and its own
+-- the section name string table: a zero byte, the names of the output sections, those of the symbol table and of its names, and its own
 abbrev pub output_names : List OutputSection → List ℕ
 output_names outputs = flat_map (λ s. zero_ended s.name) outputs
+
+unfoldable pub symbols_name : List ℕ
+symbols_name = zero_ended (codes ".symtab")
+
+unfoldable pub strings_name : List ℕ
+strings_name = zero_ended (codes ".strtab")
 
 unfoldable pub own_name : List ℕ
 own_name = zero_ended (codes ".shstrtab")
 
-unfoldable pub section_names : List OutputSection → List ℕ
-section_names outputs = 0 ∷ output_names outputs ++ own_name
+abbrev pub table_names : Option SymbolTables → List ℕ
+table_names None = []
+table_names (Some t) = symbols_name ++ strings_name
+
+unfoldable pub section_names : List OutputSection → Option SymbolTables → List ℕ
+section_names outputs tables = 0 ∷ output_names outputs ++ (table_names tables ++ own_name)
 
 -- the headers of output sections, the first of whose names starts at `name`
 abbrev pub output_headers : (name : ℕ) → List OutputSection → List ℕ
 output_headers name [] = []
 output_headers name (s ∷ ss) = section_header (output_section name s) ++ output_headers (name + length s.name + 1) ss
 
--- the section headers, if the names stand at this file offset
-unfoldable pub section_headers : List OutputSection → (offset : ℕ) → List ℕ
-section_headers outputs offset = section_header null_section
+-- those of the symbol table, which stands at the file offset `at`, and of its names: their own names start at `name`, the second of them has
+-- the number `strings`
+abbrev pub table_headers : (name at strings : ℕ) → Option SymbolTables → List ℕ
+table_headers name at strings None = []
+table_headers name at strings (Some t) =
+    section_header (symbols_section name at (length t.symbols) strings)
+    ++ section_header (strings_section (name + 8) (at + length t.symbols) (length t.strings))
+
+-- the section headers, if the symbol table stands at the file offset `at` and the names at `offset`
+unfoldable pub section_headers : List OutputSection → Option SymbolTables → (at offset : ℕ) → List ℕ
+section_headers outputs tables at offset = section_header null_section
     ++ (output_headers 1 outputs
-    ++ section_header (names_section (1 + length (output_names outputs)) offset (length (section_names outputs))))
+    ++ (table_headers (1 + length (output_names outputs)) at (length outputs + 2) tables
+    ++ section_header (strings_section (1 + length (output_names outputs) + length (table_names tables)) offset (length (section_names outputs tables)))))
 
 -- the flags of the code that an executable keeps: compressed instructions and total store order of any file, and the float ABI
 -- of the first

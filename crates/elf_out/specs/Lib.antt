@@ -1,5 +1,7 @@
+pub mod Symbols
 pub mod Headers
 pub mod Executable
 pub mod Ends
 pub mod Frames
 pub mod Standing
+pub mod TablesView

@@ -2,7 +2,8 @@
 
 ghost use Rattle.std.specs.Prelude.{◌≡◌, ◌≤◌, ◌-◌, ◌++◌, OnOk};
 ghost use Rattle.lk_base.specs.declared.abi.TheConstants.{IMAGE_BASE};
-ghost use Rattle.elf_out.specs.Headers.{half, word, long, identification, file_header, program_header, section_header};
+ghost use Rattle.elf_out.specs.Headers.{identification, file_header, program_header, section_header};
+ghost use Rattle.elf_out.specs.Symbols.{half, long, word, zero_ended};
 
 use lk_base::abi::{EHDR_SIZE, EM_RISCV, ET_EXEC, EV_CURRENT, IMAGE_BASE, PHDR_SIZE, SHDR_SIZE};
 use std::alloc::AllocError;
@@ -19,7 +20,7 @@ pub struct ProgramHeader {
     pub align: u64,
 }
 
-/// One section header (`Elf64_Shdr`) of a section with no link, no info and no entries.
+/// One section header (`Elf64_Shdr`).
 #[derive(Clone, Copy)]
 pub struct SectionHeader {
     /// Where the name starts among the section names, in bytes.
@@ -29,7 +30,11 @@ pub struct SectionHeader {
     pub address: u64,
     pub offset: u64,
     pub size: u64,
+    pub link: u32,
+    pub info: u32,
     pub align: u64,
+    /// Bytes of one entry, in a table.
+    pub entsize: u64,
 }
 
 /// The file offset of an address.
@@ -39,22 +44,25 @@ pub fn offset_of(address: u64) -> u64
     address.saturating_sub(IMAGE_BASE)
 }
 
-#[tactic(auto, unfolding(crate::specs::Headers::half))]
-fn push_half(out: &mut Vec<u8>, n: u16) -> Result<(), AllocError>
+/// Adds a number of 2 bytes.
+#[tactic(auto, unfolding(crate::specs::Symbols::half))]
+pub fn push_half(out: &mut Vec<u8>, n: u16) -> Result<(), AllocError>
     ensures { OnOk result (out.new.items ≡ out.old.items ++ half n) }
 {
     out.extend_from_slice(&n.to_le_bytes())
 }
 
-#[tactic(auto, unfolding(crate::specs::Headers::word))]
-fn push_word(out: &mut Vec<u8>, n: u32) -> Result<(), AllocError>
+/// Adds a number of 4 bytes.
+#[tactic(auto, unfolding(crate::specs::Symbols::word))]
+pub fn push_word(out: &mut Vec<u8>, n: u32) -> Result<(), AllocError>
     ensures { OnOk result (out.new.items ≡ out.old.items ++ word n) }
 {
     out.extend_from_slice(&n.to_le_bytes())
 }
 
-#[tactic(auto, unfolding(crate::specs::Headers::long))]
-fn push_long(out: &mut Vec<u8>, n: u64) -> Result<(), AllocError>
+/// Adds a number of 8 bytes.
+#[tactic(auto, unfolding(crate::specs::Symbols::long))]
+pub fn push_long(out: &mut Vec<u8>, n: u64) -> Result<(), AllocError>
     ensures { OnOk result (out.new.items ≡ out.old.items ++ long n) }
 {
     out.extend_from_slice(&n.to_le_bytes())
@@ -65,6 +73,15 @@ fn push_identification(out: &mut Vec<u8>) -> Result<(), AllocError>
     ensures { OnOk result (out.new.items ≡ out.old.items ++ identification) }
 {
     out.extend_from_slice(b"\x7fELF\x02\x01\x01\0\0\0\0\0\0\0\0\0")
+}
+
+/// Adds a name and a zero byte.
+pub fn push_name(out: &mut Vec<u8>, name: &[u8]) -> Result<(), AllocError>
+    ensures { OnOk result (out.new.items ≡ out.old.items ++ zero_ended name.now) }
+{
+    out.extend_from_slice(name)?;
+    out.push(0)?;
+    Ok(())
 }
 
 /// Adds the file header: the entry's address, the file offset of the section headers, the code's flags, and how many
@@ -123,9 +140,9 @@ pub fn push_section_header(out: &mut Vec<u8>, header: &SectionHeader) -> Result<
     push_long(out, header.address)?;
     push_long(out, header.offset)?;
     push_long(out, header.size)?;
-    push_word(out, 0)?;
-    push_word(out, 0)?;
+    push_word(out, header.link)?;
+    push_word(out, header.info)?;
     push_long(out, header.align)?;
-    push_long(out, 0)?;
+    push_long(out, header.entsize)?;
     Ok(())
 }

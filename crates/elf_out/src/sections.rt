@@ -1,16 +1,22 @@
 //! What stands at the end of the file: the names of the sections, and the section headers.
 
-ghost use Rattle.std.specs.Prelude.{◌≡◌, ◌+◌, ◌^◌, ◌<◌, ◌++◌, length, map, IfOk, OnOk};
+ghost use Rattle.std.specs.Prelude.{◌≡◌, ◌+◌, ◌^◌, ◌<◌, ◌++◌, [], length, map, IfOk, OnOk};
 ghost use Rattle.elf_out.specs.Headers as spec;
+ghost use Rattle.elf_out.specs.TablesView.{tables_if};
 ghost use Rattle.link_sections.specs.LaidOut.{output_view};
 
-use crate::header_bytes::{SectionHeader, offset_of, push_section_header};
+use crate::header_bytes::{SectionHeader, offset_of, push_name, push_section_header};
+use crate::symbols::SymbolTables;
 use link_sections::Output;
-use lk_base::abi::{SHT_NULL, SHT_STRTAB};
+use lk_base::abi::{SHT_NULL, SHT_STRTAB, SHT_SYMTAB, SYM_SIZE};
 use std::alloc::{AllocError, Global};
 
 /// The name of the section that has the names.
 const OWN_NAME: &[u8] = b".shstrtab";
+/// Those of the symbol table, and of the names of its symbols.
+const SYMBOLS_NAME: &[u8] = b".symtab";
+
+const STRINGS_NAME: &[u8] = b".strtab";
 /// The first section header is that of no section.
 const NULL_SECTION: SectionHeader = SectionHeader {
     name: 0,
@@ -19,17 +25,11 @@ const NULL_SECTION: SectionHeader = SectionHeader {
     address: 0,
     offset: 0,
     size: 0,
+    link: 0,
+    info: 0,
     align: 0,
+    entsize: 0,
 };
-
-/// Adds a name and a zero byte.
-fn push_name(out: &mut Vec<u8>, name: &[u8]) -> Result<(), AllocError>
-    ensures { OnOk result (out.new.items ≡ out.old.items ++ spec.zero_ended name.now) }
-{
-    out.extend_from_slice(name)?;
-    out.push(0)?;
-    Ok(())
-}
 
 /// Adds the names of output sections.
 fn push_output_names(out: &mut Vec<u8>, outputs: &[Output]) -> Result<(), AllocError>
@@ -41,30 +41,59 @@ fn push_output_names(out: &mut Vec<u8>, outputs: &[Output]) -> Result<(), AllocE
     Ok(())
 }
 
-/// The names of the sections, each ended by a zero byte: that of no section, those of the output sections, and the last
-/// section's own.
+/// Adds the names of the symbol table and of the names of its symbols, if there is one.
+#[tactic(auto, unfolding(crate::specs::Headers::symbols_name, crate::specs::Headers::strings_name))]
+fn push_table_names(out: &mut Vec<u8>, tables: &Option<SymbolTables>) -> Result<(), AllocError>
+    ensures { OnOk result (out.new.items ≡ out.old.items ++ spec.table_names (tables_if tables.now)) }
+{
+    let Some(_) = tables else {
+        return Ok(());
+    };
+    push_name(out, SYMBOLS_NAME)?;
+    push_name(out, STRINGS_NAME)?;
+    Ok(())
+}
+
+/// The names of the sections, each ended by a zero byte: that of no section, those of the output sections, of the symbol table and of the
+/// names of its symbols, and the last section's own.
 #[tactic(auto, unfolding(crate::specs::Headers::section_names, crate::specs::Headers::own_name))]
-pub fn name_bytes(alloc: Global, outputs: &[Output]) -> Result<Vec<u8>, AllocError>
-    ensures { IfOk result (λ v. v.items ≡ spec.section_names (map output_view outputs.now)) }
+pub fn name_bytes(
+    alloc: Global,
+    outputs: &[Output],
+    tables: &Option<SymbolTables>,
+) -> Result<Vec<u8>, AllocError>
+    ensures { IfOk result (λ v. v.items ≡ spec.section_names (map output_view outputs.now) (tables_if tables.now)) }
 {
     let mut out = Vec::new(alloc);
     out.push(0)?;
     push_output_names(&mut out, outputs)?;
+    push_table_names(&mut out, tables)?;
     push_name(&mut out, OWN_NAME)?;
     Ok(out)
 }
 
 /// How many bytes the names have; out of memory if no memory holds so many.
-#[tactic(auto, unfolding(crate::specs::Headers::section_names, crate::specs::Headers::own_name))]
-pub fn names_size(outputs: &[Output]) -> Result<u64, AllocError>
-    ensures value { IfOk result (λ size. size ≡ length (spec.section_names (map output_view outputs.now))) }
+pub fn names_size(outputs: &[Output], tables: &Option<SymbolTables>) -> Result<u64, AllocError>
+    ensures value { IfOk result (λ size. size ≡ length (spec.section_names (map output_view outputs.now) (tables_if tables.now))) }
     ensures small { IfOk result (λ size. size < 2 ^ 62) }
 {
-    let mut size: u64 = 1 + OWN_NAME.len() as u64 + 1;
+    let mut size = fixed_size(tables);
     for output in outputs {
         size = with_name(size, output.name)?;
     }
     Ok(size)
+}
+
+/// Those beside the names of output sections.
+#[tactic(auto, unfolding(crate::specs::Headers::section_names, crate::specs::Headers::own_name, crate::specs::Headers::symbols_name, crate::specs::Headers::strings_name))]
+fn fixed_size(tables: &Option<SymbolTables>) -> u64
+    ensures value { result ≡ length (spec.section_names [] (tables_if tables.now)) }
+    ensures small { result < 100 }
+{
+    match tables {
+        None => 11,
+        Some(_) => 27,
+    }
 }
 
 /// These bytes, and those of one more name.
@@ -91,13 +120,16 @@ fn output_section(name: u64, output: &Output) -> SectionHeader
         address: output.address,
         offset: offset_of(output.address),
         size: output.size,
+        link: 0,
+        info: 0,
         align: output.align,
+        entsize: 0,
     }
 }
 
-/// The header of the section that has the names.
-fn names_section(name: u64, offset: u64, size: u64) -> SectionHeader
-    ensures { result ≡ spec.names_section name offset size }
+/// The header of a string table.
+fn strings_section(name: u64, offset: u64, size: u64) -> SectionHeader
+    ensures { result ≡ spec.strings_section name offset size }
 {
     SectionHeader {
         name: (name % 0x1_0000_0000) as u32,
@@ -106,7 +138,28 @@ fn names_section(name: u64, offset: u64, size: u64) -> SectionHeader
         address: 0,
         offset,
         size,
+        link: 0,
+        info: 0,
         align: 1,
+        entsize: 0,
+    }
+}
+
+/// The header of the symbol table, whose names have the section of number `strings`; the null symbol alone stands before the global ones.
+fn symbols_section(name: u64, offset: u64, size: u64, strings: u64) -> SectionHeader
+    ensures { result ≡ spec.symbols_section name offset size strings }
+{
+    SectionHeader {
+        name: (name % 0x1_0000_0000) as u32,
+        sh_type: SHT_SYMTAB,
+        flags: 0,
+        address: 0,
+        offset,
+        size,
+        link: (strings % 0x1_0000_0000) as u32,
+        info: 1,
+        align: 8,
+        entsize: SYM_SIZE,
     }
 }
 
@@ -124,21 +177,52 @@ fn push_output_headers(out: &mut Vec<u8>, outputs: &[Output]) -> Result<u64, All
     Ok(name)
 }
 
-/// The section headers, if the names, of so many bytes, stand at a file offset.
+/// Adds those of the symbol table, which stands at the file offset `at`, and of its names, if there is one: their own names start at `name`,
+/// the second of them has the number `strings`. Gives where the name after theirs starts.
+#[tactic(auto, unfolding(crate::specs::Headers::symbols_name, crate::specs::Headers::strings_name))]
+fn push_table_headers(
+    out: &mut Vec<u8>,
+    tables: &Option<SymbolTables>,
+    name: u64,
+    at: u64,
+    strings: u64,
+) -> Result<u64, AllocError>
+    requires name { name < 2 ^ 63 }
+    requires at { at < 2 ^ 32 }
+    ensures written { OnOk result (out.new.items ≡ out.old.items ++ spec.table_headers name at strings (tables_if tables.now)) }
+    ensures next { IfOk result (λ next. next ≡ name + length (spec.table_names (tables_if tables.now))) }
+{
+    let Some(tables) = tables else {
+        return Ok(name);
+    };
+    let symbols = tables.symbols.len() as u64;
+    let size = tables.strings.len() as u64;
+    push_section_header(out, &symbols_section(name, at, symbols, strings))?;
+    push_section_header(out, &strings_section(name + 8, at + symbols, size))?;
+    Ok(name + 16)
+}
+
+/// The section headers, if the symbol table stands at the file offset `at` and the names, of so many bytes, at `offset`.
 pub fn header_table(
     alloc: Global,
     outputs: &[Output],
+    tables: &Option<SymbolTables>,
+    at: u64,
     offset: u64,
     size: u64,
 ) -> Result<Vec<u8>, AllocError>
-    requires names { size ≡ length (spec.section_names (map output_view outputs.now)) }
-    requires room { size < 2 ^ 63 }
-    ensures { IfOk result (λ v. v.items ≡ spec.section_headers (map output_view outputs.now) offset) }
+    requires names { size ≡ length (spec.section_names (map output_view outputs.now) (tables_if tables.now)) }
+    requires room { size < 2 ^ 62 }
+    requires at { at < 2 ^ 32 }
+    requires few { length outputs.now < 2 ^ 16 }
+    ensures { IfOk result (λ v. v.items ≡ spec.section_headers (map output_view outputs.now) (tables_if tables.now) at offset) }
 {
+    let strings = outputs.len() as u64 + 2;
     let mut out = Vec::new(alloc);
     push_section_header(&mut out, &NULL_SECTION)?;
     let name = push_output_headers(&mut out, outputs)?;
-    push_section_header(&mut out, &names_section(name, offset, size))?;
+    let own = push_table_headers(&mut out, tables, name, at, strings)?;
+    push_section_header(&mut out, &strings_section(own, offset, size))?;
     Ok(out)
 }
 
@@ -161,7 +245,7 @@ mod tests {
             align: 4,
             count: 1,
         };
-        let names = name_bytes(rt.alloc(), &[text])?;
+        let names = name_bytes(rt.alloc(), &[text], &None)?;
         assert_eq!(rt; names.as_slice(), b"\0.text\0.shstrtab\0".as_slice());
         Ok(())
     }

@@ -3,11 +3,14 @@
 ghost use Rattle.std.specs.Prelude.{◌≡◌, ◌≤◌, ◌++◌, ◌∷◌, [], if◌then◌else◌, flat_map, length, IfOk, OnOk};
 ghost use Rattle.link_sections.specs.Views.{binding_in, files_in, laid_in, leaders_in};
 ghost use Rattle.elf_out.specs.Executable as spec;
-ghost use Rattle.elf_out.specs.Headers.{file_header, loaded, program_header, program_headers, segments, tls_segment};
+ghost use Rattle.elf_out.specs.Frames.{headers_in};
+ghost use Rattle.elf_out.specs.TablesView.{tables_if, tables_in};
+ghost use Rattle.elf_out.specs.Headers.{loaded, program_header, program_headers, segments, tls_segment};
 
-use crate::ends::ends_of;
+use crate::ends::{ends_of, table_count};
 use crate::flags::kept_flags;
 use crate::header_bytes::{ProgramHeader, offset_of, push_file_header, push_program_header};
+use crate::symbols::SymbolTables;
 use link_sections::{Bounds, View};
 use lk_base::abi::{IMAGE_BASE, PAGE, PF_R, PF_W, PF_X, PT_GNU_STACK, PT_LOAD, PT_TLS};
 use std::alloc::{AllocError, Global};
@@ -113,10 +116,25 @@ pub fn segment_count(bounds: &Bounds) -> u16
     2 + one_if(bounds.has_rx) + one_if(bounds.has_rw) + one_if(bounds.has_tls)
 }
 
-/// The bytes from the file's start to the end of the program headers, if the section headers stand at `table`.
-pub fn headers_before(alloc: Global, view: &View, table: u64) -> Result<Vec<u8>, AllocError>
-    requires { table ≡ spec.table_offset (laid_in view.now) }
-    ensures { IfOk result (λ v. v.items ≡ spec.headers (files_in view.now) (binding_in view.now) (leaders_in view.now) (laid_in view.now)) }
+/// How many section headers there are with these tables at the file's end.
+fn section_count(view: &View, tables: &Option<SymbolTables>) -> u16
+    ensures value { result ≡ spec.header_count (laid_in view.now) (tables_if tables.now) }
+    ensures some { 1 ≤ result }
+{
+    let outputs = view.layout.outputs.len() as u16;
+    outputs + table_count(tables) as u16 + 2
+}
+
+/// The bytes from the file's start to the end of the program headers, with these tables at the file's end, if the section headers stand at
+/// `table`.
+pub fn headers_before(
+    alloc: Global,
+    view: &View,
+    tables: &Option<SymbolTables>,
+    table: u64,
+) -> Result<Vec<u8>, AllocError>
+    requires { table ≡ spec.table_offset (laid_in view.now) (tables_if tables.now) }
+    ensures { IfOk result (λ v. v.items ≡ headers_in view.now (tables_if tables.now)) }
 {
     let bounds = &view.layout.bounds;
     let mut out = Vec::new(alloc);
@@ -126,17 +144,24 @@ pub fn headers_before(alloc: Global, view: &View, table: u64) -> Result<Vec<u8>,
         table,
         kept_flags(view.tables),
         segment_count(bounds),
-        view.layout.outputs.len() as u16 + 2,
+        section_count(view, tables),
     )?;
     push_program_headers(&mut out, bounds)?;
     Ok(out)
 }
 
-/// The file header and the program headers of an executable, which stand at its start: the bytes from offset 0 to the end of the program
-/// headers (System V gABI, "ELF Header", "Program Header"). The only error is out of memory.
-pub fn headers(alloc: Global, view: &View) -> Result<Vec<u8>, AllocError>
-    ensures { IfOk result (λ v. v.items ≡ spec.headers (files_in view.now) (binding_in view.now) (leaders_in view.now) (laid_in view.now)) }
+/// The file header and the program headers of an executable with these tables, which are its own, at its end: the bytes from offset 0 to the
+/// end of the program headers (System V gABI, "ELF Header", "Program Header"). The only error is out of memory.
+#[tactic(auto, unfolding(crate::specs::Executable::headers))]
+pub fn headers(
+    alloc: Global,
+    view: &View,
+    tables: &Option<SymbolTables>,
+) -> Result<Vec<u8>, AllocError>
+    requires { tables_if tables.now ≡ tables_in view.now }
+    ensures { IfOk result (λ v. v.items ≡ spec.headers (files_in view.now) (binding_in view.now) view.now.kept.now view.now.strip (leaders_in view.now) (laid_in view.now)) }
 {
-    let ends = ends_of(view)?;
-    headers_before(alloc, view, ends.table_at)
+    let ends = ends_of(view, tables)?;
+    let bytes = headers_before(alloc, view, tables, ends.table_at)?;
+    Ok(bytes)
 }

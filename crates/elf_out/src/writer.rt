@@ -6,12 +6,14 @@ ghost use Rattle.link_sections.specs.Views.{binding_in, files_in, laid_in, leade
 ghost use Rattle.elf_out.specs.Executable as spec;
 ghost use Rattle.elf_out.specs.Frames.{IsFrame};
 ghost use Rattle.elf_out.specs.Standing.{SectionsStand};
+ghost use Rattle.elf_out.specs.TablesView.{tables_if};
 ghost use Rattle.reloc_apply.specs.Image.{ShowsFrom};
 ghost use Rattle.reloc_apply.specs.Relocated.{relocation_defects};
 
 use crate::blocks::BLOCK;
 use crate::ends::ends_of;
 use crate::frames::{Frame, frame_in, lay_ends, lay_headers};
+use crate::symbols::{SymbolTables, symtab};
 use link_sections::View;
 use lk_base::{LinkStop, up};
 use reloc_apply::{check_relocations, write_block};
@@ -32,31 +34,33 @@ pub fn write_executable<R: Threads + Sync, G: Gate>(
 ) -> Result<Vec<u8>, LinkStop>
     requires some { 1 ≤ workers }
     requires most { workers ≤ 64 }
-    ensures written { IfOk result (λ v. v.items ≡ spec.executable (files_in view.now) (binding_in view.now) (leaders_in view.now) (laid_in view.now)) }
+    ensures written { IfOk result (λ v. v.items ≡ spec.executable (files_in view.now) (binding_in view.now) view.now.kept.now view.now.strip (leaders_in view.now) (laid_in view.now)) }
     ensures goes { Goes result (relocation_defects (files_in view.now) (binding_in view.now) (leaders_in view.now) (laid_in view.now)) }
     ensures stands { IfOk result (λ v. SectionsStand (files_in view.now) (binding_in view.now) (leaders_in view.now) (laid_in view.now) v.items) }
 {
     check_relocations(rt, alloc, view, workers, gate)?;
-    let file = whole_file(rt, alloc, view, workers, gate)?;
+    let tables = symtab(rt, alloc, view, workers, gate)?;
+    let file = whole_file(rt, alloc, view, &tables, workers, gate)?;
     Ok(file)
 }
 
-/// The bytes of the executable, whether its relocations can be done or not.
-#[tactic(auto, unfolding(crate::specs::Executable::executable))]
+/// The bytes of the executable with these tables, whether its relocations can be done or not.
+#[tactic(auto, unfolding(crate::specs::Executable::file_with))]
 fn whole_file<R: Threads + Sync, G: Gate>(
     rt: &R,
     alloc: Global,
     view: &View,
+    tables: &Option<SymbolTables>,
     workers: u32,
     gate: &G,
 ) -> Result<Vec<u8>, AllocError>
     requires some { 1 ≤ workers }
-    ensures { IfOk result (λ v. v.items ≡ spec.executable (files_in view.now) (binding_in view.now) (leaders_in view.now) (laid_in view.now)) }
+    ensures { IfOk result (λ v. v.items ≡ spec.file_with (files_in view.now) (binding_in view.now) (leaders_in view.now) (laid_in view.now) (tables_if tables.now)) }
 {
-    let ends = ends_of(view)?;
-    let frame = frame_in(alloc, view, &ends, 0, ends.end)?;
+    let ends = ends_of(view, tables)?;
+    let frame = frame_in(alloc, view, tables, &ends, 0, ends.end)?;
     let mut out = vec![in alloc; 0u8; ends.end as usize]?;
-    fill(rt, &mut out, view, &frame, workers, gate);
+    fill(rt, &mut out, view, tables, &frame, workers, gate);
     Ok(out)
 }
 
@@ -65,18 +69,19 @@ fn fill<R: Threads + Sync, G: Gate>(
     rt: &R,
     out: &mut [u8],
     view: &View,
+    tables: &Option<SymbolTables>,
     frame: &Frame,
     workers: u32,
     gate: &G,
 )
     requires some { 1 ≤ workers }
     requires room { length out.old < 2 ^ 63 }
-    requires frame { IsFrame (files_in view.now) (binding_in view.now) (leaders_in view.now) (laid_in view.now) 0 (length out.old) frame.now }
-    ensures { ShowsFrom 0 out.old out.new (spec.pieces (files_in view.now) (binding_in view.now) (leaders_in view.now) (laid_in view.now)) }
+    requires frame { IsFrame view.now (tables_if tables.now) 0 (length out.old) frame.now }
+    ensures { ShowsFrom 0 out.old out.new (spec.pieces_with (files_in view.now) (binding_in view.now) (leaders_in view.now) (laid_in view.now) (tables_if tables.now)) }
 {
     let run = run_length(out.len(), workers);
     if out.len() <= run {
-        lay(out, 0, view, frame);
+        lay(out, 0, view, tables, frame);
         return;
     }
     thread::for_each_chunk_mut(
@@ -86,9 +91,9 @@ fn fill<R: Threads + Sync, G: Gate>(
         &|start: usize, part: &mut [u8]|
             requires run { 0 < run }
             requires room { start + length part.now < 2 ^ 63 }
-            requires frame { IsFrame (files_in view.now) (binding_in view.now) (leaders_in view.now) (laid_in view.now) start (start + length part.now) frame.now }
-            ensures { ShowsFrom start part.entry.now part.exit.now (spec.pieces (files_in view.entry.now) (binding_in view.entry.now) (leaders_in view.entry.now) (laid_in view.entry.now)) }
-        { lay_run(part, start, run, view, frame, gate) },
+            requires frame { IsFrame view.now (tables_if tables.now) start (start + length part.now) frame.now }
+            ensures { ShowsFrom start part.entry.now part.exit.now (spec.pieces_with (files_in view.entry.now) (binding_in view.entry.now) (leaders_in view.entry.now) (laid_in view.entry.now) (tables_if tables.entry.now)) }
+        { lay_run(part, start, run, view, tables, frame, gate) },
     );
 }
 
@@ -103,27 +108,35 @@ fn run_length(len: usize, workers: u32) -> usize
 }
 
 /// Writes one worker's run, between the two steps of its gate.
-fn lay_run<G: Gate>(part: &mut [u8], start: usize, run: usize, view: &View, frame: &Frame, gate: &G)
+fn lay_run<G: Gate>(
+    part: &mut [u8],
+    start: usize,
+    run: usize,
+    view: &View,
+    tables: &Option<SymbolTables>,
+    frame: &Frame,
+    gate: &G,
+)
     requires run { 0 < run }
     requires room { start + length part.old < 2 ^ 63 }
-    requires frame { IsFrame (files_in view.now) (binding_in view.now) (leaders_in view.now) (laid_in view.now) start (start + length part.old) frame.now }
-    ensures { ShowsFrom start part.old part.new (spec.pieces (files_in view.now) (binding_in view.now) (leaders_in view.now) (laid_in view.now)) }
+    requires frame { IsFrame view.now (tables_if tables.now) start (start + length part.old) frame.now }
+    ensures { ShowsFrom start part.old part.new (spec.pieces_with (files_in view.now) (binding_in view.now) (leaders_in view.now) (laid_in view.now) (tables_if tables.now)) }
 {
     let worker = (start / run % 0x1_0000_0000) as u32;
     gate.at(worker, 0);
-    lay(part, start as u64, view, frame);
+    lay(part, start as u64, view, tables, frame);
     gate.at(worker, 1);
 }
 
 /// Lays over a block that starts at a file offset the headers, over them the sections with their relocations done, and over these the
-/// names and the section headers.
-#[tactic(auto, unfolding(crate::specs::Executable::pieces))]
-fn lay(block: &mut [u8], from: u64, view: &View, frame: &Frame)
+/// symbol table, the names and the section headers.
+#[tactic(auto, unfolding(crate::specs::Executable::pieces_with))]
+fn lay(block: &mut [u8], from: u64, view: &View, tables: &Option<SymbolTables>, frame: &Frame)
     requires room { from + length block.old < 2 ^ 63 }
-    requires frame { IsFrame (files_in view.now) (binding_in view.now) (leaders_in view.now) (laid_in view.now) from (from + length block.old) frame.now }
-    ensures { ShowsFrom from block.old block.new (spec.pieces (files_in view.now) (binding_in view.now) (leaders_in view.now) (laid_in view.now)) }
+    requires frame { IsFrame view.now (tables_if tables.now) from (from + length block.old) frame.now }
+    ensures { ShowsFrom from block.old block.new (spec.pieces_with (files_in view.now) (binding_in view.now) (leaders_in view.now) (laid_in view.now) (tables_if tables.now)) }
 {
-    lay_headers(block, from, view, frame);
+    lay_headers(block, from, view, tables, frame);
     write_block(block, from, view);
-    lay_ends(block, from, view, frame);
+    lay_ends(block, from, view, tables, frame);
 }

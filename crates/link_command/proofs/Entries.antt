@@ -1,5 +1,5 @@
 -- The text of an option that takes one value, from what a parse says of its entry.
-use Rattle.std.proofs.Common.{◌≡◌, ◌<◌, ◌≤◌, ◌∙◌, ap, refl, sym, subst, arith, ℕ, zero, suc, Bool, true, false, List, [], ◌∷◌, length, Option, Some, None, is_some, inl, inr}
+use Rattle.std.proofs.Common.{◌≡◌, ◌<◌, ◌≤◌, ◌∙◌, ◌⊎◌, ap, refl, sym, subst, arith, ℕ, zero, suc, Bool, true, false, List, [], ◌∷◌, length, Option, Some, None, is_some, inl, inr}
 use Rattle.std.specs.Prelude.{slice_get, find, option_map}
 use Rattle.std.specs.List.{All, slice_index_or}
 use Rattle.std.specs.Str.{bytes_eq}
@@ -103,6 +103,16 @@ module _ (c : Command) (f : Found) (id : Text) (parser : ValueParser) (valued : 
       ] in
       let first = head_of (λ v. PassesArg c id v.now) (reading_of parser) e.1.vals.items all filled in
       (first.0.now, rw (found, ← same, how) first.1, accepted first.0.now first.2)
+
+  -- the id has no text, or one that passed
+  pub text_if_any : ValuesPass c f → (one_text f id ≡ None) ⊎ Gives
+  text_if_any values = go (matched_of f id) refl
+    where
+      go : (o : Option MatchedArg) → matched_of f id ≡ o → (one_text f id ≡ None) ⊎ Gives
+      go None is = inl (rw is refl)
+      go (Some x) is =
+          let got = entry_by_id (EntryPasses c) f.entries.items id x values is in
+          inr (of_entry x got.0 is got.1 ((bytes_eq-Decides got.0.0.now id).0 got.2) got.3)
 
   -- where the id has an entry, it has a text
   pub text_given : ValuesPass c f → HasId f id → Gives

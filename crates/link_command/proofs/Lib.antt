@@ -2,4 +2,4 @@
 mod Parsing
 mod Reading
 mod Entries
-mod Workers
+mod Numbers

@@ -1,5 +1,5 @@
 -- What a command asks for, as a function of its words.
-use Rattle.std.specs.Prelude.{◌≡◌, true, false, ◌==◌, ◌&&◌, ◌||◌, ℕ, Bool, not, List, [], Option, Some, None, if◌then◌else◌, codes, length, map, option_and_then, option_map, string_bytes, String, unwrap_or}
+use Rattle.std.specs.Prelude.{true, false, ◌==◌, ◌&&◌, ◌||◌, ℕ, Bool, not, List, [], Option, Some, None, is_some, if◌then◌else◌, codes, length, map, option_and_then, option_map, string_bytes, String, unwrap_or, ◌<◌, ◌≤◌}
 use Rattle.std.specs.Option.{option_map_or}
 use Rattle.std.specs.Global.{Global}
 use Rattle.std.specs.Str.{bytes_eq}
@@ -9,12 +9,12 @@ use Rattle.link_command.specs.declared.command.Command.{Command}
 use Rattle.link_command.specs.declared.command.IcfMode.{IcfMode}
 use Rattle.link_command.specs.declared.command.IcfMode.TheVariants.{Off, All}
 use Rattle.link_command.specs.declared.command.Wanted.{Wanted}
-use Rattle.link_command.specs.declared.command.Wanted.TheVariants.{Files}
+use Rattle.link_command.specs.declared.command.Wanted.TheVariants.{Files, Generated}
 use Rattle.link_command.specs.Grammar.{taken}
 
 -- what a command asks for: the names of the executable and of the map, the entry symbol, the number of
 -- workers, whether sections that nothing refers to are left out, whether equal code is folded, whether calls are relaxed, whether symbols are
--- left out, and the inputs
+-- left out, and what is linked: so many generated objects, or the files of these names
 pub record Asked : Type 0 where
   pub output : List ℕ
   pub map : Option (List ℕ)
@@ -24,15 +24,27 @@ pub record Asked : Type 0 where
   pub icf : Bool
   pub relax : Bool
   pub strip : Bool
+  pub generated : Option ℕ
   pub inputs : List (List ℕ)
 
 -- the bytes of each word
 abbrev pub texts_of : List (String Global) → List (List ℕ)
 texts_of words = map (λ word. string_bytes word) words
 
--- the names of what is linked
+-- the names of the files that are linked
 abbrev pub names_of : Wanted → List (List ℕ)
 names_of (Files names) = texts_of names.items
+names_of (Generated n) = []
+
+-- how many generated objects are linked
+abbrev pub generated_of : Wanted → Option ℕ
+generated_of (Files names) = None
+generated_of (Generated n) = Some n
+
+-- there is something to link: some files, or from 1 to 65536 generated objects
+abbrev pub IsWanted : Wanted → Type 0
+IsWanted (Files names) = 0 < length names.items
+IsWanted (Generated n) = (1 ≤ n) × (n ≤ 65536)
 
 -- what folding is asked for
 abbrev pub folds : IcfMode → Bool
@@ -49,6 +61,7 @@ asks command = record {
   icf = folds command.icf;
   relax = command.relax;
   strip = command.strip;
+  generated = generated_of command.inputs;
   inputs = names_of command.inputs;
 }
 
@@ -68,6 +81,10 @@ is_on id rows = bytes_eq (text_of id rows) (codes "true")
 abbrev pub workers_in : List Row → ℕ
 workers_in rows = option_map_or number_of (one_of (codes "threads") rows) 0
 
+-- how many generated objects are asked for
+abbrev pub generated_in : List Row → Option ℕ
+generated_in rows = option_map number_of (one_of (codes "self-input") rows)
+
 -- the names of the inputs, in the order of the command
 abbrev pub inputs_in : List Row → List (List ℕ)
 inputs_in rows = unwrap_or (all_of (codes "files") rows) []
@@ -76,28 +93,33 @@ inputs_in rows = unwrap_or (all_of (codes "files") rows) []
 abbrev pub read_from : List Row → Asked
 read_from rows = record {
   output = text_of (codes "output") rows;
-  map = None;
+  map = first_of (codes "map") rows;
   entry = text_of (codes "entry") rows;
   threads = workers_in rows;
   gc = is_on (codes "gc-sections") rows;
   icf = bytes_eq (text_of (codes "icf") rows) (codes "all");
   relax = not (is_on (codes "no-relax") rows);
   strip = is_on (codes "strip-all") rows;
+  generated = generated_in rows;
   inputs = inputs_in rows;
 }
 
--- there is an input and an entry, and symbols are left out: a link with a symbol table is not there yet
+-- files are given, or generated objects, and not both
+abbrev pub has_inputs : Asked → Bool
+has_inputs asked = if is_some asked.generated then length asked.inputs == 0 else not (length asked.inputs == 0)
+
+-- the map has another name than the executable
+abbrev pub is_apart : (map : Option (List ℕ)) → (output : List ℕ) → Bool
+is_apart None output = true
+is_apart (Some map) output = not (bytes_eq map output)
+
+-- the command has one kind of input, an entry, and two names for its two files
 abbrev pub is_linkable : Asked → Bool
-is_linkable asked = asked.strip && (not (length asked.entry == 0) && not (length asked.inputs == 0))
+is_linkable asked = has_inputs asked && (not (length asked.entry == 0) && is_apart asked.map asked.output)
 
 -- the mode of folding is one of the two that there are
 abbrev pub is_mode : List ℕ → Bool
 is_mode text = bytes_eq text (codes "none") || bytes_eq text (codes "all")
-
--- what an accepted command asks for can be linked: symbols are left out, and there is no map
-pub record IsLinkable (asked : Asked) : Type 0 where
-  pub stripped : asked.strip ≡ true
-  pub unmapped : asked.map ≡ None
 
 abbrev pub tested : (mode : List ℕ) → Asked → Option Asked
 tested mode asked = if is_mode mode && is_linkable asked then Some asked else None

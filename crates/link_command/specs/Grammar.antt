@@ -1,5 +1,5 @@
 -- The command line of rvld, as a value of the kit's clap: its options, and the words that it takes.
-use Rattle.std.specs.Prelude.{◌≡◌, ℕ, List, [], ◌∷◌, Option, Some, None, codes, pos}
+use Rattle.std.specs.Prelude.{◌≡◌, ◌⊎◌, ℕ, List, [], ◌∷◌, Option, Some, None, codes, pos}
 use Rattle.clap.specs.Lexer.{usize_max}
 use Rattle.clap.specs.Words.{App, IsSignedIn, Kinds, Row, Rule, Text, fault_of, found_of, matches_of, new_app, new_rule, one_of, rows_of, with_rule, without_minus}
 use Rattle.clap.specs.declared.builder.ArgAction.TheVariants.{Set, SetTrue}
@@ -13,6 +13,13 @@ output_rule = record (new_rule (codes "output")) {
   long = Some (codes "output");
   action = Some Set;
   defaults = codes "a.out" ∷ [];
+}
+
+-- `--Map FILE`: the map file
+abbrev pub map_rule : Rule
+map_rule = record (new_rule (codes "map")) {
+  long = Some (codes "Map");
+  action = Some Set;
 }
 
 -- `-e`, `--entry NAME`: the symbol at which the executable begins
@@ -63,6 +70,14 @@ strip_rule = record (new_rule (codes "strip-all")) {
   action = Some SetTrue;
 }
 
+-- `--self-input N`: so many generated objects in place of files
+abbrev pub generated_rule : Rule
+generated_rule = record (new_rule (codes "self-input")) {
+  long = Some (codes "self-input");
+  parser = Some (Signed (pos 1) (pos 65536));
+  action = Some Set;
+}
+
 -- `FILES..`: the inputs
 abbrev pub files_rule : Rule
 files_rule = record (new_rule (codes "files")) {
@@ -71,8 +86,8 @@ files_rule = record (new_rule (codes "files")) {
 
 -- the command
 unfoldable pub rvld_app : App
-rvld_app = with_rule (with_rule (with_rule (with_rule (with_rule (with_rule (with_rule (with_rule (new_app (codes "rvld"))
-    output_rule) entry_rule) threads_rule) gc_rule) icf_rule) relax_rule) strip_rule) files_rule
+rvld_app = with_rule (with_rule (with_rule (with_rule (with_rule (with_rule (with_rule (with_rule (with_rule (with_rule (new_app (codes "rvld"))
+    output_rule) map_rule) entry_rule) threads_rule) gc_rule) icf_rule) relax_rule) strip_rule) generated_rule) files_rule
 
 -- the rows of a parse
 abbrev pub rows_in : ArgMatches → List Row
@@ -87,7 +102,15 @@ without_fault rows (kind ∷ kinds) = None
 unfoldable pub taken : List Text → Option (List Row)
 taken words = without_fault (matches_of rvld_app words) (fault_of rvld_app words)
 
+-- the rows have a number for the option of this id, and it lies in this range
+abbrev pub HasNumber : (id : List ℕ) (least most : ℕ) → List Row → Type 0
+HasNumber id least most rows = (text : List ℕ) × (one_of id rows ≡ Some (without_minus text))
+    × IsSignedIn (pos least) (pos most) text
+
 -- the rows have a number of workers that lies in its range
 abbrev pub HasThreads : List Row → Type 0
-HasThreads rows = (text : List ℕ) × (one_of (codes "threads") rows ≡ Some (without_minus text))
-    × IsSignedIn (pos 1) (pos 64) text
+HasThreads rows = HasNumber (codes "threads") 1 64 rows
+
+-- the rows have no number of generated objects, or one that lies in its range
+abbrev pub HasGenerated : List Row → Type 0
+HasGenerated rows = (one_of (codes "self-input") rows ≡ None) ⊎ HasNumber (codes "self-input") 1 65536 rows

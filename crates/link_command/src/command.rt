@@ -1,12 +1,13 @@
 //! An accepted command.
 
-ghost use Rattle.std.specs.Prelude.{◌≡◌, ◌<◌, ◌≤◌, IfOk, IfSome, length, option_map};
-ghost use Rattle.link_command.specs.Command.{IsLinkable, asked_of, asks, is_linkable, names_of, read_from, texts_of};
-ghost use Rattle.link_command.specs.Grammar.{HasThreads, rows_in};
+ghost use Rattle.std.specs.Prelude.{◌≡◌, ◌≤◌, IfOk, IfSome, is_some, option_map, string_bytes};
+ghost use Rattle.link_command.specs.Command.{IsWanted, asked_of, asks, generated_in, generated_of, has_inputs, inputs_in, is_apart, names_of, read_from, texts_of};
+ghost use Rattle.link_command.specs.Grammar.{HasGenerated, HasThreads, rows_in};
 
 use crate::matching::matches_of;
 use crate::values::{
-    gc_of, has_mode, icf_of, inputs_of, owned_text, relax_of, strip_of, threads_of,
+    gc_of, generated_of, has_mode, icf_of, inputs_of, map_of, owned_text, relax_of, strip_of,
+    threads_of,
 };
 use clap::ArgMatches;
 use std::alloc::{AllocError, Global};
@@ -16,15 +17,18 @@ use std::alloc::{AllocError, Global};
 pub enum Wanted {
     /// The files of these names, in the order of the command.
     Files(Vec<String>),
+    /// So many generated objects, 1 to 65536. No file is read.
+    Generated(u32),
 }
 
 impl Wanted {
-    /// The names of the inputs, in the order of the command.
+    /// The names of the files, in the order of the command; none where objects are generated.
     pub fn names(&self) -> &[String]
         ensures { texts_of result.now ≡ names_of self.now }
     {
         match self {
             Wanted::Files(names) => names.as_slice(),
+            Wanted::Generated(_) => &[],
         }
     }
 }
@@ -61,33 +65,60 @@ pub struct Command {
     pub inputs: Wanted,
 }
 
-/// What the matches of a command ask for.
-fn read_from(alloc: Global, matches: &ArgMatches) -> Result<Command, AllocError>
-    requires { HasThreads (rows_in matches.now) }
+/// What is linked. `None` where there are both files and generated objects, or neither.
+fn wanted_of(alloc: Global, matches: &ArgMatches) -> Result<Option<Wanted>, AllocError>
+    requires { HasGenerated (rows_in matches.now) }
+    ensures given { IfOk result (λ wanted. is_some wanted ≡ has_inputs (read_from (rows_in matches.now))) }
+    ensures generated { IfOk result (λ wanted. IfSome wanted (λ w. generated_of w ≡ generated_in (rows_in matches.now))) }
+    ensures names { IfOk result (λ wanted. IfSome wanted (λ w. names_of w ≡ inputs_in (rows_in matches.now))) }
+    ensures some { IfOk result (λ wanted. IfSome wanted IsWanted) }
+{
+    let names = inputs_of(alloc, matches)?;
+    let Some(count) = generated_of(matches) else {
+        if names.len() == 0 {
+            return Ok(None);
+        }
+        return Ok(Some(Wanted::Files(names)));
+    };
+    if names.len() != 0 {
+        return Ok(None);
+    }
+    Ok(Some(Wanted::Generated(count)))
+}
+
+/// What the matches of a command ask for, where this is linked.
+fn read_from(alloc: Global, matches: &ArgMatches, inputs: Wanted) -> Result<Command, AllocError>
+    requires threads { HasThreads (rows_in matches.now) }
+    requires generated { generated_of inputs ≡ generated_in (rows_in matches.now) }
+    requires names { names_of inputs ≡ inputs_in (rows_in matches.now) }
     ensures asked { IfOk result (λ command. asks command ≡ read_from (rows_in matches.now)) }
     ensures threads { IfOk result (λ command. (1 ≤ command.threads) × (command.threads ≤ 64)) }
+    ensures inputs { IfOk result (λ command. command.inputs ≡ inputs) }
 {
     let output = owned_text(alloc, matches, "output")?;
+    let map = map_of(alloc, matches)?;
     let entry = owned_text(alloc, matches, "entry")?;
-    let inputs = inputs_of(alloc, matches)?;
     Ok(Command {
         output,
-        map: None,
+        map,
         entry,
         threads: threads_of(matches),
         gc: gc_of(matches),
         icf: icf_of(matches),
         relax: relax_of(matches),
         strip: strip_of(matches),
-        inputs: Wanted::Files(inputs),
+        inputs,
     })
 }
 
-/// Whether there is an input and an entry, and symbols are left out.
-fn is_linkable(command: &Command) -> bool
-    ensures { result ≡ is_linkable (asks command.now) }
+/// Whether the map has another name than the executable: one would be written over the other.
+fn is_apart(map: &Option<String>, output: &str) -> bool
+    ensures { result ≡ is_apart (option_map (λ name. string_bytes name) map.now) output.now }
 {
-    command.strip && !command.entry.is_empty() && !command.inputs.names().is_empty()
+    match map {
+        None => true,
+        Some(map) => map.as_str() != output,
+    }
 }
 
 /// The command of these words, the program's name first. `None` refuses them.
@@ -95,14 +126,19 @@ fn is_linkable(command: &Command) -> bool
 pub fn command_of(alloc: Global, words: &[String]) -> Result<Option<Command>, AllocError>
     ensures exact { IfOk result (λ command. option_map asks command ≡ asked_of (texts_of words.now)) }
     ensures threads { IfOk result (λ command. IfSome command (λ c. (1 ≤ c.threads) × (c.threads ≤ 64))) }
-    ensures inputs { IfOk result (λ command. IfSome command (λ c. 0 < length (names_of c.inputs))) }
-    ensures linkable { IfOk result (λ command. IfSome command (λ c. IsLinkable (asks c))) }
+    ensures inputs { IfOk result (λ command. IfSome command (λ c. IsWanted c.inputs)) }
 {
     let Some(matches) = matches_of(alloc, words)? else {
         return Ok(None);
     };
-    let command = read_from(alloc, &matches)?;
-    if !(has_mode(&matches) && is_linkable(&command)) {
+    if !has_mode(&matches) {
+        return Ok(None);
+    }
+    let Some(inputs) = wanted_of(alloc, &matches)? else {
+        return Ok(None);
+    };
+    let command = read_from(alloc, &matches, inputs)?;
+    if command.entry.is_empty() || !is_apart(&command.map, command.output.as_str()) {
         return Ok(None);
     }
     Ok(Some(command))

@@ -2,7 +2,7 @@
 
 ghost use Rattle.std.specs.Prelude.{◌≡◌, IfOk, false};
 ghost use Rattle.clap.specs.Words.{app_of, rule_of};
-ghost use Rattle.link_command.specs.Grammar.{entry_rule, files_rule, gc_rule, icf_rule, output_rule, relax_rule, rvld_app, strip_rule, threads_rule};
+ghost use Rattle.link_command.specs.Grammar.{entry_rule, files_rule, gc_rule, generated_rule, icf_rule, map_rule, output_rule, relax_rule, rvld_app, strip_rule, threads_rule};
 
 use clap::{Arg, ArgAction};
 use std::alloc::{AllocError, Global};
@@ -17,6 +17,14 @@ fn output_option<'a>(alloc: Global) -> Arg<'a>
         .long("output")
         .action(ArgAction::Set)
         .default_value("a.out")
+}
+
+/// `--Map FILE`: the name of the map file.
+fn map_option<'a>(alloc: Global) -> Arg<'a>
+    ensures rule { rule_of result ≡ map_rule }
+    ensures local { result.global ≡ false }
+{
+    Arg::new(alloc, "map").long("Map").action(ArgAction::Set)
 }
 
 /// `-e`, `--entry NAME`: the symbol at which the executable begins.
@@ -85,6 +93,17 @@ fn strip_option<'a>(alloc: Global) -> Arg<'a>
         .action(ArgAction::SetTrue)
 }
 
+/// `--self-input N`: so many generated objects are linked, in place of files.
+fn generated_option<'a>(alloc: Global) -> Arg<'a>
+    ensures rule { rule_of result ≡ generated_rule }
+    ensures local { result.global ≡ false }
+{
+    Arg::new(alloc, "self-input")
+        .long("self-input")
+        .value_parser(clap::value_parser!(u32).range(1..=65536))
+        .action(ArgAction::Set)
+}
+
 /// `FILES..`: the inputs, which may stand between options.
 fn files_argument<'a>(alloc: Global) -> Arg<'a>
     ensures rule { rule_of result ≡ files_rule }
@@ -100,11 +119,13 @@ pub(crate) fn command_line<'a>(alloc: Global) -> Result<clap::Command<'a>, Alloc
 {
     clap::Command::new(alloc, "rvld")
         .arg(output_option(alloc))?
+        .arg(map_option(alloc))?
         .arg(entry_option(alloc))?
         .arg(threads_option(alloc))?
         .arg(gc_option(alloc))?
         .arg(icf_option(alloc))?
         .arg(relax_option(alloc))?
         .arg(strip_option(alloc))?
+        .arg(generated_option(alloc))?
         .arg(files_argument(alloc))
 }

@@ -2,7 +2,7 @@
 
 ghost use Rattle.std.specs.Prelude.{◌≡◌, IfOk, IfSome, option_map};
 ghost use Rattle.link_command.specs.Command.{texts_of};
-ghost use Rattle.link_command.specs.Grammar.{HasThreads, rows_in, taken};
+ghost use Rattle.link_command.specs.Grammar.{HasGenerated, HasThreads, rows_in, taken};
 
 use crate::grammar::command_line;
 use clap::ArgMatches;
@@ -16,6 +16,7 @@ pub(crate) fn matches_of<'a>(
 ) -> Result<Option<ArgMatches<'a>>, AllocError>
     ensures exact { IfOk result (λ matches. option_map rows_in matches ≡ taken (texts_of words.entry.now)) }
     ensures threads { IfOk result (λ matches. IfSome matches (λ m. HasThreads (rows_in m))) }
+    ensures generated { IfOk result (λ matches. IfSome matches (λ m. HasGenerated (rows_in m))) }
 {
     let command = command_line(alloc)?;
     match command.try_get_matches_from(words) {

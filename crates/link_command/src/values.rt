@@ -1,9 +1,10 @@
 //! The values that clap found.
 
-ghost use Rattle.std.specs.Prelude.{◌≡◌, ◌≤◌, IfOk, codes, map, not, string_bytes};
+ghost use Rattle.std.specs.Prelude.{◌≡◌, ◌≤◌, IfOk, IfSome, codes, map, not, option_map, string_bytes};
 ghost use Rattle.std.specs.Str.{bytes_eq};
-ghost use Rattle.link_command.specs.Command.{folds, inputs_in, is_mode, is_on, text_of, texts_of, workers_in};
-ghost use Rattle.link_command.specs.Grammar.{HasThreads, rows_in};
+ghost use Rattle.clap.specs.Words.{first_of};
+ghost use Rattle.link_command.specs.Command.{folds, generated_in, inputs_in, is_mode, is_on, text_of, texts_of, workers_in};
+ghost use Rattle.link_command.specs.Grammar.{HasGenerated, HasThreads, rows_in};
 
 use crate::command::IcfMode;
 use clap::ArgMatches;
@@ -25,6 +26,16 @@ pub(crate) fn owned_text(
     ensures { IfOk result (λ text. string_bytes text ≡ text_of id.now (rows_in matches.now)) }
 {
     text_of(matches, id).to_string(alloc)
+}
+
+/// The name of the map file, owned, if one is asked for.
+pub(crate) fn map_of(alloc: Global, matches: &ArgMatches) -> Result<Option<String>, AllocError>
+    ensures { IfOk result (λ name. option_map (λ text. string_bytes text) name ≡ first_of (codes "map") (rows_in matches.now)) }
+{
+    let Some(name) = matches.get_str("map") else {
+        return Ok(None);
+    };
+    Ok(Some(name.to_string(alloc)?))
 }
 
 /// Whether sections that nothing refers to are left out.
@@ -73,6 +84,15 @@ pub(crate) fn threads_of(matches: &ArgMatches) -> u32
     ensures most { result ≤ 64 }
 {
     matches.get_one::<u32>("threads").unwrap_or(1)
+}
+
+/// How many generated objects are asked for, if any are.
+pub(crate) fn generated_of(matches: &ArgMatches) -> Option<u32>
+    requires { HasGenerated (rows_in matches.now) }
+    ensures number { result ≡ generated_in (rows_in matches.now) }
+    ensures range { IfSome result (λ count. (1 ≤ count) × (count ≤ 65536)) }
+{
+    matches.get_one::<u32>("self-input")
 }
 
 /// The same texts, owned.

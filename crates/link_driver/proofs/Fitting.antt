@@ -1,18 +1,18 @@
 -- A link whose leaders are kept sections that lead themselves, and whose sections lose bytes only where they may, can be laid out.
-use Rattle.std.proofs.Common.{◌≡◌, ℕ, ◌+◌, ◌<◌, ◌≤◌, ◌==◌, ◌&&◌, Bool, true, false, List, [], ◌∷◌, length, map, filter, get_or, refl, sym, ap, ◌∙◌, subst, arith, inl, inr, Some}
-use Rattle.std.specs.Prelude.{◌⊎◌, Option, None, flat_map, if◌then◌else◌, slice_index_or}
+use Rattle.std.proofs.Common.{◌≡◌, ℕ, ◌+◌, ◌<◌, Bool, true, List, length, map, filter, get_or, sym, ◌∙◌, subst, arith}
+use Rattle.std.specs.Prelude.{Option}
 use Rattle.std.specs.List.{All, range_with_len}
-use Rattle.std.proofs.lemmas.Bool.{and_parts, cases_lt}
-use Rattle.std.proofs.lemmas.List.Elements.{All-filter, All-map, All-nil}
+use Rattle.std.proofs.lemmas.Bool.{and_parts}
+use Rattle.std.proofs.lemmas.List.Elements.{All-filter, All-map}
 use Rattle.std.proofs.lemmas.List.FromFn.{get_or-range_with_len, length-range_with_len}
 use Rattle.layout.specs.Items.{AreLeaders, HaveFirsts, IsStaying}
 use Rattle.layout.specs.Layout.{FitSizes}
 use Rattle.lk_tables.specs.Binding.{Bindings}
-use Rattle.lk_tables.specs.Files.{File, file_at, section_count, section_no, section_total}
+use Rattle.lk_tables.specs.Files.{File, file_at, section_count, section_no}
 use Rattle.lk_tables.proofs.BoundHas.{each_flat, one_if}
 use Rattle.link_sections.specs.Cuts.{Cut}
 use Rattle.link_sections.specs.Distinct.{distinct, element, is_first}
-use Rattle.link_sections.specs.Leaders.{is_kept, leader_at, leads}
+use Rattle.link_sections.specs.Leaders.{is_kept}
 use Rattle.link_sections.specs.MergeSections.{is_mergeable}
 use Rattle.link_sections.specs.Merging.{Site, is_merge, no_site, pool_of, pool_site, pool_sites, pools_of, same_pool, site, site_at, sites, sites_in}
 use Rattle.link_sections.specs.declared.pools.Pool.{Pool}

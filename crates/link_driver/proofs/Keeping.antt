@@ -1,6 +1,6 @@
 -- The sections that are kept may be.
-use Rattle.std.proofs.Common.{◌≡◌, ℕ, zero, suc, ◌+◌, ◌-◌, ◌<◌, ◌≤◌, ◌==◌, ◌&&◌, Bool, true, false, List, [], ◌∷◌, ◌++◌, length, map, get_or, refl, sym, ap, ◌∙◌, subst, arith, inl, inr}
-use Rattle.std.specs.Prelude.{ℤ, not, flat_map, if◌then◌else◌, Contains, ◌↔◌}
+use Rattle.std.proofs.Common.{◌≡◌, ℕ, zero, suc, ◌+◌, ◌<◌, ◌≤◌, ◌==◌, ◌&&◌, Bool, true, false, List, [], ◌∷◌, length, refl, sym, ap, ◌∙◌, subst, arith, inl, inr}
+use Rattle.std.specs.Prelude.{not, flat_map, if◌then◌else◌, Contains, ◌↔◌}
 use Rattle.std.specs.List.{All, range_with_len}
 use Rattle.std.proofs.lemmas.Bool.{and_parts, cases_lt}
 use Rattle.std.proofs.lemmas.List.{get_or_past}
@@ -9,15 +9,14 @@ use Rattle.lk_base.specs.RelocKinds.{goes_by_got}
 use Rattle.lk_base.specs.declared.abi.TheConstants.{STB_WEAK}
 use Rattle.lk_tables.specs.declared.bounds.Bound.{Bound}
 use Rattle.lk_tables.specs.declared.bounds.Bound.TheVariants.{InSection, Number, Linker, Nobody}
-use Rattle.lk_tables.specs.declared.bounds.Target.{Target}
 use Rattle.lk_tables.specs.declared.bounds.Target.TheVariants as targets
 use Rattle.lk_tables.specs.declared.heads.Symbol.{Symbol}
 use Rattle.lk_tables.specs.declared.objects.Reloc.{Reloc}
 use Rattle.lk_tables.specs.declared.section_places.SectionPlace.{SectionPlace}
 use Rattle.lk_tables.specs.BoundNames.{IsBindingOf}
 use Rattle.lk_tables.specs.Binding.{Bindings}
-use Rattle.lk_tables.specs.Files.{AreFew, File, by_section, file_at, first_section, is_section_symbol, section_count, section_no, section_total, symbol_at}
-use Rattle.lk_tables.specs.Reach.{IsClosed, IsReach, mark}
+use Rattle.lk_tables.specs.Files.{AreFew, File, file_at, first_section, is_section_symbol, section_count, section_no, section_total, symbol_at}
+use Rattle.lk_tables.specs.Reach.{IsReach}
 use Rattle.lk_tables.specs.Sites.{IsPlaceOf, place_of}
 use Rattle.lk_tables.specs.Targets.{bound, entry_bound, target_by, target_of}
 use Rattle.lk_tables.proofs.BoundHas.{each_flat, either, one_if}

@@ -1,7 +1,7 @@
 -- What the passes before the layout hand on, together: leaders, and where everything stands.
 use Rattle.std.proofs.Common.{◌≡◌, ℕ, ◌<◌, Bool, true, false, List, Option, length, refl, sym, ap, ◌∙◌, subst, arith}
 use Rattle.std.specs.List.{All}
-use Rattle.std.specs.Prelude.{if◌then◌else◌, slice_index}
+use Rattle.std.specs.Prelude.{slice_index}
 use Rattle.std.specs.List.Sorted.{IsStrictlyIncreasing}
 use Rattle.std.proofs.lemmas.List.{length-map}
 use Rattle.std.proofs.lemmas.Bool.{and_parts, cond-false, cond-true}
@@ -9,13 +9,11 @@ use Rattle.std.proofs.lemmas.List.Elements.{All-map}
 use Rattle.icf_part.specs.Leaders.{leaders_of}
 use Rattle.layout.specs.Items.{AreLeaders}
 use Rattle.layout.specs.Layout.{layout_defects, layout_of, limit_defects}
-use Rattle.lk_base.specs.declared.defects.Defect.{Defect}
 use Rattle.lk_base.specs.declared.limits.Limits.{Limits}
 use Rattle.lk_tables.specs.Binding.{Bindings}
 use Rattle.lk_tables.specs.Files.{File, section_total}
 use Rattle.lk_tables.proofs.BoundHas.{each_flat, one_if}
 use Rattle.link_sections.specs.declared.got.GotEntry.{GotEntry}
-use Rattle.link_sections.specs.declared.pools.Pool.{Pool}
 use Rattle.link_sections.specs.declared.pools.Pools.{Pools}
 use Rattle.link_sections.specs.Cuts.{Cut}
 use Rattle.link_sections.specs.declared.fold_items.FoldItem.{FoldItem as LentItem}

@@ -1,4 +1,5 @@
 pub mod Chain
+pub mod Counting
 pub mod FileFacts
 pub mod Fitting
 pub mod Finishing

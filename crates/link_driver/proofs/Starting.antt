@@ -1,7 +1,8 @@
 -- The ends of a run before its inputs are linked.
-use Rattle.std.proofs.Common.{◌≡◌, ◌⊎◌, ℕ, ◌<◌, List, [], ◌∷◌, length, take, OnOk, OnErr, Option, Some, Result, Ok, Err, sym, ◌∙◌, ap, refl, inl, inr}
+use Rattle.std.proofs.Common.{◌≡◌, ◌⊎◌, ℕ, ◌<◌, List, [], ◌∷◌, length, take, OnOk, OnErr, Option, None, Some, Result, Ok, Err, sym, ◌∙◌, ap, refl, subst, inl, inr, arith}
 use Rattle.lk_depot.specs.declared.stops.Failed.{Failed}
 use Rattle.lk_depot.specs.Faults.{HasCause}
+use Rattle.lk_depot.specs.Files.{Files}
 use Rattle.lk_depot.specs.Store.{Store}
 use Rattle.lk_depot.specs.Output.{Output, told_said}
 use Rattle.lk_depot.specs.Loading.{AreContents, AfterLoads, IsFirstLacking, name_at}
@@ -14,12 +15,13 @@ use Rattle.lk_base.specs.declared.defects.LinkStop.TheVariants as link_stop
 use Rattle.lk_base.specs.Firsts.{StopsAt}
 use Rattle.lk_base.specs.Limits.{standard}
 use Rattle.link_driver.specs.Phases.{IsLinked, Links}
-use Rattle.link_driver.specs.Sources.{Source, sources}
+use Rattle.link_driver.specs.Sources.{Source, shown_files, sources}
 use Rattle.link_driver.specs.declared.linking.Linked.{Linked}
 use Rattle.link_driver.specs.declared.driving.Ending.{Ending}
 use Rattle.link_driver.specs.declared.driving.Ending.TheVariants.{Done, Memory, Refused, Unreported, Defective, Unread, Unwritten}
 use Rattle.link_command.specs.Command.{Asked}
-use Rattle.link_driver.specs.Link.{Link, defects_in, defects_of, executable_in, link, link_with, line_in, line_of_defect, cannot_read}
+use Rattle.link_driver.specs.Given.{contents_for, names_for}
+use Rattle.link_driver.specs.Link.{Link, defects_in, defects_of, executable_in, link, link_with, line_in, line_of_defect, cannot_read, map_in, report_in}
 use Rattle.link_driver.specs.Ends.{IsUntouched, IsUnread, none_failed, one_failed, Ends, finds_defect, cannot_read_input, lacks_memory, IsTold, told_whole, told_cut}
 use Rattle.link_driver.specs.Endings.{status_of, told_line, TellsDefect, TellsUnread, IsWithin, TellsStop, TellsLoadStop, AreLoaded}
 
@@ -60,17 +62,19 @@ unread_input asked before after say index Refused cause untouched telling = absu
 unread_input asked before after say index Unreported cause untouched telling = absurd telling
 
 -- the inputs have a defect
-pub found_defect : (asked : Asked) (before now : Store) (say : Output) (inputs : List (List ℕ)) (defect : Defect) (later : List Defect) (ending : Ending)
-    → AreLoaded asked before now inputs → defects_of standard asked inputs ≡ defect ∷ later → TellsDefect (line_of_defect asked inputs defect) ending
+pub found_defect : (asked : Asked) (before now : Store) (say : Output) (given : List (List ℕ)) (defect : Defect) (later : List Defect) (ending : Ending)
+    → AreLoaded asked before now given → defects_of standard asked (contents_for asked given) ≡ defect ∷ later
+    → TellsDefect (line_of_defect asked (contents_for asked given) defect) ending
     → Ends (Some asked) before now say say (status_of ending) (told_line ending)
 unfolding link
-found_defect asked before now say inputs defect later Memory loaded found telling =
+found_defect asked before now say given defect later Memory loaded found telling =
     lacking (Some asked) before now say loaded.untouched (none_failed loaded.unread)
-found_defect asked before now say inputs defect later (Defective line) loaded found telling =
-    let gives : link (Some asked) inputs ≡ link_with asked inputs (defect ∷ later) = ap (link_with asked inputs) found in
+found_defect asked before now say given defect later (Defective line) loaded found telling =
+    let inputs = contents_for asked given in
+    let gives : link (Some asked) given ≡ link_with asked inputs (defect ∷ later) = ap (link_with asked inputs) found in
     finds_defect (record {
       asked = asked;
-      inputs = inputs;
+      inputs = given;
       accepts = record { asks = refl; loaded = loaded.loaded; unread = loaded.unread };
       defective = ap (λ (l : Link). l.status) gives;
       status_is = refl;
@@ -78,11 +82,11 @@ found_defect asked before now say inputs defect later (Defective line) loaded fo
       quiet = refl;
       line_is = telling ∙ sym (ap (λ (l : Link). l.err) gives);
     })
-found_defect asked before now say inputs defect later Done loaded found telling = absurd telling
-found_defect asked before now say inputs defect later (Unread line) loaded found telling = absurd telling
-found_defect asked before now say inputs defect later (Unwritten line) loaded found telling = absurd telling
-found_defect asked before now say inputs defect later Refused loaded found telling = absurd telling
-found_defect asked before now say inputs defect later Unreported loaded found telling = absurd telling
+found_defect asked before now say given defect later Done loaded found telling = absurd telling
+found_defect asked before now say given defect later (Unread line) loaded found telling = absurd telling
+found_defect asked before now say given defect later (Unwritten line) loaded found telling = absurd telling
+found_defect asked before now say given defect later Refused loaded found telling = absurd telling
+found_defect asked before now say given defect later Unreported loaded found telling = absurd telling
 
 -- a line was told, or some of its first bytes
 pub told_so : (r : Result (Unit {0}) Failed) (line : List ℕ) (err err' : Output)
@@ -103,6 +107,21 @@ not_loaded asked names before after say (stop.Failed index) ending same cause un
 not_loaded asked names before after say stop.Memory ending same cause untouched telling =
     rw telling (lacking (Some asked) before after say untouched (none_failed cause))
 
+-- no file is asked for
+none_there : (files : Option Files) → AreContents files [] []
+none_there None = record { as_many = refl; found = tt }
+none_there (Some m) = record { as_many = refl; found = refl }
+
+pub nothing_loaded : (asked : Asked) (before : Store) → asked.inputs ≡ [] → AreLoaded asked before before []
+nothing_loaded asked before none =
+    let P : List (List ℕ) → Type 0 = λ names. AreContents before.files names [] in
+    record {
+      loaded = subst P (sym none) (none_there before.files);
+      unread = refl;
+      untouched = record { files = refl; kinds = refl; begun = refl };
+      faults = omega arith;
+    }
+
 pub load_within : (names : List (List ℕ)) (before after : Store) (stop : LoadAllStop) → AfterLoads before after names (Err stop) → IsWithin names stop
 load_within names before after (stop.Absent index) cause = cause.0.within
 load_within names before after (stop.Failed index) cause = cause.within
@@ -114,25 +133,32 @@ pub line_is : (asked : Asked) (inputs : List (List ℕ)) (ss : List Source) (def
 unfolding line_of_defect
 line_is asked inputs ss defect line are is = is ∙ ap (λ l. line_in asked inputs l defect) are
 
--- the inputs were not linked
-pub not_linked : (asked : Asked) (before now : Store) (say : Output) (inputs : List (List ℕ)) (ss : List Source) (stop : LinkStop) (ending : Ending)
-    → AreLoaded asked before now inputs → ss ≡ sources standard inputs → StopsAt stop (defects_in standard asked ss) → TellsStop asked inputs stop ending
-    → Ends (Some asked) before now say say (status_of ending) (told_line ending)
-not_linked asked before now say inputs ss (link_stop.Defect defect) ending loaded are found telling =
-    found_defect asked before now say inputs defect found.0 ending loaded (ap (defects_in standard asked) (sym are) ∙ found.1) telling
-not_linked asked before now say inputs ss link_stop.Memory ending loaded are found telling =
+-- the inputs, of which these are the bytes, were not linked
+pub not_linked : (asked : Asked) (before now : Store) (say : Output) (given inputs : List (List ℕ)) (ss : List Source) (stop : LinkStop) (ending : Ending)
+    → AreLoaded asked before now given → inputs ≡ contents_for asked given → ss ≡ sources standard inputs → StopsAt stop (defects_in standard asked ss)
+    → TellsStop asked inputs stop ending → Ends (Some asked) before now say say (status_of ending) (told_line ending)
+not_linked asked before now say given inputs ss (link_stop.Defect defect) ending loaded bytes are found telling =
+    let P : List (List ℕ) → Type 0 = λ i. TellsDefect (line_of_defect asked i defect) ending in
+    found_defect asked before now say given defect found.0 ending loaded
+    (ap (λ i. defects_in standard asked (sources standard i)) (sym bytes) ∙ ap (defects_in standard asked) (sym are) ∙ found.1) (subst P bytes telling)
+not_linked asked before now say given inputs ss link_stop.Memory ending loaded bytes are found telling =
     rw telling (lacking (Some asked) before now say loaded.untouched (none_failed loaded.unread))
 
--- what a link without a defect gives is what Link is
-pub is_linked : (asked : Asked) (inputs : List (List ℕ)) (ss : List Source) (linked : Linked) → ss ≡ sources standard inputs → Links standard asked ss linked →
-    IsLinked asked inputs linked
+-- what a link without a defect gives is what Link is: of inputs with these names and bytes
+pub is_linked : (asked : Asked) (given names inputs : List (List ℕ)) (ss : List Source) (linked : Linked) → names ≡ names_for asked → inputs ≡ contents_for asked given
+    → ss ≡ sources standard inputs → Links standard asked (shown_files names inputs ss) ss linked → IsLinked asked given linked
 unfolding link
-is_linked asked inputs ss linked are links =
-    let none : defects_of standard asked inputs ≡ [] = ap (defects_in standard asked) (sym are) ∙ links.sound in
-    let gives : link (Some asked) inputs ≡ link_with asked inputs [] = ap (link_with asked inputs) none in
+is_linked asked given names inputs ss linked named bytes are links =
+    let held = contents_for asked given in
+    let are' : ss ≡ sources standard held = are ∙ ap (sources standard) bytes in
+    let shown : shown_files names inputs ss ≡ shown_files (names_for asked) held (sources standard held) =
+    ap (λ n. shown_files n inputs ss) named ∙ ap (λ i. shown_files (names_for asked) i ss) bytes ∙ ap (shown_files (names_for asked) held) are' in
+    let none : defects_of standard asked held ≡ [] = ap (defects_in standard asked) (sym are') ∙ links.sound in
+    let gives : link (Some asked) given ≡ link_with asked held [] = ap (link_with asked held) none in
     record {
       status = ap (λ (l : Link). l.status) gives;
-      executable = links.gives.executable ∙ ap (executable_in asked) are ∙ sym (ap (λ (l : Link). l.executable) gives);
-      map = links.gives.map ∙ sym (ap (λ (l : Link). l.map) gives);
-      report = links.gives.report ∙ sym (ap (λ (l : Link). l.say) gives);
+      executable = links.gives.executable ∙ ap (executable_in asked) are' ∙ sym (ap (λ (l : Link). l.executable) gives);
+      map = links.gives.map ∙ ap (map_in asked ss) shown ∙ ap (λ s. map_in asked s (shown_files (names_for asked) held (sources standard held))) are'
+          ∙ sym (ap (λ (l : Link). l.map) gives);
+      report = links.gives.report ∙ ap (report_in asked) are' ∙ sym (ap (λ (l : Link). l.say) gives);
     }

@@ -21,3 +21,7 @@ source_view s = record { input = s.input; label = s.label; member = s.member; ar
 
 abbrev pub sources_of : List LentSource → List Source
 sources_of list = map source_view list
+
+-- the names by which files are shown
+abbrev pub names_of : List (Vec ℕ) → List (List ℕ)
+names_of names = map (λ name. name.items) names

@@ -1,12 +1,14 @@
 pub mod Contents
 pub mod Counts
 pub mod Defects
-pub mod Ends
 pub mod Endings
+pub mod Ends
+pub mod Given
 pub mod Link
 pub mod Phases
 pub mod Promises
 pub mod Reading
+pub mod Reports
 pub mod Sources
 pub mod Stops
 pub mod Tables

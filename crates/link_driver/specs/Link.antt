@@ -1,5 +1,5 @@
 -- What a link is: the command, the defects, and the one-thread definition of all that a user gets.
-use Rattle.std.specs.Prelude.{ℕ, ◌-◌, ◌^◌, min, Bool, Option, Some, None, Result, Ok, Err, if◌then◌else◌, List, [], ◌∷◌, ◌++◌, slice_get, codes}
+use Rattle.std.specs.Prelude.{ℕ, ◌-◌, ◌^◌, min, Bool, Option, Some, None, is_some, Result, Ok, Err, if◌then◌else◌, List, [], ◌∷◌, ◌++◌, slice_get, codes}
 use Rattle.std.specs.Option.{option_map_or}
 use Rattle.lk_base.specs.declared.defects.Defect.{Defect}
 use Rattle.lk_base.specs.declared.defects.Flaw.{Flaw}
@@ -32,7 +32,10 @@ use Rattle.got_tls.specs.GotList.{got_of}
 use Rattle.icf_part.specs.Leaders.{leaders_of}
 use Rattle.link_command.specs.Command.{Asked}
 use Rattle.link_driver.specs.Defects.{opening_defects, reading_defects}
-use Rattle.link_driver.specs.Sources.{Source, files_in, shown_file, source_at, sources}
+use Rattle.link_driver.specs.Given.{contents_for, names_for}
+use Rattle.link_driver.specs.Reports.{report_text}
+use Rattle.link_driver.specs.Sources.{Source, files_in, shown_file, shown_files, source_at, sources}
+use Rattle.map_file.specs.MapText.{map_text}
 use Rattle.relax.specs.CallSizes.{cuts_of}
 use Rattle.reloc_apply.specs.Relocated.{relocation_defects}
 use Rattle.sec_gc.specs.Kept.{reached}
@@ -49,14 +52,25 @@ bound_names files entry = bindings files (discarded files) entry
 unfoldable pub kept_of : (gc : Bool) → List File → Bindings → List Bool
 kept_of gc files b = if gc then reached (roots files b) (edges files b) else all_kept files b
 
--- what the command asks of a link beside its names: which sections are kept, whether equal code is folded, and whether calls are relaxed
+-- what the command asks of a link beside its names: which sections are kept, whether equal code is folded, whether calls are relaxed,
+-- whether symbols are left out, whether there is a map, and whether there is a report, of so many generated objects
 pub record Wishes : Type 0 where
   pub gc : Bool
   pub icf : Bool
   pub relax : Bool
+  pub strip : Bool
+  pub map : Bool
+  pub generated : Option ℕ
 
 abbrev pub wishes_of : Asked → Wishes
-wishes_of asked = record { gc = asked.gc; icf = asked.icf; relax = asked.relax }
+wishes_of asked = record {
+  gc = asked.gc;
+  icf = asked.icf;
+  relax = asked.relax;
+  strip = asked.strip;
+  map = is_some asked.map;
+  generated = asked.generated;
+}
 
 module _ (w : Wishes) (files : List File) (b : Bindings) (kept : List Bool) where
   -- by section number, what is merged of kept sections
@@ -113,19 +127,38 @@ defects_in limits asked ss =
 abbrev pub defects_of : Limits → Asked → List (List ℕ) → List Defect
 defects_of limits asked inputs = defects_in limits asked (sources limits inputs)
 
--- the executable of files that have no defect
-unfoldable pub executable_with : Wishes → List File → Bindings → (kept : List Bool) → List ℕ
-executable_with w files b kept = executable files b (leaders_in w files b kept) (laid_out w files b kept)
+-- the report of a link, where there is one
+abbrev pub report_by : Option ℕ → List File → (kept : List Bool) → (leaders : List (Option ℕ)) → LaidOut → List ℕ
+report_by None files kept leaders laid = []
+report_by (Some objects) files kept leaders laid = report_text files kept leaders laid objects
 
--- what is kept of the files of these sources
-abbrev pub kept_in : Asked → List Source → List Bool
-kept_in asked ss = kept_of asked.gc (files_in ss) (bound_names (files_in ss) asked.entry)
+-- the executable of files that have no defect; the map, if one is asked, where these are the names by which files are shown; the report
+module _ (w : Wishes) (files : List File) (b : Bindings) (kept : List Bool) where
+  unfoldable pub executable_with : List ℕ
+  executable_with = executable files b kept w.strip (leaders_in w files b kept) (laid_out w files b kept)
 
-unfoldable pub executable_in : Asked → List Source → List ℕ
-executable_in asked ss = executable_with (wishes_of asked) (files_in ss) (bound_names (files_in ss) asked.entry) (kept_in asked ss)
+  unfoldable pub map_with : (names : List (List ℕ)) → List ℕ
+  map_with names = if w.map then map_text names files b (leaders_in w files b kept) (laid_out w files b kept) kept else []
 
-abbrev pub executable_of : Limits → Asked → List (List ℕ) → List ℕ
-executable_of limits asked inputs = executable_in asked (sources limits inputs)
+  unfoldable pub report_with : List ℕ
+  report_with = report_by w.generated files kept (leaders_in w files b kept) (laid_out w files b kept)
+
+module _ (asked : Asked) (ss : List Source) where
+  -- what the names of the files of these sources are bound to, and what is kept of them
+  abbrev pub bound_in : Bindings
+  bound_in = bound_names (files_in ss) asked.entry
+
+  abbrev pub kept_in : List Bool
+  kept_in = kept_of asked.gc (files_in ss) bound_in
+
+  unfoldable pub executable_in : List ℕ
+  executable_in = executable_with (wishes_of asked) (files_in ss) bound_in kept_in
+
+  unfoldable pub map_in : (names : List (List ℕ)) → List ℕ
+  map_in names = map_with (wishes_of asked) (files_in ss) bound_in kept_in names
+
+  unfoldable pub report_in : List ℕ
+  report_in = report_with (wishes_of asked) (files_in ss) bound_in kept_in
 
 -- the name of section k by its header, empty if there is no such section
 abbrev pub section_name : List ℕ → HeadView → (k : ℕ) → List ℕ
@@ -161,8 +194,8 @@ defect_name asked ss defect = if names_symbol defect.kind then shown_in (source_
 
 -- the line of a defect: its file's name, the name that it speaks of, and for a name defined twice the other file's
 abbrev pub line_in : Asked → List (List ℕ) → List Source → Defect → List ℕ
-line_in asked inputs ss defect = defect_line defect (shown_file asked.inputs inputs ss defect.file)
-    (defect_name asked ss defect) (shown_file asked.inputs inputs ss defect.other)
+line_in asked inputs ss defect = defect_line defect (shown_file (names_for asked) inputs ss defect.file)
+    (defect_name asked ss defect) (shown_file (names_for asked) inputs ss defect.other)
 
 unfoldable pub line_of_defect : Asked → List (List ℕ) → Defect → List ℕ
 line_of_defect asked inputs defect = line_in asked inputs (sources standard inputs) defect
@@ -198,12 +231,24 @@ cannot_write name = about (codes "rvld: cannot write ") name
 unfoldable pub cannot_report : List ℕ
 cannot_report = line (codes "rvld: cannot report")
 
+-- what a link of inputs with these bytes gives
 abbrev pub link_with : Asked → List (List ℕ) → List Defect → Link
 link_with asked inputs (defect ∷ defects) = told 1 (line_of_defect asked inputs defect)
 link_with asked inputs [] =
-    record { status = 0; executable = executable_of standard asked inputs; map = []; say = []; err = [] }
+    let ss = sources standard inputs in
+    record {
+      status = 0;
+      executable = executable_in asked ss;
+      map = map_in asked ss (shown_files (names_for asked) inputs ss);
+      say = report_in asked ss;
+      err = [];
+    }
 
--- the definition of all that a command gives, where each input is there; no command is asked where it was refused
+abbrev pub link_over : Asked → List (List ℕ) → Link
+link_over asked inputs = link_with asked inputs (defects_of standard asked inputs)
+
+-- the definition of all that a command gives, where each file that it names is there and has these bytes; no command is asked where it was
+-- refused
 unfoldable pub link : Option Asked → List (List ℕ) → Link
-link None inputs = told 2 bad_command
-link (Some asked) inputs = link_with asked inputs (defects_of standard asked inputs)
+link None given = told 2 bad_command
+link (Some asked) given = link_over asked (contents_for asked given)

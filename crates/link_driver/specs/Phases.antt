@@ -1,29 +1,46 @@
 -- What each step of a link hands on.
-use Rattle.std.specs.Prelude.{◌≡◌, ℕ, true, List, [], Some, Result, Ok, Err}
+use Rattle.std.specs.Prelude.{◌≡◌, ℕ, true, Bool, if◌then◌else◌, List, [], Option, Some, Result, Ok, Err}
 use Rattle.lk_base.specs.declared.defects.LinkStop.{LinkStop}
 use Rattle.lk_base.specs.declared.limits.Limits.{Limits}
 use Rattle.lk_base.specs.Firsts.{StopsAt}
+use Rattle.lk_tables.specs.Binding.{Bindings}
+use Rattle.lk_tables.specs.Files.{File}
+use Rattle.elf_out.specs.Executable.{executable}
 use Rattle.elf_out.specs.Standing.{SectionsStand}
 use Rattle.file_live.specs.Live.{IsLive}
 use Rattle.link_command.specs.Command.{Asked}
+use Rattle.link_sections.specs.LaidOut.{LaidOut}
+use Rattle.map_file.specs.MapText.{map_text}
 use Rattle.sym_resolve.specs.Law.{IsLawful}
 use Rattle.link_driver.specs.declared.linking.Linked.{Linked}
 use Rattle.comdat.specs.Discarded.{discarded}
-use Rattle.link_driver.specs.Link.{bound_names, defects_in, executable_in, kept_in, laid_out, leaders_in, link, wishes_of}
+use Rattle.link_driver.specs.Link.{Wishes, bound_names, defects_in, executable_in, executable_with, kept_in, laid_out, leaders_in, link, map_in, map_with, report_by, report_in, report_with, wishes_of}
 use Rattle.link_driver.specs.Sources.{Source, files_in, heads_in, live_in}
 use Rattle.link_driver.specs.Tables.{IsCollected}
 
+-- what files give that have no defect and are laid out so: `names` are those by which they are shown
+pub record IsWritten (w : Wishes) (names : List (List ℕ)) (files : List File) (b : Bindings) (kept : List Bool) (leaders : List (Option ℕ)) (laid : LaidOut) (linked : Linked) : Type 0 where
+  pub executable : linked.exe.items ≡ executable files b kept w.strip leaders laid
+  pub map : linked.map.items ≡ (if w.map then map_text names files b leaders laid kept else [])
+  pub report : linked.report.items ≡ report_by w.generated files kept leaders laid
+
+-- what these files give, if they have no defect
+pub record Makes (w : Wishes) (names : List (List ℕ)) (files : List File) (b : Bindings) (kept : List Bool) (linked : Linked) : Type 0 where
+  pub executable : linked.exe.items ≡ executable_with w files b kept
+  pub map : linked.map.items ≡ map_with w files b kept names
+  pub report : linked.report.items ≡ report_with w files b kept
+
 -- what a link without a defect gives
-pub record Gives (asked : Asked) (ss : List Source) (linked : Linked) : Type 0 where
+pub record Gives (asked : Asked) (names : List (List ℕ)) (ss : List Source) (linked : Linked) : Type 0 where
   pub executable : linked.exe.items ≡ executable_in asked ss
-  pub map : linked.map.items ≡ []
-  pub report : linked.report.items ≡ []
+  pub map : linked.map.items ≡ map_in asked ss names
+  pub report : linked.report.items ≡ report_in asked ss
 
 -- a link without a defect gives Link. Of Link's own words it is said, as laws: the files that take part are the least set with
 -- the command's objects and all that they pull; each name is bound to the least offer of it, if there is one, and bound COMMON
 -- symbols get the greatest room asked for; what garbage collection keeps is the least set with the roots that the rules close; and the
 -- bytes of each section stand whole in the executable
-pub record Links (limits : Limits) (asked : Asked) (ss : List Source) (linked : Linked) : Type 0 where
+pub record Links (limits : Limits) (asked : Asked) (names : List (List ℕ)) (ss : List Source) (linked : Linked) : Type 0 where
   pub sound : defects_in limits asked ss ≡ []
   pub taking_part : IsLive (heads_in ss) (live_in ss)
   pub bound : IsLawful (files_in ss) (discarded (files_in ss)) asked.entry (bound_names (files_in ss) asked.entry)
@@ -31,16 +48,16 @@ pub record Links (limits : Limits) (asked : Asked) (ss : List Source) (linked : 
   pub stands : SectionsStand (files_in ss) (bound_names (files_in ss) asked.entry)
       (leaders_in (wishes_of asked) (files_in ss) (bound_names (files_in ss) asked.entry) (kept_in asked ss))
       (laid_out (wishes_of asked) (files_in ss) (bound_names (files_in ss) asked.entry) (kept_in asked ss)) linked.exe.items
-  pub gives : Gives asked ss linked
+  pub gives : Gives asked names ss linked
 
 -- Link if there is no defect, the first defect if there is one, or out of memory
-abbrev pub AfterLink : Limits → Asked → List Source → Result Linked LinkStop → Type 0
-AfterLink limits asked ss (Ok linked) = Links limits asked ss linked
-AfterLink limits asked ss (Err stop) = StopsAt stop (defects_in limits asked ss)
+abbrev pub AfterLink : Limits → Asked → (names : List (List ℕ)) → List Source → Result Linked LinkStop → Type 0
+AfterLink limits asked names ss (Ok linked) = Links limits asked names ss linked
+AfterLink limits asked names ss (Err stop) = StopsAt stop (defects_in limits asked ss)
 
 -- what a link without a defect gives is what Link is
-pub record IsLinked (asked : Asked) (inputs : List (List ℕ)) (linked : Linked) : Type 0 where
-  pub status : (link (Some asked) inputs).status ≡ 0
-  pub executable : linked.exe.items ≡ (link (Some asked) inputs).executable
-  pub map : linked.map.items ≡ (link (Some asked) inputs).map
-  pub report : linked.report.items ≡ (link (Some asked) inputs).say
+pub record IsLinked (asked : Asked) (given : List (List ℕ)) (linked : Linked) : Type 0 where
+  pub status : (link (Some asked) given).status ≡ 0
+  pub executable : linked.exe.items ≡ (link (Some asked) given).executable
+  pub map : linked.map.items ≡ (link (Some asked) given).map
+  pub report : linked.report.items ≡ (link (Some asked) given).say

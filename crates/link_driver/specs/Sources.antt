@@ -118,3 +118,7 @@ shown_source names inputs s = labelled (slice_index_or names s.input []) (input_
 -- that of file f, none where there is no such file
 abbrev pub shown_file : (names : List (List ℕ)) → List (List ℕ) → List Source → ℕ → List ℕ
 shown_file names inputs ss f = if nat_lt f (length ss) then shown_source names inputs (source_at ss f) else []
+
+-- by number, the names of all files as lines and the map show them
+abbrev pub shown_files : (names : List (List ℕ)) → List (List ℕ) → List Source → List (List ℕ)
+shown_files names inputs ss = map (shown_source names inputs) ss

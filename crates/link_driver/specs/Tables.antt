@@ -12,7 +12,7 @@ use Rattle.sec_graph.specs.Kept.{HasEnds, IsClosedByRules}
 
 -- what a link is asked for
 abbrev pub wished : Options → Wishes
-wished o = record { gc = o.gc; icf = o.icf; relax = o.relax }
+wished o = record { gc = o.gc; icf = o.icf; relax = o.relax; strip = o.strip; map = o.map; generated = o.generated }
 
 -- by section number, and each that is kept may be
 pub record MayStay (files : List File) (b : Bindings) (kept : List Bool) : Type 0 where

@@ -1,18 +1,19 @@
 //! What is reported: the line of a defect, and the lines about inputs and files.
 
-ghost use Rattle.std.specs.Prelude.{◌≡◌, [], slice_index_or, IfOk};
+ghost use Rattle.std.specs.Prelude.{◌≡◌, IfOk};
 ghost use Rattle.link_command.specs.Command.{asks};
-ghost use Rattle.link_driver.specs.Contents.{input_contents, source_view, sources_of};
+ghost use Rattle.link_driver.specs.Contents.{input_contents, input_names, sources_of};
 ghost use Rattle.link_driver.specs.Endings.{AreLines, map_line};
 ghost use Rattle.link_driver.specs.Link.{about, cannot_write, defect_name, line_in, shown_in};
-ghost use Rattle.link_driver.specs.Sources.{input_at, shown_file, shown_source, source_at};
+ghost use Rattle.link_driver.specs.Given.{names_for};
+ghost use Rattle.link_driver.specs.Sources.{source_at};
 
 use crate::inputs::Inputs;
+use crate::shown::shown_file;
 use crate::sources::Source;
 use crate::symbol_names::symbol_name;
 use link_command::Command;
 use lk_base::{Defect, FileNo, line_of, push_escaped};
-use lk_tables::text_of;
 use std::alloc::{AllocError, Global};
 
 /// `text`, a name and a newline.
@@ -50,61 +51,6 @@ pub fn lines_for(alloc: Global, command: &Command) -> Result<Lines, AllocError>
     let output = line_about(alloc, b"rvld: cannot write ", command.output.as_str())?;
     let map = line_for_map(alloc, command)?;
     Ok(Lines { output, map })
-}
-
-/// The name of an input, empty where there is none of this number.
-fn file_name(command: &Command, file: u64) -> &[u8]
-    ensures { result.now ≡ slice_index_or (asks command.now).inputs file [] }
-{
-    let Some(name) = command.inputs.names().get(file as usize) else {
-        return &[];
-    };
-    name.as_str().as_bytes()
-}
-
-/// The bytes of an input, none where there is none of this number.
-fn input_bytes(inputs: &Inputs, input: usize) -> &[u8]
-    ensures { result.now ≡ input_at (input_contents inputs.now) input }
-{
-    let Some(file) = inputs.files.get(input) else {
-        return &[];
-    };
-    file.1.as_slice()
-}
-
-/// The name of a file as lines show it.
-#[tactic(auto, unfolding(crate::specs::Sources::shown_source))]
-fn shown_source(
-    alloc: Global,
-    command: &Command,
-    inputs: &Inputs,
-    source: &Source,
-) -> Result<Vec<u8>, AllocError>
-    ensures { IfOk result (λ name. name.items ≡ shown_source (asks command.now).inputs (input_contents inputs.now) (source_view source.now)) }
-{
-    let mut name = Vec::from_slice(alloc, file_name(command, source.input as u64))?;
-    if let Some(label) = &source.label {
-        name.push(b'(')?;
-        name.extend_from_slice(text_of(input_bytes(inputs, source.input), label))?;
-        name.push(b')')?;
-    }
-    Ok(name)
-}
-
-/// The name of a file by its number, none where there is no such file.
-fn shown_file(
-    alloc: Global,
-    command: &Command,
-    inputs: &Inputs,
-    sources: &[Source],
-    file: u64,
-) -> Result<Vec<u8>, AllocError>
-    ensures { IfOk result (λ name. name.items ≡ shown_file (asks command.now).inputs (input_contents inputs.now) (sources_of sources.now) file) }
-{
-    let Some(source) = sources.get(file as usize) else {
-        return Ok(Vec::new(alloc));
-    };
-    shown_source(alloc, command, inputs, source)
 }
 
 /// The bytes of a file, none where there is none of this number.
@@ -154,10 +100,11 @@ pub fn line_for(
     sources: &[Source],
     defect: &Defect,
 ) -> Result<Vec<u8>, AllocError>
+    requires { input_names inputs.now ≡ names_for (asks command.now) }
     ensures { IfOk result (λ line. line.items ≡ line_in (asks command.now) (input_contents inputs.now) (sources_of sources.now) defect.now) }
 {
-    let file = shown_file(alloc, command, inputs, sources, defect.file as u64)?;
-    let other = shown_file(alloc, command, inputs, sources, defect.other)?;
+    let file = shown_file(alloc, inputs, sources, defect.file as u64)?;
+    let other = shown_file(alloc, inputs, sources, defect.other)?;
     let name = name_for(alloc, command, sources, defect)?;
     line_of(alloc, defect, file.as_slice(), name, other.as_slice())
 }

@@ -1,13 +1,14 @@
 //! The top call: a command from its words to its files, its report and its line.
 
-ghost use Rattle.std.specs.Prelude.{◌≡◌, ℕ, List, ◌≤◌, ◌<◌, [], ◌∷◌, ◌++◌, take, length, slice_index_or, IfOk, OnOk, OnErr, Some};
+ghost use Rattle.std.specs.Prelude.{◌≡◌, ℕ, List, ◌≤◌, ◌<◌, [], ◌∷◌, ◌++◌, take, length, slice_index_or, IfOk, OnOk, OnErr, None, Some};
 ghost use Rattle.lk_depot.specs.Faults.{HasCause, Rises};
 ghost use Rattle.lk_depot.specs.Files.{told_put};
 ghost use Rattle.lk_depot.specs.Loading.{name_at};
 ghost use Rattle.lk_depot.specs.Store.{Store};
 ghost use Rattle.lk_base.specs.Limits.{standard};
-ghost use Rattle.link_command.specs.Command.{IsLinkable, asked_of, asks, texts_of};
-ghost use Rattle.link_driver.specs.Contents.{input_contents, sources_of};
+ghost use Rattle.link_command.specs.Command.{IsWanted, asked_of, asks, texts_of};
+ghost use Rattle.link_driver.specs.Contents.{input_contents, input_names, sources_of};
+ghost use Rattle.link_driver.specs.Given.{contents_for, names_for};
 ghost use Rattle.link_driver.specs.Link.{cannot_read, line_of_defect};
 ghost use Rattle.link_driver.specs.Sources as spec;
 ghost use Rattle.link_driver.specs.Phases.{IsLinked};
@@ -17,10 +18,10 @@ ghost use Rattle.link_driver.specs.Endings.{status_of, told_line, TellsDefect, T
 
 use crate::diagnostics::{Lines, line_about, line_for, lines_for};
 use crate::finding::find_sources;
-use crate::inputs::{Inputs, inputs_of};
+use crate::inputs::{Inputs, generated_inputs, inputs_of};
 use crate::linking::{Linked, link_sources};
 use crate::sources::Source;
-use link_command::{Command, command_of};
+use link_command::{Command, Wanted, command_of};
 use lk_base::{Defect, Limits, LinkStop};
 use lk_depot::{Depot, Failed, FileKind, LoadAllStop, Sink, load_all, put_all, say_all};
 use std::alloc::{AllocError, Global};
@@ -92,7 +93,8 @@ fn report_defect(
     sources: &[Source],
     defect: &Defect,
 ) -> Ending
-    requires { sources_of sources.now ≡ spec.sources standard (input_contents inputs.now) }
+    requires names { input_names inputs.now ≡ names_for (asks command.now) }
+    requires sources { sources_of sources.now ≡ spec.sources standard (input_contents inputs.now) }
     ensures { TellsDefect (line_of_defect (asks command.now) (input_contents inputs.now) defect.now) result }
 {
     let Ok(line) = line_for(alloc, command, inputs, sources, defect) else {
@@ -109,7 +111,8 @@ fn report_stop(
     sources: &[Source],
     stop: &LinkStop,
 ) -> Ending
-    requires { sources_of sources.now ≡ spec.sources standard (input_contents inputs.now) }
+    requires names { input_names inputs.now ≡ names_for (asks command.now) }
+    requires sources { sources_of sources.now ≡ spec.sources standard (input_contents inputs.now) }
     ensures { TellsStop (asks command.now) (input_contents inputs.now) stop.now result }
 {
     match stop {
@@ -160,7 +163,7 @@ fn conclude<D: Depot, S: Sink>(
     report(say, &linked.report)
 }
 
-/// Links the inputs of a command, which were loaded.
+/// Links the inputs of a command, which were loaded or generated.
 fn link_inputs<R: Threads + Sync, D: Depot, S: Sink, G: Gate>(
     rt: &R,
     alloc: Global,
@@ -172,8 +175,9 @@ fn link_inputs<R: Threads + Sync, D: Depot, S: Sink, G: Gate>(
 ) -> Ending
     requires some { 1 ≤ command.now.threads }
     requires most { command.now.threads ≤ 64 }
-    requires linkable { IsLinkable (asks command.now) }
-    ensures ends { (before : Store) → AreLoaded (asks command.now) before (D.store depot.old) (input_contents inputs.now)
+    requires names { input_names inputs.now ≡ names_for (asks command.now) }
+    ensures ends { (before : Store) (given : List (List ℕ)) → AreLoaded (asks command.now) before (D.store depot.old) given
+        → input_contents inputs.now ≡ contents_for (asks command.now) given
         → Ends (Some (asks command.now)) before (D.store depot.new) (S.output say.old) (S.output say.new) (status_of result) (told_line result) }
     ensures faults { (D.store depot.old).faults ≤ (D.store depot.new).faults }
     ensures begun { (D.store depot.old).begun ≤ (D.store depot.new).begun }
@@ -183,7 +187,15 @@ fn link_inputs<R: Threads + Sync, D: Depot, S: Sink, G: Gate>(
     let Ok(sources) = find_sources(alloc, &limits, inputs) else {
         return Ending::Memory;
     };
-    let linked = match link_sources(rt, alloc, command, sources.as_slice(), &limits, gate) {
+    let linked = match link_sources(
+        rt,
+        alloc,
+        command,
+        inputs,
+        sources.as_slice(),
+        &limits,
+        gate,
+    ) {
         Ok(linked) => linked,
         Err(stop) => return report_stop(alloc, command, inputs, sources.as_slice(), &stop),
     };
@@ -193,7 +205,63 @@ fn link_inputs<R: Threads + Sync, D: Depot, S: Sink, G: Gate>(
     conclude(command, &linked, lines, depot, say)
 }
 
-/// Loads the inputs of an accepted command and links them.
+/// Loads the files of an accepted command and links them.
+fn link_files<R: Threads + Sync, D: Depot, S: Sink, G: Gate>(
+    rt: &R,
+    alloc: Global,
+    command: &Command,
+    names: &[String],
+    depot: &mut D,
+    say: &mut S,
+    gate: &G,
+) -> Ending
+    requires some { 1 ≤ command.now.threads }
+    requires most { command.now.threads ≤ 64 }
+    requires names { texts_of names.now ≡ (asks command.now).inputs }
+    requires files { (asks command.now).generated ≡ None }
+    ensures ends { Ends (Some (asks command.now)) (D.store depot.old) (D.store depot.new) (S.output say.old) (S.output say.new) (status_of result) (told_line result) }
+    ensures faults { (D.store depot.old).faults ≤ (D.store depot.new).faults }
+    ensures begun { (D.store depot.old).begun ≤ (D.store depot.new).begun }
+    ensures say_faults { (S.output say.old).faults ≤ (S.output say.new).faults }
+{
+    let contents = match load_all(alloc, depot, names) {
+        Ok(contents) => contents,
+        Err(stop) => return report_load_stop(alloc, command, &stop),
+    };
+    let Ok(inputs) = inputs_of(alloc, names, contents) else {
+        return Ending::Memory;
+    };
+    link_inputs(rt, alloc, command, &inputs, depot, say, gate)
+}
+
+/// Generates the objects of an accepted command and links them.
+fn link_generated<R: Threads + Sync, D: Depot, S: Sink, G: Gate>(
+    rt: &R,
+    alloc: Global,
+    command: &Command,
+    objects: u32,
+    depot: &mut D,
+    say: &mut S,
+    gate: &G,
+) -> Ending
+    requires some { 1 ≤ command.now.threads }
+    requires most { command.now.threads ≤ 64 }
+    requires least { 1 ≤ objects }
+    requires greatest { objects ≤ 65536 }
+    requires files { (asks command.now).inputs ≡ [] }
+    requires generated { (asks command.now).generated ≡ Some objects }
+    ensures ends { Ends (Some (asks command.now)) (D.store depot.old) (D.store depot.new) (S.output say.old) (S.output say.new) (status_of result) (told_line result) }
+    ensures faults { (D.store depot.old).faults ≤ (D.store depot.new).faults }
+    ensures begun { (D.store depot.old).begun ≤ (D.store depot.new).begun }
+    ensures say_faults { (S.output say.old).faults ≤ (S.output say.new).faults }
+{
+    let Ok(inputs) = generated_inputs(alloc, objects) else {
+        return Ending::Memory;
+    };
+    link_inputs(rt, alloc, command, &inputs, depot, say, gate)
+}
+
+/// Links what an accepted command names.
 fn carry_out<R: Threads + Sync, D: Depot, S: Sink, G: Gate>(
     rt: &R,
     alloc: Global,
@@ -204,20 +272,18 @@ fn carry_out<R: Threads + Sync, D: Depot, S: Sink, G: Gate>(
 ) -> Ending
     requires some { 1 ≤ command.now.threads }
     requires most { command.now.threads ≤ 64 }
-    requires linkable { IsLinkable (asks command.now) }
+    requires inputs { IsWanted command.now.inputs }
     ensures ends { Ends (Some (asks command.now)) (D.store depot.old) (D.store depot.new) (S.output say.old) (S.output say.new) (status_of result) (told_line result) }
     ensures faults { (D.store depot.old).faults ≤ (D.store depot.new).faults }
     ensures begun { (D.store depot.old).begun ≤ (D.store depot.new).begun }
     ensures say_faults { (S.output say.old).faults ≤ (S.output say.new).faults }
 {
-    let contents = match load_all(alloc, depot, command.inputs.names()) {
-        Ok(contents) => contents,
-        Err(stop) => return report_load_stop(alloc, command, &stop),
-    };
-    let Ok(inputs) = inputs_of(alloc, command.inputs.names(), contents) else {
-        return Ending::Memory;
-    };
-    link_inputs(rt, alloc, command, &inputs, depot, say, gate)
+    match &command.inputs {
+        Wanted::Files(names) => link_files(rt, alloc, command, names, depot, say, gate),
+        Wanted::Generated(objects) => {
+            link_generated(rt, alloc, command, *objects, depot, say, gate)
+        }
+    }
 }
 
 /// Reads the command and carries it out.

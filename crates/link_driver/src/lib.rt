@@ -17,7 +17,9 @@ mod finding;
 mod heads;
 mod inputs;
 mod linking;
+mod reports;
 mod sections;
+mod shown;
 mod sources;
 mod symbol_names;
 #[cfg(test)]

@@ -1,18 +1,18 @@
 //! The link of one command, pass after pass.
 
-ghost use Rattle.std.specs.Prelude.{◌≡◌, ◌<◌, ◌≤◌, ◌^◌, ◌∷◌, [], true, IfOk};
+ghost use Rattle.std.specs.Prelude.{◌≡◌, ◌<◌, ◌≤◌, ◌^◌, ◌∷◌, [], true, if◌then◌else◌, IfOk};
 ghost use Rattle.comdat.specs.Discarded.{discarded};
-ghost use Rattle.elf_out.specs.Executable.{executable};
 ghost use Rattle.elf_out.specs.Standing.{SectionsStand};
 ghost use Rattle.file_live.specs.Live.{IsLive, live_of};
 ghost use Rattle.layout.specs.Items.{AreLeaders};
 ghost use Rattle.layout.specs.Layout.{layout_defects};
-ghost use Rattle.link_command.specs.Command.{IsLinkable, asks};
+ghost use Rattle.link_command.specs.Command.{asks, generated_of};
 ghost use Rattle.link_sections.specs.GotView.{entries_of};
 ghost use Rattle.link_sections.specs.LaidOut.{layout_view, with_contents};
 ghost use Rattle.link_sections.specs.Merging.{pools_of};
 ghost use Rattle.link_sections.specs.PoolViews.{pools_view};
 ghost use Rattle.link_sections.specs.Sound.{IsSound};
+ghost use Rattle.link_sections.specs.Views.{files_in as view_files, laid_in, leaders_in as leaders_of};
 ghost use Rattle.lk_base.specs.Firsts.{Goes};
 ghost use Rattle.lk_base.specs.Limits.{IsWithinStandard};
 ghost use Rattle.lk_tables.specs.BoundNames.{IsBindingOf};
@@ -22,12 +22,13 @@ ghost use Rattle.lk_tables.specs.BindingView.{binding_view};
 ghost use Rattle.lk_tables.specs.Files.{symbol_total};
 ghost use Rattle.lk_tables.specs.NameNumbers.{NumbersNames, heads_alone};
 ghost use Rattle.lk_tables.specs.TablesView.{files_of, heads_of};
-ghost use Rattle.link_driver.specs.Contents.{input_contents, sources_of};
+ghost use Rattle.link_driver.specs.Contents.{input_contents, input_names, names_of, sources_of};
 ghost use Rattle.link_driver.specs.Defects.{opening_defects, reading_defects};
-ghost use Rattle.link_driver.specs.Link.{bound_names, executable_with, final_phases, kept_of, laid_out, last_phases, leaders_in, piece_defects, table_of, wishes_of};
-ghost use Rattle.link_driver.specs.Phases.{AfterLink};
-ghost use Rattle.link_driver.specs.Sources.{files_in, heads_in, live_in, sources};
+ghost use Rattle.link_driver.specs.Link.{bound_names, final_phases, kept_of, laid_out, last_phases, leaders_in, piece_defects, report_by, table_of, wishes_of};
+ghost use Rattle.link_driver.specs.Phases.{AfterLink, IsWritten, Makes};
+ghost use Rattle.link_driver.specs.Sources.{files_in, heads_in, live_in, shown_files, sources};
 ghost use Rattle.link_driver.specs.Tables.{IsCollected, MayStay, wished};
+ghost use Rattle.map_file.specs.MapView.{map_in};
 ghost use Rattle.reloc_apply.specs.Relocated.{relocation_defects};
 ghost use Rattle.sym_resolve.specs.Law.{IsLawful};
 
@@ -35,6 +36,8 @@ use crate::bodies::read_bodies;
 use crate::finding::find_sources;
 use crate::heads::read_heads;
 use crate::inputs::Inputs;
+use crate::reports::report_if;
+use crate::shown::names_if;
 use crate::sources::Source;
 use comdat::discard;
 use elf_out::write_executable;
@@ -42,10 +45,11 @@ use file_live::live;
 use got_tls::entries;
 use icf_part::fold;
 use layout::place;
-use link_command::{Command, IcfMode};
+use link_command::{Command, IcfMode, Wanted};
 use link_sections::{Got, Layout, Pools, View, all_kept, fold_leaders, own_leaders};
 use lk_base::{Limits, LinkStop, SecNo, check_count};
 use lk_tables::{Binding, Heads, NameNumbers, Tables};
+use map_file::map_text;
 use name_numbers::number_names;
 use relax::sizes;
 use reloc_apply::find_uppers;
@@ -205,6 +209,22 @@ pub struct Options {
     pub icf: bool,
     /// Whether calls are relaxed.
     pub relax: bool,
+    /// Whether symbols are left out.
+    pub strip: bool,
+    /// Whether there is a map.
+    pub map: bool,
+    /// Of how many generated objects there is a report, if there is one.
+    pub generated: Option<u32>,
+}
+
+/// How many generated objects a command links, if it links these.
+fn generated_of(inputs: &Wanted) -> Option<u32>
+    ensures { result ≡ generated_of inputs.now }
+{
+    match inputs {
+        Wanted::Files(_) => None,
+        Wanted::Generated(objects) => Some(*objects),
+    }
 }
 
 /// Those of a command.
@@ -215,6 +235,9 @@ fn options_of(command: &Command) -> Options
         gc: command.gc,
         icf: command.icf == IcfMode::All,
         relax: command.relax,
+        strip: command.strip,
+        map: command.map.is_some(),
+        generated: generated_of(&command.inputs),
     }
 }
 
@@ -280,7 +303,47 @@ pub fn lay_out<'a>(
     }
 }
 
-/// The executable of a link that has this layout.
+/// The map of a link, if one is asked for.
+fn map_if<R: Threads + Sync, G: Gate>(
+    rt: &R,
+    alloc: Global,
+    view: &View,
+    wanted: bool,
+    workers: u32,
+    gate: &G,
+) -> Result<Vec<u8>, AllocError>
+    requires some { 1 ≤ workers }
+    requires most { workers ≤ 64 }
+    ensures { IfOk result (λ map. map.items ≡ (if wanted then map_in view.now else [])) }
+{
+    if !wanted {
+        return Ok(Vec::new(alloc));
+    }
+    map_text(rt, alloc, view, workers, gate)
+}
+
+/// What is made of a link whose executable is whole: the map and the report, if these are asked for.
+fn make<R: Threads + Sync, G: Gate>(
+    rt: &R,
+    alloc: Global,
+    view: &View,
+    exe: Vec<u8>,
+    options: Options,
+    workers: u32,
+    gate: &G,
+) -> Result<Linked, AllocError>
+    requires some { 1 ≤ workers }
+    requires most { workers ≤ 64 }
+    ensures executable { IfOk result (λ linked. linked.exe.items ≡ exe.items) }
+    ensures map { IfOk result (λ linked. linked.map.items ≡ (if options.map then map_in view.now else [])) }
+    ensures report { IfOk result (λ linked. linked.report.items ≡ report_by options.generated (view_files view.now) view.now.kept.now (leaders_of view.now) (laid_in view.now)) }
+{
+    let map = map_if(rt, alloc, view, options.map, workers, gate)?;
+    let report = report_if(alloc, view, options.generated)?;
+    Ok(Linked { exe, map, report })
+}
+
+/// What a link that has this layout gives.
 fn write<R: Threads + Sync, G: Gate>(
     rt: &R,
     alloc: Global,
@@ -292,17 +355,19 @@ fn write<R: Threads + Sync, G: Gate>(
     got: &Got,
     layout: &Layout,
     numbers: &NameNumbers,
+    names: &[Vec<u8>],
+    options: Options,
     workers: u32,
     gate: &G,
-) -> Result<Vec<u8>, LinkStop>
+) -> Result<Linked, LinkStop>
     requires some { 1 ≤ workers }
     requires most { workers ≤ 64 }
     requires bound { IsBindingOf (files_of tables.now) (binding_view binding.now) }
     requires numbers { NumbersNames (heads_alone (files_of tables.now)) numbers.now }
     requires sound { IsSound (files_of tables.now) (binding_view binding.now) leaders.now (with_contents (layout_view layout.now) (pools_view (files_of tables.now) pools.now) (entries_of got.now)) }
     ensures goes { Goes result (relocation_defects (files_of tables.now) (binding_view binding.now) leaders.now (with_contents (layout_view layout.now) (pools_view (files_of tables.now) pools.now) (entries_of got.now))) }
-    ensures written { IfOk result (λ exe. exe.items ≡ executable (files_of tables.now) (binding_view binding.now) leaders.now (with_contents (layout_view layout.now) (pools_view (files_of tables.now) pools.now) (entries_of got.now))) }
-    ensures stands { IfOk result (λ exe. SectionsStand (files_of tables.now) (binding_view binding.now) leaders.now (with_contents (layout_view layout.now) (pools_view (files_of tables.now) pools.now) (entries_of got.now)) exe.items) }
+    ensures written { IfOk result (λ linked. IsWritten (wished options) (names_of names.now) (files_of tables.now) (binding_view binding.now) kept.now leaders.now (with_contents (layout_view layout.now) (pools_view (files_of tables.now) pools.now) (entries_of got.now)) linked) }
+    ensures stands { IfOk result (λ linked. SectionsStand (files_of tables.now) (binding_view binding.now) leaders.now (with_contents (layout_view layout.now) (pools_view (files_of tables.now) pools.now) (entries_of got.now)) linked.exe.items) }
 {
     let addresses = find_addresses(
         rt, alloc, tables, binding, pools, leaders, got, layout, workers, gate,
@@ -319,17 +384,20 @@ fn write<R: Threads + Sync, G: Gate>(
         addresses: &addresses,
         uppers: &uppers,
         numbers,
-        names: &[],
-        strip: true,
+        names,
+        strip: options.strip,
     };
-    match write_executable(rt, alloc, &view, workers, gate) {
-        Ok(exe) => Ok(exe),
-        Err(stop) => Err(stop),
-    }
+    let exe = match write_executable(rt, alloc, &view, workers, gate) {
+        Ok(exe) => exe,
+        Err(stop) => return Err(stop),
+    };
+    let linked = make(rt, alloc, &view, exe, options, workers, gate)?;
+    Ok(linked)
 }
 
-/// The executable of files whose names are bound and numbered, if these sections are kept and referred to by defined symbols alone.
-#[tactic(auto, unfolding(crate::specs::Link::executable_with))]
+/// What files give whose names are bound and numbered, if these sections are kept and referred to by defined symbols alone. Files are shown by
+/// `names`.
+#[tactic(auto, unfolding(crate::specs::Link::executable_with, crate::specs::Link::map_with, crate::specs::Link::report_with))]
 fn link_numbered<R: Threads + Sync, G: Gate>(
     rt: &R,
     alloc: Global,
@@ -338,10 +406,11 @@ fn link_numbered<R: Threads + Sync, G: Gate>(
     binding: &Binding,
     kept: &[bool],
     numbers: &NameNumbers,
+    names: &[Vec<u8>],
     options: Options,
     workers: u32,
     gate: &G,
-) -> Result<Vec<u8>, LinkStop>
+) -> Result<Linked, LinkStop>
     requires limits { IsWithinStandard limits.now }
     requires some { 1 ≤ workers }
     requires most { workers ≤ 64 }
@@ -349,8 +418,8 @@ fn link_numbered<R: Threads + Sync, G: Gate>(
     requires numbers { NumbersNames (heads_alone (files_of tables.now)) numbers.now }
     requires stay { MayStay (files_of tables.now) (binding_view binding.now) kept.now }
     ensures goes { Goes result (first_phase (final_phases limits.now (wished options) (files_of tables.now) (binding_view binding.now) kept.now)) }
-    ensures written { IfOk result (λ exe. exe.items ≡ executable_with (wished options) (files_of tables.now) (binding_view binding.now) kept.now) }
-    ensures stands { IfOk result (λ exe. SectionsStand (files_of tables.now) (binding_view binding.now) (leaders_in (wished options) (files_of tables.now) (binding_view binding.now) kept.now) (laid_out (wished options) (files_of tables.now) (binding_view binding.now) kept.now) exe.items) }
+    ensures written { IfOk result (λ linked. Makes (wished options) (names_of names.now) (files_of tables.now) (binding_view binding.now) kept.now linked) }
+    ensures stands { IfOk result (λ linked. SectionsStand (files_of tables.now) (binding_view binding.now) (leaders_in (wished options) (files_of tables.now) (binding_view binding.now) kept.now) (laid_out (wished options) (files_of tables.now) (binding_view binding.now) kept.now) linked.exe.items) }
 {
     // Equal strings and constants stand once from here on.
     let pools = merge(rt, alloc, tables, kept, workers, gate)?;
@@ -385,12 +454,14 @@ fn link_numbered<R: Threads + Sync, G: Gate>(
         &got,
         &layout,
         numbers,
+        names,
+        options,
         workers,
         gate,
     )
 }
 
-/// The executable of files whose names are bound, if these sections are kept.
+/// What files give whose names are bound, if these sections are kept.
 fn link_kept<R: Threads + Sync, G: Gate>(
     rt: &R,
     alloc: Global,
@@ -398,18 +469,19 @@ fn link_kept<R: Threads + Sync, G: Gate>(
     tables: &Tables,
     binding: &Binding,
     kept: &[bool],
+    names: &[Vec<u8>],
     options: Options,
     workers: u32,
     gate: &G,
-) -> Result<Vec<u8>, LinkStop>
+) -> Result<Linked, LinkStop>
     requires limits { IsWithinStandard limits.now }
     requires some { 1 ≤ workers }
     requires most { workers ≤ 64 }
     requires bound { IsBindingOf (files_of tables.now) (binding_view binding.now) }
     requires stay { MayStay (files_of tables.now) (binding_view binding.now) kept.now }
     ensures goes { Goes result (first_phase (last_phases limits.now (wished options) (files_of tables.now) (binding_view binding.now) kept.now)) }
-    ensures written { IfOk result (λ exe. exe.items ≡ executable_with (wished options) (files_of tables.now) (binding_view binding.now) kept.now) }
-    ensures stands { IfOk result (λ exe. SectionsStand (files_of tables.now) (binding_view binding.now) (leaders_in (wished options) (files_of tables.now) (binding_view binding.now) kept.now) (laid_out (wished options) (files_of tables.now) (binding_view binding.now) kept.now) exe.items) }
+    ensures written { IfOk result (λ linked. Makes (wished options) (names_of names.now) (files_of tables.now) (binding_view binding.now) kept.now linked) }
+    ensures stands { IfOk result (λ linked. SectionsStand (files_of tables.now) (binding_view binding.now) (leaders_in (wished options) (files_of tables.now) (binding_view binding.now) kept.now) (laid_out (wished options) (files_of tables.now) (binding_view binding.now) kept.now) linked.exe.items) }
 {
     tables.is_few();
     if let Some(defect) = undefined(tables, binding, kept) {
@@ -417,12 +489,12 @@ fn link_kept<R: Threads + Sync, G: Gate>(
     }
     if let Some(numbers) = tables.names() {
         return link_numbered(
-            rt, alloc, limits, tables, binding, kept, numbers, options, workers, gate,
+            rt, alloc, limits, tables, binding, kept, numbers, names, options, workers, gate,
         );
     }
     let numbers = number_names(rt, alloc, tables.files(), workers)?;
     link_numbered(
-        rt, alloc, limits, tables, binding, kept, &numbers, options, workers, gate,
+        rt, alloc, limits, tables, binding, kept, &numbers, names, options, workers, gate,
     )
 }
 
@@ -437,11 +509,12 @@ fn check_pieces(tables: &Tables, limits: &Limits) -> Result<(), LinkStop>
     }
 }
 
-/// Links the files of a command: pass after pass, and the defects of each are those of its phase.
+/// Links the files of a command, which are found in these inputs: pass after pass, and the defects of each are those of its phase.
 pub fn link_sources<R: Threads + Sync, G: Gate>(
     rt: &R,
     alloc: Global,
     command: &Command,
+    inputs: &Inputs,
     sources: &[Source],
     limits: &Limits,
     gate: &G,
@@ -449,8 +522,7 @@ pub fn link_sources<R: Threads + Sync, G: Gate>(
     requires limits { IsWithinStandard limits.now }
     requires some { 1 ≤ command.now.threads }
     requires most { command.now.threads ≤ 64 }
-    requires linkable { IsLinkable (asks command.now) }
-    ensures { AfterLink limits.now (asks command.now) (sources_of sources.now) result }
+    ensures { AfterLink limits.now (asks command.now) (shown_files (input_names inputs.now) (input_contents inputs.now) (sources_of sources.now)) (sources_of sources.now) result }
 {
     let workers = command.threads;
     let tables = match read_files(rt, alloc, limits, sources, workers, gate) {
@@ -469,32 +541,31 @@ pub fn link_sources<R: Threads + Sync, G: Gate>(
     };
     // What nothing refers to is left out from here on.
     let kept = find_kept(rt, alloc, &tables, &binding, command.gc, workers, gate)?;
-    let exe = match link_kept(
+    let options = options_of(command);
+    let names = names_if(alloc, options.map, inputs, sources)?;
+    let linked = match link_kept(
         rt,
         alloc,
         limits,
         &tables,
         &binding,
         kept.as_slice(),
-        options_of(command),
+        names.as_slice(),
+        options,
         workers,
         gate,
     ) {
-        Ok(exe) => exe,
+        Ok(linked) => linked,
         Err(stop) => return Err(stop),
     };
-    Ok(Linked {
-        exe,
-        map: Vec::new(alloc),
-        report: Vec::new(alloc),
-    })
+    Ok(linked)
 }
 
-/// Links the inputs of a command, which are its own: their names are the command's, in order, and serve lines about them alone.
+/// Links the inputs of a command: those that it names, in order, with their bytes, or the objects that are generated for it.
 ///
-/// The answer is what the link gives if the inputs have no defect; else the first defect of the first phase that has
-/// any, whatever the number of workers and the order of their steps; or out of memory. No limit is above the standard one. The
-/// command leaves symbols out and asks for no map, as each accepted one does.
+/// The answer is what the link gives if the inputs have no defect: the executable, the map if one is asked, in which files have the names of
+/// their inputs, and for generated objects the report. Else it is the first defect of the first phase that has any, whatever the number of
+/// workers and the order of their steps; or out of memory. No limit is above the standard one.
 pub fn link<R: Threads + Sync, G: Gate>(
     rt: &R,
     alloc: Global,
@@ -506,9 +577,8 @@ pub fn link<R: Threads + Sync, G: Gate>(
     requires limits { IsWithinStandard limits.now }
     requires some { 1 ≤ command.now.threads }
     requires most { command.now.threads ≤ 64 }
-    requires linkable { IsLinkable (asks command.now) }
-    ensures { AfterLink limits.now (asks command.now) (sources limits.now (input_contents inputs.now)) result }
+    ensures { AfterLink limits.now (asks command.now) (shown_files (input_names inputs.now) (input_contents inputs.now) (sources limits.now (input_contents inputs.now))) (sources limits.now (input_contents inputs.now)) result }
 {
     let sources = find_sources(alloc, limits, inputs)?;
-    link_sources(rt, alloc, command, sources.as_slice(), limits, gate)
+    link_sources(rt, alloc, command, inputs, sources.as_slice(), limits, gate)
 }

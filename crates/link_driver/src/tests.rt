@@ -1,6 +1,7 @@
 //! An executable is the same by blocks of any length, written in any order, as by one block.
 
 ghost use Rattle.std.specs.Prelude.{◌≡◌, ◌≤◌};
+ghost use Rattle.elf_out.specs.TablesView.{tables_if, tables_in};
 ghost use Rattle.link_driver.specs.Tables.{MayStay};
 ghost use Rattle.link_sections.specs.GotView.{entries_of};
 ghost use Rattle.link_sections.specs.LaidOut.{layout_view, with_contents};
@@ -17,7 +18,7 @@ mod objects;
 use crate::finding::find_sources;
 use crate::inputs::Inputs;
 use crate::linking::{Options, bind_names, find_kept, find_leaders, lay_out, read_files};
-use elf_out::{block, file_length, headers, write_executable};
+use elf_out::{SymbolTables, block, file_length, headers, symtab, write_executable};
 use examples::{Example, OF_THREE_BLOCKS, SMALL};
 use got_tls::entries;
 use link_sections::{Got, Layout, Pools, View};
@@ -38,6 +39,9 @@ const OPTIONS: Options = Options {
     gc: false,
     icf: true,
     relax: true,
+    strip: false,
+    map: false,
+    generated: None,
 };
 
 /// The order in which blocks are written.
@@ -172,18 +176,21 @@ fn sections_agree(
 fn block_agrees(
     alloc: Global,
     view: &View,
+    tables: &Option<SymbolTables>,
     exe: &[u8],
     k: u64,
     most: u64,
-) -> Result<bool, LinkStop> {
-    let end = file_length(view)?;
+) -> Result<bool, LinkStop>
+    requires { tables_if tables.now ≡ tables_in view.now }
+{
+    let end = file_length(view, tables)?;
     if k > end / 65536 {
         return Ok(false);
     }
     let from = 65536 * k;
     let size = most.min(end - from);
     let mut out = vec![in alloc; 0xa5u8; size as usize]?;
-    block(alloc, view, k, &mut out)?;
+    block(alloc, view, tables, k, &mut out)?;
     Ok(exe.iter().skip(from as usize).take(size as usize).eq(&out))
 }
 
@@ -191,9 +198,17 @@ fn block_agrees(
 const LENGTHS: [u64; 6] = [65536, 65535, 4096, 64, 1, 0];
 
 /// Whether a block of the file agrees with the executable by each length.
-fn block_agrees_by_each(alloc: Global, view: &View, exe: &[u8], k: u64) -> Result<bool, LinkStop> {
+fn block_agrees_by_each(
+    alloc: Global,
+    view: &View,
+    tables: &Option<SymbolTables>,
+    exe: &[u8],
+    k: u64,
+) -> Result<bool, LinkStop>
+    requires { tables_if tables.now ≡ tables_in view.now }
+{
     for most in LENGTHS {
-        if !block_agrees(alloc, view, exe, k, most)? {
+        if !block_agrees(alloc, view, tables, exe, k, most)? {
             return Ok(false);
         }
     }
@@ -201,11 +216,18 @@ fn block_agrees_by_each(alloc: Global, view: &View, exe: &[u8], k: u64) -> Resul
 }
 
 /// Whether the file by blocks, its length and its headers are those of the executable.
-fn file_agrees(alloc: Global, view: &View, exe: &[u8]) -> Result<bool, LinkStop> {
-    let start = headers(alloc, view)?;
-    let length = file_length(view)?;
+fn file_agrees(
+    alloc: Global,
+    view: &View,
+    tables: &Option<SymbolTables>,
+    exe: &[u8],
+) -> Result<bool, LinkStop>
+    requires { tables_if tables.now ≡ tables_in view.now }
+{
+    let start = headers(alloc, view, tables)?;
+    let length = file_length(view, tables)?;
     for k in 0..=length / 65536 {
-        if !block_agrees_by_each(alloc, view, exe, k)? {
+        if !block_agrees_by_each(alloc, view, tables, exe, k)? {
             return Ok(false);
         }
     }
@@ -246,10 +268,11 @@ fn layout_agrees<R: Threads + Sync>(
         uppers: &uppers,
         numbers,
         names: &[],
-        strip: true,
+        strip: OPTIONS.strip,
     };
     let exe = write_executable(rt, alloc, &view, 2, &OpenGate)?;
-    Ok(file_agrees(alloc, &view, &exe)? && sections_agree(alloc, &view, &exe, example)?)
+    let symbols = symtab(rt, alloc, &view, 2, &OpenGate)?;
+    Ok(file_agrees(alloc, &view, &symbols, &exe)? && sections_agree(alloc, &view, &exe, example)?)
 }
 
 /// Whether the executable of these sections is.

@@ -2,8 +2,7 @@
 use Rattle.std.specs.Prelude.{ℕ, ◌+◌, ◌*◌, ◌%◌, ◌^◌, ◌==◌, if◌then◌else◌, nat_lt, List, [], ◌∷◌, ◌++◌, length, map, filter, flat_map, codes, decimal, string_bytes, String}
 use Rattle.std.specs.Global.{Global, Vec}
 use Rattle.std.specs.List.{range_with_len}
-use Rattle.link_gen.specs.declared.flags.TheConstants.{EF_RISCV_FLOAT_ABI_DOUBLE, SHF_INFO_LINK}
-use Rattle.lk_base.specs.declared.abi.TheConstants.{EF_RISCV_RVC, SHT_PROGBITS, SHT_RELA, SHT_SYMTAB, SHF_WRITE, SHF_ALLOC, SHF_EXECINSTR, SHF_MERGE, SHF_STRINGS, RELA_SIZE, SYM_SIZE, STB_LOCAL, STB_GLOBAL, STT_NOTYPE, STT_FUNC, STT_SECTION, SHN_UNDEF, R_RISCV_64, R_RISCV_CALL_PLT, R_RISCV_RELAX}
+use Rattle.lk_base.specs.declared.abi.TheConstants.{EF_RISCV_FLOAT_ABI_DOUBLE, EF_RISCV_RVC, SHT_PROGBITS, SHT_RELA, SHT_SYMTAB, SHF_WRITE, SHF_ALLOC, SHF_EXECINSTR, SHF_INFO_LINK, SHF_MERGE, SHF_STRINGS, RELA_SIZE, SYM_SIZE, STB_LOCAL, STB_GLOBAL, STT_NOTYPE, STT_FUNC, STT_SECTION, SHN_UNDEF, R_RISCV_64, R_RISCV_CALL_PLT, R_RISCV_RELAX}
 use Rattle.link_gen.specs.Elf.{Section, Symbol, object_of, relocation, string_section, strings, symbol_entries, symbol_entry, with_section_names, word, zeros}
 
 -- the numbers of the sections that symbols and other sections name

@@ -1,18 +1,16 @@
 //! Whole objects, and any number of them.
 
 ghost use Rattle.std.specs.Prelude.{◌≡◌, ◌+◌, ◌^◌, ◌<◌, ◌≤◌, ◌++◌, length, map, string_bytes, IfOk, OnOk};
-ghost use Rattle.lk_base.specs.declared.abi.TheConstants.{EF_RISCV_RVC, EHDR_SIZE};
-ghost use Rattle.link_gen.specs.declared.flags.TheConstants.{EF_RISCV_FLOAT_ABI_DOUBLE};
+ghost use Rattle.lk_base.specs.declared.abi.TheConstants.{EF_RISCV_FLOAT_ABI_DOUBLE, EF_RISCV_RVC, EHDR_SIZE};
 ghost use Rattle.link_gen.specs.Contents.{IsSmall, contents_of, section_view, sections_in, symbol_view};
 ghost use Rattle.link_gen.specs.Elf as elf;
 ghost use Rattle.link_gen.specs.Generated as spec;
 
 use crate::contents::{Object, contents_size, push_contents};
-use crate::flags::EF_RISCV_FLOAT_ABI_DOUBLE;
 use crate::numbers::push_zeros;
 use crate::sections::{SECTIONS, Section, SectionHeader, push_file_header, push_section_header};
 use crate::symbols::{Symbol, called_count, named_symbols};
-use lk_base::abi::{EF_RISCV_RVC, EHDR_SIZE, SHDR_SIZE};
+use lk_base::abi::{EF_RISCV_FLOAT_ABI_DOUBLE, EF_RISCV_RVC, EHDR_SIZE, SHDR_SIZE};
 use lk_base::up;
 use std::alloc::{AllocError, Global};
 

@@ -11,7 +11,6 @@
 #![tactic(auto)]
 
 mod contents;
-mod flags;
 mod generator;
 mod numbers;
 mod sections;

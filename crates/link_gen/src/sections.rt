@@ -4,11 +4,11 @@ ghost use Rattle.std.specs.Prelude.{◌≡◌, ◌^◌, ◌<◌, ◌≤◌, ◌+
 ghost use Rattle.link_gen.specs.Contents.{section_names};
 ghost use Rattle.link_gen.specs.Elf as spec;
 
-use crate::flags::SHF_INFO_LINK;
 use crate::numbers::{push_half, push_long, push_word};
 use lk_base::abi::{
     EHDR_SIZE, EM_RISCV, ET_REL, EV_CURRENT, RELA_SIZE, SHDR_SIZE, SHF_ALLOC, SHF_EXECINSTR,
-    SHF_MERGE, SHF_STRINGS, SHF_WRITE, SHT_PROGBITS, SHT_RELA, SHT_STRTAB, SHT_SYMTAB, SYM_SIZE,
+    SHF_INFO_LINK, SHF_MERGE, SHF_STRINGS, SHF_WRITE, SHT_PROGBITS, SHT_RELA, SHT_STRTAB,
+    SHT_SYMTAB, SYM_SIZE,
 };
 use std::alloc::AllocError;
 

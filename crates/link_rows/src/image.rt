@@ -3,6 +3,19 @@
 use crate::numbers::push_numbers;
 use std::alloc::{AllocError, Global};
 
+/// The symbol table of an executable, and the names behind it.
+#[derive(Clone, Copy)]
+pub struct Listed<'a> {
+    /// The offset of the table.
+    pub offset: usize,
+    /// The symbols from number 1 on: the name's place, binding and type, section, value and size.
+    pub symbols: &'a [[u64; 5]],
+    /// The names of the symbols, which follow the table at once.
+    pub strings: &'a [u8],
+    /// The names of the sections, which follow those of the symbols at once.
+    pub names: &'a [u8],
+}
+
 /// The fields of an executable.
 #[derive(Clone, Copy)]
 pub struct Image<'a> {
@@ -12,8 +25,10 @@ pub struct Image<'a> {
     pub flags: u64,
     /// The program headers: type, flags, offset, address, size in the file, size in memory and alignment.
     pub segments: &'a [[u64; 7]],
-    /// What stands behind the program headers and before the section headers: zeros up to an offset, and bytes.
+    /// What stands behind the program headers, and before the symbol table where there is one: zeros up to an offset, and bytes.
     pub contents: &'a [(usize, &'a [u8])],
+    /// The symbol table, and what follows it up to the section headers.
+    pub listed: Option<Listed<'a>>,
     /// The offset of the section headers.
     pub table: usize,
     /// The section headers from number 1 on: the name's place, type, flags, address, offset, size and alignment. The last is
@@ -76,9 +91,45 @@ fn push_contents(out: &mut Vec<u8>, contents: &[(usize, &[u8])]) -> Result<(), A
     Ok(())
 }
 
+/// Adds the null symbol and the symbols of a table.
+fn push_symbols(out: &mut Vec<u8>, symbols: &[[u64; 5]]) -> Result<(), AllocError> {
+    push_numbers(out, &[(0, 8), (0, 8), (0, 8)])?;
+    for symbol in symbols {
+        let [name, info, section, value, size] = *symbol;
+        let numbers = [
+            (name, 4),
+            (info, 1),
+            (0, 1),
+            (section, 2),
+            (value, 8),
+            (size, 8),
+        ];
+        push_numbers(out, &numbers)?;
+    }
+    Ok(())
+}
+
+fn push_listed(out: &mut Vec<u8>, listed: &Listed) -> Result<(), AllocError> {
+    fill(out, listed.offset)?;
+    push_symbols(out, listed.symbols)?;
+    out.extend_from_slice(listed.strings)?;
+    out.extend_from_slice(listed.names)
+}
+
+/// What a header says of other sections: that of a symbol table names the next section, which has its names, and the first symbol that
+/// is not local, and has the size of an entry.
+fn links_of(sort: u64, number: u64) -> [u64; 3] {
+    if sort == 2 {
+        [number.wrapping_add(1), 1, 24]
+    } else {
+        [0, 0, 0]
+    }
+}
+
 fn push_sections(out: &mut Vec<u8>, sections: &[[u64; 7]]) -> Result<(), AllocError> {
-    for section in sections {
+    for (index, section) in sections.iter().enumerate() {
         let [name, sort, flags, address, offset, size, align] = *section;
+        let [link, info, entsize] = links_of(sort, (index as u64).wrapping_add(1));
         let numbers = [
             (name, 4),
             (sort, 4),
@@ -86,9 +137,10 @@ fn push_sections(out: &mut Vec<u8>, sections: &[[u64; 7]]) -> Result<(), AllocEr
             (address, 8),
             (offset, 8),
             (size, 8),
-            (0, 8),
+            (link, 4),
+            (info, 4),
             (align, 8),
-            (0, 8),
+            (entsize, 8),
         ];
         push_numbers(out, &numbers)?;
     }
@@ -101,6 +153,9 @@ pub fn image_of(alloc: Global, image: &Image) -> Result<Vec<u8>, AllocError> {
     push_header(&mut out, image)?;
     push_segments(&mut out, image.segments)?;
     push_contents(&mut out, image.contents)?;
+    if let Some(listed) = &image.listed {
+        push_listed(&mut out, listed)?;
+    }
     fill(&mut out, image.table.wrapping_add(64))?;
     push_sections(&mut out, image.sections)?;
     Ok(out)

@@ -13,5 +13,5 @@ mod object;
 mod tests;
 
 pub use archive::{ARCHIVE, Archive, Contents, Member, THIN, archive_of};
-pub use image::{Image, image_of};
+pub use image::{Image, Listed, image_of};
 pub use object::{Object, Reloc, Section, SectionLink, Symbol, object_of};

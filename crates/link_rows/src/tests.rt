@@ -2,18 +2,23 @@
 //! at hand in each, and each runs with several numbers of workers.
 
 mod aligned;
+mod altered;
 mod archives;
 mod collected;
+mod faults;
 mod folded;
+mod generated;
 mod groups;
 mod images;
 mod kinds;
 mod libraries;
 mod limits;
 mod linker_symbols;
+mod maps;
 mod merged;
 mod objects;
 mod orders;
+mod symbols;
 mod thread_data;
 mod wrong_groups;
 
@@ -25,12 +30,14 @@ use images::{
 use libraries::Library;
 use link_driver::{Gate, OpenGate, run};
 use lk_depot::{FileKind, MemDepot, MemSink};
+use maps::TWO_FILES_LINES;
 use objects::{INPUTS, Input};
 use std::alloc::{AllocError, Global};
 use std::hint;
 use std::sync::atomic::{AtomicBool, AtomicU64, Ordering};
 use std::test::Fail;
 use std::thread::Threads;
+use symbols::TWO_FILES_LISTED;
 
 /// What a run leaves.
 #[derive(Drop)]
@@ -41,12 +48,13 @@ struct Left {
     err: MemSink,
 }
 
-/// The words that are put behind those of an example, so that it runs with the default number of workers, with one, with two
-/// and with 64.
-const WORKERS: [&[&str]; 4] = [
+/// The words that are put behind those of an example, so that it runs with the default number of workers, with one, two, three and
+/// 64.
+const WORKERS: [&[&str]; 5] = [
     &[],
     &["--threads", "1"],
     &["--threads", "2"],
+    &["--threads", "3"],
     &["--threads", "64"],
 ];
 
@@ -79,6 +87,8 @@ enum Store {
     Threads,
     LinkerSymbols,
     Aligned,
+    Symbols,
+    Maps,
 }
 
 /// Files with their names.
@@ -121,6 +131,8 @@ fn stored(alloc: Global, store: Store) -> Result<Files, AllocError> {
         Store::Threads => thread_data::files(alloc),
         Store::LinkerSymbols => linker_symbols::files(alloc),
         Store::Aligned => aligned::files(alloc),
+        Store::Symbols => symbols::files(alloc),
+        Store::Maps => maps::files(alloc),
     }
 }
 
@@ -133,26 +145,79 @@ fn files_of(alloc: Global, store: Store, libraries: &[Library]) -> Result<Files,
     Ok(files)
 }
 
-/// A call of the program: its words, those that ask for a number of workers, the files and archives that are at hand, and the
-/// numbers of the depot's calls that fail.
+/// A stream: the numbers of the puts that fail, and for how many bytes it has room.
+#[derive(Clone, Copy)]
+struct Stream<'a> {
+    fails: &'a [u64],
+    room: usize,
+}
+
+/// What is outside the program: the numbers of the depot's calls that fail, how many bytes an append takes at most, for how many bytes
+/// each output has room, and the streams.
+#[derive(Clone, Copy)]
+struct Outside<'a> {
+    fails: &'a [u64],
+    most: usize,
+    room: usize,
+    say: Stream<'a>,
+    err: Stream<'a>,
+}
+
+/// A stream that takes all that is said.
+const WIDE_STREAM: Stream = Stream {
+    fails: &[],
+    room: 1000,
+};
+
+/// Nothing fails.
+const SOUND: Outside = Outside {
+    fails: &[],
+    most: 1000,
+    room: 200_000,
+    say: WIDE_STREAM,
+    err: WIDE_STREAM,
+};
+
+/// A call of the program: its words, those that ask for a number of workers, the files and archives that are at hand, and what is
+/// outside.
 #[derive(Clone, Copy)]
 struct Call<'a> {
     words: &'a [&'a str],
     workers: &'a [&'a str],
     store: Store,
     libraries: &'a [Library<'a>],
-    fails: &'a [u64],
+    outside: Outside<'a>,
 }
 
-/// A depot whose appends take at most 1,000 bytes.
-fn depot_of(alloc: Global, call: &Call) -> Result<MemDepot, AllocError> {
-    let files = files_of(alloc, call.store, call.libraries)?;
-    let fails = Vec::from_slice(alloc, call.fails)?;
-    MemDepot::new(alloc, files, fails, 1000, 100_000)
+fn depot_of(alloc: Global, files: Files, outside: &Outside) -> Result<MemDepot, AllocError> {
+    let fails = Vec::from_slice(alloc, outside.fails)?;
+    MemDepot::new(alloc, files, fails, outside.most.max(1), outside.room)
 }
 
-fn sink_of(alloc: Global) -> Result<MemSink, AllocError> {
-    MemSink::new(alloc, Vec::new(alloc), 1000)
+fn sink_of(alloc: Global, stream: &Stream) -> Result<MemSink, AllocError> {
+    let fails = Vec::from_slice(alloc, stream.fails)?;
+    MemSink::new(alloc, fails, stream.room)
+}
+
+/// Runs a command over these files.
+fn run_over<R: Threads + Sync, G: Gate>(
+    rt: &R,
+    alloc: Global,
+    words: &[String],
+    files: Files,
+    outside: &Outside,
+    gate: &G,
+) -> Result<Left, AllocError> {
+    let mut depot = depot_of(alloc, files, outside)?;
+    let mut say = sink_of(alloc, &outside.say)?;
+    let mut err = sink_of(alloc, &outside.err)?;
+    let status = run(rt, alloc, words, &mut depot, &mut say, &mut err, gate);
+    Ok(Left {
+        status,
+        depot,
+        say,
+        err,
+    })
 }
 
 /// Runs a command.
@@ -163,27 +228,12 @@ fn run_with<R: Threads + Sync, G: Gate>(
     gate: &G,
 ) -> Result<Left, AllocError> {
     let words = words_of(alloc, call.words, call.workers)?;
-    let mut depot = depot_of(alloc, call)?;
-    let mut say = sink_of(alloc)?;
-    let mut err = sink_of(alloc)?;
-    let status = run(
-        rt,
-        alloc,
-        words.as_slice(),
-        &mut depot,
-        &mut say,
-        &mut err,
-        gate,
-    );
-    Ok(Left {
-        status,
-        depot,
-        say,
-        err,
-    })
+    let files = files_of(alloc, call.store, call.libraries)?;
+    run_over(rt, alloc, words.as_slice(), files, &call.outside, gate)
 }
 
-/// A command that links: its words, its files and archives, the name of its output and the executable.
+/// A command that links: its words, its files and archives, the name of its output and the executable, the name of its map and the
+/// lines of that (none where there is no map), and what is said.
 #[derive(Clone, Copy)]
 struct Link<'a> {
     words: &'a [&'a str],
@@ -191,6 +241,9 @@ struct Link<'a> {
     libraries: &'a [Library<'a>],
     output: &'a str,
     image: Image<'a>,
+    map: &'a str,
+    lines: &'a [&'a str],
+    said: &'a str,
 }
 
 const FIRST_LINK: Link = Link {
@@ -199,6 +252,9 @@ const FIRST_LINK: Link = Link {
     libraries: &[],
     output: "a.out",
     image: FIRST,
+    map: "m",
+    lines: &[],
+    said: "",
 };
 
 const LINKS: [Link; 11] = [
@@ -256,7 +312,35 @@ const LINKS: [Link; 11] = [
     },
 ];
 
-/// Whether a command leaves its executable, and says nothing.
+/// Lines as a text.
+fn text_of(alloc: Global, lines: &[&str]) -> Result<Vec<u8>, AllocError> {
+    let mut text = Vec::new(alloc);
+    for line in lines {
+        text.extend_from_slice(line.as_bytes())?;
+        text.push(b'\n')?;
+    }
+    Ok(text)
+}
+
+/// Whether a file has these bytes, and was begun as this kind.
+fn has_file(depot: &MemDepot, name: &str, kind: FileKind, bytes: &[u8]) -> bool {
+    depot.kind(name) == Some(kind) && depot.bytes(name) == Some(bytes)
+}
+
+/// Whether there is this map, and no other file but the executable; without lines there is none.
+fn has_map(depot: &MemDepot, name: &str, text: &[u8]) -> bool {
+    if text.is_empty() {
+        return depot.begun() == 1;
+    }
+    depot.begun() == 2 && has_file(depot, name, FileKind::Plain, text)
+}
+
+/// Whether this was said, and if it is nothing, the stream was left alone.
+fn has_said(sink: &MemSink, text: &str) -> bool {
+    sink.written() == text.as_bytes() && text.is_empty() == (sink.calls() == 0)
+}
+
+/// Whether a command leaves its executable and its map, and says what it has to say.
 fn is_linked<R: Threads + Sync, G: Gate>(
     rt: &R,
     alloc: Global,
@@ -269,16 +353,17 @@ fn is_linked<R: Threads + Sync, G: Gate>(
         workers,
         store: link.store,
         libraries: link.libraries,
-        fails: &[],
+        outside: SOUND,
     };
     let left = run_with(rt, alloc, &call, gate)?;
     let image = image_of(alloc, &link.image)?;
+    let text = text_of(alloc, link.lines)?;
     Ok(
         left.status == 0
-            && left.say.calls() == 0
             && left.err.calls() == 0
-            && left.depot.kind(link.output) == Some(FileKind::Executable)
-            && left.depot.bytes(link.output) == Some(image.as_slice()),
+            && has_said(&left.say, link.said)
+            && has_file(&left.depot, link.output, FileKind::Executable, &image)
+            && has_map(&left.depot, link.map, &text),
     )
 }
 
@@ -347,15 +432,56 @@ struct Refusal<'a> {
     loads: u64,
 }
 
-const REFUSALS: [Refusal; 20] = [
+/// No words, not even the program's name.
+const NO_WORDS: Refusal = Refusal {
+    words: &[],
+    store: Store::Objects,
+    libraries: &[],
+    status: 2,
+    line: "rvld: bad command\n",
+    loads: 0,
+};
+
+const COMMANDS: [Refusal; 9] = [
     Refusal {
-        words: &[],
-        store: Store::Objects,
-        libraries: &[],
-        status: 2,
-        line: "rvld: bad command\n",
-        loads: 0,
+        words: &["rvld", "--threads", "65", "a.o"],
+        ..NO_WORDS
     },
+    Refusal {
+        words: &["rvld", "--icf", "some", "a.o"],
+        ..NO_WORDS
+    },
+    Refusal {
+        words: &["rvld", "-o", "m", "--Map", "m", "a.o"],
+        ..NO_WORDS
+    },
+    Refusal {
+        words: &["rvld", "--Map", "a.out", "a.o"],
+        ..NO_WORDS
+    },
+    Refusal {
+        words: &["rvld", "--output=", "--Map=", "a.o"],
+        ..NO_WORDS
+    },
+    Refusal {
+        words: &["rvld", "--Map", "m", "--Map", "n", "a.o"],
+        ..NO_WORDS
+    },
+    Refusal {
+        words: &["rvld", "--Map", "m"],
+        ..NO_WORDS
+    },
+    Refusal {
+        words: &["rvld", "--map", "m", "a.o"],
+        ..NO_WORDS
+    },
+    Refusal {
+        words: &["rvld", "-e", "", "a.o"],
+        ..NO_WORDS
+    },
+];
+
+const REFUSALS: [Refusal; 19] = [
     Refusal {
         words: &["rvld"],
         store: Store::Objects,
@@ -522,7 +648,7 @@ fn is_refused<R: Threads + Sync>(
         workers,
         store: refusal.store,
         libraries: refusal.libraries,
-        fails: &[],
+        outside: SOUND,
     };
     let left = run_with(rt, alloc, &call, &OpenGate)?;
     Ok(
@@ -546,6 +672,23 @@ fn is_refused_by_any<R: Threads + Sync>(
         }
     }
     Ok(true)
+}
+
+#[test]
+fn the_program_has_a_name(rt: HostRuntime) -> Result<(), Fail> {
+    assert!(rt; is_refused(&rt, rt.alloc(), &NO_WORDS, &[])?);
+    Ok(())
+}
+
+#[test]
+fn each_wrong_command_is_refused(rt: HostRuntime) -> Result<(), Fail> {
+    for (index, refusal) in COMMANDS.iter().enumerate() {
+        assert!(rt;
+            is_refused_by_any(&rt, rt.alloc(), refusal)?,
+            "example {index}"
+        );
+    }
+    Ok(())
 }
 
 #[test]
@@ -830,8 +973,64 @@ fn alignments_stay(rt: HostRuntime) -> Result<(), Fail> {
 }
 
 #[test]
-fn alignments_need_their_bytes(rt: HostRuntime) -> Result<(), Fail> {
-    for (index, refusal) in aligned::SHORTAGES.iter().enumerate() {
+fn each_symbol_has_its_entry(rt: HostRuntime) -> Result<(), Fail> {
+    for (index, link) in symbols::LISTED.iter().enumerate() {
+        assert!(rt; is_linked_by_any(&rt, rt.alloc(), link)?, "example {index}");
+    }
+    Ok(())
+}
+
+#[test]
+fn what_is_not_written_has_no_entry(rt: HostRuntime) -> Result<(), Fail> {
+    for (index, link) in symbols::CHOSEN.iter().enumerate() {
+        assert!(rt; is_linked_by_any(&rt, rt.alloc(), link)?, "example {index}");
+    }
+    Ok(())
+}
+
+#[test]
+fn a_map_has_what_is_written(rt: HostRuntime) -> Result<(), Fail> {
+    for (index, link) in maps::WRITTEN.iter().enumerate() {
+        assert!(rt; is_linked_by_any(&rt, rt.alloc(), link)?, "example {index}");
+    }
+    Ok(())
+}
+
+#[test]
+fn a_map_has_what_is_left_out(rt: HostRuntime) -> Result<(), Fail> {
+    for (index, link) in maps::LEFT_OUT.iter().enumerate() {
+        assert!(rt; is_linked_by_any(&rt, rt.alloc(), link)?, "example {index}");
+    }
+    Ok(())
+}
+
+#[test]
+fn a_map_has_pools_and_the_table(rt: HostRuntime) -> Result<(), Fail> {
+    for (index, link) in maps::GENERAL.iter().enumerate() {
+        assert!(rt; is_linked_by_any(&rt, rt.alloc(), link)?, "example {index}");
+    }
+    Ok(())
+}
+
+#[test]
+fn a_map_shows_names(rt: HostRuntime) -> Result<(), Fail> {
+    for (index, link) in maps::NAMES.iter().enumerate() {
+        assert!(rt; is_linked_by_any(&rt, rt.alloc(), link)?, "example {index}");
+    }
+    Ok(())
+}
+
+#[test]
+fn generated_objects_are_linked(rt: HostRuntime) -> Result<(), Fail> {
+    for (index, link) in generated::FEW.iter().enumerate() {
+        assert!(rt; is_linked_by_any(&rt, rt.alloc(), link)?, "example {index}");
+    }
+    Ok(())
+}
+
+#[test]
+fn objects_are_generated_or_loaded(rt: HostRuntime) -> Result<(), Fail> {
+    for (index, refusal) in generated::REFUSED.iter().enumerate() {
         assert!(rt;
             is_refused_by_any(&rt, rt.alloc(), refusal)?,
             "example {index}"
@@ -840,65 +1039,13 @@ fn alignments_need_their_bytes(rt: HostRuntime) -> Result<(), Fail> {
     Ok(())
 }
 
-/// A fault of the first link, whose calls of the depot are a load, a begin and five appends: the number of the call that
-/// fails, the line, how many calls there are, and how many bytes of the executable are written.
-type Fault<'a> = (u64, &'a str, u64, usize);
-
-const FAULTS: [Fault; 5] = [
-    (0, "rvld: cannot read a.o\n", 1, 0),
-    (1, "rvld: cannot write a.out\n", 2, 0),
-    (2, "rvld: cannot write a.out\n", 3, 0),
-    (4, "rvld: cannot write a.out\n", 5, 2000),
-    (6, "rvld: cannot write a.out\n", 7, 4000),
-];
-
-/// Whether the first link, with this call failing, leaves that much of the executable.
-fn is_cut<R: Threads + Sync>(
-    rt: &R,
-    alloc: Global,
-    fault: &Fault,
-    workers: &[&str],
-) -> Result<bool, AllocError> {
-    let (number, line, calls, written) = *fault;
-    let fails = [number];
-    let call = Call {
-        words: FIRST_LINK.words,
-        workers,
-        store: Store::Objects,
-        libraries: &[],
-        fails: &fails,
-    };
-    let left = run_with(rt, alloc, &call, &OpenGate)?;
-    let image = image_of(alloc, &FIRST)?;
-    let file = left.depot.bytes("a.out").unwrap_or(b"".as_slice());
-    Ok(
-        left.status == 3
-            && left.say.calls() == 0
-            && left.err.written() == line.as_bytes()
-            && left.depot.calls() == calls
-            && file.len() == written
-            && image.starts_with(file),
-    )
-}
-
-/// Whether it does with each number of workers.
-fn is_cut_by_any<R: Threads + Sync>(
-    rt: &R,
-    alloc: Global,
-    fault: &Fault,
-) -> Result<bool, AllocError> {
-    for workers in &WORKERS {
-        if !is_cut(rt, alloc, fault, workers)? {
-            return Ok(false);
-        }
-    }
-    Ok(true)
-}
-
 #[test]
-fn each_fault_leaves_a_front_of_the_executable(rt: HostRuntime) -> Result<(), Fail> {
-    for fault in &FAULTS {
-        assert!(rt; is_cut_by_any(&rt, rt.alloc(), fault)?, "call {}", fault.0);
+fn alignments_need_their_bytes(rt: HostRuntime) -> Result<(), Fail> {
+    for (index, refusal) in aligned::SHORTAGES.iter().enumerate() {
+        assert!(rt;
+            is_refused_by_any(&rt, rt.alloc(), refusal)?,
+            "example {index}"
+        );
     }
     Ok(())
 }
@@ -952,8 +1099,9 @@ type Shared<'a> = (Link<'a>, u64);
 
 /// The passes of the first link are heads, the claims for members, bodies, the list of offers, the claims for names, the ranks of offers,
 /// the names that nothing offers, the addresses of symbols, and the test of relocations. Those of the second are the claims for groups, the
-/// symbols that stand for sections' names, the edges between sections and the blocks of the executable too.
-const SHARED: [Shared; 2] = [
+/// symbols that stand for sections' names, the edges between sections and the blocks of the executable too. Those of the third are those of
+/// the first, and the lists of symbols for the symbol table and for the map.
+const SHARED: [Shared; 3] = [
     (
         Link {
             words: &["rvld", "-s", "a.o", "h.o"],
@@ -978,6 +1126,15 @@ const SHARED: [Shared; 2] = [
             ..FIRST_LINK
         },
         13,
+    ),
+    (
+        Link {
+            words: &["rvld", "--Map", "m", "a.o", "h.o"],
+            image: TWO_FILES_LISTED,
+            lines: TWO_FILES_LINES,
+            ..FIRST_LINK
+        },
+        11,
     ),
 ];
 

@@ -2,6 +2,7 @@
 use Rattle.std.specs.Prelude.{ℕ, ◌+◌, ◌&&◌, Bool, true, false, pos, Option, Some, None, find, if◌then◌else◌, List, [], codes, reverse, slice_index, slice_index_or}
 use Rattle.std.specs.Option.{option_map_or}
 use Rattle.std.specs.Str.{bytes_eq}
+use Rattle.lk_base.specs.Arithmetic.{bits_of}
 use Rattle.lk_base.specs.declared.abi.TheConstants.{IMAGE_BASE}
 use Rattle.lk_tables.specs.declared.bounds.Bound.{Bound}
 use Rattle.lk_tables.specs.declared.bounds.Bound.TheVariants.{InSection, Number, Linker, Nobody}
@@ -12,7 +13,7 @@ use Rattle.lk_tables.specs.declared.linker_symbols.Edge.TheVariants.{ImageStart,
 use Rattle.lk_tables.specs.Binding.{Bindings}
 use Rattle.lk_tables.specs.Files.{File, file_at, by_symbol}
 use Rattle.lk_tables.specs.LinkerSymbols.{bound_section, edge_of, is_bound_no, is_stop_no}
-use Rattle.lk_tables.specs.Targets.{bound}
+use Rattle.lk_tables.specs.Targets.{bound, entry_bound}
 use Rattle.link_sections.specs.declared.targets.Target.{Target}
 use Rattle.link_sections.specs.declared.targets.Target.TheVariants as targets
 use Rattle.link_sections.specs.InputSections.{input_at}
@@ -119,3 +120,7 @@ module _ (files : List File) (b : Bindings) (leaders : List (Option ℕ)) (laid 
 
   abbrev pub symbol_addresses : List ℕ
   symbol_addresses = by_symbol files symbol_address
+
+  -- where the executable starts: at what the entry's name is bound to
+  unfoldable pub entry_address : ℕ
+  entry_address = bits_of (pos (address_of (entry_bound files b)))

@@ -75,7 +75,7 @@ pub record IsSound (files : List File) (b : Bindings) (leaders : List (Option �
       (slice_index_or laid.members i d).start + (slice_index_or laid.members i d).size ≤ (slice_index_or laid.members (i + 1) d).start
   pub headers : IMAGE_BASE + EHDR_SIZE ≤ laid.bounds.file_end
   pub small : laid.bounds.file_end < IMAGE_BASE + 2 ^ 31
-  pub few : length laid.outputs + 2 < 65536
+  pub few : length laid.outputs + 4 < 65536
   pub room : (n : ℕ) → start_at laid n + 2 ^ 33 < 2 ^ 64
   pub pool_room : (p : ℕ) → slice_index laid.pools p + 2 ^ 62 < 2 ^ 64
   pub table_room : laid.got + 2 ^ 40 < 2 ^ 64

@@ -31,6 +31,8 @@ pub const RELA_SIZE: u64 = 24;
 pub const EF_RISCV_RVC: u32 = 1;
 /// Which registers calls pass floating-point numbers in.
 pub const EF_RISCV_FLOAT_ABI: u32 = 6;
+/// Of these: registers that hold double precision.
+pub const EF_RISCV_FLOAT_ABI_DOUBLE: u32 = 4;
 /// The code has 16 registers alone.
 pub const EF_RISCV_RVE: u32 = 8;
 /// The code needs the memory model TSO.
@@ -77,6 +79,8 @@ pub const SHF_EXECINSTR: u64 = 0x4;
 pub const SHF_MERGE: u64 = 0x10;
 /// The elements are strings that a zero character ends.
 pub const SHF_STRINGS: u64 = 0x20;
+/// sh_info names a section.
+pub const SHF_INFO_LINK: u64 = 0x40;
 /// Stands in the order of the section that sh_link names.
 pub const SHF_LINK_ORDER: u64 = 0x80;
 /// A member of a section group.

@@ -2,6 +2,7 @@
 //! what failed, and nothing of what a file holds or a stream was given: that is the system's.
 #![tactic(auto)]
 
+mod output;
 mod real_depot;
 mod std_sink;
 #[cfg(test)]

@@ -4,13 +4,13 @@
 ghost use Rattle.std.specs.Prelude.{◌≡◌, ◌≢◌, ◌^◌, ◌<◌, ◌≤◌, [], map, length, string_bytes, IfOk, Err};
 ghost use Rattle.lk_real.specs.RealFiles.{store_of, after_load, after_begin, after_append};
 
+use crate::output::{Output, at_end, begun};
 use lk_depot::{Depot, Failed, FileKind, LoadStop};
 use std::alloc::Global;
-use std::fs::{File, Permissions};
+use std::fs::File;
 use std::io;
 use std::io::{ErrorKind, Read, Seek, SeekFrom, Write};
 use std::marker::Model;
-use std::os::unix::fs::{OpenOptionsExt, PermissionsExt};
 
 /// How many bytes of a file a load takes at most: one more than an input may have, so that its length is refused.
 const MOST_READ: u64 = 1 << 31;
@@ -18,29 +18,17 @@ const MOST_READ: u64 = 1 << 31;
 /// An end that no file has. A folder may seek to such a one, and its read then fails as it should.
 const NO_END: u64 = 1 << 62;
 
-/// The permissions of a file that may be run, less the umask.
-const EXECUTABLE_MODE: u32 = 0o755;
-
-/// The permissions of a file that is only read, less the umask.
-const PLAIN_MODE: u32 = 0o644;
-
-/// The file that was written to last, which stays open for the appends that follow.
-#[derive(Drop)]
-struct OpenOutput {
-    name: String,
-    file: File,
-}
-
 /// The files of the system, by path.
 ///
 /// It means a `RealFiles`: how many calls failed, how many files were begun, and the names that could not be read. As a depot it
-/// tells neither files nor kinds, so a load answers `Failed` if there is no file, and never `Absent`. A file that was
-/// written to is closed once another is, or when the depot is dropped.
+/// tells neither files nor kinds, so a load answers `Failed` if there is no file, and never `Absent`. The file that was begun
+/// or written to last stays open, so what is appended goes to it whatever has its name by then. It is closed once another is
+/// begun or written to, or when the depot is dropped; an append to a closed one opens what has its name.
 #[derive(Drop)]
 pub struct RealDepot<'a> {
     rt: &'a HostRuntime,
     alloc: Global,
-    open: Option<OpenOutput>,
+    open: Option<Output>,
     unread: Vec<String>,
     faults: u64,
     begun: u64,
@@ -82,58 +70,6 @@ fn bytes_of(rt: &HostRuntime, alloc: Global, name: &str) -> io::Result<Vec<u8>> 
     let mut bytes = Vec::with_capacity(alloc, room as usize + 1)?;
     file.take(MOST_READ).read_to_end(&mut bytes)?;
     Ok(bytes)
-}
-
-/// The empty file of this name: a new one, or the one that is there, emptied.
-fn emptied(rt: &HostRuntime, name: &str, kind: FileKind) -> io::Result<File> {
-    let mode = match kind {
-        FileKind::Executable => EXECUTABLE_MODE,
-        FileKind::Plain => PLAIN_MODE,
-    };
-    match File::options()
-        .write(true)
-        .create_new(true)
-        .mode(mode)
-        .open(rt, name)
-    {
-        Ok(file) => return Ok(file),
-        Err(error) => {
-            if error.kind() != ErrorKind::AlreadyExists {
-                return Err(error);
-            }
-        }
-    }
-    let file = File::options()
-        .write(true)
-        .create(true)
-        .truncate(true)
-        .mode(mode)
-        .open(rt, name)?;
-    match kind {
-        FileKind::Executable => allow_running(&file),
-        FileKind::Plain => {}
-    }
-    Ok(file)
-}
-
-/// Lets those who may read a file that was there run it. If that is refused, the permissions stay.
-fn allow_running(file: &File) {
-    let Ok(metadata) = file.metadata() else {
-        return;
-    };
-    if metadata.is_file() {
-        let mode = metadata.permissions().mode() & 0o777;
-        let _ = file.set_permissions(Permissions::from_mode(mode | (mode & 0o444) >> 2));
-    }
-}
-
-/// The file of this name, made if it is not there, to be written to at its end.
-fn at_end(rt: &HostRuntime, name: &str) -> io::Result<File> {
-    File::options()
-        .append(true)
-        .create(true)
-        .mode(PLAIN_MODE)
-        .open(rt, name)
 }
 
 /// One write, made again if a signal interrupts it.
@@ -190,17 +126,6 @@ impl<'a> RealDepot<'a> {
         self.unread.as_slice()
     }
 
-    /// Keeps a file open for the appends that follow, if there is memory for its name. If there is none, the next append
-    /// opens it again.
-    fn keep_open(&mut self, name: &str, file: File)
-        ensures { self.new ≡ self.old }
-    {
-        self.open = match String::from_str(self.alloc, name) {
-            Ok(name) => Some(OpenOutput { name, file }),
-            Err(_) => None,
-        };
-    }
-
     /// Writes some of a piece to the end of the file of this name.
     fn write_to(&mut self, name: &str, piece: &[u8]) -> io::Result<usize>
         ensures most { IfOk result (λ n. n ≤ length piece.now) }
@@ -211,9 +136,9 @@ impl<'a> RealDepot<'a> {
                 return write_some(&mut open.file, piece);
             }
         }
-        let mut file = at_end(self.rt, name)?;
-        let written = write_some(&mut file, piece)?;
-        self.keep_open(name, file);
+        let mut output = at_end(self.rt, name)?;
+        let written = write_some(&mut output.file, piece)?;
+        self.open = Some(output);
         Ok(written)
     }
 }
@@ -243,17 +168,19 @@ impl Depot for RealDepot<'_> {
         Err(LoadStop::Failed)
     }
 
-    /// A new file gets the permissions 0755 or 0644, less the umask. One that is there is emptied in place, and an
-    /// executable may then be run by those who may read it.
+    /// The file is a new one, with the permissions 0755 or 0644, less the umask. A regular file that is there makes way for
+    /// it: its other names and those who have it open keep it. A symbolic link, a device or a FIFO is written in place; a
+    /// file to which a link leads may then be run by those who may read it, if it is begun as an executable. A begin that
+    /// fails leaves what is there. Takes no memory.
     fn begin(&mut self, name: &str, kind: FileKind) -> Result<(), Failed>
         ensures after { self.new ≡ after_begin self.old result }
     {
         self.begun = self.begun.saturating_add(1);
-        let Ok(file) = emptied(self.rt, name, kind) else {
+        let Ok(output) = begun(self.rt, name, kind) else {
             self.faults = self.faults.saturating_add(1);
             return Err(Failed);
         };
-        self.keep_open(name, file);
+        self.open = Some(output);
         Ok(())
     }
 

@@ -2,38 +2,82 @@
 use crate::{RealDepot, StdSink, Stream};
 use lk_depot::{Depot, Failed, FileKind, LoadStop, put_all, say_all};
 use std::alloc::{AllocError, Global};
-use std::os::unix::fs::PermissionsExt;
+use std::fs::{File, Permissions};
+use std::io::Read;
+use std::os::unix::fs::{FileTypeExt, MetadataExt, PermissionsExt, symlink};
 use std::test::Fail;
-use std::{env, fs, process};
+use std::{env, fs, io, process};
 
 fn joined(alloc: Global, folder: &str, name: &str) -> Result<String, AllocError> {
     format!(in alloc; "{folder}/{name}")
 }
 
+/// A new folder of this test's own.
+fn made_folder(rt: &HostRuntime, alloc: Global, test: &str) -> io::Result<String> {
+    let pid = process::id(rt.process());
+    let folder = format!(in alloc; "{}/lk_real_{test}_{pid}", env::temp_dir(rt)?.as_str())?;
+    fs::create_dir(rt, folder.as_str())?;
+    Ok(folder)
+}
+
+/// Makes a file without a depot.
+fn stands(rt: &HostRuntime, name: &str, bytes: &[u8], mode: u32) -> io::Result<()> {
+    fs::write(rt, name, bytes)?;
+    fs::set_permissions(rt, name, Permissions::from_mode(mode))
+}
+
+/// Begins a file and writes it whole.
+fn is_written(depot: &mut RealDepot<'_>, name: &str, kind: FileKind, bytes: &[u8]) -> bool {
+    depot.begin(name, kind).is_ok() && put_all(depot, name, bytes).is_ok()
+}
+
+/// Whether the file of this name holds exactly these bytes.
+fn holds(rt: &HostRuntime, name: &str, bytes: &[u8]) -> bool {
+    fs::read(rt, name).is_ok_and(|found| found.as_slice() == bytes)
+}
+
+/// The permissions of the file of this name, 0 if there is none.
+fn mode_of(rt: &HostRuntime, name: &str) -> u32 {
+    match fs::metadata(rt, name) {
+        Ok(found) => found.permissions().mode() & 0o7777,
+        Err(_) => 0,
+    }
+}
+
+/// How many names a folder has.
+fn names_in(rt: &HostRuntime, folder: &str) -> io::Result<usize> {
+    let mut names = 0usize;
+    for entry in fs::read_dir(rt, folder)? {
+        entry?;
+        names = names.saturating_add(1);
+    }
+    Ok(names)
+}
+
 #[test]
 fn files_are_made_written_and_read(rt: HostRuntime) -> Result<(), Fail> {
     let alloc = rt.alloc();
-    let pid = process::id(rt.process());
-    let folder = format!(in alloc; "{}/lk_real_{pid}", env::temp_dir(&rt)?.as_str())?;
-    fs::create_dir(&rt, folder.as_str())?;
+    let folder = made_folder(&rt, alloc, "made")?;
     let program = joined(alloc, folder.as_str(), "program")?;
     let notes = joined(alloc, folder.as_str(), "notes")?;
     let nowhere = joined(alloc, folder.as_str(), "nowhere/program")?;
     let mut depot = RealDepot::new(&rt, alloc);
 
     // An executable is made, and may be run; the map beside it may not.
-    assert_eq!(rt; depot.begin(program.as_str(), FileKind::Executable), Ok(()));
-    assert_eq!(rt;
-        put_all(&mut depot, program.as_str(), b"first text"),
-        Ok(())
+    assert!(rt;
+        is_written(
+            &mut depot,
+            program.as_str(),
+            FileKind::Executable,
+            b"first text"
+        )
     );
-    assert_eq!(rt; depot.begin(notes.as_str(), FileKind::Plain), Ok(()));
-    assert_eq!(rt; put_all(&mut depot, notes.as_str(), b"note"), Ok(()));
+    assert!(rt; is_written(&mut depot, notes.as_str(), FileKind::Plain, b"note"));
     // Whoever may read the plain file may read the program, and run it.
-    let plain = fs::metadata(&rt, notes.as_str())?.permissions().mode() & 0o777;
-    assert_eq!(rt; plain & 0o733, 0o600);
+    let plain = mode_of(&rt, notes.as_str());
+    assert_eq!(rt; plain & 0o7733, 0o600);
     assert_eq!(rt;
-        fs::metadata(&rt, program.as_str())?.permissions().mode() & 0o777,
+        mode_of(&rt, program.as_str()),
         plain | ((plain & 0o444) >> 2)
     );
 
@@ -47,20 +91,8 @@ fn files_are_made_written_and_read(rt: HostRuntime) -> Result<(), Fail> {
         depot.load(alloc, program.as_str()).is_ok_and(|bytes| bytes.as_slice()
             == b"first text, and more!".as_slice())
     );
-
-    // A file that is there is emptied, and one that could not be run may be.
-    assert_eq!(rt; depot.begin(notes.as_str(), FileKind::Executable), Ok(()));
-    assert!(rt;
-        depot
-            .load(alloc, notes.as_str())
-            .is_ok_and(|bytes| bytes.is_empty())
-    );
-    assert_eq!(rt;
-        fs::metadata(&rt, notes.as_str())?.permissions().mode() & 0o100,
-        0o100
-    );
     assert_eq!(rt; depot.faults(), 0);
-    assert_eq!(rt; depot.begun(), 3);
+    assert_eq!(rt; depot.begun(), 2);
 
     // The end of these is not found by seeking.
     assert!(rt;
@@ -89,9 +121,162 @@ fn files_are_made_written_and_read(rt: HostRuntime) -> Result<(), Fail> {
     assert_eq!(rt; depot.begin(folder.as_str(), FileKind::Plain), Err(Failed));
     assert_eq!(rt; depot.append(nowhere.as_str(), b"x"), Err(Failed));
     assert_eq!(rt; depot.faults(), 5);
-    assert_eq!(rt; depot.begun(), 5);
+    assert_eq!(rt; depot.begun(), 4);
     assert_eq!(rt; depot.unread().len(), 2);
     assert_eq!(rt; depot.unread()[0].as_str(), nowhere.as_str());
+    fs::remove_dir_all(&rt, folder.as_str())?;
+    Ok(())
+}
+
+/// Writes an executable where a file stands that has one more name, is open, and may not be written to. Whether the executable
+/// is whole, and the other name and whoever has the file open, as the system has what it runs, keep the old one.
+fn is_replaced(rt: &HostRuntime, alloc: Global, program: &str, linked: &str) -> io::Result<bool> {
+    stands(rt, program, b"the old program", 0o400)?;
+    fs::hard_link(rt, program, linked)?;
+    let mut opened = File::open(rt, program)?;
+    let mut depot = RealDepot::new(rt, alloc);
+    let written = is_written(&mut depot, program, FileKind::Executable, b"new");
+    let mut bytes = Vec::new(alloc);
+    opened.read_to_end(&mut bytes)?;
+    Ok(
+        written
+            && holds(rt, program, b"new")
+            && holds(rt, linked, b"the old program")
+            && mode_of(rt, linked) == 0o400
+            && bytes.as_slice() == b"the old program".as_slice(),
+    )
+}
+
+#[test]
+fn a_file_that_is_there_makes_way(rt: HostRuntime) -> Result<(), Fail> {
+    let alloc = rt.alloc();
+    let folder = made_folder(&rt, alloc, "replaced")?;
+    let program = joined(alloc, folder.as_str(), "program")?;
+    let linked = joined(alloc, folder.as_str(), "linked")?;
+    assert!(rt; is_replaced(&rt, alloc, program.as_str(), linked.as_str())?);
+    // The permissions are a new file's, for a plain one that takes the place of an executable, too.
+    let executable = mode_of(&rt, program.as_str());
+    let mut depot = RealDepot::new(&rt, alloc);
+    assert!(rt; is_written(&mut depot, program.as_str(), FileKind::Plain, b""));
+    let plain = mode_of(&rt, program.as_str());
+    assert_eq!(rt; plain & 0o7733, 0o600);
+    assert_eq!(rt; executable, plain | ((plain & 0o444) >> 2));
+    // Nothing else is left.
+    assert_eq!(rt; names_in(&rt, folder.as_str())?, 2);
+    fs::remove_dir_all(&rt, folder.as_str())?;
+    Ok(())
+}
+
+/// Writes to a link. Whether it stays one, and the file to which it leads is the same one, with other bytes, and may be run.
+fn is_link_kept(rt: &HostRuntime, alloc: Global, link: &str, target: &str) -> io::Result<bool> {
+    stands(rt, target, b"the old program", 0o640)?;
+    symlink(rt, target, link)?;
+    let file = fs::metadata(rt, target)?.ino();
+    let mut depot = RealDepot::new(rt, alloc);
+    let written = is_written(&mut depot, link, FileKind::Executable, b"new");
+    Ok(
+        written
+            && fs::symlink_metadata(rt, link)?.is_symlink()
+            && fs::metadata(rt, target)?.ino() == file
+            && holds(rt, target, b"new")
+            && mode_of(rt, target) == 0o750,
+    )
+}
+
+/// Writes to a link that leads nowhere. Whether the file is made.
+fn is_target_made(rt: &HostRuntime, alloc: Global, link: &str, target: &str) -> io::Result<bool> {
+    fs::remove_file(rt, target)?;
+    let mut depot = RealDepot::new(rt, alloc);
+    Ok(is_written(&mut depot, link, FileKind::Plain, b"made") && holds(rt, target, b"made"))
+}
+
+#[test]
+fn links_and_devices_are_written_in_place(rt: HostRuntime) -> Result<(), Fail> {
+    let alloc = rt.alloc();
+    let folder = made_folder(&rt, alloc, "in_place")?;
+    let target = joined(alloc, folder.as_str(), "target")?;
+    let link = joined(alloc, folder.as_str(), "link")?;
+    assert!(rt; is_link_kept(&rt, alloc, link.as_str(), target.as_str())?);
+    assert!(rt; is_target_made(&rt, alloc, link.as_str(), target.as_str())?);
+    assert_eq!(rt; names_in(&rt, folder.as_str())?, 2);
+    fs::remove_dir_all(&rt, folder.as_str())?;
+    let mut depot = RealDepot::new(&rt, alloc);
+    assert!(rt; is_written(&mut depot, "/dev/null", FileKind::Executable, b"nothing"));
+    let device = fs::symlink_metadata(&rt, "/dev/null")?;
+    assert!(rt; device.file_type().is_char_device());
+    Ok(())
+}
+
+/// Whether a begin of the file of this name fails.
+fn is_refused(depot: &mut RealDepot<'_>, name: &str) -> bool {
+    depot.begin(name, FileKind::Executable).is_err()
+}
+
+#[test]
+fn a_begin_that_fails_leaves_what_was_there(rt: HostRuntime) -> Result<(), Fail> {
+    let alloc = rt.alloc();
+    let folder = made_folder(&rt, alloc, "failed")?;
+    let program = joined(alloc, folder.as_str(), "program")?;
+    stands(&rt, program.as_str(), b"the old program", 0o666)?;
+    let mut depot = RealDepot::new(&rt, alloc);
+
+    // The file can be reached by this path, but there is none to a name beside it, which is longer.
+    let mut long = String::from_str(alloc, folder.as_str())?;
+    for _ in long.len()..4086 {
+        long.push('/')?;
+    }
+    long.push_str("program")?;
+    assert!(rt; holds(&rt, long.as_str(), b"the old program"));
+    assert!(rt; is_refused(&mut depot, long.as_str()));
+    assert!(rt; holds(&rt, program.as_str(), b"the old program"));
+    assert_eq!(rt; mode_of(&rt, program.as_str()), 0o666);
+    assert_eq!(rt; names_in(&rt, folder.as_str())?, 1);
+    assert_eq!(rt; depot.faults(), 1);
+    fs::remove_dir_all(&rt, folder.as_str())?;
+    Ok(())
+}
+
+#[test]
+fn a_file_stays_if_its_folder_takes_no_other(rt: HostRuntime) -> Result<(), Fail> {
+    let alloc = rt.alloc();
+    let folder = made_folder(&rt, alloc, "closed")?;
+    let program = joined(alloc, folder.as_str(), "program")?;
+    let other = joined(alloc, folder.as_str(), "other")?;
+    stands(&rt, program.as_str(), b"the old program", 0o666)?;
+    fs::set_permissions(&rt, folder.as_str(), Permissions::from_mode(0o555))?;
+    let mut depot = RealDepot::new(&rt, alloc);
+    // Root may make files anywhere.
+    if File::create_new(&rt, other.as_str()).is_err() {
+        assert!(rt; is_refused(&mut depot, program.as_str()));
+        assert!(rt; holds(&rt, program.as_str(), b"the old program"));
+    }
+    fs::set_permissions(&rt, folder.as_str(), Permissions::from_mode(0o700))?;
+    fs::remove_dir_all(&rt, folder.as_str())?;
+    Ok(())
+}
+
+/// Two depots write one file at once, the second of which begins it last.
+fn write_in_turns(first: &mut RealDepot<'_>, second: &mut RealDepot<'_>, name: &str) -> bool {
+    is_written(first, name, FileKind::Executable, b"the first ")
+        && is_written(second, name, FileKind::Executable, b"the ")
+        && put_all(first, name, b"of two ").is_ok()
+        && put_all(second, name, b"second").is_ok()
+        && put_all(first, name, b"depots").is_ok()
+}
+
+#[test]
+fn of_two_at_once_one_is_left_whole(rt: HostRuntime) -> Result<(), Fail> {
+    let alloc = rt.alloc();
+    let folder = made_folder(&rt, alloc, "two")?;
+    let program = joined(alloc, folder.as_str(), "program")?;
+    let mut first = RealDepot::new(&rt, alloc);
+    let mut second = RealDepot::new(&rt, alloc);
+    assert!(rt; write_in_turns(&mut first, &mut second, program.as_str()));
+    assert!(rt; holds(&rt, program.as_str(), b"the second"));
+    // The same where a file stands there first.
+    assert!(rt; write_in_turns(&mut second, &mut first, program.as_str()));
+    assert!(rt; holds(&rt, program.as_str(), b"the second"));
+    assert_eq!(rt; names_in(&rt, folder.as_str())?, 1);
     fs::remove_dir_all(&rt, folder.as_str())?;
     Ok(())
 }

@@ -7,6 +7,7 @@ mod items;
 mod jumps;
 mod keeping;
 mod members;
+mod settling;
 mod solving;
 
 pub use keeping::sizes;

@@ -4,6 +4,7 @@ ghost use Rattle.std.specs.Prelude.{◌≡◌, ◌*◌, ◌<◌, ◌≤◌, ◌^
 ghost use Rattle.relax.specs.Jumps as spec;
 
 use crate::jumps::{Jump, Point};
+use crate::settling::settle;
 use std::alloc::{AllocError, Global};
 
 /// The sizes after a round, and whether one rose.
@@ -26,6 +27,7 @@ pub fn least_sizes(alloc: Global, jumps: &[Jump]) -> Result<Vec<u64>, AllocError
             return Ok(sizes);
         }
         sizes = next.sizes;
+        settle(alloc, jumps, &mut sizes)?;
     }
 }
 
@@ -62,7 +64,7 @@ fn next_round(alloc: Global, jumps: &[Jump], sizes: &[u64]) -> Result<Round, All
 }
 
 /// The next size, if this one does not allow its distance.
-fn raised_size(size: u64, allowed: bool) -> u64
+pub fn raised_size(size: u64, allowed: bool) -> u64
     requires { size ≤ 8 }
     ensures { result ≡ (if allowed then size else 2 * size) }
 {
@@ -73,7 +75,7 @@ fn raised_size(size: u64, allowed: bool) -> u64
 }
 
 /// How many bytes the calls before each lose, and how many all lose.
-fn lost_sums(alloc: Global, sizes: &[u64]) -> Result<Vec<u128>, AllocError>
+pub fn lost_sums(alloc: Global, sizes: &[u64]) -> Result<Vec<u128>, AllocError>
     ensures { IfOk result (λ sums. sums.items ≡ spec.lost_sums sizes.now) }
 {
     let mut sums = Vec::with_capacity(alloc, sizes.len().saturating_add(1))?;
@@ -88,7 +90,7 @@ fn lost_sums(alloc: Global, sizes: &[u64]) -> Result<Vec<u128>, AllocError>
 
 /// Whether a size allows a jump of so many bytes.
 #[tactic(auto, unfolding(crate::specs::Jumps::allows))]
-fn allows(size: u64, jump: &Jump, bytes: u128) -> bool
+pub fn allows(size: u64, jump: &Jump, bytes: u128) -> bool
     ensures { result ≡ spec.allows size jump.now.forwards bytes }
 {
     if size == 2 {
@@ -102,7 +104,7 @@ fn allows(size: u64, jump: &Jump, bytes: u128) -> bool
 
 /// The bytes between the points of a jump.
 #[tactic(auto, unfolding(crate::specs::Jumps::jump_bytes))]
-fn bytes_of(jump: &Jump, sizes: &[u64], lost: &[u128]) -> u128
+pub fn bytes_of(jump: &Jump, sizes: &[u64], lost: &[u128]) -> u128
     requires jump { spec.IsJump (length sizes.now) jump.now }
     requires lost { lost.now ≡ spec.lost_sums sizes.now }
     ensures { result ≡ spec.jump_bytes sizes.now jump.now }

@@ -87,3 +87,35 @@ fn tail_call(rt: HostRuntime) -> Result<(), Fail> {
     }
     Ok(())
 }
+
+/// So many calls, of which each goes over one other and must have eight bytes once that one has: forwards over the next one, or back over the
+/// one before; the last or the first goes too far from the start.
+fn chain(alloc: Global, count: usize, forwards: bool) -> Result<Vec<Jump>, AllocError> {
+    let mut jumps = Vec::with_capacity(alloc, count)?;
+    for k in 0..count {
+        let ends = if forwards { k + 1 == count } else { k == 0 };
+        let most: u128 = if forwards { 1_048_582 } else { 1_048_580 };
+        let low = if forwards || k == 0 { k } else { k - 1 };
+        let high = if forwards { (k + 2).min(count) } else { k };
+        jumps.push(Jump {
+            low: point(0, low),
+            high: point(if ends { 4_000_000 } else { most }, high.max(low + 1)),
+            forwards,
+            least: 4,
+        })?;
+    }
+    Ok(jumps)
+}
+
+/// A chain of calls of which each raises the next.
+#[test]
+fn chain_of_calls(rt: HostRuntime) -> Result<(), Fail> {
+    for forwards in [true, false] {
+        let jumps = chain(rt.alloc(), 10_000, forwards)?;
+        let found = sizes(rt.alloc(), jumps.as_slice())?;
+        for size in found.iter() {
+            assert_eq!(rt; *size, 8);
+        }
+    }
+    Ok(())
+}

@@ -1,6 +1,13 @@
-//! Fields at their ends, in the words that GNU as makes of the same instructions.
+//! Fields at their ends, and the bytes that GNU as makes of the same instructions and numbers.
+
+mod encodings;
 
 use crate::{cj, fits, jal, nops, patch};
+use encodings::{
+    ADDRESS, BRANCH, BYTE, CALL, DISTANCE, DOUBLEWORD, HALF, JUMP, LOW, LOW_OF_FLOAT_STORE,
+    LOW_OF_LOAD, LOW_OF_STORE, OTHER_BRANCH, OTHER_JUMP, OTHER_SHORT_BRANCH, OTHER_SIX,
+    SHORT_BRANCH, SHORT_JUMP, SIX, TAIL_CALL, UPPER, UPPER_HERE, WORD,
+};
 use lk_base::Misfit;
 use lk_base::abi::{
     R_RISCV_32, R_RISCV_32_PCREL, R_RISCV_64, R_RISCV_ADD8, R_RISCV_ADD16, R_RISCV_ADD32,
@@ -13,655 +20,445 @@ use lk_base::abi::{
 };
 use lk_base::relocations::{has_value, kind_of};
 
-#[derive(Drop)]
-struct FitRow {
-    kind: u32,
+/// A value, and a place that holds it.
+#[derive(Clone, Copy)]
+struct Encoding {
     v: i128,
-    misfit: Option<Misfit>,
+    place: u64,
 }
 
-fn fit(kind: u32, v: i128, misfit: Option<Misfit>) -> FitRow {
-    FitRow { kind, v, misfit }
+/// Kinds of relocations, and places that hold values of them.
+#[derive(Clone, Copy)]
+struct Field {
+    kinds: &'static [u32],
+    rows: &'static [Encoding],
 }
 
-#[derive(Drop)]
-struct PatchRow {
-    kind: u32,
-    v: i128,
-    old: &'static [u8],
-    new: &'static [u8],
+/// Kinds of relocations with the values that fit, those that are odd where an even one is needed, and those out of reach.
+#[derive(Clone, Copy)]
+struct Reach {
+    kinds: &'static [u32],
+    fit: &'static [i128],
+    odd: &'static [i128],
+    out: &'static [i128],
 }
 
-fn put(kind: u32, v: i128, old: &'static [u8], new: &'static [u8]) -> PatchRow {
-    PatchRow { kind, v, old, new }
+const LOW_I: &[u32] = &[R_RISCV_PCREL_LO12_I, R_RISCV_LO12_I, R_RISCV_TPREL_LO12_I];
+
+const LOW_S: &[u32] = &[R_RISCV_PCREL_LO12_S, R_RISCV_LO12_S, R_RISCV_TPREL_LO12_S];
+
+const CALLS: &[u32] = &[R_RISCV_CALL, R_RISCV_CALL_PLT];
+
+const FIELDS: [Field; 23] = [
+    Field {
+        kinds: &[R_RISCV_BRANCH],
+        rows: BRANCH,
+    },
+    Field {
+        kinds: &[R_RISCV_BRANCH],
+        rows: OTHER_BRANCH,
+    },
+    Field {
+        kinds: &[R_RISCV_JAL],
+        rows: JUMP,
+    },
+    Field {
+        kinds: &[R_RISCV_JAL],
+        rows: OTHER_JUMP,
+    },
+    Field {
+        kinds: &[R_RISCV_RVC_BRANCH],
+        rows: SHORT_BRANCH,
+    },
+    Field {
+        kinds: &[R_RISCV_RVC_BRANCH],
+        rows: OTHER_SHORT_BRANCH,
+    },
+    Field {
+        kinds: &[R_RISCV_RVC_JUMP],
+        rows: SHORT_JUMP,
+    },
+    Field {
+        kinds: &[R_RISCV_HI20, R_RISCV_TPREL_HI20],
+        rows: UPPER,
+    },
+    Field {
+        kinds: &[
+            R_RISCV_GOT_HI20,
+            R_RISCV_TLS_GOT_HI20,
+            R_RISCV_TLS_GD_HI20,
+            R_RISCV_PCREL_HI20,
+        ],
+        rows: UPPER_HERE,
+    },
+    Field {
+        kinds: LOW_I,
+        rows: LOW,
+    },
+    Field {
+        kinds: LOW_I,
+        rows: LOW_OF_LOAD,
+    },
+    Field {
+        kinds: LOW_S,
+        rows: LOW_OF_STORE,
+    },
+    Field {
+        kinds: LOW_S,
+        rows: LOW_OF_FLOAT_STORE,
+    },
+    Field {
+        kinds: CALLS,
+        rows: CALL,
+    },
+    Field {
+        kinds: CALLS,
+        rows: TAIL_CALL,
+    },
+    Field {
+        kinds: &[R_RISCV_ADD8, R_RISCV_SUB8, R_RISCV_SET8],
+        rows: BYTE,
+    },
+    Field {
+        kinds: &[R_RISCV_ADD16, R_RISCV_SUB16, R_RISCV_SET16],
+        rows: HALF,
+    },
+    Field {
+        kinds: &[R_RISCV_ADD32, R_RISCV_SUB32, R_RISCV_SET32],
+        rows: WORD,
+    },
+    Field {
+        kinds: &[R_RISCV_64, R_RISCV_ADD64, R_RISCV_SUB64],
+        rows: DOUBLEWORD,
+    },
+    Field {
+        kinds: &[R_RISCV_32],
+        rows: ADDRESS,
+    },
+    Field {
+        kinds: &[R_RISCV_32_PCREL],
+        rows: DISTANCE,
+    },
+    Field {
+        kinds: &[R_RISCV_SUB6, R_RISCV_SET6],
+        rows: SIX,
+    },
+    Field {
+        kinds: &[R_RISCV_SUB6, R_RISCV_SET6],
+        rows: OTHER_SIX,
+    },
+];
+
+const REACHES: [Reach; 8] = [
+    Reach {
+        kinds: &[R_RISCV_BRANCH],
+        fit: &[-4096, -4094, -2, 0, 2, 4092, 4094],
+        odd: &[
+            i128::MIN + 1,
+            -4099,
+            -4097,
+            -4095,
+            -1,
+            1,
+            4093,
+            4095,
+            4097,
+            i128::MAX,
+        ],
+        out: &[
+            i128::MIN,
+            -18446744073709551618,
+            -4098,
+            4096,
+            18446744073709551618,
+            i128::MAX - 1,
+        ],
+    },
+    Reach {
+        kinds: &[R_RISCV_JAL],
+        fit: &[-1048576, -1048574, -2, 0, 2, 1048572, 1048574],
+        odd: &[
+            i128::MIN + 1,
+            -1048579,
+            -1048577,
+            -1048575,
+            -1,
+            1,
+            1048573,
+            1048575,
+            1048577,
+            i128::MAX,
+        ],
+        out: &[
+            i128::MIN,
+            -18446744073709551618,
+            -1048578,
+            1048576,
+            18446744073709551618,
+            i128::MAX - 1,
+        ],
+    },
+    Reach {
+        kinds: &[R_RISCV_RVC_BRANCH],
+        fit: &[-256, -254, -2, 0, 2, 252, 254],
+        odd: &[
+            i128::MIN + 1,
+            -259,
+            -257,
+            -255,
+            -1,
+            1,
+            253,
+            255,
+            257,
+            i128::MAX,
+        ],
+        out: &[
+            i128::MIN,
+            -18446744073709551618,
+            -258,
+            256,
+            18446744073709551618,
+            i128::MAX - 1,
+        ],
+    },
+    Reach {
+        kinds: &[R_RISCV_RVC_JUMP],
+        fit: &[-2048, -2046, -2, 0, 2, 2044, 2046],
+        odd: &[
+            i128::MIN + 1,
+            -2051,
+            -2049,
+            -2047,
+            -1,
+            1,
+            2045,
+            2047,
+            2049,
+            i128::MAX,
+        ],
+        out: &[
+            i128::MIN,
+            -18446744073709551618,
+            -2050,
+            2048,
+            18446744073709551618,
+            i128::MAX - 1,
+        ],
+    },
+    Reach {
+        kinds: &[
+            R_RISCV_CALL,
+            R_RISCV_CALL_PLT,
+            R_RISCV_GOT_HI20,
+            R_RISCV_TLS_GOT_HI20,
+            R_RISCV_TLS_GD_HI20,
+            R_RISCV_PCREL_HI20,
+            R_RISCV_HI20,
+            R_RISCV_TPREL_HI20,
+        ],
+        fit: &[-2147485696, -2147485695, -1, 0, 1, 2147481598, 2147481599],
+        odd: &[],
+        out: &[
+            i128::MIN,
+            -18446744073709551616,
+            -2147485697,
+            2147481600,
+            18446744073709551616,
+            i128::MAX,
+        ],
+    },
+    Reach {
+        kinds: &[R_RISCV_32],
+        fit: &[
+            -2147483648,
+            -2147483647,
+            -1,
+            0,
+            1,
+            2147483647,
+            2147483648,
+            4294967294,
+            4294967295,
+        ],
+        odd: &[],
+        out: &[
+            i128::MIN,
+            -18446744073709551616,
+            -4294967295,
+            -2147483649,
+            4294967296,
+            18446744073709551616,
+            i128::MAX,
+        ],
+    },
+    Reach {
+        kinds: &[R_RISCV_32_PCREL],
+        fit: &[-2147483648, -2147483647, -1, 0, 1, 2147483646, 2147483647],
+        odd: &[],
+        out: &[
+            i128::MIN,
+            -18446744073709551616,
+            -2147483649,
+            2147483648,
+            4294967295,
+            18446744073709551616,
+            i128::MAX,
+        ],
+    },
+    Reach {
+        kinds: &[
+            R_RISCV_64,
+            R_RISCV_PCREL_LO12_I,
+            R_RISCV_PCREL_LO12_S,
+            R_RISCV_LO12_I,
+            R_RISCV_LO12_S,
+            R_RISCV_TPREL_LO12_I,
+            R_RISCV_TPREL_LO12_S,
+            R_RISCV_ADD8,
+            R_RISCV_ADD16,
+            R_RISCV_ADD32,
+            R_RISCV_ADD64,
+            R_RISCV_SUB8,
+            R_RISCV_SUB16,
+            R_RISCV_SUB32,
+            R_RISCV_SUB64,
+            R_RISCV_SUB6,
+            R_RISCV_SET6,
+            R_RISCV_SET8,
+            R_RISCV_SET16,
+            R_RISCV_SET32,
+        ],
+        fit: &[
+            i128::MIN,
+            -18446744073709551617,
+            -129,
+            -1,
+            0,
+            63,
+            64,
+            255,
+            256,
+            4095,
+            4096,
+            65536,
+            4294967296,
+            18446744073709551616,
+            i128::MAX,
+        ],
+        odd: &[],
+        out: &[],
+    },
+];
+
+/// Why a value is refused, if it is.
+fn misfit(kind: u32, v: i128) -> Option<Misfit> {
+    if !has_value(kind) {
+        return None;
+    }
+    fits(kind, v).err()
 }
 
-// Whether a patch of the row's old bytes makes its new ones.
-fn is_met(row: &PatchRow) -> bool {
-    let count = row.old.len();
-    if count > 8 || !has_value(row.kind) {
+/// Whether the patch of a place makes the row's.
+fn is_met(kind: u32, old: u64, row: Encoding) -> bool {
+    let width = kind_of(kind).width;
+    if width > 8 || !has_value(kind) || fits(kind, row.v).is_err() {
         return false;
     }
-    if kind_of(row.kind).width != count as u64 || fits(row.kind, row.v).is_err() {
-        return false;
-    }
-    let mut bytes = [0u8; 8];
-    let place = &mut bytes[..count];
-    place.copy_from_slice(row.old);
-    patch(row.kind, place, row.v);
-    &*place == row.new
+    let mut bytes = old.to_le_bytes();
+    patch(kind, &mut bytes[..width as usize], row.v);
+    u64::from_le_bytes(bytes) == row.place
 }
 
 #[test]
-fn values_at_the_ends(rt: HostRuntime) {
-    let rows = [
-        fit(R_RISCV_32, -2147483648, None),
-        fit(R_RISCV_32, 4294967295, None),
-        fit(R_RISCV_32, -2147483649, Some(Misfit::Range)),
-        fit(R_RISCV_32, 4294967296, Some(Misfit::Range)),
-        fit(R_RISCV_32_PCREL, -2147483648, None),
-        fit(R_RISCV_32_PCREL, 2147483647, None),
-        fit(R_RISCV_32_PCREL, -2147483649, Some(Misfit::Range)),
-        fit(R_RISCV_32_PCREL, 2147483648, Some(Misfit::Range)),
-        fit(R_RISCV_BRANCH, -4096, None),
-        fit(R_RISCV_BRANCH, 4094, None),
-        fit(R_RISCV_BRANCH, -4098, Some(Misfit::Range)),
-        fit(R_RISCV_BRANCH, 4096, Some(Misfit::Range)),
-        fit(R_RISCV_BRANCH, -4097, Some(Misfit::Odd)),
-        fit(R_RISCV_BRANCH, 3, Some(Misfit::Odd)),
-        fit(R_RISCV_JAL, -1048576, None),
-        fit(R_RISCV_JAL, 1048574, None),
-        fit(R_RISCV_JAL, -1048578, Some(Misfit::Range)),
-        fit(R_RISCV_JAL, 1048576, Some(Misfit::Range)),
-        fit(R_RISCV_JAL, -1048577, Some(Misfit::Odd)),
-        fit(R_RISCV_JAL, 3, Some(Misfit::Odd)),
-        fit(R_RISCV_RVC_BRANCH, -256, None),
-        fit(R_RISCV_RVC_BRANCH, 254, None),
-        fit(R_RISCV_RVC_BRANCH, -258, Some(Misfit::Range)),
-        fit(R_RISCV_RVC_BRANCH, 256, Some(Misfit::Range)),
-        fit(R_RISCV_RVC_BRANCH, -257, Some(Misfit::Odd)),
-        fit(R_RISCV_RVC_BRANCH, 3, Some(Misfit::Odd)),
-        fit(R_RISCV_RVC_JUMP, -2048, None),
-        fit(R_RISCV_RVC_JUMP, 2046, None),
-        fit(R_RISCV_RVC_JUMP, -2050, Some(Misfit::Range)),
-        fit(R_RISCV_RVC_JUMP, 2048, Some(Misfit::Range)),
-        fit(R_RISCV_RVC_JUMP, -2049, Some(Misfit::Odd)),
-        fit(R_RISCV_RVC_JUMP, 3, Some(Misfit::Odd)),
-        fit(R_RISCV_CALL, -2147485696, None),
-        fit(R_RISCV_CALL, 2147481599, None),
-        fit(R_RISCV_CALL, -2147485697, Some(Misfit::Range)),
-        fit(R_RISCV_CALL, 2147481600, Some(Misfit::Range)),
-        fit(R_RISCV_CALL_PLT, -2147485696, None),
-        fit(R_RISCV_CALL_PLT, 2147481599, None),
-        fit(R_RISCV_CALL_PLT, -2147485697, Some(Misfit::Range)),
-        fit(R_RISCV_CALL_PLT, 2147481600, Some(Misfit::Range)),
-        fit(R_RISCV_GOT_HI20, -2147485696, None),
-        fit(R_RISCV_GOT_HI20, 2147481599, None),
-        fit(R_RISCV_GOT_HI20, -2147485697, Some(Misfit::Range)),
-        fit(R_RISCV_GOT_HI20, 2147481600, Some(Misfit::Range)),
-        fit(R_RISCV_TLS_GOT_HI20, -2147485696, None),
-        fit(R_RISCV_TLS_GOT_HI20, 2147481599, None),
-        fit(R_RISCV_TLS_GOT_HI20, -2147485697, Some(Misfit::Range)),
-        fit(R_RISCV_TLS_GOT_HI20, 2147481600, Some(Misfit::Range)),
-        fit(R_RISCV_TLS_GD_HI20, -2147485696, None),
-        fit(R_RISCV_TLS_GD_HI20, 2147481599, None),
-        fit(R_RISCV_TLS_GD_HI20, -2147485697, Some(Misfit::Range)),
-        fit(R_RISCV_TLS_GD_HI20, 2147481600, Some(Misfit::Range)),
-        fit(R_RISCV_PCREL_HI20, -2147485696, None),
-        fit(R_RISCV_PCREL_HI20, 2147481599, None),
-        fit(R_RISCV_PCREL_HI20, -2147485697, Some(Misfit::Range)),
-        fit(R_RISCV_PCREL_HI20, 2147481600, Some(Misfit::Range)),
-        fit(R_RISCV_HI20, -2147485696, None),
-        fit(R_RISCV_HI20, 2147481599, None),
-        fit(R_RISCV_HI20, -2147485697, Some(Misfit::Range)),
-        fit(R_RISCV_HI20, 2147481600, Some(Misfit::Range)),
-        fit(R_RISCV_TPREL_HI20, -2147485696, None),
-        fit(R_RISCV_TPREL_HI20, 2147481599, None),
-        fit(R_RISCV_TPREL_HI20, -2147485697, Some(Misfit::Range)),
-        fit(R_RISCV_TPREL_HI20, 2147481600, Some(Misfit::Range)),
-        fit(R_RISCV_64, 170141183460469231731687303715884105727, None),
-        fit(R_RISCV_64, -170141183460469231731687303715884105728, None),
-        fit(
-            R_RISCV_PCREL_LO12_I,
-            170141183460469231731687303715884105727,
-            None,
-        ),
-        fit(
-            R_RISCV_PCREL_LO12_I,
-            -170141183460469231731687303715884105728,
-            None,
-        ),
-        fit(
-            R_RISCV_PCREL_LO12_S,
-            170141183460469231731687303715884105727,
-            None,
-        ),
-        fit(
-            R_RISCV_PCREL_LO12_S,
-            -170141183460469231731687303715884105728,
-            None,
-        ),
-        fit(
-            R_RISCV_LO12_I,
-            170141183460469231731687303715884105727,
-            None,
-        ),
-        fit(
-            R_RISCV_LO12_I,
-            -170141183460469231731687303715884105728,
-            None,
-        ),
-        fit(
-            R_RISCV_LO12_S,
-            170141183460469231731687303715884105727,
-            None,
-        ),
-        fit(
-            R_RISCV_LO12_S,
-            -170141183460469231731687303715884105728,
-            None,
-        ),
-        fit(
-            R_RISCV_TPREL_LO12_I,
-            170141183460469231731687303715884105727,
-            None,
-        ),
-        fit(
-            R_RISCV_TPREL_LO12_I,
-            -170141183460469231731687303715884105728,
-            None,
-        ),
-        fit(
-            R_RISCV_TPREL_LO12_S,
-            170141183460469231731687303715884105727,
-            None,
-        ),
-        fit(
-            R_RISCV_TPREL_LO12_S,
-            -170141183460469231731687303715884105728,
-            None,
-        ),
-        fit(R_RISCV_ADD8, 170141183460469231731687303715884105727, None),
-        fit(R_RISCV_ADD8, -170141183460469231731687303715884105728, None),
-        fit(R_RISCV_ADD16, 170141183460469231731687303715884105727, None),
-        fit(
-            R_RISCV_ADD16,
-            -170141183460469231731687303715884105728,
-            None,
-        ),
-        fit(R_RISCV_ADD32, 170141183460469231731687303715884105727, None),
-        fit(
-            R_RISCV_ADD32,
-            -170141183460469231731687303715884105728,
-            None,
-        ),
-        fit(R_RISCV_ADD64, 170141183460469231731687303715884105727, None),
-        fit(
-            R_RISCV_ADD64,
-            -170141183460469231731687303715884105728,
-            None,
-        ),
-        fit(R_RISCV_SUB8, 170141183460469231731687303715884105727, None),
-        fit(R_RISCV_SUB8, -170141183460469231731687303715884105728, None),
-        fit(R_RISCV_SUB16, 170141183460469231731687303715884105727, None),
-        fit(
-            R_RISCV_SUB16,
-            -170141183460469231731687303715884105728,
-            None,
-        ),
-        fit(R_RISCV_SUB32, 170141183460469231731687303715884105727, None),
-        fit(
-            R_RISCV_SUB32,
-            -170141183460469231731687303715884105728,
-            None,
-        ),
-        fit(R_RISCV_SUB64, 170141183460469231731687303715884105727, None),
-        fit(
-            R_RISCV_SUB64,
-            -170141183460469231731687303715884105728,
-            None,
-        ),
-        fit(R_RISCV_SUB6, 170141183460469231731687303715884105727, None),
-        fit(R_RISCV_SUB6, -170141183460469231731687303715884105728, None),
-        fit(R_RISCV_SET6, 170141183460469231731687303715884105727, None),
-        fit(R_RISCV_SET6, -170141183460469231731687303715884105728, None),
-        fit(R_RISCV_SET8, 170141183460469231731687303715884105727, None),
-        fit(R_RISCV_SET8, -170141183460469231731687303715884105728, None),
-        fit(R_RISCV_SET16, 170141183460469231731687303715884105727, None),
-        fit(
-            R_RISCV_SET16,
-            -170141183460469231731687303715884105728,
-            None,
-        ),
-        fit(R_RISCV_SET32, 170141183460469231731687303715884105727, None),
-        fit(
-            R_RISCV_SET32,
-            -170141183460469231731687303715884105728,
-            None,
-        ),
-    ];
-    for row in rows.iter() {
-        assert_eq!(rt; has_value(row.kind), true);
-        if has_value(row.kind) {
-            assert_eq!(rt; fits(row.kind, row.v).err(), row.misfit);
+fn the_bytes_of_the_assembler(rt: HostRuntime) {
+    for field in FIELDS.iter() {
+        for kind in field.kinds {
+            let mut old = None;
+            for row in field.rows {
+                assert_eq!(rt;
+                    is_met(*kind, old.unwrap_or(row.place), *row),
+                    true,
+                    "kind {kind}, value {}",
+                    row.v
+                );
+                old = Some(row.place);
+            }
         }
     }
-}
-
-#[test]
-fn words_of_the_assembler(rt: HostRuntime) {
-    let rows = [
-        put(
-            R_RISCV_32,
-            4294967295,
-            b"\x44\x33\x22\x11",
-            b"\xff\xff\xff\xff",
-        ),
-        put(
-            R_RISCV_32,
-            -2147483648,
-            b"\x00\x00\x00\x00",
-            b"\x00\x00\x00\x80",
-        ),
-        put(
-            R_RISCV_64,
-            -2,
-            b"\x88\x77\x66\x55\x44\x33\x22\x11",
-            b"\xfe\xff\xff\xff\xff\xff\xff\xff",
-        ),
-        put(
-            R_RISCV_64,
-            81985529216486895,
-            b"\x00\x00\x00\x00\x00\x00\x00\x00",
-            b"\xef\xcd\xab\x89\x67\x45\x23\x01",
-        ),
-        put(
-            R_RISCV_BRANCH,
-            4094,
-            b"\x63\x00\xb5\x00",
-            b"\xe3\x0f\xb5\x7e",
-        ),
-        put(
-            R_RISCV_BRANCH,
-            -4096,
-            b"\x63\x00\xb5\x00",
-            b"\x63\x00\xb5\x80",
-        ),
-        put(R_RISCV_BRANCH, -8, b"\x63\x00\xb5\x00", b"\xe3\x0c\xb5\xfe"),
-        put(R_RISCV_JAL, 4, b"\xef\x00\x00\x00", b"\xef\x00\x40\x00"),
-        put(
-            R_RISCV_JAL,
-            1048574,
-            b"\xef\x00\x00\x00",
-            b"\xef\xf0\xff\x7f",
-        ),
-        put(
-            R_RISCV_JAL,
-            -1048576,
-            b"\xef\x00\x00\x00",
-            b"\xef\x00\x00\x80",
-        ),
-        put(
-            R_RISCV_CALL,
-            305422335,
-            b"\x17\x03\x00\x00\xe7\x00\x03\x00",
-            b"\x17\x63\x34\x12\xe7\x00\xf3\xff",
-        ),
-        put(
-            R_RISCV_CALL,
-            2147481599,
-            b"\x17\x03\x00\x00\xe7\x00\x03\x00",
-            b"\x17\xf3\xff\x7f\xe7\x00\xf3\x7f",
-        ),
-        put(
-            R_RISCV_CALL_PLT,
-            -2,
-            b"\x17\x03\x00\x00\xe7\x00\x03\x00",
-            b"\x17\x03\x00\x00\xe7\x00\xe3\xff",
-        ),
-        put(
-            R_RISCV_CALL_PLT,
-            -2147485696,
-            b"\x17\x03\x00\x00\xe7\x00\x03\x00",
-            b"\x17\x03\x00\x80\xe7\x00\x03\x80",
-        ),
-        put(
-            R_RISCV_GOT_HI20,
-            305422335,
-            b"\x17\x03\x00\x00",
-            b"\x17\x63\x34\x12",
-        ),
-        put(
-            R_RISCV_TLS_GOT_HI20,
-            305422335,
-            b"\x17\x03\x00\x00",
-            b"\x17\x63\x34\x12",
-        ),
-        put(
-            R_RISCV_TLS_GD_HI20,
-            305422335,
-            b"\x17\x03\x00\x00",
-            b"\x17\x63\x34\x12",
-        ),
-        put(
-            R_RISCV_PCREL_HI20,
-            305422335,
-            b"\x17\x03\x00\x00",
-            b"\x17\x63\x34\x12",
-        ),
-        put(
-            R_RISCV_TPREL_HI20,
-            305422335,
-            b"\x17\x03\x00\x00",
-            b"\x17\x63\x34\x12",
-        ),
-        put(R_RISCV_HI20, 2048, b"\x37\x05\x00\x00", b"\x37\x15\x00\x00"),
-        put(
-            R_RISCV_PCREL_LO12_I,
-            -1,
-            b"\x13\x05\x05\x00",
-            b"\x13\x05\xf5\xff",
-        ),
-        put(
-            R_RISCV_LO12_I,
-            2048,
-            b"\x13\x05\x05\x00",
-            b"\x13\x05\x05\x80",
-        ),
-        put(
-            R_RISCV_TPREL_LO12_I,
-            -1365,
-            b"\x03\xa5\x05\x00",
-            b"\x03\xa5\xb5\xaa",
-        ),
-        put(
-            R_RISCV_PCREL_LO12_S,
-            2047,
-            b"\x23\xa0\xa5\x00",
-            b"\xa3\xaf\xa5\x7e",
-        ),
-        put(
-            R_RISCV_LO12_S,
-            -2048,
-            b"\x23\xa0\xa5\x00",
-            b"\x23\xa0\xa5\x80",
-        ),
-        put(
-            R_RISCV_TPREL_LO12_S,
-            -3,
-            b"\x23\xa0\xa5\x00",
-            b"\xa3\xae\xa5\xfe",
-        ),
-        put(R_RISCV_ADD8, -2, b"\x11", b"\xfe"),
-        put(R_RISCV_SUB8, -2, b"\x11", b"\xfe"),
-        put(R_RISCV_SET8, -2, b"\x11", b"\xfe"),
-        put(R_RISCV_ADD16, 74565, b"\x11\x11", b"\x45\x23"),
-        put(R_RISCV_SUB16, 74565, b"\x11\x11", b"\x45\x23"),
-        put(R_RISCV_SET16, 74565, b"\x11\x11", b"\x45\x23"),
-        put(R_RISCV_ADD32, -2, b"\x44\x33\x22\x11", b"\xfe\xff\xff\xff"),
-        put(R_RISCV_SUB32, -2, b"\x44\x33\x22\x11", b"\xfe\xff\xff\xff"),
-        put(R_RISCV_SET32, -2, b"\x44\x33\x22\x11", b"\xfe\xff\xff\xff"),
-        put(
-            R_RISCV_ADD64,
-            -2,
-            b"\x11\x00\x00\x00\x00\x00\x00\x00",
-            b"\xfe\xff\xff\xff\xff\xff\xff\xff",
-        ),
-        put(
-            R_RISCV_SUB64,
-            -2,
-            b"\x11\x00\x00\x00\x00\x00\x00\x00",
-            b"\xfe\xff\xff\xff\xff\xff\xff\xff",
-        ),
-        put(R_RISCV_RVC_BRANCH, 254, b"\x01\xc1", b"\x7d\xcd"),
-        put(R_RISCV_RVC_BRANCH, -256, b"\x01\xc1", b"\x01\xd1"),
-        put(R_RISCV_RVC_BRANCH, 170, b"\x81\xe3", b"\xcd\xe7"),
-        put(R_RISCV_RVC_JUMP, 2046, b"\x01\xa0", b"\xfd\xaf"),
-        put(R_RISCV_RVC_JUMP, -2048, b"\x01\xa0", b"\x01\xb0"),
-        put(R_RISCV_RVC_JUMP, 676, b"\x01\xa0", b"\x55\xa4"),
-        put(R_RISCV_SUB6, -1, b"\x80", b"\xbf"),
-        put(R_RISCV_SET6, -1, b"\x80", b"\xbf"),
-        put(
-            R_RISCV_32_PCREL,
-            -2,
-            b"\x00\x00\x00\x00",
-            b"\xfe\xff\xff\xff",
-        ),
-        put(
-            R_RISCV_32_PCREL,
-            2147483647,
-            b"\x00\x00\x00\x00",
-            b"\xff\xff\xff\x7f",
-        ),
-    ];
-    for row in rows.iter() {
-        assert_eq!(rt; is_met(row), true);
+    for kind in 0..256 {
+        let listed = FIELDS.iter().any(|field| field.kinds.contains(&kind));
+        assert_eq!(rt; has_value(kind), listed, "kind {kind}");
     }
 }
 
 #[test]
-fn both_ends_of_each_field(rt: HostRuntime) {
-    let rows = [
-        put(
-            R_RISCV_GOT_HI20,
-            -2147485696,
-            b"\x17\x03\x00\x00",
-            b"\x17\x03\x00\x80",
-        ),
-        put(
-            R_RISCV_GOT_HI20,
-            2147481599,
-            b"\x17\x03\x00\x00",
-            b"\x17\xf3\xff\x7f",
-        ),
-        put(
-            R_RISCV_TLS_GOT_HI20,
-            -2147485696,
-            b"\x17\x03\x00\x00",
-            b"\x17\x03\x00\x80",
-        ),
-        put(
-            R_RISCV_TLS_GOT_HI20,
-            2147481599,
-            b"\x17\x03\x00\x00",
-            b"\x17\xf3\xff\x7f",
-        ),
-        put(
-            R_RISCV_TLS_GD_HI20,
-            -2147485696,
-            b"\x17\x03\x00\x00",
-            b"\x17\x03\x00\x80",
-        ),
-        put(
-            R_RISCV_TLS_GD_HI20,
-            2147481599,
-            b"\x17\x03\x00\x00",
-            b"\x17\xf3\xff\x7f",
-        ),
-        put(
-            R_RISCV_PCREL_HI20,
-            -2147485696,
-            b"\x17\x03\x00\x00",
-            b"\x17\x03\x00\x80",
-        ),
-        put(
-            R_RISCV_PCREL_HI20,
-            2147481599,
-            b"\x17\x03\x00\x00",
-            b"\x17\xf3\xff\x7f",
-        ),
-        put(
-            R_RISCV_HI20,
-            -2147485696,
-            b"\x37\x05\x00\x00",
-            b"\x37\x05\x00\x80",
-        ),
-        put(
-            R_RISCV_HI20,
-            2147481599,
-            b"\x37\x05\x00\x00",
-            b"\x37\xf5\xff\x7f",
-        ),
-        put(
-            R_RISCV_TPREL_HI20,
-            -2147485696,
-            b"\x37\x05\x00\x00",
-            b"\x37\x05\x00\x80",
-        ),
-        put(
-            R_RISCV_TPREL_HI20,
-            2147481599,
-            b"\x37\x05\x00\x00",
-            b"\x37\xf5\xff\x7f",
-        ),
-        put(
-            R_RISCV_CALL,
-            -2147485696,
-            b"\x17\x03\x00\x00\xe7\x00\x03\x00",
-            b"\x17\x03\x00\x80\xe7\x00\x03\x80",
-        ),
-        put(
-            R_RISCV_CALL,
-            2147481599,
-            b"\x17\x03\x00\x00\xe7\x00\x03\x00",
-            b"\x17\xf3\xff\x7f\xe7\x00\xf3\x7f",
-        ),
-        put(
-            R_RISCV_CALL_PLT,
-            -2147485696,
-            b"\x17\x03\x00\x00\xe7\x00\x03\x00",
-            b"\x17\x03\x00\x80\xe7\x00\x03\x80",
-        ),
-        put(
-            R_RISCV_CALL_PLT,
-            2147481599,
-            b"\x17\x03\x00\x00\xe7\x00\x03\x00",
-            b"\x17\xf3\xff\x7f\xe7\x00\xf3\x7f",
-        ),
-        put(
-            R_RISCV_LO12_I,
-            -2048,
-            b"\x03\xa5\x05\x00",
-            b"\x03\xa5\x05\x80",
-        ),
-        put(
-            R_RISCV_LO12_I,
-            2047,
-            b"\x03\xa5\x05\x00",
-            b"\x03\xa5\xf5\x7f",
-        ),
-        put(
-            R_RISCV_PCREL_LO12_I,
-            -2048,
-            b"\x03\xa5\x05\x00",
-            b"\x03\xa5\x05\x80",
-        ),
-        put(
-            R_RISCV_PCREL_LO12_I,
-            2047,
-            b"\x03\xa5\x05\x00",
-            b"\x03\xa5\xf5\x7f",
-        ),
-        put(
-            R_RISCV_TPREL_LO12_I,
-            -2048,
-            b"\x03\xa5\x05\x00",
-            b"\x03\xa5\x05\x80",
-        ),
-        put(
-            R_RISCV_TPREL_LO12_I,
-            2047,
-            b"\x03\xa5\x05\x00",
-            b"\x03\xa5\xf5\x7f",
-        ),
-        put(
-            R_RISCV_LO12_S,
-            -2048,
-            b"\x23\xa0\xa5\x00",
-            b"\x23\xa0\xa5\x80",
-        ),
-        put(
-            R_RISCV_LO12_S,
-            2047,
-            b"\x23\xa0\xa5\x00",
-            b"\xa3\xaf\xa5\x7e",
-        ),
-        put(
-            R_RISCV_PCREL_LO12_S,
-            -2048,
-            b"\x23\xa0\xa5\x00",
-            b"\x23\xa0\xa5\x80",
-        ),
-        put(
-            R_RISCV_PCREL_LO12_S,
-            2047,
-            b"\x23\xa0\xa5\x00",
-            b"\xa3\xaf\xa5\x7e",
-        ),
-        put(
-            R_RISCV_TPREL_LO12_S,
-            -2048,
-            b"\x23\xa0\xa5\x00",
-            b"\x23\xa0\xa5\x80",
-        ),
-        put(
-            R_RISCV_TPREL_LO12_S,
-            2047,
-            b"\x23\xa0\xa5\x00",
-            b"\xa3\xaf\xa5\x7e",
-        ),
-        put(
-            R_RISCV_32_PCREL,
-            -2147483648,
-            b"\x00\x00\x00\x00",
-            b"\x00\x00\x00\x80",
-        ),
-        put(R_RISCV_SET8, 128, b"\x00", b"\x80"),
-        put(R_RISCV_SET8, 255, b"\x00", b"\xff"),
-        put(R_RISCV_SET16, 32768, b"\x00\x00", b"\x00\x80"),
-        put(R_RISCV_SET16, 65535, b"\x00\x00", b"\xff\xff"),
-        put(
-            R_RISCV_SET32,
-            2147483648,
-            b"\x00\x00\x00\x00",
-            b"\x00\x00\x00\x80",
-        ),
-        put(
-            R_RISCV_SET32,
-            4294967295,
-            b"\x00\x00\x00\x00",
-            b"\xff\xff\xff\xff",
-        ),
-        put(
-            R_RISCV_64,
-            9223372036854775808,
-            b"\x00\x00\x00\x00\x00\x00\x00\x00",
-            b"\x00\x00\x00\x00\x00\x00\x00\x80",
-        ),
-        put(
-            R_RISCV_64,
-            18446744073709551615,
-            b"\x00\x00\x00\x00\x00\x00\x00\x00",
-            b"\xff\xff\xff\xff\xff\xff\xff\xff",
-        ),
-        put(R_RISCV_SET6, 63, b"\xc0", b"\xff"),
-        put(R_RISCV_SET6, 64, b"\xbf", b"\x80"),
-        put(R_RISCV_SUB6, 63, b"\xc0", b"\xff"),
-        put(R_RISCV_SUB6, 64, b"\xbf", b"\x80"),
-    ];
-    for row in rows.iter() {
-        assert_eq!(rt; is_met(row), true);
+fn values_that_fit(rt: HostRuntime) {
+    for reach in REACHES.iter() {
+        for kind in reach.kinds {
+            for v in reach.fit {
+                assert_eq!(rt; misfit(*kind, *v), None, "kind {kind}, value {v}");
+            }
+            for v in reach.odd {
+                assert_eq!(rt;
+                    misfit(*kind, *v),
+                    Some(Misfit::Odd),
+                    "kind {kind}, value {v}"
+                );
+            }
+            for v in reach.out {
+                assert_eq!(rt;
+                    misfit(*kind, *v),
+                    Some(Misfit::Range),
+                    "kind {kind}, value {v}"
+                );
+            }
+        }
+    }
+    for kind in 0..256 {
+        let listed = REACHES.iter().any(|reach| reach.kinds.contains(&kind));
+        assert_eq!(rt; has_value(kind), listed, "kind {kind}");
     }
 }
 
+/// `jal` by the offset, where it reaches so far.
+#[tactic(auto, unfolding(lk_base::specs::RelocKinds::kind_of, lk_base::specs::RelocKinds::has_value))]
+fn jump(rd: u32, v: i128) -> Option<u64> {
+    let offset = i64::try_from(v).ok()?;
+    if rd >= 32 || fits(R_RISCV_JAL, i128::from(offset)).is_err() {
+        return None;
+    }
+    Some(u64::from(jal(rd, offset)))
+}
+
+/// `c.j` by the offset, where it reaches so far.
+#[tactic(auto, unfolding(lk_base::specs::RelocKinds::kind_of, lk_base::specs::RelocKinds::has_value))]
+fn short_jump(v: i128) -> Option<u64> {
+    let offset = i64::try_from(v).ok()?;
+    if fits(R_RISCV_RVC_JUMP, i128::from(offset)).is_err() {
+        return None;
+    }
+    Some(u64::from(cj(offset)))
+}
+
 #[test]
-#[tactic(auto, unfolding(lk_base::specs::RelocKinds::kind_of))]
 fn whole_instructions(rt: HostRuntime) {
-    assert_eq!(rt; jal(1, 16), 0x0100_00ef);
-    assert_eq!(rt; jal(0, -1048576), 0x8000_006f);
-    assert_eq!(rt; cj(4), 0xa011);
-    assert_eq!(rt; cj(-2048), 0xb001);
+    for row in JUMP {
+        assert_eq!(rt; jump(1, row.v), Some(row.place), "value {}", row.v);
+    }
+    for row in OTHER_JUMP {
+        assert_eq!(rt; jump(30, row.v), Some(row.place), "value {}", row.v);
+    }
+    for row in SHORT_JUMP {
+        assert_eq!(rt; short_jump(row.v), Some(row.place), "value {}", row.v);
+    }
     let mut padding = [0xffu8; 10];
     nops(&mut padding);
     assert_eq!(rt; padding, [0x13, 0, 0, 0, 0x13, 0, 0, 0, 0x01, 0]);
+    nops(&mut padding[..6]);
+    assert_eq!(rt; padding, [0x13, 0, 0, 0, 0x01, 0, 0, 0, 0x01, 0]);
+    nops(&mut padding[..2]);
+    assert_eq!(rt; padding, [0x01, 0, 0, 0, 0x01, 0, 0, 0, 0x01, 0]);
+    nops(&mut padding[..0]);
+    assert_eq!(rt; padding, [0x01, 0, 0, 0, 0x01, 0, 0, 0, 0x01, 0]);
 }

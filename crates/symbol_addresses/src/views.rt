@@ -1,8 +1,6 @@
 //! Addresses by the tables of a link, once all of them stand.
 
 ghost use Rattle.std.specs.Prelude.{◌≡◌, ◌^◌, ◌<◌, ◌≤ℤ◌, pos, length};
-ghost use Rattle.lk_base.specs.Arithmetic.{bits_of};
-ghost use Rattle.lk_tables.specs.Targets.{entry_bound};
 ghost use Rattle.link_sections.specs.Addresses as spec;
 ghost use Rattle.link_sections.specs.LaidOut as laid;
 ghost use Rattle.link_sections.specs.Views.{binding_in, files_in, laid_in, leaders_in};
@@ -52,8 +50,9 @@ pub fn piece_address(view: &View, pool: u32, piece: u32, offset: u64) -> i128
 }
 
 /// The address at which the executable starts: that of what the entry's name is bound to.
+#[tactic(auto, unfolding(link_sections::specs::Addresses::entry_address))]
 pub fn entry_address(view: &View) -> u64
-    ensures { result ≡ bits_of (pos (spec.address_of (files_in view.now) (binding_in view.now) (leaders_in view.now) (laid_in view.now) (entry_bound (files_in view.now) (binding_in view.now)))) }
+    ensures { result ≡ spec.entry_address (files_in view.now) (binding_in view.now) (leaders_in view.now) (laid_in view.now) }
 {
     let link = link_of(view);
     low_bits(wide_address(&link, view.binding.entry_bound(view.tables)))

@@ -2,10 +2,9 @@
 
 use super::images::{FIRST, NAMES, READ, STACK};
 use super::objects::{Input, RETURN, START, TO_SECOND, WHOLE};
-use super::{FIRST_LINK, Files, Link, Store, push_object, push_words, sink_of};
+use super::{FIRST_LINK, Files, Link, SOUND, Store, push_object, push_words, run_over};
 use crate::{Image, Object, Reloc, Section, Symbol, image_of, object_of};
-use link_driver::{OpenGate, run};
-use lk_depot::MemDepot;
+use link_driver::OpenGate;
 use std::alloc::{AllocError, Global};
 use std::test::Fail;
 use std::thread::Threads;
@@ -516,7 +515,7 @@ pub fn files(alloc: Global) -> Result<Files, AllocError> {
 }
 
 /// A jump, and one pair.
-const ONE_PAIR: Image = Image {
+pub const ONE_PAIR: Image = Image {
     segments: &[READ, [1, 5, 0x1000, 0x11000, 20, 20, 4096], STACK],
     contents: &[
         (
@@ -879,20 +878,9 @@ fn is_folded<R: Threads + Sync>(
     image: &Image,
 ) -> Result<bool, AllocError> {
     let words = words_of_all(alloc, files.as_slice(), workers)?;
-    let mut depot = MemDepot::new(alloc, files, Vec::new(alloc), 1000, 100_000)?;
-    let mut say = sink_of(alloc)?;
-    let mut err = sink_of(alloc)?;
-    let status = run(
-        rt,
-        alloc,
-        words.as_slice(),
-        &mut depot,
-        &mut say,
-        &mut err,
-        &OpenGate,
-    );
+    let left = run_over(rt, alloc, words.as_slice(), files, &SOUND, &OpenGate)?;
     let whole = image_of(alloc, image)?;
-    Ok(status == 0 && depot.bytes("a.out") == Some(whole.as_slice()))
+    Ok(left.status == 0 && left.depot.bytes("a.out") == Some(whole.as_slice()))
 }
 
 /// What the functions of the chain are when none is folded, and the names of the sections after them.
@@ -912,8 +900,9 @@ const RING: Image = Image {
     ..FIRST
 };
 
-const WORKERS: [&[&str]; 3] = [
+const WORKERS: [&[&str]; 4] = [
     &["--threads", "1"],
+    &["--threads", "2"],
     &["--threads", "3"],
     &["--threads", "64"],
 ];
@@ -928,6 +917,7 @@ fn what_ends_differently_stays_apart(rt: HostRuntime) -> Result<(), Fail> {
         flags: 0,
         segments: &[READ, [1, 5, 0x1000, 0x11000, 2404, 2404, 4096], STACK],
         contents: &contents,
+        listed: None,
         table: 0x1978,
         sections: &[
             [1, 1, 6, 0x11000, 0x1000, 2404, 4],

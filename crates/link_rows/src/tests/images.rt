@@ -21,6 +21,7 @@ pub const FIRST: Image = Image {
     flags: 0,
     segments: &[READ, [1, 5, 0x1000, 0x11000, 8, 8, 4096], STACK],
     contents: &[(0x1000, b"\xef\0\x40\0\x67\x80\0\0"), (0x1008, NAMES)],
+    listed: None,
     table: 0x1020,
     sections: &[
         [1, 1, 6, 0x11000, 0x1000, 8, 4],

@@ -364,7 +364,7 @@ pub fn files(alloc: Global) -> Result<Files, AllocError> {
 }
 
 /// A `ret`, a pool of three strings, and the address of the last.
-const POOL: Image = Image {
+pub const POOL: Image = Image {
     segments: &[
         [1, 4, 0, 0x10000, 0x134, 0x134, 4096],
         [1, 5, 0x1000, 0x11000, 4, 4, 4096],
@@ -521,7 +521,7 @@ const WIDE_POOLS: Image = Image {
 };
 
 /// Four pools and seven sections.
-const MANY_POOLS: Image = Image {
+pub const MANY_POOLS: Image = Image {
     segments: &[
         [1, 4, 0, 0x10000, 0x135, 0x135, 4096],
         [1, 5, 0x1000, 0x11000, 4, 4, 4096],

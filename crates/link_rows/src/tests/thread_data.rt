@@ -481,7 +481,7 @@ const DYNAMIC_IMAGE: Image = Image {
 };
 
 /// Ten words of nine uses of eight entries.
-const ENTRIES_IMAGE: Image = Image {
+pub const ENTRIES_IMAGE: Image = Image {
     segments: &[
         READ_OF_FIVE,
         [1, 5, 0x1000, 0x11000, 72, 72, 4096],

@@ -1,15 +1,18 @@
 use Rattle.link_sections.specs.Views.{binding_in, files_in, laid_in, leaders_in}
-use Rattle.elf_out.specs.Executable.{end_pieces, headers, pieces}
+use Rattle.elf_out.specs.Executable.{end_pieces, pieces_with}
+use Rattle.elf_out.specs.Frames.{headers_in}
+use Rattle.elf_out.specs.TablesView.{tables_if}
 use Rattle.elf_out.proofs.Laying.{shows_all}
 use Rattle.reloc_apply.specs.Image.{piece}
 use Rattle.reloc_apply.specs.Relocated.{relocated_pieces}
 use Rattle.elf_out.proofs.writer.lay.Goals as goal
 
 pub returns : goal.returns
-unfolding pieces
+unfolding pieces_with
 returns c =
     let v = c.args.view.now in
-    shows_all c.args.from (piece 0 (headers (files_in v) (binding_in v) (leaders_in v) (laid_in v)))
-    (relocated_pieces (files_in v) (binding_in v) (leaders_in v) (laid_in v)) (end_pieces (laid_in v))
+    let tables = tables_if c.args.tables.now in
+    shows_all c.args.from (piece 0 (headers_in v tables))
+    (relocated_pieces (files_in v) (binding_in v) (leaders_in v) (laid_in v)) (end_pieces (laid_in v) tables)
     c.args.block.now c.lay_headers.new.block c.write_block.new.block c.lay_ends.new.block
     c.lay_headers.ensures c.write_block.ensures c.lay_ends.ensures

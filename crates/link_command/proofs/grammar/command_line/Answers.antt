@@ -9,10 +9,12 @@ pub returns : goal.returns
 unfolding rvld_app
 returns c =
     let one = c.in_ok-arg.ensures.shape c.output_option.ensures.local ∙ ap₂ with_rule c.new.ensures.app c.output_option.ensures.rule in
-    let two = c.in_ok-arg-2.ensures.shape c.entry_option.ensures.local ∙ ap₂ with_rule one c.entry_option.ensures.rule in
-    let three = c.in_ok-arg-3.ensures.shape c.threads_option.ensures.local ∙ ap₂ with_rule two c.threads_option.ensures.rule in
-    let four = c.in_ok-arg-4.ensures.shape c.gc_option.ensures.local ∙ ap₂ with_rule three c.gc_option.ensures.rule in
-    let five = c.in_ok-arg-5.ensures.shape c.icf_option.ensures.local ∙ ap₂ with_rule four c.icf_option.ensures.rule in
-    let six = c.in_ok-arg-6.ensures.shape c.relax_option.ensures.local ∙ ap₂ with_rule five c.relax_option.ensures.rule in
-    let seven = c.in_ok-arg-7.ensures.shape c.strip_option.ensures.local ∙ ap₂ with_rule six c.strip_option.ensures.rule in
-    IfOk-weaker c.arg-8.result _ _ (λ m h. h.shape c.files_argument.ensures.local ∙ ap₂ with_rule seven c.files_argument.ensures.rule) c.arg-8.ensures
+    let two = c.in_ok-arg-2.ensures.shape c.map_option.ensures.local ∙ ap₂ with_rule one c.map_option.ensures.rule in
+    let three = c.in_ok-arg-3.ensures.shape c.entry_option.ensures.local ∙ ap₂ with_rule two c.entry_option.ensures.rule in
+    let four = c.in_ok-arg-4.ensures.shape c.threads_option.ensures.local ∙ ap₂ with_rule three c.threads_option.ensures.rule in
+    let five = c.in_ok-arg-5.ensures.shape c.gc_option.ensures.local ∙ ap₂ with_rule four c.gc_option.ensures.rule in
+    let six = c.in_ok-arg-6.ensures.shape c.icf_option.ensures.local ∙ ap₂ with_rule five c.icf_option.ensures.rule in
+    let seven = c.in_ok-arg-7.ensures.shape c.relax_option.ensures.local ∙ ap₂ with_rule six c.relax_option.ensures.rule in
+    let eight = c.in_ok-arg-8.ensures.shape c.strip_option.ensures.local ∙ ap₂ with_rule seven c.strip_option.ensures.rule in
+    let nine = c.in_ok-arg-9.ensures.shape c.generated_option.ensures.local ∙ ap₂ with_rule eight c.generated_option.ensures.rule in
+    IfOk-weaker c.arg-10.result _ _ (λ m h. h.shape c.files_argument.ensures.local ∙ ap₂ with_rule nine c.files_argument.ensures.rule) c.arg-10.ensures

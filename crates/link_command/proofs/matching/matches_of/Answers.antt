@@ -2,7 +2,7 @@
 use Rattle.clap.specs.Words.{app_of}
 use Rattle.link_command.specs.Command.{texts_of}
 use Rattle.link_command.proofs.Parsing.{refused_words, taken_rows}
-use Rattle.link_command.proofs.Workers.{workers_given}
+use Rattle.link_command.proofs.Numbers.{generated_given, workers_given}
 use Rattle.link_command.proofs.matching.matches_of.Goals as goal
 
 pub returns-in-Ok-clause-exact : goal.returns-in-Ok-clause-exact
@@ -13,6 +13,10 @@ returns-in-Ok-clause-exact c =
 pub returns-in-Ok-clause-threads : goal.returns-in-Ok-clause-threads
 returns-in-Ok-clause-threads c =
     workers_given c.in_ok-command.command c.in-Ok.matches c.in_ok-command.ensures c.in-Ok.ensures.parsed
+
+pub returns-in-Ok-clause-generated : goal.returns-in-Ok-clause-generated
+returns-in-Ok-clause-generated c =
+    generated_given c.in_ok-command.command c.in-Ok.matches c.in_ok-command.ensures c.in-Ok.ensures.parsed
 
 pub returns-clause-exact : goal.returns-clause-exact
 returns-clause-exact c =

@@ -5,4 +5,4 @@ use Rattle.link_driver.proofs.driving.report_defect.Goals as goal
 
 pub returns : goal.returns
 returns c =
-    line_is (asks c.args.command.now) (input_contents c.args.inputs.now) (sources_of c.args.sources.now) c.args.defect.now c.in-Ok.line.items c.requires c.in-Ok.ensures
+    line_is (asks c.args.command.now) (input_contents c.args.inputs.now) (sources_of c.args.sources.now) c.args.defect.now c.in-Ok.line.items c.requires.sources c.in-Ok.ensures

@@ -1,11 +1,9 @@
-use Rattle.std.proofs.Common.{◌≡◌, ℕ, ◌<◌, List, Bool, length, sym, subst, ◌∙◌, ap}
+use Rattle.std.proofs.Common.{ℕ, ◌<◌, List, Bool, length, sym, subst, ◌∙◌}
 use Rattle.std.specs.List.{All}
 use Rattle.lk_tables.specs.BindingView.{binding_view}
-use Rattle.lk_tables.specs.Files.{section_total}
-use Rattle.lk_tables.specs.Reach.{IsReach}
 use Rattle.lk_tables.specs.TablesView.{files_of}
 use Rattle.link_sections.specs.Edges.{ends_of}
-use Rattle.link_driver.specs.Tables.{IsCollected, MayStay}
+use Rattle.link_driver.specs.Tables.{MayStay}
 use Rattle.link_driver.proofs.Handing.{on_each}
 use Rattle.link_driver.proofs.Keeping.{all_stay, collected_stay, ends_count, is_collected}
 use Rattle.link_driver.proofs.linking.find_kept.Goals as goal

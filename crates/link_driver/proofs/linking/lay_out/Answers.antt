@@ -1,9 +1,8 @@
-use Rattle.std.proofs.Common.{◌≡◌, List, Option, ℕ, ap, sym, subst, ◌∙◌}
+use Rattle.std.proofs.Common.{List, ap, sym, subst, ◌∙◌}
 use Rattle.layout.specs.Items.{HaveFirsts}
 use Rattle.link_sections.specs.declared.pools.Pool.{Pool}
 use Rattle.link_sections.specs.GotView.{entries_of}
-use Rattle.link_sections.specs.Merging.{pools_of}
-use Rattle.link_sections.specs.PoolViews.{pool_heads, pools_view}
+use Rattle.link_sections.specs.PoolViews.{pool_heads}
 use Rattle.link_sections.specs.SizesView.{sizes_of}
 use Rattle.link_sections.proofs.PoolHeads.{pool_heads_are}
 use Rattle.lk_tables.specs.BindingView.{binding_view}

@@ -1,17 +1,18 @@
-use Rattle.std.proofs.Common.{◌≡◌, ◌∙◌, List, [], ap, sym, subst, ℕ}
-use Rattle.std.specs.Prelude.{string_bytes}
+use Rattle.std.proofs.Common.{◌≡◌, ◌∙◌, List, [], true, ap, sym, subst, ℕ}
 use Rattle.comdat.specs.Discarded.{discarded}
 use Rattle.link_command.specs.Command.{asks}
 use Rattle.lk_base.specs.Firsts.{StopsAt}
 use Rattle.lk_tables.specs.BoundNames.{binding_defects}
 use Rattle.lk_tables.specs.BindingView.{binding_view}
 use Rattle.lk_tables.specs.TablesView.{files_of}
-use Rattle.link_driver.specs.Contents.{sources_of}
+use Rattle.link_driver.specs.Contents.{input_contents, input_names, names_of, sources_of}
 use Rattle.elf_out.specs.Standing.{SectionsStand}
-use Rattle.link_driver.specs.Link.{Wishes, bound_names, executable_with, kept_of, laid_out, last_phases, leaders_in}
+use Rattle.link_driver.specs.Link.{Wishes, bound_names, laid_out, last_phases, leaders_in, wishes_of}
+use Rattle.link_driver.specs.Phases.{Makes}
+use Rattle.link_driver.specs.Sources.{shown_files}
 use Rattle.lk_tables.specs.Binding.{first_phase}
 use Rattle.link_driver.proofs.Chain.{at_reading, at_binding, at_last, at_pieces, no_defects}
-use Rattle.link_driver.proofs.Handing.{binding_is, bound_are, collected_are, gives_executable, stand_so}
+use Rattle.link_driver.proofs.Handing.{binding_is, bound_are, collected_are, gives_all, made_as, stand_so}
 use Rattle.link_driver.proofs.linking.link_sources.Goals as goal
 
 pub returns-in-Err : goal.returns-in-Err
@@ -48,7 +49,7 @@ returns-in-Err-link_kept g c =
     (binding_view c.in-Ok-bind_names.binding) names c.as_slice.result.now (c.as_slice.ensures.value ∙ c.in_ok-kept.ensures.kept)
     c.in-Err-link_kept.stop
     (let P : Wishes → Type 0 = λ w. StopsAt c.in-Err-link_kept.stop (first_phase (last_phases c.args.limits.now w files (binding_view c.in-Ok-bind_names.binding) c.as_slice.result.now)) in
-    subst P c.options_of.ensures c.in-Err-link_kept.ensures.goes)
+    subst P c.options_of-options.ensures c.in-Err-link_kept.ensures.goes)
 
 pub returns : goal.returns
 returns g c =
@@ -56,26 +57,27 @@ returns g c =
     let ss = sources_of c.args.sources.now in
     let files = files_of c.in-Ok.tables in
     let b = binding_view c.in-Ok-bind_names.binding in
-    let names = c.in-Ok-bind_names.ensures.names ∙ ap (bound_names files) c.as_str-entry.ensures.value in
+    let shown = shown_files (input_names c.args.inputs.now) (input_contents c.args.inputs.now) ss in
+    let named = c.in-Ok-bind_names.ensures.names ∙ ap (bound_names files) c.as_str-entry.ensures.value in
     let stays = c.as_slice.ensures.value ∙ c.in_ok-kept.ensures.kept in
     let kept = c.as_slice.result.now in
-    let exe = c.in-Ok-link_kept.exe.items in
+    let given = c.as_slice-2.result.now in
+    let linked = c.in-Ok-link_kept.linked in
+    let exe = linked.exe.items in
     let P : Wishes → Type 0 = λ w. first_phase (last_phases c.args.limits.now w files b kept) ≡ [] in
     let Q : Wishes → Type 0 = λ w. SectionsStand files b (leaders_in w files b kept) (laid_out w files b kept) exe in
-    let R : Wishes → Type 0 = λ w. exe ≡ executable_with w files b kept in
+    let R : Wishes → Type 0 = λ w. Makes w (names_of given) files b kept linked in
+    let wanted : Wishes → Type 0 = λ w. w.map ≡ true → names_of given ≡ shown in
+    let same = subst wanted c.options_of-options.ensures (λ on. ap names_of c.as_slice-2.ensures.value ∙ c.in_ok-names.ensures on) in
     record {
       sound = no_defects c.args.limits.now asked ss c.in-Ok.ensures.goes files c.in-Ok.ensures.tables c.in-Ok-check_pieces.ensures
           (ap (binding_defects files (discarded files)) (sym c.as_str-entry.ensures.value) ∙ c.in-Ok-bind_names.ensures.goes)
-          b names c.as_slice.result.now stays (subst P c.options_of.ensures c.in-Ok-link_kept.ensures.goes);
+          b named kept stays (subst P c.options_of-options.ensures c.in-Ok-link_kept.ensures.goes);
       taking_part = c.in-Ok.ensures.taking_part;
       bound = bound_are c.as_str-entry.result.now asked.entry files ss
           c.in-Ok.ensures.tables c.as_str-entry.ensures.value c.in-Ok-bind_names.ensures.least;
-      collected = λ gc. collected_are asked ss files b c.in_ok-kept.kept.items c.in-Ok.ensures.tables names c.in_ok-kept.ensures.kept (c.in_ok-kept.ensures.collected gc);
-      stands = stand_so asked ss files b c.as_slice.result.now c.in-Ok-link_kept.exe.items c.in-Ok.ensures.tables names stays (subst Q c.options_of.ensures c.in-Ok-link_kept.ensures.stands);
-      gives = record {
-        executable = gives_executable asked ss files b c.as_slice.result.now c.in-Ok-link_kept.exe.items
-            c.in-Ok.ensures.tables names stays (subst R c.options_of.ensures c.in-Ok-link_kept.ensures.written);
-        map = c.new.ensures.items;
-        report = c.new-2.ensures.items;
-      };
+      collected = λ gc. collected_are asked ss files b c.in_ok-kept.kept.items c.in-Ok.ensures.tables named c.in_ok-kept.ensures.kept (c.in_ok-kept.ensures.collected gc);
+      stands = stand_so asked ss files b kept exe c.in-Ok.ensures.tables named stays (subst Q c.options_of-options.ensures c.in-Ok-link_kept.ensures.stands);
+      gives = gives_all asked shown ss files b kept linked c.in-Ok.ensures.tables named stays
+          (made_as (wishes_of asked) (names_of given) shown files b kept linked same (subst R c.options_of-options.ensures c.in-Ok-link_kept.ensures.written));
     }

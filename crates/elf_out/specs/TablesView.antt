@@ -1,0 +1,17 @@
+-- The bytes of the symbol table and of the names of its symbols, as plain lists.
+use Rattle.std.specs.Prelude.{Option, option_map}
+use Rattle.link_sections.specs.declared.views.View.{View}
+use Rattle.link_sections.specs.Views.{binding_in, files_in, laid_in, leaders_in}
+use Rattle.elf_out.specs.declared.symbols.SymbolTables.{SymbolTables as HeldTables}
+use Rattle.elf_out.specs.Executable.{own_tables}
+use Rattle.elf_out.specs.Symbols.{SymbolTables}
+
+abbrev pub tables_view : HeldTables → SymbolTables
+tables_view t = record { symbols = t.symbols.items; strings = t.strings.items }
+
+abbrev pub tables_if : Option HeldTables → Option SymbolTables
+tables_if t = option_map tables_view t
+
+-- those of a view
+abbrev pub tables_in : View → Option SymbolTables
+tables_in view = own_tables (files_in view) (binding_in view) view.kept.now view.strip (leaders_in view) (laid_in view)

@@ -1,0 +1,124 @@
+//! The symbol table of the executable, and the names of its symbols (System V gABI, "Symbol Table", "String Table").
+
+ghost use Rattle.std.specs.Prelude.{◌≡◌, ◌≤◌, ◌++◌, IfOk, OnOk};
+ghost use Rattle.elf_out.specs.Symbols as spec;
+ghost use Rattle.elf_out.specs.TablesView.{tables_if, tables_in, tables_view};
+ghost use Rattle.symbol_table.specs.SymbolViews.{symbol_view, symbol_views};
+
+use crate::header_bytes::{push_half, push_long, push_name, push_word};
+use link_sections::View;
+use lk_base::abi::{SHN_ABS, SYM_SIZE};
+use std::alloc::{AllocError, Global};
+use std::thread::Threads;
+use symbol_table::{TablePlace, TableSymbol, table_symbols};
+use work_split::Gate;
+
+/// What the sections `.symtab` and `.strtab` have.
+#[derive(Drop)]
+pub struct SymbolTables {
+    /// The bytes of the symbol table: the null symbol, and the symbols in order of the bytes of their names.
+    pub symbols: Vec<u8>,
+    /// A zero byte, and the names in the same order, each ended by a zero byte.
+    pub strings: Vec<u8>,
+}
+
+/// What the sections `.symtab` and `.strtab` of an executable have; none where it has no symbol table. So many workers find the symbols. The
+/// only error is out of memory.
+#[tactic(auto, unfolding(crate::specs::Executable::own_tables))]
+pub fn symtab<R: Threads + Sync, G: Gate>(
+    rt: &R,
+    alloc: Global,
+    view: &View,
+    workers: u32,
+    gate: &G,
+) -> Result<Option<SymbolTables>, AllocError>
+    requires some { 1 ≤ workers }
+    requires most { workers ≤ 64 }
+    ensures { IfOk result (λ tables. tables_if tables ≡ tables_in view.now) }
+{
+    if view.strip {
+        return Ok(None);
+    }
+    let list = table_symbols(rt, alloc, view, workers, gate)?;
+    let tables = tables_of(alloc, list.as_slice())?;
+    Ok(Some(tables))
+}
+
+/// Those of symbols.
+#[tactic(auto, unfolding(crate::specs::Symbols::symbol_tables))]
+fn tables_of(alloc: Global, list: &[TableSymbol]) -> Result<SymbolTables, AllocError>
+    ensures { IfOk result (λ tables. tables_view tables ≡ spec.symbol_tables (symbol_views list.now)) }
+{
+    let mut symbols = vec![in alloc; 0u8; SYM_SIZE as usize]?;
+    let mut strings = vec![in alloc; 0u8; 1]?;
+    for symbol in list {
+        push_symbol(&mut symbols, strings.len() as u64, symbol)?;
+        push_name(&mut strings, symbol.name)?;
+    }
+    Ok(SymbolTables { symbols, strings })
+}
+
+/// Adds the entry of a symbol whose name starts at `name` of the names.
+fn push_symbol(out: &mut Vec<u8>, name: u64, symbol: &TableSymbol) -> Result<(), AllocError>
+    ensures { OnOk result (out.new.items ≡ out.old.items ++ spec.symbol_entry name (symbol_view symbol.now)) }
+{
+    push_word(out, (name % 0x1_0000_0000) as u32)?;
+    out.push(info_of(symbol))?;
+    out.push(0)?;
+    push_half(out, index_of(symbol.section))?;
+    push_long(out, symbol.value)?;
+    push_long(out, symbol.size)?;
+    Ok(())
+}
+
+/// `st_info`: the binding in the high four bits, the type in the low.
+fn info_of(symbol: &TableSymbol) -> u8
+    ensures { result ≡ spec.info_of (symbol_view symbol.now) }
+{
+    symbol.binding % 16 * 16 + symbol.sort % 16
+}
+
+/// `st_shndx`: output sections have the first section headers after the null one.
+fn index_of(place: TablePlace) -> u16
+    ensures { result ≡ spec.index_of place }
+{
+    match place {
+        TablePlace::Absolute => SHN_ABS,
+        TablePlace::Output(number) => number,
+    }
+}
+
+#[cfg(test)]
+mod tests {
+    use super::*;
+    use lk_base::abi::{STB_GLOBAL, STB_WEAK, STT_FUNC, STT_NOTYPE};
+    use std::test::Fail;
+
+    #[test]
+    fn symbols_follow_the_null_symbol(rt: HostRuntime) -> Result<(), Fail> {
+        let end = TableSymbol {
+            name: b"_end",
+            binding: STB_GLOBAL,
+            sort: STT_NOTYPE,
+            value: 0x12345,
+            size: 0,
+            section: TablePlace::Absolute,
+        };
+        let f = TableSymbol {
+            name: b"f",
+            binding: STB_WEAK,
+            sort: STT_FUNC,
+            value: 0x11000,
+            size: 8,
+            section: TablePlace::Output(1),
+        };
+        let tables = tables_of(rt.alloc(), &[end, f])?;
+        assert_eq!(rt; tables.strings.as_slice(), b"\0_end\0f\0".as_slice());
+        let mut expected = vec![in rt.alloc(); 0u8; 24]?;
+        expected.extend_from_slice(b"\x01\0\0\0\x10\0\xf1\xff\x45\x23\x01\0\0\0\0\0")?;
+        expected.extend_from_slice(b"\0\0\0\0\0\0\0\0\x06\0\0\0\x22\0\x01\0")?;
+        expected.extend_from_slice(b"\0\x10\x01\0\0\0\0\0\x08\0\0\0\0\0\0\0")?;
+        assert_eq!(rt; tables.symbols.as_slice(), expected.as_slice());
+        Ok(())
+    }
+}

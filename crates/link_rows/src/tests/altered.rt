@@ -1,0 +1,332 @@
+//! An object and an archive that are cut at each length, and an object of which a byte is altered.
+
+use super::{Files, Left, SOUND, run_over, words_of};
+use link_driver::OpenGate;
+use link_gen::objects;
+use lk_depot::FileKind;
+use std::alloc::{AllocError, Global};
+use std::test::Fail;
+use std::thread::Threads;
+
+const WORKERS: [&[&str]; 2] = [&["--threads", "1"], &["--threads", "64"]];
+
+/// The generated object.
+fn object(alloc: Global) -> Result<Vec<u8>, AllocError> {
+    let mut list = objects(alloc, 1)?;
+    match list.pop() {
+        Some(object) => Ok(object.1),
+        None => Ok(Vec::new(alloc)),
+    }
+}
+
+/// An archive whose member it is.
+fn archive(alloc: Global) -> Result<Vec<u8>, AllocError> {
+    let mut bytes = Vec::from_slice(
+        alloc,
+        b"!<arch>\ngen0.o/         0           0     0     644     1152      `\n",
+    )?;
+    bytes.extend_from_slice(&object(alloc)?)?;
+    Ok(bytes)
+}
+
+/// One of both.
+#[derive(Clone, Copy)]
+enum Sample {
+    Object,
+    Archive,
+}
+
+fn name_of(sample: Sample) -> &'static str {
+    match sample {
+        Sample::Object => "gen0.o",
+        Sample::Archive => "lib.a",
+    }
+}
+
+fn bytes_of(alloc: Global, sample: Sample) -> Result<Vec<u8>, AllocError> {
+    match sample {
+        Sample::Object => object(alloc),
+        Sample::Archive => archive(alloc),
+    }
+}
+
+/// Links one file alone.
+fn link_alone<R: Threads + Sync>(
+    rt: &R,
+    alloc: Global,
+    name: &str,
+    bytes: Vec<u8>,
+    workers: &[&str],
+) -> Result<Left, AllocError> {
+    let words = words_of(alloc, &["rvld", "-s", name], workers)?;
+    let mut files: Files = Vec::new(alloc);
+    files.push((name.to_string(alloc)?, bytes))?;
+    run_over(rt, alloc, words.as_slice(), files, &SOUND, &OpenGate)
+}
+
+/// Whether a file was linked.
+fn is_linked(left: &Left) -> bool {
+    left.status == 0
+        && left.err.calls() == 0
+        && left.depot.kind("a.out") == Some(FileKind::Executable)
+}
+
+/// Whether a line was told, and nothing begun.
+fn is_refused(left: &Left, line: &str) -> bool {
+    left.status == 1 && left.depot.begun() == 0 && left.err.written() == line.as_bytes()
+}
+
+/// What a link has to end with: an executable, a line, or a line with the file's length in it.
+#[derive(Clone, Copy)]
+enum Answer<'a> {
+    Linked,
+    Line(&'a str),
+    LengthAs(&'a str, &'a str),
+}
+
+/// Whether it ended so.
+fn is_answer(
+    alloc: Global,
+    left: &Left,
+    answer: &Answer,
+    length: usize,
+) -> Result<bool, AllocError> {
+    match answer {
+        Answer::Linked => Ok(is_linked(left)),
+        Answer::Line(line) => Ok(is_refused(left, *line)),
+        Answer::LengthAs(start, end) => {
+            let line = format!(in alloc; "{start}{length}{end}")?;
+            Ok(is_refused(left, line.as_str()))
+        }
+    }
+}
+
+/// Lengths from the first to the last at which a file is cut, and what each link ends with.
+#[derive(Clone, Copy)]
+struct Cut<'a> {
+    sample: Sample,
+    first: usize,
+    last: usize,
+    answer: Answer<'a>,
+}
+
+const CUTS: [Cut; 8] = [
+    Cut {
+        sample: Sample::Object,
+        first: 0,
+        last: 3,
+        answer: Answer::Line("rvld: F01 NotObject file=gen0.o section=0 place=0 name= other=0\n"),
+    },
+    Cut {
+        sample: Sample::Object,
+        first: 4,
+        last: 63,
+        answer: Answer::LengthAs(
+            "rvld: F02 BadHeader file=gen0.o section=0 place=",
+            " name= other=0\n",
+        ),
+    },
+    Cut {
+        sample: Sample::Object,
+        first: 64,
+        last: 1151,
+        answer: Answer::Line("rvld: F03 Outside file=gen0.o section=0 place=40 name= other=0\n"),
+    },
+    Cut {
+        sample: Sample::Object,
+        first: 1152,
+        last: 1152,
+        answer: Answer::Linked,
+    },
+    Cut {
+        sample: Sample::Archive,
+        first: 0,
+        last: 7,
+        answer: Answer::Line("rvld: F01 NotObject file=lib.a section=0 place=0 name= other=0\n"),
+    },
+    Cut {
+        sample: Sample::Archive,
+        first: 8,
+        last: 8,
+        answer: Answer::Line("rvld: F21 NoEntry file=- section=0 place=0 name=_start other=0\n"),
+    },
+    Cut {
+        sample: Sample::Archive,
+        first: 9,
+        last: 1219,
+        answer: Answer::Line("rvld: F06 BadArchive file=lib.a section=0 place=8 name= other=0\n"),
+    },
+    Cut {
+        sample: Sample::Archive,
+        first: 1220,
+        last: 1220,
+        answer: Answer::Line("rvld: F21 NoEntry file=- section=0 place=0 name=_start other=0\n"),
+    },
+];
+
+/// Whether a file that is cut to this length ends as it should.
+fn is_cut_to<R: Threads + Sync>(
+    rt: &R,
+    alloc: Global,
+    cut: &Cut,
+    length: usize,
+) -> Result<bool, AllocError> {
+    for workers in &WORKERS {
+        let mut bytes = bytes_of(alloc, cut.sample)?;
+        bytes.truncate(length);
+        let whole = bytes.len() == length;
+        let left = link_alone(rt, alloc, name_of(cut.sample), bytes, workers)?;
+        if !whole || !is_answer(alloc, &left, &cut.answer, length)? {
+            return Ok(false);
+        }
+    }
+    Ok(true)
+}
+
+#[test]
+fn files_are_cut_at_each_length(rt: HostRuntime) -> Result<(), Fail> {
+    for cut in &CUTS {
+        for length in cut.first..cut.last.saturating_add(1) {
+            assert!(rt; is_cut_to(&rt, rt.alloc(), cut, length)?, "length {length}");
+        }
+    }
+    Ok(())
+}
+
+/// Bytes of the object from the first to the last that get another value, and what its link ends with.
+#[derive(Clone, Copy)]
+struct Altered<'a> {
+    first: usize,
+    last: usize,
+    value: u8,
+    answer: Answer<'a>,
+}
+
+/// A byte of a header.
+const OF_MACHINE: Altered = Altered {
+    first: 18,
+    last: 18,
+    value: 62,
+    answer: Answer::Line("rvld: F02 BadHeader file=gen0.o section=0 place=18 name= other=0\n"),
+};
+
+const HEADERS: [Altered; 6] = [
+    OF_MACHINE,
+    Altered {
+        first: 62,
+        last: 62,
+        value: 11,
+        answer: Answer::Line("rvld: F04 BadSection file=gen0.o section=0 place=62 name= other=0\n"),
+    },
+    Altered {
+        first: 512,
+        last: 515,
+        value: 255,
+        answer: Answer::Line("rvld: F10 BadName file=gen0.o section=1 place=512 name= other=0\n"),
+    },
+    Altered {
+        first: 551,
+        last: 551,
+        value: 128,
+        answer: Answer::Line("rvld: F03 Outside file=gen0.o section=1 place=512 name= other=0\n"),
+    },
+    Altered {
+        first: 521,
+        last: 521,
+        value: 8,
+        answer: Answer::Line(
+            "rvld: F05 Compressed file=gen0.o section=1 place=512 name= other=0\n",
+        ),
+    },
+    Altered {
+        first: 560,
+        last: 560,
+        value: 3,
+        answer: Answer::Line(
+            "rvld: F15 BadAlignment file=gen0.o section=1 place=512 name= other=0\n",
+        ),
+    },
+];
+
+const CONTENTS: [Altered; 6] = [
+    Altered {
+        first: 238,
+        last: 238,
+        value: 11,
+        answer: Answer::Line("rvld: F09 BadSymbol file=gen0.o section=8 place=232 name= other=0\n"),
+    },
+    Altered {
+        first: 240,
+        last: 240,
+        value: 13,
+        answer: Answer::Line("rvld: F09 BadSymbol file=gen0.o section=8 place=232 name= other=0\n"),
+    },
+    Altered {
+        first: 92,
+        last: 92,
+        value: 6,
+        answer: Answer::Line("rvld: F11 BadReloc file=gen0.o section=2 place=80 name= other=0\n"),
+    },
+    Altered {
+        first: 88,
+        last: 88,
+        value: 41,
+        answer: Answer::Line("rvld: F12 RelocKind file=gen0.o section=2 place=80 name= other=41\n"),
+    },
+    Altered {
+        first: 80,
+        last: 80,
+        value: 5,
+        answer: Answer::Line("rvld: F11 BadReloc file=gen0.o section=2 place=80 name= other=0\n"),
+    },
+    // Sections may share bytes.
+    Altered {
+        first: 856,
+        last: 856,
+        value: 64,
+        answer: Answer::Linked,
+    },
+];
+
+/// The object with its bytes altered.
+fn altered_bytes(alloc: Global, altered: &Altered) -> Result<Vec<u8>, AllocError> {
+    let mut bytes = object(alloc)?;
+    for place in altered.first..altered.last.saturating_add(1) {
+        if let Some(byte) = bytes.get_mut(place) {
+            *byte = altered.value;
+        }
+    }
+    Ok(bytes)
+}
+
+/// Whether a link of the altered object ends as it should.
+fn is_altered<R: Threads + Sync>(
+    rt: &R,
+    alloc: Global,
+    altered: &Altered,
+) -> Result<bool, AllocError> {
+    for workers in &WORKERS {
+        let bytes = altered_bytes(alloc, altered)?;
+        let left = link_alone(rt, alloc, "gen0.o", bytes, workers)?;
+        if !is_answer(alloc, &left, &altered.answer, 0)? {
+            return Ok(false);
+        }
+    }
+    Ok(true)
+}
+
+#[test]
+fn headers_are_altered(rt: HostRuntime) -> Result<(), Fail> {
+    for (index, altered) in HEADERS.iter().enumerate() {
+        assert!(rt; is_altered(&rt, rt.alloc(), altered)?, "example {index}");
+    }
+    Ok(())
+}
+
+#[test]
+fn contents_are_altered(rt: HostRuntime) -> Result<(), Fail> {
+    for (index, altered) in CONTENTS.iter().enumerate() {
+        assert!(rt; is_altered(&rt, rt.alloc(), altered)?, "example {index}");
+    }
+    Ok(())
+}

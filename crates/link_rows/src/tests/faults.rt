@@ -1,0 +1,445 @@
+//! What a failed call of the store of files, or of a stream, leaves.
+
+use super::generated::{TWO_ALONE, TWO_MAPPED};
+use super::maps::FIRST_LINES;
+use super::{
+    Call, FIRST_LINK, Left, Link, OpenGate, Outside, SOUND, Stream, WORKERS, run_with, text_of,
+};
+use crate::image_of;
+use lk_depot::{FileKind, MemDepot};
+use std::alloc::{AllocError, Global};
+use std::test::Fail;
+use std::thread::Threads;
+
+/// A command over an outside that fails: what it would leave, the status, what is told as an error, how many calls of the depot there are,
+/// how many bytes of the executable and of the map are there if these were begun, and how many of what is said.
+#[derive(Clone, Copy)]
+struct Fault<'a> {
+    link: Link<'a>,
+    outside: Outside<'a>,
+    status: u8,
+    told: &'a str,
+    calls: u64,
+    executable: Option<usize>,
+    map: Option<usize>,
+    said: usize,
+}
+
+/// An executable of five appends.
+const UNREAD: Fault = Fault {
+    link: FIRST_LINK,
+    outside: Outside {
+        fails: &[0],
+        ..SOUND
+    },
+    status: 3,
+    told: "rvld: cannot read a.o\n",
+    calls: 1,
+    executable: None,
+    map: None,
+    said: 0,
+};
+
+const FILES: [Fault; 6] = [
+    UNREAD,
+    Fault {
+        outside: Outside {
+            fails: &[1],
+            ..SOUND
+        },
+        told: "rvld: cannot write a.out\n",
+        calls: 2,
+        ..UNREAD
+    },
+    Fault {
+        outside: Outside {
+            fails: &[2],
+            ..SOUND
+        },
+        told: "rvld: cannot write a.out\n",
+        calls: 3,
+        executable: Some(0),
+        ..UNREAD
+    },
+    Fault {
+        outside: Outside {
+            fails: &[4],
+            ..SOUND
+        },
+        told: "rvld: cannot write a.out\n",
+        calls: 5,
+        executable: Some(2000),
+        ..UNREAD
+    },
+    Fault {
+        outside: Outside {
+            fails: &[6],
+            ..SOUND
+        },
+        told: "rvld: cannot write a.out\n",
+        calls: 7,
+        executable: Some(4000),
+        ..UNREAD
+    },
+    Fault {
+        outside: Outside {
+            fails: &[],
+            room: 4319,
+            ..SOUND
+        },
+        told: "rvld: cannot write a.out\n",
+        calls: 8,
+        executable: Some(4319),
+        ..UNREAD
+    },
+];
+
+/// Each file is written by one append.
+const AT_ONCE: Outside = Outside {
+    most: 65536,
+    ..SOUND
+};
+
+const FIRST_MAPPED: Link = Link {
+    words: &["rvld", "-s", "--Map", "m", "a.o"],
+    lines: FIRST_LINES,
+    ..FIRST_LINK
+};
+
+/// An executable of 4,320 bytes, and a map of 191.
+const UNREAD_FOR_MAP: Fault = Fault {
+    link: FIRST_MAPPED,
+    outside: Outside {
+        fails: &[0],
+        ..AT_ONCE
+    },
+    ..UNREAD
+};
+
+const WITH_MAP: [Fault; 8] = [
+    UNREAD_FOR_MAP,
+    Fault {
+        link: Link {
+            words: &["rvld", "-s", "--Map", "m", "z.o"],
+            ..FIRST_MAPPED
+        },
+        outside: AT_ONCE,
+        told: "rvld: cannot read z.o\n",
+        ..UNREAD_FOR_MAP
+    },
+    Fault {
+        outside: Outside {
+            fails: &[1],
+            ..AT_ONCE
+        },
+        told: "rvld: cannot write a.out\n",
+        calls: 2,
+        ..UNREAD_FOR_MAP
+    },
+    Fault {
+        outside: Outside {
+            fails: &[2],
+            ..AT_ONCE
+        },
+        told: "rvld: cannot write a.out\n",
+        calls: 3,
+        executable: Some(0),
+        ..UNREAD_FOR_MAP
+    },
+    Fault {
+        outside: Outside {
+            fails: &[3],
+            ..AT_ONCE
+        },
+        told: "rvld: cannot write m\n",
+        calls: 4,
+        executable: Some(4320),
+        ..UNREAD_FOR_MAP
+    },
+    Fault {
+        outside: Outside {
+            fails: &[4],
+            ..AT_ONCE
+        },
+        told: "rvld: cannot write m\n",
+        calls: 5,
+        executable: Some(4320),
+        map: Some(0),
+        ..UNREAD_FOR_MAP
+    },
+    Fault {
+        outside: Outside {
+            fails: &[4],
+            ..SOUND
+        },
+        told: "rvld: cannot write a.out\n",
+        calls: 5,
+        executable: Some(2000),
+        ..UNREAD_FOR_MAP
+    },
+    Fault {
+        outside: Outside {
+            fails: &[48],
+            most: 100,
+            ..SOUND
+        },
+        told: "rvld: cannot write m\n",
+        calls: 49,
+        executable: Some(4320),
+        map: Some(100),
+        ..UNREAD_FOR_MAP
+    },
+];
+
+/// The first put of a stream fails.
+const BROKEN: Stream = Stream {
+    fails: &[0],
+    room: 1000,
+};
+
+/// An executable of 8,928 bytes, a begin and nine appends, and a report of 57.
+const UNREPORTED: Fault = Fault {
+    link: TWO_ALONE,
+    outside: Outside {
+        say: BROKEN,
+        ..SOUND
+    },
+    told: "rvld: cannot report\n",
+    calls: 10,
+    executable: Some(8928),
+    ..UNREAD
+};
+
+const REPORTS: [Fault; 5] = [
+    UNREPORTED,
+    Fault {
+        outside: Outside {
+            say: Stream {
+                fails: &[],
+                room: 10,
+            },
+            ..SOUND
+        },
+        said: 10,
+        ..UNREPORTED
+    },
+    Fault {
+        outside: Outside {
+            say: Stream {
+                fails: &[],
+                room: 56,
+            },
+            err: BROKEN,
+            ..SOUND
+        },
+        told: "",
+        said: 56,
+        ..UNREPORTED
+    },
+    Fault {
+        link: TWO_MAPPED,
+        calls: 12,
+        executable: Some(8560),
+        map: Some(864),
+        ..UNREPORTED
+    },
+    Fault {
+        link: TWO_MAPPED,
+        outside: Outside {
+            fails: &[11],
+            say: BROKEN,
+            ..SOUND
+        },
+        told: "rvld: cannot write m\n",
+        calls: 12,
+        executable: Some(8560),
+        map: Some(0),
+        ..UNREPORTED
+    },
+];
+
+/// No words but the program's name.
+const UNTOLD: Fault = Fault {
+    link: Link {
+        words: &["rvld"],
+        ..FIRST_LINK
+    },
+    outside: Outside {
+        err: BROKEN,
+        ..SOUND
+    },
+    status: 2,
+    told: "",
+    calls: 0,
+    ..UNREAD
+};
+
+const LINES: [Fault; 6] = [
+    UNTOLD,
+    Fault {
+        outside: Outside {
+            err: Stream {
+                fails: &[],
+                room: 4,
+            },
+            ..SOUND
+        },
+        told: "rvld",
+        ..UNTOLD
+    },
+    Fault {
+        link: Link {
+            words: &["rvld", "--Map", "m", "z.o"],
+            ..FIRST_LINK
+        },
+        status: 3,
+        calls: 1,
+        ..UNTOLD
+    },
+    Fault {
+        link: Link {
+            words: &["rvld", "--Map", "m", "-e", "g", "a.o"],
+            ..FIRST_LINK
+        },
+        status: 1,
+        calls: 1,
+        ..UNTOLD
+    },
+    Fault {
+        link: Link {
+            words: &["rvld", "--Map", "m", "-e", "g", "a.o"],
+            ..FIRST_LINK
+        },
+        outside: Outside {
+            err: Stream {
+                fails: &[],
+                room: 30,
+            },
+            ..SOUND
+        },
+        status: 1,
+        told: "rvld: F21 NoEntry file=- secti",
+        calls: 1,
+        ..UNTOLD
+    },
+    Fault {
+        outside: Outside {
+            fails: &[3],
+            err: BROKEN,
+            ..AT_ONCE
+        },
+        link: FIRST_MAPPED,
+        status: 3,
+        calls: 4,
+        executable: Some(4320),
+        ..UNTOLD
+    },
+];
+
+/// Whether a file was begun as this kind and has so many of these bytes, or was not begun.
+fn has_front(
+    depot: &MemDepot,
+    name: &str,
+    kind: FileKind,
+    bytes: &[u8],
+    size: Option<usize>,
+) -> bool {
+    let Some(size) = size else {
+        return depot.kind(name).is_none();
+    };
+    let file = depot.bytes(name).unwrap_or(b"".as_slice());
+    depot.kind(name) == Some(kind) && file.len() == size && bytes.starts_with(file)
+}
+
+/// Whether both files are there as far as they should be.
+fn has_files(alloc: Global, fault: &Fault, depot: &MemDepot) -> Result<bool, AllocError> {
+    let link = &fault.link;
+    let image = image_of(alloc, &link.image)?;
+    let text = text_of(alloc, link.lines)?;
+    Ok(
+        has_front(
+            depot,
+            link.output,
+            FileKind::Executable,
+            &image,
+            fault.executable,
+        ) && has_front(depot, link.map, FileKind::Plain, &text, fault.map),
+    )
+}
+
+/// Whether so much was said, and this was told.
+fn has_lines(fault: &Fault, left: &Left) -> bool {
+    let said = left.say.written();
+    said.len() == fault.said
+        && fault.link.said.as_bytes().starts_with(said)
+        && left.err.written() == fault.told.as_bytes()
+}
+
+/// Whether a command leaves what it should where something fails.
+fn is_cut<R: Threads + Sync>(
+    rt: &R,
+    alloc: Global,
+    fault: &Fault,
+    workers: &[&str],
+) -> Result<bool, AllocError> {
+    let call = Call {
+        words: fault.link.words,
+        workers,
+        store: fault.link.store,
+        libraries: fault.link.libraries,
+        outside: fault.outside,
+    };
+    let left = run_with(rt, alloc, &call, &OpenGate)?;
+    Ok(
+        left.status == fault.status
+            && left.depot.calls() == fault.calls
+            && has_lines(fault, &left)
+            && has_files(alloc, fault, &left.depot)?,
+    )
+}
+
+/// Whether it does with each number of workers.
+fn is_cut_by_any<R: Threads + Sync>(
+    rt: &R,
+    alloc: Global,
+    fault: &Fault,
+) -> Result<bool, AllocError> {
+    for workers in &WORKERS {
+        if !is_cut(rt, alloc, fault, workers)? {
+            return Ok(false);
+        }
+    }
+    Ok(true)
+}
+
+#[test]
+fn each_fault_leaves_a_front_of_the_executable(rt: HostRuntime) -> Result<(), Fail> {
+    for (index, fault) in FILES.iter().enumerate() {
+        assert!(rt; is_cut_by_any(&rt, rt.alloc(), fault)?, "example {index}");
+    }
+    Ok(())
+}
+
+#[test]
+fn each_fault_of_the_map_leaves_the_executable(rt: HostRuntime) -> Result<(), Fail> {
+    for (index, fault) in WITH_MAP.iter().enumerate() {
+        assert!(rt; is_cut_by_any(&rt, rt.alloc(), fault)?, "example {index}");
+    }
+    Ok(())
+}
+
+#[test]
+fn each_fault_of_the_report_leaves_both_files(rt: HostRuntime) -> Result<(), Fail> {
+    for (index, fault) in REPORTS.iter().enumerate() {
+        assert!(rt; is_cut_by_any(&rt, rt.alloc(), fault)?, "example {index}");
+    }
+    Ok(())
+}
+
+#[test]
+fn a_line_that_is_not_told_changes_no_status(rt: HostRuntime) -> Result<(), Fail> {
+    for (index, fault) in LINES.iter().enumerate() {
+        assert!(rt; is_cut_by_any(&rt, rt.alloc(), fault)?, "example {index}");
+    }
+    Ok(())
+}

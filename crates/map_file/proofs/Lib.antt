@@ -1,0 +1,6 @@
+pub mod Decimals
+pub mod FoldedSteps
+pub mod LeftLines
+pub mod OutputSteps
+pub mod PastNames
+pub mod Walks

@@ -1,0 +1,4 @@
+pub mod MapText
+pub mod MapView
+pub mod Folded
+pub mod Left

@@ -1,0 +1,7 @@
+pub mod EntrySteps
+pub mod NameOrders
+pub mod NotedSteps
+pub mod OutputPlaces
+pub mod Sorted
+pub mod StableSort
+pub mod ViewsJoined

@@ -1,0 +1,7 @@
+pub mod NameOrder
+pub mod NamedViews
+pub mod Noted
+pub mod Outputs
+pub mod Repeats
+pub mod SymbolTable
+pub mod SymbolViews

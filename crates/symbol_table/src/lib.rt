@@ -1,0 +1,20 @@
+//! The symbols of an executable's symbol table (System V gABI, "Symbol Table"): each name that is bound to a symbol of a file which stays,
+//! and each symbol of the linker's own to which a file refers, in order of the bytes of their names. The symbol table of the executable and
+//! the map list them.
+//!
+//! `symbols` has the type of the entries, `outputs` finds the output section of a section, `entries` makes the entry of one symbol of a
+//! file, `listing` those of all files by many workers, `named` compares them by their names, and `sorting` brings them in order.
+#![tactic(auto)]
+
+mod entries;
+mod listing;
+mod named;
+mod outputs;
+mod sorting;
+mod symbols;
+#[cfg(test)]
+mod tests;
+
+pub use listing::table_symbols;
+pub use outputs::Outputs;
+pub use symbols::{TablePlace, TableSymbol};
