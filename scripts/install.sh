@@ -6,7 +6,10 @@
 # Usage: scripts/install.sh PREFIX
 set -u
 top=$(cd "$(dirname "${BASH_SOURCE[0]}")/.." && pwd)
-[ $# = 1 ] && [ -n "$1" ] || { echo "usage: scripts/install.sh PREFIX"; exit 2; }
+if [ $# != 1 ] || [ -z "$1" ]; then
+    echo "usage: scripts/install.sh PREFIX"
+    exit 2
+fi
 program=$top/crates/rvld/out/rvld
 
 # is_rvld FILE: whether it runs, and ends as rvld does without a word
@@ -23,7 +26,8 @@ mkdir -p "$1/bin" "$1/lib/rvld" || exit 1
 prefix=$(cd "$1" && pwd)
 # a new file in the place of the old one, which may be running
 for file in "$program" "$top/scripts/rvld-ld"; do
-    install -m 755 "$file" "$prefix/bin/.$(basename "$file").new" && mv "$prefix/bin/.$(basename "$file").new" "$prefix/bin/$(basename "$file")" || exit 1
+    install -m 755 "$file" "$prefix/bin/.new" || exit 1
+    mv "$prefix/bin/.new" "$prefix/bin/$(basename "$file")" || exit 1
 done
 ln -sfn ../../bin/rvld-ld "$prefix/lib/rvld/ld" || exit 1
 is_rvld "$prefix/bin/rvld" || { echo "install: $prefix/bin/rvld does not run"; exit 1; }

@@ -63,7 +63,9 @@ run_machine() {
 made() {
     local name=$1 run=$2 known=$said/$3 short=${1// /-} before=$((differ + refused)) links=0 beside=", as ld.lld's" options
     shift 3
-    if ! timeout 300 "$sources/peer" -o "$short.peer" "$@" >told 2>&1; then
+    if ! command -v ld.lld >/dev/null 2>&1; then
+        beside=
+    elif ! timeout 300 "$sources/peer" -o "$short.peer" "$@" >told 2>&1; then
         beside=
         skip "$name beside ld.lld" "it does not link it: $(first_line told)"
     elif ! as_known "$run" "$short.peer" "$known"; then
@@ -98,7 +100,7 @@ linked() {
     local name=$1 out=$2 options=$3 status
     shift 3
     # shellcheck disable=SC2086
-    timeout 300 "$rvld" -o "$out" $options "$@" >told 2>&1
+    timeout "$limit" "$rvld" -o "$out" $options "$@" >told 2>&1
     status=$?
     [ "$status" = 0 ] && [ ! -s told ] && return 0
     refuses "$name" "status $status, $(first_line told)"
@@ -172,11 +174,12 @@ part_free() {
 # -------------------------------------------------------------------------------------------------------------------- picolibc
 
 part_picolibc() {
-    local cc=riscv64-unknown-elf-gcc name options level folder objects libraries known
+    local cc=riscv64-unknown-elf-gcc name options level folder include objects libraries known
     there picolibc $cc riscv64-unknown-elf-ar || return
     # the folder of its libraries is in the words that the driver would give to its linker
     folder=$($cc --specs=picolibc.specs -### start.o 2>&1 | tr ' ' '\n' | sed -n 's/^-L\(.*picolibc.*[^.]\)$/\1/p' | head -n 1)
     [ -e "${folder:-.}/libc.a" ] || { skip picolibc "it is not installed"; return; }
+    include=$(dirname "$folder")/include
     if [ -n "${REAL_ONCE:-}" ]; then
         # most of it is debug data
         mkdir -p pico && cp "$folder"/lib[cm].a pico && riscv64-unknown-elf-strip -g pico/libc.a || return
@@ -201,6 +204,13 @@ part_picolibc() {
                 -Wl,--start-group -lm -lc -lgcc -Wl,--end-group
         done
     done
+    there "picolibc hello by clang" clang || return
+    for name in start syscalls hello; do
+        clang --target=riscv64-unknown-elf -march=rv64gc -mabi=lp64d -mcmodel=medany -fno-pic -O2 -isystem "$include" -c -o "pico-$name-clang.o" "$sources/$name.c" \
+            >told 2>&1 || { skip "picolibc hello by clang" "it is not compiled: $(first_line told)"; return; }
+    done
+    driven "picolibc hello by the driver clang" hello clang --target=riscv64-unknown-elf -nostdlib --ld-path=drivers/ld \
+        pico-start-clang.o pico-syscalls-clang.o pico-hello-clang.o -L "$folder" -lc "$($cc -print-libgcc-file-name)"
 }
 
 # ------------------------------------------------------------------------------------------------------------------------ musl
@@ -379,7 +389,7 @@ alike() { sed -E 's|file=[^ ]*/|file=|; s/(section|place)=[0-9]+/\1=N/g; s/^[ |`
 refused_so() {
     local name=$1 line=$2 status
     shift 2
-    timeout 300 "$rvld" -o refused.out "$@" >told 2>&1
+    timeout "$limit" "$rvld" -o refused.out "$@" >told 2>&1
     status=$?
     if [ "$status" != 1 ] || [ "$(alike told)" != "$(alike <<<"$line")" ]; then
         differs "$name" "status $status, $(first_line told)"
@@ -400,6 +410,7 @@ get_newer() {
 
 part_refused() {
     local cc=riscv64-linux-gnu-gcc crt newer
+    [ "$is_rvld" = 1 ] || { skip "what is refused" "it is another linker that stands in rvld's place"; return; }
     there "what is refused" $cc riscv64-linux-gnu-g++ || return
     # GCC places anchors from which it reaches several variables, also past their section's end
     if { $cc -O2 -fno-pie -c -o anchors.o "$sources/anchors.c" && $cc -O2 -fno-pie -fno-section-anchors -c -o no-anchors.o "$sources/anchors.c"; } >told 2>&1; then
@@ -434,8 +445,8 @@ part_refused() {
     newer=$(dirname "$(find newer -name libc.a)")
     refused_so "glibc 2.41" "rvld: F12 RelocKind file=libc.a(iofclose.o) section=N place=N name= other=60" "$newer/crt1.o" "$newer/crti.o" hello.o "$newer/libc.a" \
         "${crt[@]:3}" "$newer/crtn.o"
-    riscv64-linux-gnu-ar p "$newer/libc.a" memcpy.o >memcpy.o
-    refused_so "memcpy of glibc 2.41" "rvld: F17 Ifunc file=memcpy.o section=N place=N name= other=0" -e memcpy memcpy.o
+    (cd newer && riscv64-linux-gnu-ar x "$work/$newer/libc.a" memcpy.o)
+    refused_so "memcpy of glibc 2.41" "rvld: F17 Ifunc file=memcpy.o section=N place=N name= other=0" -e memcpy newer/memcpy.o
     refused_so "tables of GCC 14" "rvld: F12 RelocKind file=libstdc++.a(eh_alloc.o) section=N place=N name= other=60" "$newer/crt1.o" throws.o \
         "$(find newer -name libstdc++.a)"
 }
@@ -465,7 +476,8 @@ part_guide() {
     there guide python3 || return
     find_musl && export MUSL=$musl MUSL_INCLUDE=$musl_include
     # rvld's own lines and maps are compared where it is rvld that links, and their places where the assembler is that of Debian 12
-    [ "$("$rvld" 2>&1)" = "rvld: bad command" ] || options+=(--not-its-lines)
+    # (and that a file is its image in memory holds of rvld's alone)
+    [ "$is_rvld" = 1 ] || options+=(--not-its-lines --without=qemu-system-riscv64)
     case $(riscv64-linux-gnu-as --version 2>/dev/null | head -n 1) in *" 2.40"*) ;; *) options+=(--places-differ) ;; esac
     [ "$has_map" = 1 ] || options+=(--without=--Map)
     [ "$has_input" = 1 ] || options+=(--without=--self-input)
@@ -479,9 +491,7 @@ part_guide() {
 rvld=${RVLD:-$top/crates/rvld/out/rvld}
 [ -x "$rvld" ] || { tell "no program at $rvld: build it (cd crates/rvld && rt run), or set RVLD"; exit 1; }
 rvld=$(cd "$(dirname "$rvld")" && pwd)/$(basename "$rvld")
-for tool in ld.lld qemu-riscv64; do
-    command -v "$tool" >/dev/null 2>&1 || { tell "all skipped: $tool is not there"; exit 0; }
-done
+command -v qemu-riscv64 >/dev/null 2>&1 || { tell "all skipped: qemu-riscv64 is not there"; exit 0; }
 if [ -n "${REAL_WORK:-}" ]; then
     mkdir -p "$REAL_WORK" || exit 1
     work=$(cd "$REAL_WORK" && pwd)
@@ -491,12 +501,19 @@ else
 fi
 cd "$work" || exit 1
 # what this rvld takes: an input that is not there is looked for once the command is accepted
-takes() { [ "$("$rvld" "$@" -o probe.out none.o 2>&1)" != "rvld: bad command" ]; }
-if [ -n "${RVLD_WORDS+set}" ]; then rvld_words=$RVLD_WORDS; elif takes; then rvld_words=; else rvld_words=-s; fi
+if [ "$("$rvld" 2>&1)" = "rvld: bad command" ]; then is_rvld=1; else is_rvld=0; fi
+if [ -n "${RVLD_WORDS+set}" ]; then
+    rvld_words=$RVLD_WORDS
+elif [ "$("$rvld" -o probe.out none.o 2>&1)" != "rvld: bad command" ]; then
+    rvld_words=
+else
+    rvld_words=-s
+fi
 # how often a program is linked, by its options, and by the number of workers
 trials=("" "--no-relax" "--gc-sections" "--gc-sections --icf all") workers=(1 2 64) levels=(O2 Os) ways=("-O2" "-O2 -fno-pie")
+limit=300 # seconds of a link
 [ -n "$rvld_words" ] || trials+=("-s")
-[ -z "${REAL_ONCE:-}" ] || { trials=("--gc-sections"); workers=(); levels=(O2); ways=("-O2"); }
+[ -z "${REAL_ONCE:-}" ] || { trials=("--gc-sections"); workers=(); levels=(O2); ways=("-O2"); limit=3000; }
 has_map=0
 # shellcheck disable=SC2086
 [ "$("$rvld" $rvld_words --Map probe.map -o probe.out none.o 2>&1)" != "rvld: cannot read none.o" ] || has_map=1
@@ -514,6 +531,7 @@ ln -sf "$top/scripts/rvld-ld" drivers/ld
 rvld=$work/bin/rvld
 export RVLD=$rvld PATH=$work/bin:$PATH
 
+there "each program beside ld.lld" ld.lld || true
 parts=("$@")
 [ ${#parts[@]} -gt 0 ] || parts=(free picolibc musl glibc refused guide)
 for part in "${parts[@]}"; do

@@ -11,12 +11,14 @@ Usage: guide.py GUIDE FOLDER [--not-its-lines] [--refusals] [--places-differ] [-
 import os
 import re
 import shutil
+import signal
 import subprocess
 import sys
 
 TOOL = re.compile(r'(?:^|[|;(]\s*|\$\()((?:riscv64-[a-z0-9-]+-|llvm-)[a-z+]+|clang(?:\+\+)?|qemu-(?:system-)?riscv64|rvld(?:-ld)?|cmp|make)\b', re.M)
 ITS_LINES = re.compile(r'^(rvld[: ]|rvld-ld: cannot run|status )', re.M)
 
+LIMIT = 3000 if os.environ.get('REAL_ONCE') else 300  # seconds that a section may take
 PLACES = re.compile(r'(?<= section=)[0-9]+|(?<= place=)[0-9]+')
 
 
@@ -73,7 +75,13 @@ def run(section, folder, options):
     script = ["trap '%s echo \"$BASH_COMMAND\" >>.failed' ERR\n: >.failed\n" % ignored]
     for number, (commands, _) in enumerate(section.blocks):
         script.append('{\n%s} >.said.%d 2>&1\n' % (commands, number))
-    subprocess.run(['bash', '-c', ''.join(script)], cwd=folder, stdin=subprocess.DEVNULL)
+    shell = subprocess.Popen(['bash', '-c', ''.join(script)], cwd=folder, stdin=subprocess.DEVNULL, start_new_session=True)
+    try:
+        shell.wait(LIMIT)
+    except subprocess.TimeoutExpired:
+        os.killpg(shell.pid, signal.SIGKILL)
+        shell.wait()
+        return 'it does not end in %d seconds' % LIMIT
     for number, (commands, wanted) in enumerate(section.blocks):
         path = os.path.join(folder, '.said.%d' % number)
         if not os.path.exists(path):

@@ -26,7 +26,8 @@ fn clear(out: &mut [u8])
 }
 
 /// Writes the bytes of the executable from file offset `65536 * k` on, as many as `out` has, which end within the file; `tables` are its own.
-/// A relocation that touches them and can't be done stops it, the first in order of section and offset; `out` may then hold any bytes.
+/// A relocation that touches them and can't be done stops it, the first in order of section and offset; `out` may then hold any bytes. So it may
+/// if the call is out of memory.
 #[tactic(auto, unfolding(crate::specs::Executable::executable))]
 pub fn block(
     alloc: Global,

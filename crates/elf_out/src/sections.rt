@@ -13,9 +13,10 @@ use std::alloc::{AllocError, Global};
 
 /// The name of the section that has the names.
 const OWN_NAME: &[u8] = b".shstrtab";
-/// Those of the symbol table, and of the names of its symbols.
+/// That of the symbol table.
 const SYMBOLS_NAME: &[u8] = b".symtab";
 
+/// That of the names of its symbols.
 const STRINGS_NAME: &[u8] = b".strtab";
 /// The first section header is that of no section.
 const NULL_SECTION: SectionHeader = SectionHeader {

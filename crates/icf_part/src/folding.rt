@@ -15,15 +15,42 @@ use std::alloc::{AllocError, Global};
 use std::thread::Threads;
 use work_split::Gate;
 
+/// More items than a link can have sections.
+const ITEM_END: usize = 1 << 31;
+
 /// For each item the place of its leader: the least item that can stand for it. Items are given in order of their sections' numbers. The
-/// answer is the same whatever the number of workers; more than one sort as many as the machine has processors. The only error is
-/// out of memory.
+/// answer is the same whatever the number of workers; more than one sort as many as the machine has processors. The gate is not called. The
+/// only error is out of memory, which 2^31 items or more are answered with.
 pub fn fold<R: Threads + Sync, G: Gate>(
     rt: &R,
     alloc: Global,
     items: &[FoldItem],
     workers: u32,
     _gate: &G,
+) -> Result<Vec<u32>, AllocError>
+    requires some { 1 ≤ workers }
+    requires most { workers ≤ 64 }
+    requires order { IsStrictlyIncreasing (sections_of (item_views items.now)) }
+    ensures value { IfOk result (λ l. l.items ≡ leaders_of (item_views items.now)) }
+    ensures leaders { IfOk result (λ l. AreLeaders (item_views items.now) l.items) }
+    ensures congruence { IfOk result (λ l. IsCongruence (item_views items.now) (classes l.items)) }
+    ensures greatest { IfOk result (λ l. HoldsAll (item_views items.now) l.items) }
+    ensures places { IfOk result (λ l. All (λ p. p < length items.now) l.items) }
+    ensures own { IfOk result (λ l. (a : ℕ) → slice_index l.items (slice_index l.items a) ≡ slice_index l.items a) }
+    ensures least { IfOk result (λ l. (a : ℕ) → slice_index l.items a ≤ a) }
+{
+    if items.len() >= ITEM_END {
+        return Err(AllocError);
+    }
+    fold_few(rt, alloc, items, workers)
+}
+
+/// That of fewer items.
+fn fold_few<R: Threads + Sync>(
+    rt: &R,
+    alloc: Global,
+    items: &[FoldItem],
+    workers: u32,
 ) -> Result<Vec<u32>, AllocError>
     requires some { 1 ≤ workers }
     requires most { workers ≤ 64 }

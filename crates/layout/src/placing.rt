@@ -39,7 +39,7 @@ use std::alloc::{AllocError, Global};
 /// Lays out a link: the sections that lead themselves, the pools of merged pieces, and last the linker's global offset table. `sizes` has by
 /// section number where each section loses bytes: a call keeps what it has there, and what an alignment keeps is found here. Refuses an
 /// alignment that needs more bytes than it has, the first in order of section and offset; then a count of output sections above its limit;
-/// then an image that is not below its limit.
+/// then an image that is not below its limit. Or it is out of memory.
 pub fn place<'a>(
     alloc: Global,
     tables: &Tables<'a>,

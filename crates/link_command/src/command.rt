@@ -121,7 +121,7 @@ fn is_apart(map: &Option<String>, output: &str) -> bool
     }
 }
 
-/// The command of these words, the program's name first. `None` refuses them.
+/// The command of these words, the program's name first. `None` refuses them. The only error is out of memory.
 #[tactic(auto, unfolding(crate::specs::Command::asked_of))]
 pub fn command_of(alloc: Global, words: &[String]) -> Result<Option<Command>, AllocError>
     ensures exact { IfOk result (λ command. option_map asks command ≡ asked_of (texts_of words.now)) }

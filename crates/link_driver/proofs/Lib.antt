@@ -6,6 +6,7 @@ pub mod Finishing
 pub mod Gathered
 pub mod Handing
 pub mod Keeping
+pub mod Laws
 pub mod Leading
 pub mod Opened
 pub mod Promising

@@ -6,9 +6,11 @@ use Rattle.lk_depot.specs.Output.{Output}
 use Rattle.lk_depot.specs.Loading.{AreContents, IsFirstLacking, FailedAt, name_at}
 use Rattle.lk_depot.proofs.NameLists.{same_contents, not_lacking}
 use Rattle.link_command.specs.Command.{Asked, asked_of}
+use Rattle.link_driver.specs.Laws.{sources_for}
 use Rattle.link_driver.specs.Link.{link}
 use Rattle.link_driver.specs.Ends.{Accepts, Ends, links, finds_defect, refuses, cannot_read_input, cannot_write_output, cannot_write_map, cannot_say, lacks_memory}
 use Rattle.link_driver.specs.Promises.{IsGiven, IsFaultless, Promises}
+use Rattle.link_driver.proofs.Laws.{are_least}
 
 -- told files have one list of contents
 one_content : (files : Option Files) (names a b : List (List ℕ)) → IsSome files → AreContents files names a → AreContents files names b → a ≡ b
@@ -175,5 +177,6 @@ module _ (words : List (List ℕ)) (before after : Store) (say say' : Output) (s
     sound = sound_end ends;
     only_sound = only_sound_end ends;
     missing = missing_end ends;
+    least = λ asked inputs given few. are_least asked (sources_for asked inputs) few;
     begun = begun_end ends;
   }

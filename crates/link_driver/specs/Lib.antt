@@ -4,6 +4,7 @@ pub mod Defects
 pub mod Endings
 pub mod Ends
 pub mod Given
+pub mod Laws
 pub mod Link
 pub mod Phases
 pub mod Promises

@@ -6,7 +6,7 @@ ghost use Rattle.lk_depot.specs.Files.{told_put};
 ghost use Rattle.lk_depot.specs.Loading.{name_at};
 ghost use Rattle.lk_depot.specs.Store.{Store};
 ghost use Rattle.lk_base.specs.Limits.{standard};
-ghost use Rattle.link_command.specs.Command.{IsWanted, asked_of, asks, texts_of};
+ghost use Rattle.link_command.specs.Command.{asked_of, asks, texts_of};
 ghost use Rattle.link_driver.specs.Contents.{input_contents, input_names, sources_of};
 ghost use Rattle.link_driver.specs.Given.{contents_for, names_for};
 ghost use Rattle.link_driver.specs.Link.{cannot_read, line_of_defect};
@@ -246,8 +246,6 @@ fn link_generated<R: Threads + Sync, D: Depot, S: Sink, G: Gate>(
 ) -> Ending
     requires some { 1 ≤ command.now.threads }
     requires most { command.now.threads ≤ 64 }
-    requires least { 1 ≤ objects }
-    requires greatest { objects ≤ 65536 }
     requires files { (asks command.now).inputs ≡ [] }
     requires generated { (asks command.now).generated ≡ Some objects }
     ensures ends { Ends (Some (asks command.now)) (D.store depot.old) (D.store depot.new) (S.output say.old) (S.output say.new) (status_of result) (told_line result) }
@@ -272,7 +270,6 @@ fn carry_out<R: Threads + Sync, D: Depot, S: Sink, G: Gate>(
 ) -> Ending
     requires some { 1 ≤ command.now.threads }
     requires most { command.now.threads ≤ 64 }
-    requires inputs { IsWanted command.now.inputs }
     ensures ends { Ends (Some (asks command.now)) (D.store depot.old) (D.store depot.new) (S.output say.old) (S.output say.new) (status_of result) (told_line result) }
     ensures faults { (D.store depot.old).faults ≤ (D.store depot.new).faults }
     ensures begun { (D.store depot.old).begun ≤ (D.store depot.new).begun }
@@ -362,9 +359,9 @@ fn tell<E: Sink>(err: &mut E, line: &[u8])
 /// file is begun, and given back at the end.
 ///
 /// The answer is the exit status: 0 linked; 1 the inputs have a defect, whose line is told; 2 the command is refused; 3 an input
-/// could not be read, or a file or the report could not be written; 4 out of memory. `rt` starts the workers: as many as the
-/// command asks for share the files and claim names, and where these are two or more, names are sorted by as many threads as there
-/// are processors. `gate` is called by each worker before and after its piece, where there are two pieces or more. No answer depends on
+/// could not be read, or a file or the report could not be written; 4 out of memory. `rt` starts as many workers as the
+/// command asks for; they share the passes over files, symbols, sections and blocks, and where there are two or more, names are sorted by as
+/// many threads as there are processors. `gate` is called by each worker before and after its piece, where there are two pieces or more. No answer depends on
 /// either.
 pub fn run<R: Threads + Sync, D: Depot, S: Sink, E: Sink, G: Gate>(
     rt: &R,

@@ -1,6 +1,6 @@
 //! The inputs of a link: their names and their bytes.
 
-ghost use Rattle.std.specs.Prelude.{◌≡◌, ◌≤◌, List, [], Some, map, length, string_bytes, IfOk};
+ghost use Rattle.std.specs.Prelude.{◌≡◌, List, [], Some, map, length, string_bytes, IfOk};
 ghost use Rattle.link_command.specs.Command.{texts_of};
 ghost use Rattle.link_driver.specs.Contents.{contents_of, input_contents, input_names};
 ghost use Rattle.link_driver.specs.Given.{contents_by, names_by};
@@ -42,8 +42,6 @@ pub fn inputs_of(
 
 /// So many generated objects.
 pub fn generated_inputs(alloc: Global, objects: u32) -> Result<Inputs, AllocError>
-    requires some { 1 ≤ objects }
-    requires most { objects ≤ 65536 }
     ensures names { IfOk result (λ inputs. input_names inputs ≡ names_by (Some objects) []) }
     ensures contents { IfOk result (λ inputs. input_contents inputs ≡ contents_by (Some objects) []) }
 {

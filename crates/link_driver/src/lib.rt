@@ -1,4 +1,4 @@
-//! The link of one command: its words, the load of its inputs, the phases of the link, and the executable.
+//! The link of one command: its words, the load of its inputs, the phases of the link, the executable, the map and the report.
 //!
 //! `run` is the top call. Its contract says that, whatever the words, the bytes of the inputs, the number of workers and the
 //! order of their steps, the files, the line and the status are those of one definition, `link` in specs/Link.antt; any other
@@ -27,6 +27,6 @@ mod tests;
 
 pub use driving::run;
 pub use inputs::Inputs;
-pub use link_command::{Command, Wanted};
+pub use link_command::{Command, IcfMode, Wanted};
 pub use linking::{Linked, link};
 pub use work_split::{Gate, OpenGate};

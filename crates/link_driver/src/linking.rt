@@ -565,7 +565,7 @@ pub fn link_sources<R: Threads + Sync, G: Gate>(
 ///
 /// The answer is what the link gives if the inputs have no defect: the executable, the map if one is asked, in which files have the names of
 /// their inputs, and for generated objects the report. Else it is the first defect of the first phase that has any, whatever the number of
-/// workers and the order of their steps; or out of memory. No limit is above the standard one.
+/// workers and the order of their steps; or out of memory. No limit is above the standard one. The command's `threads` is from 1 to 64.
 pub fn link<R: Threads + Sync, G: Gate>(
     rt: &R,
     alloc: Global,

@@ -14,6 +14,9 @@ use lk_base::abi::{EF_RISCV_FLOAT_ABI_DOUBLE, EF_RISCV_RVC, EHDR_SIZE, SHDR_SIZE
 use lk_base::up;
 use std::alloc::{AllocError, Global};
 
+/// No more objects than that are made.
+const OBJECT_MOST: u32 = 1 << 30;
+
 /// What stands in a section starts at a multiple of this, and so do the section headers.
 const OBJECT_ALIGN: u64 = 8;
 /// Compressed instructions, and floating-point numbers of up to 64 bits in registers.
@@ -144,13 +147,14 @@ fn object_name(alloc: Global, k: u32) -> Result<String, AllocError>
     format!(in alloc; "gen{k}.o")
 }
 
-/// `n` relocatable objects, from 1 to 65536 of them, by number from 0 on: the name `genK.o` of each, and its bytes (System V gABI,
-/// "Object Files"). The one error is out of memory.
+/// `n` relocatable objects, by number from 0 on: the name `genK.o` of each, and its bytes (System V gABI, "Object Files"). The only error is
+/// out of memory, which more than 2^30 objects are answered with.
 pub fn objects(alloc: Global, n: u32) -> Result<Vec<(String, Vec<u8>)>, AllocError>
-    requires some { 1 ≤ n }
-    requires most { n ≤ 65536 }
     ensures objects { IfOk result (λ list. spec.objects_in list.items ≡ spec.objects n) }
 {
+    if n > OBJECT_MOST {
+        return Err(AllocError);
+    }
     let mut list = Vec::with_capacity(alloc, n as usize)?;
     for k in 0..n {
         list.push((object_name(alloc, k)?, object(alloc, k, n)?))?;

@@ -186,7 +186,7 @@ struct Call<'a> {
     workers: &'a [&'a str],
     store: Store,
     libraries: &'a [Library<'a>],
-    outside: Outside<'a>,
+    outside: &'a Outside<'a>,
 }
 
 fn depot_of(alloc: Global, files: Files, outside: &Outside) -> Result<MemDepot, AllocError> {
@@ -229,7 +229,7 @@ fn run_with<R: Threads + Sync, G: Gate>(
 ) -> Result<Left, AllocError> {
     let words = words_of(alloc, call.words, call.workers)?;
     let files = files_of(alloc, call.store, call.libraries)?;
-    run_over(rt, alloc, words.as_slice(), files, &call.outside, gate)
+    run_over(rt, alloc, words.as_slice(), files, call.outside, gate)
 }
 
 /// A command that links: its words, its files and archives, the name of its output and the executable, the name of its map and the
@@ -353,7 +353,7 @@ fn is_linked<R: Threads + Sync, G: Gate>(
         workers,
         store: link.store,
         libraries: link.libraries,
-        outside: SOUND,
+        outside: &SOUND,
     };
     let left = run_with(rt, alloc, &call, gate)?;
     let image = image_of(alloc, &link.image)?;
@@ -648,7 +648,7 @@ fn is_refused<R: Threads + Sync>(
         workers,
         store: refusal.store,
         libraries: refusal.libraries,
-        outside: SOUND,
+        outside: &SOUND,
     };
     let left = run_with(rt, alloc, &call, &OpenGate)?;
     Ok(

@@ -38,7 +38,7 @@ pub struct View<'t, 'a> {
     pub uppers: &'t Uppers,
     /// By symbol number, the number of its name.
     pub numbers: &'t NameNumbers,
-    /// By file number the name that lines and the map show.
+    /// By file number the name that the map shows; none where no map is asked for.
     pub names: &'t [Vec<u8>],
     /// Whether the executable has no symbol table.
     pub strip: bool,

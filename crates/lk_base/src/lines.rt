@@ -101,7 +101,7 @@ fn push_other(
 
 /// The line that reports a defect. `file` is the name of the defect's file (of a member with its archive's, as
 /// `lib.a(m.o)`), `name` the name that the kind speaks of, and `other` the name of the other file of a duplicate. All
-/// three are given as they are, and escaped here; what the line does not show is not read.
+/// three are given as they are, and escaped here; what the line does not show is not read. The only error is out of memory.
 pub fn line_of(
     alloc: Global,
     defect: &Defect,

@@ -1,11 +1,11 @@
-mod CutSteps
-mod Fitting
+pub mod CutSteps
+pub mod Fitting
 mod Hints
 mod KeyMaps
 mod LeastSizes
 mod ListSteps
-mod MemberFacts
+pub mod MemberFacts
 mod Places
-mod PointSteps
-mod RowFacts
+pub mod PointSteps
+pub mod RowFacts
 mod SafeSizes

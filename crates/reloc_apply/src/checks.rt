@@ -25,7 +25,7 @@ use std::thread::Threads;
 use work_split::{Gate, over_shares, pieces_by_weight};
 
 /// Tests all relocations of the sections that are their own leaders, and reports the first, in order of file, section and offset, that
-/// can't be done. The sections are shared among so many workers, by how many relocations they have.
+/// can't be done; or it is out of memory. The sections are shared among so many workers, by how many relocations they have.
 pub fn check_relocations<R: Threads + Sync, G: Gate>(
     rt: &R,
     alloc: Global,

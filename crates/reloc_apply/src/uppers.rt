@@ -12,7 +12,7 @@ use lk_base::relocations::is_upper;
 use lk_tables::{Reloc, Tables, Uppers, section_count};
 use std::alloc::{AllocError, Global};
 
-/// The upper parts of each section, by its number.
+/// The upper parts of each section, by its number. The only error is out of memory.
 pub fn find_uppers(alloc: Global, tables: &Tables) -> Result<Uppers, AllocError>
     ensures { IfOk result (λ uppers. AreListed (section_uppers (files_of tables.now)) uppers) }
 {

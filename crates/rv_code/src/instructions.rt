@@ -8,7 +8,8 @@ ghost use Rattle.rv_code.specs.Instructions.{IsJal, IsShortJump, nop_byte};
 use crate::places::patch;
 use lk_base::abi::{R_RISCV_JAL, R_RISCV_RVC_JUMP};
 
-/// `jal`: a jump by an offset, which leaves the address of the next instruction in the register `rd`.
+/// `jal`: a jump by an offset in bytes, even, from -1048576 to 1048574, which leaves the address of the next instruction in the register
+/// `rd`, below 32.
 #[tactic(auto, unfolding(lk_base::specs::RelocKinds::kind_of, lk_base::specs::RelocKinds::has_value))]
 pub fn jal(rd: u32, offset: i64) -> u32
     requires register { rd < 32 }
@@ -20,7 +21,7 @@ pub fn jal(rd: u32, offset: i64) -> u32
     u32::from_le_bytes(bytes)
 }
 
-/// `c.j`: a jump by an offset, in two bytes.
+/// `c.j`: a jump by an offset in bytes, even, from -2048 to 2046, in two bytes.
 #[tactic(auto, unfolding(lk_base::specs::RelocKinds::kind_of, lk_base::specs::RelocKinds::has_value))]
 pub fn cj(offset: i64) -> u16
     requires { Takes (kind_of R_RISCV_RVC_JUMP).reach offset }

@@ -60,8 +60,9 @@ fn write_number(place: &mut [u8], number: u64)
     place.copy_from_slice(&number.to_le_bytes()[..count]);
 }
 
-/// Puts a value into the place of a kind of relocation. The bits that the kind's field does not name stay. What was
-/// put is read from the place again, and a branch, a jump or a call there goes by the value.
+/// Puts a value into the place of a kind of relocation, one that puts a value there: the value fits, and `place` has the kind's bytes. The
+/// bits that the kind's field does not name stay. What was put is read from the place again, and a branch, a jump or a call there goes by
+/// the value.
 pub fn patch(kind: u32, place: &mut [u8], v: i128)
     requires value { HasValue kind }
     requires fits { Takes (kind_of kind).reach v }

@@ -31,7 +31,7 @@ fn fits_rule(rule: Rule, v: i128) -> Result<(), Misfit>
     }
 }
 
-/// Whether the field of a kind of relocation holds the value: `Odd` if the field has no bit for an odd value, and
+/// Whether the field of a kind of relocation, one that puts a value into its place, holds the value: `Odd` if the field has no bit for an odd value, and
 /// `Range` if the value is out of its reach and not odd.
 pub fn fits(kind: u32, v: i128) -> Result<(), Misfit>
     requires { HasValue kind }

@@ -26,7 +26,7 @@ const SITE_END: usize = 1 << 31;
 
 /// The pools of the sections that are kept, which stand in `kept` by number: the sections that are merged, cut into pieces, of which equal
 /// ones stand in their pool once, by first appearance, each at a multiple of the pool's alignment. The workers find the pieces. It answers
-/// the same whatever the number of workers.
+/// the same whatever the number of workers. The only error is out of memory.
 pub fn merge<R: Threads + Sync, G: Gate>(
     rt: &R,
     alloc: Global,

@@ -22,7 +22,7 @@ pub struct Outputs<'a> {
 }
 
 impl<'a> Outputs<'a> {
-    /// Those of a list.
+    /// By name and class, the numbers of these output sections, from 1 on. The only error is out of memory.
     pub fn of(alloc: Global, list: &[Output<'a>]) -> Result<Outputs<'a>, AllocError>
         requires { length list.now < 2 ^ 16 }
         ensures { IfOk result (λ outputs. AreNoted 1 (map output_view list.now) (noted outputs.known)) }
@@ -36,7 +36,8 @@ impl<'a> Outputs<'a> {
         Ok(Outputs { known })
     }
 
-    /// That of a section.
+    /// Where a section stands: the number of its output section, `Absolute` where that is empty. `layout` is the one whose output sections were
+    /// noted.
     #[tactic(auto, unfolding(crate::specs::Outputs::place_in, link_sections::specs::LaidOut::layout_view))]
     pub fn place_of(&self, layout: &Layout, section: &InputSection) -> TablePlace
         requires { AreNoted 1 (layout_view layout.now).outputs (noted self.now.known) }

@@ -40,7 +40,7 @@ const UNREAD: Fault = Fault {
     said: 0,
 };
 
-const FILES: [Fault; 6] = [
+const FILES: &[Fault] = &[
     UNREAD,
     Fault {
         outside: Outside {
@@ -116,7 +116,7 @@ const UNREAD_FOR_MAP: Fault = Fault {
     ..UNREAD
 };
 
-const WITH_MAP: [Fault; 8] = [
+const WITH_MAP: &[Fault] = &[
     UNREAD_FOR_MAP,
     Fault {
         link: Link {
@@ -210,7 +210,7 @@ const UNREPORTED: Fault = Fault {
     ..UNREAD
 };
 
-const REPORTS: [Fault; 5] = [
+const REPORTS: &[Fault] = &[
     UNREPORTED,
     Fault {
         outside: Outside {
@@ -274,7 +274,7 @@ const UNTOLD: Fault = Fault {
     ..UNREAD
 };
 
-const LINES: [Fault; 6] = [
+const LINES: &[Fault] = &[
     UNTOLD,
     Fault {
         outside: Outside {
@@ -387,7 +387,7 @@ fn is_cut<R: Threads + Sync>(
         workers,
         store: fault.link.store,
         libraries: fault.link.libraries,
-        outside: fault.outside,
+        outside: &fault.outside,
     };
     let left = run_with(rt, alloc, &call, &OpenGate)?;
     Ok(

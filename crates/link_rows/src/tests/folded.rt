@@ -894,6 +894,22 @@ fn chain_code(alloc: Global) -> Result<Vec<u8>, AllocError> {
     Ok(code)
 }
 
+/// The executable of the chain, of which these are the functions and the names of the sections.
+fn chain_image<'x>(contents: &'x [(usize, &'x [u8])]) -> Image<'x> {
+    Image {
+        entry: 0x11000,
+        flags: 0,
+        segments: &[READ, [1, 5, 0x1000, 0x11000, 2404, 2404, 4096], STACK],
+        contents,
+        listed: None,
+        table: 0x1978,
+        sections: &[
+            [1, 1, 6, 0x11000, 0x1000, 2404, 4],
+            [7, 3, 0, 0, 0x1964, 17, 1],
+        ],
+    }
+}
+
 /// The executable of the ring: one function, which calls itself.
 const RING: Image = Image {
     contents: &[(0x1000, b"\xef\0\0\0\x67\x80\0\0"), (0x1008, NAMES)],
@@ -912,18 +928,7 @@ fn what_ends_differently_stays_apart(rt: HostRuntime) -> Result<(), Fail> {
     let alloc = rt.alloc();
     let code = chain_code(alloc)?;
     let contents = [(0x1000usize, code.as_slice())];
-    let image = Image {
-        entry: 0x11000,
-        flags: 0,
-        segments: &[READ, [1, 5, 0x1000, 0x11000, 2404, 2404, 4096], STACK],
-        contents: &contents,
-        listed: None,
-        table: 0x1978,
-        sections: &[
-            [1, 1, 6, 0x11000, 0x1000, 2404, 4],
-            [7, 3, 0, 0, 0x1964, 17, 1],
-        ],
-    };
+    let image = chain_image(&contents);
     for workers in &WORKERS {
         let files = chain(alloc)?;
         assert!(rt; is_folded(&rt, alloc, files, workers, &image)?);

@@ -248,7 +248,7 @@ fn link_many<R: Threads + Sync>(
         workers,
         store: Store::Maps,
         libraries: &[],
-        outside: SOUND,
+        outside: &SOUND,
     };
     run_with(rt, alloc, &call, &OpenGate)
 }

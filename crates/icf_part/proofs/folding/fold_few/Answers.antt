@@ -3,7 +3,7 @@ use Rattle.link_sections.specs.FoldItems.{item_views}
 use Rattle.icf_part.specs.Signatures.{bytes_of, output_of, shape_at}
 use Rattle.icf_part.proofs.RowSteps.{all_rows}
 use Rattle.icf_part.proofs.Whole.{all_sections, all_ends, all_numbers, first_numbers, first_firsts, folded}
-use Rattle.icf_part.proofs.folding.fold.Goals as goal
+use Rattle.icf_part.proofs.folding.fold_few.Goals as goal
 
 pub all_places-requires-clause-few : goal.all_places-requires-clause-few
 all_places-requires-clause-few g c =

@@ -1,0 +1,59 @@
+-- Laws of Link's own words, which hold at every end of a run.
+use Rattle.std.proofs.Common.{◌≡◌, ℕ, ◌<◌, ◌^◌, Bool, true, false, List, [], ◌∷◌, length, map, refl, ap, ◌∙◌, arith}
+use Rattle.std.specs.Prelude.{if◌then◌else◌}
+use Rattle.std.specs.List.{range_with_len, sum}
+use Rattle.std.proofs.lemmas.List.FromFn.{length-map-range_with_len}
+use Rattle.comdat.specs.Discarded.{discarded}
+use Rattle.file_live.specs.Live.{IsLive}
+use Rattle.file_live.proofs.Pulling.{pull_within}
+use Rattle.file_live.proofs.Rounds.{live_of_least}
+use Rattle.lk_tables.specs.Files.{File, symbol_total}
+use Rattle.sym_resolve.specs.Law.{IsLawful}
+use Rattle.sym_resolve.proofs.Lawful.{lawful}
+use Rattle.link_command.specs.Command.{Asked}
+use Rattle.link_driver.specs.Laws.{AreCounted, AreLeast}
+use Rattle.link_driver.specs.Link.{bound_names}
+use Rattle.link_driver.specs.Sources.{Source, files_in, has_body, headed, heads_in, live_in, opened, opened_files, with_body}
+use Rattle.link_driver.proofs.Opened.{how_many}
+
+-- a body adds no symbol
+abbrev symbols_of : File → ℕ
+symbols_of file = length file.head.symbols
+
+same_symbols : (on : Bool) (file : File) → symbols_of (if on then with_body file else file) ≡ symbols_of file
+same_symbols true file = refl
+same_symbols false file = refl
+
+counts_same : (ss : List Source) (live : List Bool) (fs : List ℕ) → map symbols_of (map (opened ss live) fs) ≡ map symbols_of (map (headed ss) fs)
+counts_same ss live [] = refl
+counts_same ss live (f ∷ fs) =
+    ap (λ n. n ∷ map symbols_of (map (opened ss live) fs)) (same_symbols (has_body ss live f) (headed ss f))
+    ∙ ap (λ ns. symbols_of (headed ss f) ∷ ns) (counts_same ss live fs)
+
+total_same : (ss : List Source) → symbol_total (files_in ss) ≡ symbol_total (heads_in ss)
+unfolding opened_files heads_in
+total_same ss = ap sum (counts_same ss (live_in ss) (range_with_len 0 (length ss)))
+
+file_count : (ss : List Source) → length (files_in ss) ≡ length ss
+unfolding opened_files
+file_count ss = length-map-range_with_len (opened ss (live_in ss)) 0 (length ss)
+
+module _ (ss : List Source) (few : AreCounted ss) where
+  -- the files that take part are the least closed set
+  pub least_files : IsLive (heads_in ss) (live_in ss)
+  unfolding live_in
+  least_files =
+      let files : length (heads_in ss) < 2 ^ 24 = omega (arith, how_many ss, few.files) in
+      let symbols : symbol_total (heads_in ss) < 2 ^ 31 = omega (arith, few.symbols) in
+      live_of_least (heads_in ss) (pull_within (heads_in ss) files symbols)
+
+  -- each name is bound to its least offer
+  pub least_offers : (entry : List ℕ) → IsLawful (files_in ss) (discarded (files_in ss)) entry (bound_names (files_in ss) entry)
+  unfolding bound_names
+  least_offers entry =
+      let files : length (files_in ss) < 2 ^ 24 = omega (arith, file_count ss, few.files) in
+      let symbols : symbol_total (files_in ss) < 2 ^ 31 = omega (arith, total_same ss, few.symbols) in
+      lawful (files_in ss) (discarded (files_in ss)) files symbols entry
+
+pub are_least : (asked : Asked) (ss : List Source) → AreCounted ss → AreLeast asked ss
+are_least asked ss few = record { taking_part = least_files ss few; bound = least_offers ss few asked.entry }

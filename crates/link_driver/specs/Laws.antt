@@ -1,0 +1,26 @@
+-- Laws of what a link is made of, whatever it gives.
+use Rattle.std.specs.Prelude.{ℕ, ◌≤◌, List, length}
+use Rattle.comdat.specs.Discarded.{discarded}
+use Rattle.file_live.specs.Live.{IsLive}
+use Rattle.link_command.specs.Command.{Asked}
+use Rattle.link_driver.specs.Given.{contents_for}
+use Rattle.link_driver.specs.Link.{bound_names}
+use Rattle.link_driver.specs.Sources.{Source, files_in, heads_in, live_in, sources}
+use Rattle.lk_base.specs.Limits.{standard}
+use Rattle.lk_tables.specs.Files.{symbol_total}
+use Rattle.sym_resolve.specs.Law.{IsLawful}
+
+-- the files of a link of inputs with these bytes
+abbrev pub sources_for : Asked → List (List ℕ) → List Source
+sources_for asked given = sources standard (contents_for asked given)
+
+-- no more files and symbols than a link may have
+pub record AreCounted (ss : List Source) : Type 0 where
+  pub files : length ss ≤ standard.files
+  pub symbols : symbol_total (heads_in ss) ≤ standard.symbols
+
+-- the files that take part are the least set with the command's objects and all that they pull; each name is bound to the least offer of it,
+-- if there is one, and bound COMMON symbols get the greatest room asked for
+pub record AreLeast (asked : Asked) (ss : List Source) : Type 0 where
+  pub taking_part : IsLive (heads_in ss) (live_in ss)
+  pub bound : IsLawful (files_in ss) (discarded (files_in ss)) asked.entry (bound_names (files_in ss) asked.entry)
