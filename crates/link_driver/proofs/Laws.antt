@@ -38,6 +38,12 @@ file_count : (ss : List Source) → length (files_in ss) ≡ length ss
 unfolding opened_files
 file_count ss = length-map-range_with_len (opened ss (live_in ss)) 0 (length ss)
 
+pub few_files : (ss : List Source) → AreCounted ss → length (files_in ss) < 2 ^ 24
+few_files ss few = omega (arith, file_count ss, few.files)
+
+pub few_symbols : (ss : List Source) → AreCounted ss → symbol_total (files_in ss) < 2 ^ 31
+few_symbols ss few = omega (arith, total_same ss, few.symbols)
+
 module _ (ss : List Source) (few : AreCounted ss) where
   -- the files that take part are the least closed set
   pub least_files : IsLive (heads_in ss) (live_in ss)
@@ -51,9 +57,7 @@ module _ (ss : List Source) (few : AreCounted ss) where
   pub least_offers : (entry : List ℕ) → IsLawful (files_in ss) (discarded (files_in ss)) entry (bound_names (files_in ss) entry)
   unfolding bound_names
   least_offers entry =
-      let files : length (files_in ss) < 2 ^ 24 = omega (arith, file_count ss, few.files) in
-      let symbols : symbol_total (files_in ss) < 2 ^ 31 = omega (arith, total_same ss, few.symbols) in
-      lawful (files_in ss) (discarded (files_in ss)) files symbols entry
+      lawful (files_in ss) (discarded (files_in ss)) (few_files ss few) (few_symbols ss few) entry
 
 pub are_least : (asked : Asked) (ss : List Source) → AreCounted ss → AreLeast asked ss
 are_least asked ss few = record { taking_part = least_files ss few; bound = least_offers ss few asked.entry }

@@ -1,11 +1,16 @@
 -- Laws of what a link is made of, whatever it gives.
-use Rattle.std.specs.Prelude.{ℕ, ◌≤◌, List, length}
+use Rattle.std.specs.Prelude.{◌≡◌, ℕ, ◌≤◌, ◌&&◌, ◌||◌, ◌==◌, not, nat_lt, Bool, false, List, All, length}
 use Rattle.comdat.specs.Discarded.{discarded}
 use Rattle.file_live.specs.Live.{IsLive}
 use Rattle.link_command.specs.Command.{Asked}
 use Rattle.link_driver.specs.Given.{contents_for}
 use Rattle.link_driver.specs.Link.{bound_names}
 use Rattle.link_driver.specs.Sources.{Source, files_in, heads_in, live_in, sources}
+use Rattle.lk_base.specs.declared.defects.Defect.{Defect}
+use Rattle.lk_base.specs.declared.defects.LinkStop.{LinkStop}
+use Rattle.lk_base.specs.declared.defects.LinkStop.TheVariants as stops
+use Rattle.lk_base.specs.declared.numbers.TheConstants.{NO_FILE}
+use Rattle.lk_base.specs.Firsts.{StopsAt}
 use Rattle.lk_base.specs.Limits.{standard}
 use Rattle.lk_tables.specs.Files.{symbol_total}
 use Rattle.sym_resolve.specs.Law.{IsLawful}
@@ -24,3 +29,21 @@ pub record AreCounted (ss : List Source) : Type 0 where
 pub record AreLeast (asked : Asked) (ss : List Source) : Type 0 where
   pub taking_part : IsLive (heads_in ss) (live_in ss)
   pub bound : IsLawful (files_in ss) (discarded (files_in ss)) asked.entry (bound_names (files_in ss) asked.entry)
+
+-- a defect of a file comes before another by file, section and place; one of no file comes before none
+abbrev pub comes_before : Defect → Defect → Bool
+comes_before d e = not (d.file == NO_FILE)
+    && (nat_lt d.file e.file || (d.file == e.file && (nat_lt d.section e.section || (d.section == e.section && nat_lt d.place e.place))))
+
+-- none of these comes before this one
+abbrev pub IsLeast : Defect → List Defect → Type 0
+IsLeast least defects = All (λ d. comes_before d least ≡ false) defects
+
+abbrev pub IsLeastStop : LinkStop → List Defect → Type 0
+IsLeastStop (stops.Defect least) defects = IsLeast least defects
+IsLeastStop stops.Memory defects = Unit {0}
+
+-- a link stops at the first of its defects, and none of them comes before it; or memory ran out
+pub record StopsAtLeast (stop : LinkStop) (defects : List Defect) : Type 0 where
+  pub first : StopsAt stop defects
+  pub least : IsLeastStop stop defects

@@ -2,7 +2,6 @@
 use Rattle.std.specs.Prelude.{◌≡◌, ℕ, true, Bool, if◌then◌else◌, List, [], Option, Some, Result, Ok, Err}
 use Rattle.lk_base.specs.declared.defects.LinkStop.{LinkStop}
 use Rattle.lk_base.specs.declared.limits.Limits.{Limits}
-use Rattle.lk_base.specs.Firsts.{StopsAt}
 use Rattle.lk_tables.specs.Binding.{Bindings}
 use Rattle.lk_tables.specs.Files.{File}
 use Rattle.elf_out.specs.Executable.{executable}
@@ -14,6 +13,7 @@ use Rattle.map_file.specs.MapText.{map_text}
 use Rattle.sym_resolve.specs.Law.{IsLawful}
 use Rattle.link_driver.specs.declared.linking.Linked.{Linked}
 use Rattle.comdat.specs.Discarded.{discarded}
+use Rattle.link_driver.specs.Laws.{StopsAtLeast}
 use Rattle.link_driver.specs.Link.{Wishes, bound_names, defects_in, executable_in, executable_with, kept_in, laid_out, leaders_in, link, map_in, map_with, report_by, report_in, report_with, wishes_of}
 use Rattle.link_driver.specs.Sources.{Source, files_in, heads_in, live_in}
 use Rattle.link_driver.specs.Tables.{IsCollected}
@@ -50,10 +50,10 @@ pub record Links (limits : Limits) (asked : Asked) (names : List (List ℕ)) (ss
       (laid_out (wishes_of asked) (files_in ss) (bound_names (files_in ss) asked.entry) (kept_in asked ss)) linked.exe.items
   pub gives : Gives asked names ss linked
 
--- Link if there is no defect, the first defect if there is one, or out of memory
+-- Link if there is no defect, the first defect if there is one, before which none stands, or out of memory
 abbrev pub AfterLink : Limits → Asked → (names : List (List ℕ)) → List Source → Result Linked LinkStop → Type 0
 AfterLink limits asked names ss (Ok linked) = Links limits asked names ss linked
-AfterLink limits asked names ss (Err stop) = StopsAt stop (defects_in limits asked ss)
+AfterLink limits asked names ss (Err stop) = StopsAtLeast stop (defects_in limits asked ss)
 
 -- what a link without a defect gives is what Link is
 pub record IsLinked (asked : Asked) (given : List (List ℕ)) (linked : Linked) : Type 0 where

@@ -50,7 +50,7 @@ struct Left {
 
 /// The words that are put behind those of an example, so that it runs with the default number of workers, with one, two, three and
 /// 64.
-const WORKERS: [&[&str]; 5] = [
+const WORKERS: &[&[&str]] = &[
     &[],
     &["--threads", "1"],
     &["--threads", "2"],
@@ -111,7 +111,7 @@ fn push_library(files: &mut Files, alloc: Global, library: &Library) -> Result<(
 /// All inputs that are objects.
 fn objects_of(alloc: Global) -> Result<Files, AllocError> {
     let mut files = Vec::new(alloc);
-    for input in &INPUTS {
+    for input in INPUTS {
         push_object(&mut files, alloc, input)?;
     }
     Ok(files)
@@ -257,7 +257,7 @@ const FIRST_LINK: Link = Link {
     said: "",
 };
 
-const LINKS: [Link; 11] = [
+const LINKS: &[Link] = &[
     FIRST_LINK,
     Link {
         words: &["rvld", "-s", "-o", "a.o", "a.o"],
@@ -373,7 +373,7 @@ fn is_linked_by_any<R: Threads + Sync>(
     alloc: Global,
     link: &Link,
 ) -> Result<bool, AllocError> {
-    for workers in &WORKERS {
+    for workers in WORKERS {
         if !is_linked(rt, alloc, link, workers, &OpenGate)? {
             return Ok(false);
         }
@@ -442,7 +442,7 @@ const NO_WORDS: Refusal = Refusal {
     loads: 0,
 };
 
-const COMMANDS: [Refusal; 9] = [
+const COMMANDS: &[Refusal] = &[
     Refusal {
         words: &["rvld", "--threads", "65", "a.o"],
         ..NO_WORDS
@@ -481,7 +481,7 @@ const COMMANDS: [Refusal; 9] = [
     },
 ];
 
-const REFUSALS: [Refusal; 19] = [
+const REFUSALS: &[Refusal] = &[
     Refusal {
         words: &["rvld"],
         store: Store::Objects,
@@ -666,7 +666,7 @@ fn is_refused_by_any<R: Threads + Sync>(
     alloc: Global,
     refusal: &Refusal,
 ) -> Result<bool, AllocError> {
-    for workers in &WORKERS {
+    for workers in WORKERS {
         if !is_refused(rt, alloc, refusal, workers)? {
             return Ok(false);
         }
@@ -1101,7 +1101,7 @@ type Shared<'a> = (Link<'a>, u64);
 /// the names that nothing offers, the addresses of symbols, and the test of relocations. Those of the second are the claims for groups, the
 /// symbols that stand for sections' names, the edges between sections and the blocks of the executable too. Those of the third are those of
 /// the first, and the lists of symbols for the symbol table and for the map.
-const SHARED: [Shared; 3] = [
+const SHARED: &[Shared] = &[
     (
         Link {
             words: &["rvld", "-s", "a.o", "h.o"],
@@ -1164,7 +1164,7 @@ fn is_held<R: Threads + Sync>(
 
 #[test]
 fn workers_in_either_order(rt: HostRuntime) -> Result<(), Fail> {
-    for shared in &SHARED {
+    for shared in SHARED {
         for held in 0..2 {
             assert!(rt;
                 is_held(&rt, rt.alloc(), shared, held)?,

@@ -262,7 +262,7 @@ const WITHIN: Object = Object {
 
 const LIBRARIES: &[Library] = &[OFFER_OF_WEAK];
 
-const INPUTS: [Input; 6] = [
+const INPUTS: &[Input] = &[
     Input {
         name: "all.o",
         object: ALL_STAY,
@@ -295,7 +295,7 @@ const INPUTS: [Input; 6] = [
     },
 ];
 
-const WRONG_INPUTS: [Input; 7] = [
+const WRONG_INPUTS: &[Input] = &[
     Input {
         name: "short.o",
         object: SHORT,
@@ -334,7 +334,7 @@ const WRONG_INPUTS: [Input; 7] = [
 ];
 
 fn push_wrong_inputs(files: &mut Files, alloc: Global) -> Result<(), AllocError> {
-    for input in &WRONG_INPUTS {
+    for input in WRONG_INPUTS {
         push_object(files, alloc, input)?;
     }
     Ok(())
@@ -343,7 +343,7 @@ fn push_wrong_inputs(files: &mut Files, alloc: Global) -> Result<(), AllocError>
 /// The files that are at hand.
 pub fn files(alloc: Global) -> Result<Files, AllocError> {
     let mut files = Vec::new(alloc);
-    for input in &INPUTS {
+    for input in INPUTS {
         push_object(&mut files, alloc, input)?;
     }
     push_wrong_inputs(&mut files, alloc)?;
@@ -419,7 +419,7 @@ const MOVED_IMAGE: Image = Image {
 };
 
 /// What stays, and what moves.
-pub const STAYING: [Link; 5] = [
+pub const STAYING: &[Link] = &[
     Link {
         words: &["rvld", "-s", "all.o"],
         store: Store::Aligned,
@@ -454,7 +454,7 @@ pub const STAYING: [Link; 5] = [
 ];
 
 /// Too few bytes, and bytes that can be none.
-pub const SHORTAGES: [Refusal; 7] = [
+pub const SHORTAGES: &[Refusal] = &[
     Refusal {
         words: &["rvld", "-s", "short.o"],
         store: Store::Aligned,

@@ -8,7 +8,7 @@ use std::alloc::{AllocError, Global};
 use std::test::Fail;
 use std::thread::Threads;
 
-const WORKERS: [&[&str]; 2] = [&["--threads", "1"], &["--threads", "64"]];
+const WORKERS: &[&[&str]] = &[&["--threads", "1"], &["--threads", "64"]];
 
 /// The generated object.
 fn object(alloc: Global) -> Result<Vec<u8>, AllocError> {
@@ -110,7 +110,7 @@ struct Cut<'a> {
     answer: Answer<'a>,
 }
 
-const CUTS: [Cut; 8] = [
+const CUTS: &[Cut] = &[
     Cut {
         sample: Sample::Object,
         first: 0,
@@ -171,7 +171,7 @@ fn is_cut_to<R: Threads + Sync>(
     cut: &Cut,
     length: usize,
 ) -> Result<bool, AllocError> {
-    for workers in &WORKERS {
+    for workers in WORKERS {
         let mut bytes = bytes_of(alloc, cut.sample)?;
         bytes.truncate(length);
         let whole = bytes.len() == length;
@@ -185,7 +185,7 @@ fn is_cut_to<R: Threads + Sync>(
 
 #[test]
 fn files_are_cut_at_each_length(rt: HostRuntime) -> Result<(), Fail> {
-    for cut in &CUTS {
+    for cut in CUTS {
         for length in cut.first..cut.last.saturating_add(1) {
             assert!(rt; is_cut_to(&rt, rt.alloc(), cut, length)?, "length {length}");
         }
@@ -210,7 +210,7 @@ const OF_MACHINE: Altered = Altered {
     answer: Answer::Line("rvld: F02 BadHeader file=gen0.o section=0 place=18 name= other=0\n"),
 };
 
-const HEADERS: [Altered; 6] = [
+const HEADERS: &[Altered] = &[
     OF_MACHINE,
     Altered {
         first: 62,
@@ -248,7 +248,7 @@ const HEADERS: [Altered; 6] = [
     },
 ];
 
-const CONTENTS: [Altered; 6] = [
+const CONTENTS: &[Altered] = &[
     Altered {
         first: 238,
         last: 238,
@@ -305,7 +305,7 @@ fn is_altered<R: Threads + Sync>(
     alloc: Global,
     altered: &Altered,
 ) -> Result<bool, AllocError> {
-    for workers in &WORKERS {
+    for workers in WORKERS {
         let bytes = altered_bytes(alloc, altered)?;
         let left = link_alone(rt, alloc, "gen0.o", bytes, workers)?;
         if !is_answer(alloc, &left, &altered.answer, 0)? {

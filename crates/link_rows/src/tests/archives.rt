@@ -13,7 +13,7 @@ use super::libraries::{
 use super::{FIRST_LINK, Link, Refusal, Store};
 
 /// Forms of archives, and an archive before the object that asks.
-pub const READ: [Link; 4] = [
+pub const READ: &[Link] = &[
     Link {
         words: &["rvld", "-s", "m.o", "lib.a"],
         libraries: &[WITH_TEXT],
@@ -41,7 +41,7 @@ pub const READ: [Link; 4] = [
 ];
 
 /// Members that nothing pulls.
-pub const IDLE: [Link; 6] = [
+pub const IDLE: &[Link] = &[
     Link {
         words: &["rvld", "-s", "call.o", "lib.a"],
         libraries: &[OFFER_OF_WEAK],
@@ -81,7 +81,7 @@ pub const IDLE: [Link; 6] = [
 ];
 
 /// Which offer of a name is taken.
-pub const CHOSEN: [Link; 7] = [
+pub const CHOSEN: &[Link] = &[
     Link {
         words: &["rvld", "-s", "m.o", "lib.a", "lib.a"],
         libraries: &[ONE_MEMBER],
@@ -127,7 +127,7 @@ pub const CHOSEN: [Link; 7] = [
 ];
 
 /// A member that another pulls.
-pub const CHAINS: [Link; 2] = [
+pub const CHAINS: &[Link] = &[
     Link {
         words: &["rvld", "-s", "m.o", "lib.a"],
         libraries: &[CHAIN],
@@ -143,7 +143,7 @@ pub const CHAINS: [Link; 2] = [
 ];
 
 /// What is wrong with members.
-pub const WRONG_MEMBERS: [Refusal; 8] = [
+pub const WRONG_MEMBERS: &[Refusal] = &[
     Refusal {
         words: &["rvld", "-s", "both.o", "lib.a"],
         store: Store::Objects,
@@ -211,7 +211,7 @@ pub const WRONG_MEMBERS: [Refusal; 8] = [
 ];
 
 /// What is wrong with archives.
-pub const WRONG_ARCHIVES: [Refusal; 9] = [
+pub const WRONG_ARCHIVES: &[Refusal] = &[
     Refusal {
         words: &["rvld", "-s", "a.o", "lib.a"],
         store: Store::Objects,

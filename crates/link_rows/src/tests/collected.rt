@@ -446,7 +446,7 @@ const ORDER_ASKED: Object = Object {
     ],
 };
 
-const FIRST_INPUTS: [Input; 9] = [
+const FIRST_INPUTS: &[Input] = &[
     Input {
         name: "a.o",
         object: A,
@@ -494,7 +494,7 @@ const FIRST_INPUTS: [Input; 9] = [
     },
 ];
 
-const OTHER_INPUTS: [Input; 7] = [
+const OTHER_INPUTS: &[Input] = &[
     Input {
         name: "c.o",
         object: COMMON,
@@ -533,14 +533,14 @@ const OTHER_INPUTS: [Input; 7] = [
 ];
 
 fn push_first_inputs(files: &mut Files, alloc: Global) -> Result<(), AllocError> {
-    for input in &FIRST_INPUTS {
+    for input in FIRST_INPUTS {
         push_object(files, alloc, input)?;
     }
     Ok(())
 }
 
 fn push_other_inputs(files: &mut Files, alloc: Global) -> Result<(), AllocError> {
-    for input in &OTHER_INPUTS {
+    for input in OTHER_INPUTS {
         push_object(files, alloc, input)?;
     }
     Ok(())
@@ -555,7 +555,7 @@ pub fn files(alloc: Global) -> Result<Files, AllocError> {
 }
 
 /// What is kept for itself.
-pub const ROOTS: [Link; 6] = [
+pub const ROOTS: &[Link] = &[
     Link {
         words: &["rvld", "-s", "--gc-sections", "ring.o"],
         store: Store::Collected,
@@ -595,7 +595,7 @@ pub const ROOTS: [Link; 6] = [
 ];
 
 /// What is kept with other sections: of its group, by its link, and by what names it.
-pub const WITH_OTHERS: [Link; 6] = [
+pub const WITH_OTHERS: &[Link] = &[
     Link {
         words: &["rvld", "-s", "--gc-sections", "together.o"],
         store: Store::Collected,
@@ -635,7 +635,7 @@ pub const WITH_OTHERS: [Link; 6] = [
 ];
 
 /// What nothing asks for is dropped, whatever it lacks; without the option nothing is.
-pub const DROPPED: [Link; 6] = [
+pub const DROPPED: &[Link] = &[
     Link {
         words: &["rvld", "-s", "--gc-sections", "a.o", "c.o"],
         store: Store::Collected,
@@ -675,7 +675,7 @@ pub const DROPPED: [Link; 6] = [
 ];
 
 /// What is kept may not lack it.
-pub const STILL: [Refusal; 3] = [
+pub const STILL: &[Refusal] = &[
     Refusal {
         words: &["rvld", "-s", "a.o", "k.o"],
         store: Store::Collected,

@@ -404,7 +404,7 @@ fn is_cut_by_any<R: Threads + Sync>(
     alloc: Global,
     fault: &Fault,
 ) -> Result<bool, AllocError> {
-    for workers in &WORKERS {
+    for workers in WORKERS {
         if !is_cut(rt, alloc, fault, workers)? {
             return Ok(false);
         }

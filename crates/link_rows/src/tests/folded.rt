@@ -452,7 +452,7 @@ const ASKER: Object = Object {
     ],
 };
 
-const INPUTS: [Input; 10] = [
+const INPUTS: &[Input] = &[
     Input {
         name: "pairs.o",
         object: PAIRS,
@@ -508,7 +508,7 @@ const INPUTS: [Input; 10] = [
 /// The files that are at hand.
 pub fn files(alloc: Global) -> Result<Files, AllocError> {
     let mut files = Vec::new(alloc);
-    for input in &INPUTS {
+    for input in INPUTS {
         push_object(&mut files, alloc, input)?;
     }
     Ok(files)
@@ -673,7 +673,7 @@ const SAID_AND_SUNG: Image = Image {
 };
 
 /// Functions that call each other, or themselves.
-pub const TOGETHER: [Link; 8] = [
+pub const TOGETHER: &[Link] = &[
     Link {
         words: &["rvld", "-s", "--icf", "all", "pairs.o"],
         store: Store::Folded,
@@ -736,7 +736,7 @@ pub const TOGETHER: [Link; 8] = [
 ];
 
 /// What is equal, and what is not.
-pub const EQUAL: [Link; 4] = [
+pub const EQUAL: &[Link] = &[
     Link {
         words: &["rvld", "-s", "--icf", "all", "apart.o"],
         store: Store::Folded,
@@ -916,7 +916,7 @@ const RING: Image = Image {
     ..FIRST
 };
 
-const WORKERS: [&[&str]; 4] = [
+const WORKERS: &[&[&str]] = &[
     &["--threads", "1"],
     &["--threads", "2"],
     &["--threads", "3"],
@@ -929,7 +929,7 @@ fn what_ends_differently_stays_apart(rt: HostRuntime) -> Result<(), Fail> {
     let code = chain_code(alloc)?;
     let contents = [(0x1000usize, code.as_slice())];
     let image = chain_image(&contents);
-    for workers in &WORKERS {
+    for workers in WORKERS {
         let files = chain(alloc)?;
         assert!(rt; is_folded(&rt, alloc, files, workers, &image)?);
     }
@@ -939,7 +939,7 @@ fn what_ends_differently_stays_apart(rt: HostRuntime) -> Result<(), Fail> {
 #[test]
 fn what_goes_round_is_one(rt: HostRuntime) -> Result<(), Fail> {
     let alloc = rt.alloc();
-    for workers in &WORKERS {
+    for workers in WORKERS {
         let files = ring(alloc)?;
         assert!(rt; is_folded(&rt, alloc, files, workers, &RING)?);
     }

@@ -173,7 +173,7 @@ pub const TWO_ALONE: Link = Link {
 };
 
 /// Few objects.
-pub const FEW: [Link; 4] = [
+pub const FEW: &[Link] = &[
     TWO_ALONE,
     TWO_MAPPED,
     Link {
@@ -191,7 +191,7 @@ pub const FEW: [Link; 4] = [
 ];
 
 /// Generated objects are wanted in another number, beside files, or twice.
-pub const REFUSED: [Refusal; 5] = [
+pub const REFUSED: &[Refusal] = &[
     Refusal {
         words: &["rvld", "--self-input", "0"],
         ..NO_WORDS
@@ -280,7 +280,7 @@ fn is_linked<R: Threads + Sync>(
 /// Whether it is, and the executable has the same bytes, with each number of workers.
 fn is_the_same<R: Threads + Sync>(rt: &R, alloc: Global, many: &Many) -> Result<bool, AllocError> {
     let first = link_many(rt, alloc, many, &[])?;
-    for workers in &WORKERS {
+    for workers in WORKERS {
         let left = link_many(rt, alloc, many, workers)?;
         if !is_whole(&left, many) || executable(&left) != executable(&first) {
             return Ok(false);

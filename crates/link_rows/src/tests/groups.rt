@@ -441,7 +441,7 @@ const WRONG: Object = Object {
     }],
 };
 
-const LIBRARIES: [Library; 2] = [
+const LIBRARIES: &[Library] = &[
     Library {
         name: "lib.a",
         archive: Archive {
@@ -468,7 +468,7 @@ const LIBRARIES: [Library; 2] = [
     },
 ];
 
-const FIRST_INPUTS: [Input; 9] = [
+const FIRST_INPUTS: &[Input] = &[
     Input {
         name: "m.o",
         object: ASKER,
@@ -516,7 +516,7 @@ const FIRST_INPUTS: [Input; 9] = [
     },
 ];
 
-const OTHER_INPUTS: [Input; 9] = [
+const OTHER_INPUTS: &[Input] = &[
     Input {
         name: "lost.o",
         object: LOST,
@@ -565,21 +565,21 @@ const OTHER_INPUTS: [Input; 9] = [
 ];
 
 fn push_first_inputs(files: &mut Files, alloc: Global) -> Result<(), AllocError> {
-    for input in &FIRST_INPUTS {
+    for input in FIRST_INPUTS {
         push_object(files, alloc, input)?;
     }
     Ok(())
 }
 
 fn push_other_inputs(files: &mut Files, alloc: Global) -> Result<(), AllocError> {
-    for input in &OTHER_INPUTS {
+    for input in OTHER_INPUTS {
         push_object(files, alloc, input)?;
     }
     Ok(())
 }
 
 fn push_libraries(files: &mut Files, alloc: Global) -> Result<(), AllocError> {
-    for library in &LIBRARIES {
+    for library in LIBRARIES {
         push_library(files, alloc, library)?;
     }
     Ok(())
@@ -595,7 +595,7 @@ pub fn files(alloc: Global) -> Result<Files, AllocError> {
 }
 
 /// The first copy of a group stays.
-pub const COPIES: [Link; 8] = [
+pub const COPIES: &[Link] = &[
     Link {
         words: &["rvld", "-s", "m.o", "one.o", "two.o"],
         store: Store::Groups,
@@ -647,7 +647,7 @@ pub const COPIES: [Link; 8] = [
 ];
 
 /// Signatures of each form, and groups in members of archives.
-pub const SIGNATURES: [Link; 5] = [
+pub const SIGNATURES: &[Link] = &[
     Link {
         words: &["rvld", "-s", "m.o", "sec.o", "label.o"],
         store: Store::Groups,
@@ -681,7 +681,7 @@ pub const SIGNATURES: [Link; 5] = [
 ];
 
 /// What is discarded, and what is dropped, is asked for by nothing that is kept; a member that is not live has a wrong group.
-pub const UNUSED: [Link; 5] = [
+pub const UNUSED: &[Link] = &[
     Link {
         words: &["rvld", "-s", "t.o", "u.o", "weakly.o"],
         store: Store::Groups,
@@ -715,7 +715,7 @@ pub const UNUSED: [Link; 5] = [
 ];
 
 /// What is discarded is asked for, or is none and defined twice.
-pub const ABSENT: [Refusal; 5] = [
+pub const ABSENT: &[Refusal] = &[
     Refusal {
         words: &["rvld", "-s", "t.o", "u.o", "v.o"],
         store: Store::Groups,

@@ -415,7 +415,7 @@ const ENDS: Object = Object {
     ],
 };
 
-const INPUTS: [Input; 4] = [
+const INPUTS: &[Input] = &[
     Input {
         name: "code.o",
         object: CODE,
@@ -530,7 +530,7 @@ const ENDS_IMAGE: Image = Image {
 };
 
 /// Code and numbers.
-pub const WRITTEN: [Link; 4] = [
+pub const WRITTEN: &[Link] = &[
     Link {
         words: &["rvld", "-s", "code.o"],
         store: Store::Kinds,
@@ -731,7 +731,7 @@ const DISTANCE: Object = Object {
     ..BEYOND
 };
 
-const BEYOND_INPUTS: [Input; 12] = [
+const BEYOND_INPUTS: &[Input] = &[
     Input {
         name: "b.o",
         object: B,
@@ -905,7 +905,7 @@ const ADDED: Object = Object {
     symbols: &[Symbol { value: 0, ..LABEL }, START],
 };
 
-const WRONG_INPUTS: [Input; 5] = [
+const WRONG_INPUTS: &[Input] = &[
     Input {
         name: "unknown.o",
         object: UNKNOWN,
@@ -934,14 +934,14 @@ const WRONG_INPUTS: [Input; 5] = [
 ];
 
 fn push_beyond(files: &mut Files, alloc: Global) -> Result<(), AllocError> {
-    for input in &BEYOND_INPUTS {
+    for input in BEYOND_INPUTS {
         push_object(files, alloc, input)?;
     }
     Ok(())
 }
 
 fn push_wrong(files: &mut Files, alloc: Global) -> Result<(), AllocError> {
-    for input in &WRONG_INPUTS {
+    for input in WRONG_INPUTS {
         push_object(files, alloc, input)?;
     }
     Ok(())
@@ -950,7 +950,7 @@ fn push_wrong(files: &mut Files, alloc: Global) -> Result<(), AllocError> {
 /// The files that are at hand.
 pub fn files(alloc: Global) -> Result<Files, AllocError> {
     let mut files = Vec::new(alloc);
-    for input in &INPUTS {
+    for input in INPUTS {
         push_object(&mut files, alloc, input)?;
     }
     push_beyond(&mut files, alloc)?;
@@ -959,7 +959,7 @@ pub fn files(alloc: Global) -> Result<Files, AllocError> {
 }
 
 /// Branches and jumps that are too far or odd.
-pub const BRANCHES: [Refusal; 7] = [
+pub const BRANCHES: &[Refusal] = &[
     Refusal {
         words: &["rvld", "-s", "b.o"],
         store: Store::Kinds,
@@ -1019,7 +1019,7 @@ pub const BRANCHES: [Refusal; 7] = [
 ];
 
 /// Halves and words that are too far.
-pub const HALVES_AND_WORDS: [Refusal; 5] = [
+pub const HALVES_AND_WORDS: &[Refusal] = &[
     Refusal {
         words: &["rvld", "-s", "hi.o"],
         store: Store::Kinds,
@@ -1063,7 +1063,7 @@ pub const HALVES_AND_WORDS: [Refusal; 5] = [
 ];
 
 /// A kind that is none, and low halves without a high one.
-pub const WRONG: [Refusal; 5] = [
+pub const WRONG: &[Refusal] = &[
     Refusal {
         words: &["rvld", "-s", "unknown.o"],
         store: Store::Kinds,

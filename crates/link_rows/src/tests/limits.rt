@@ -57,7 +57,7 @@ const TWO_OBJECTS: Bounded = Bounded {
 };
 
 /// Each limit, kept and passed by one.
-const OBJECTS: [Bounded; 9] = [
+const OBJECTS: &[Bounded] = &[
     TWO_OBJECTS,
     Bounded {
         limits: Limits {
@@ -172,7 +172,7 @@ const WITH_ARCHIVE: Bounded = Bounded {
 };
 
 /// COMMON symbols and members count.
-const COUNTED: [Bounded; 6] = [
+const COUNTED: &[Bounded] = &[
     WITH_COMMON,
     Bounded {
         limits: Limits {
@@ -237,7 +237,7 @@ const WITH_PIECES: Bounded = Bounded {
 };
 
 /// Pieces count in each section that may be merged, equal or not, kept or not.
-const PIECES: [Bounded; 5] = [
+const PIECES: &[Bounded] = &[
     WITH_PIECES,
     Bounded {
         limits: Limits {
@@ -361,7 +361,7 @@ fn is_bounded_by_any<R: Threads + Sync>(
     alloc: Global,
     bounded: &Bounded,
 ) -> Result<bool, AllocError> {
-    for workers in &WORKERS {
+    for workers in WORKERS {
         if !is_bounded(rt, alloc, bounded, workers)? {
             return Ok(false);
         }

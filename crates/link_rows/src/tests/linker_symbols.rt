@@ -606,7 +606,7 @@ const LIBRARY_OF_NONE: Library = Library {
     tail: b"",
 };
 
-const FIXED_INPUTS: [Input; 8] = [
+const FIXED_INPUTS: &[Input] = &[
     Input {
         name: "plain.o",
         object: PLAIN,
@@ -649,7 +649,7 @@ const FIXED_INPUTS: [Input; 8] = [
     },
 ];
 
-const NAMED_INPUTS: [Input; 7] = [
+const NAMED_INPUTS: &[Input] = &[
     Input {
         name: "one.o",
         object: ONE_SET,
@@ -688,7 +688,7 @@ const NAMED_INPUTS: [Input; 7] = [
 ];
 
 fn push_named_inputs(files: &mut Files, alloc: Global) -> Result<(), AllocError> {
-    for input in &NAMED_INPUTS {
+    for input in NAMED_INPUTS {
         push_object(files, alloc, input)?;
     }
     Ok(())
@@ -697,7 +697,7 @@ fn push_named_inputs(files: &mut Files, alloc: Global) -> Result<(), AllocError>
 /// The files that are at hand.
 pub fn files(alloc: Global) -> Result<Files, AllocError> {
     let mut files = Vec::new(alloc);
-    for input in &FIXED_INPUTS {
+    for input in FIXED_INPUTS {
         push_object(&mut files, alloc, input)?;
     }
     push_named_inputs(&mut files, alloc)?;
@@ -990,7 +990,7 @@ const SETS_IMAGE: Image = Image {
 };
 
 /// A word of each symbol that every link has.
-pub const FIXED: [Link; 4] = [
+pub const FIXED: &[Link] = &[
     Link {
         words: &["rvld", "-s", "plain.o"],
         store: Store::LinkerSymbols,
@@ -1018,7 +1018,7 @@ pub const FIXED: [Link; 4] = [
 ];
 
 /// A name that a file offers is not the linker's.
-pub const OFFERED: [Link; 7] = [
+pub const OFFERED: &[Link] = &[
     Link {
         words: &["rvld", "-s", "word.o"],
         store: Store::LinkerSymbols,
@@ -1066,7 +1066,7 @@ pub const OFFERED: [Link; 7] = [
 ];
 
 /// A program may begin at such a symbol.
-pub const ENTRIES: [Link; 5] = [
+pub const ENTRIES: &[Link] = &[
     Link {
         words: &["rvld", "-s", "-e", "_etext", "first.o"],
         store: Store::LinkerSymbols,
@@ -1119,7 +1119,7 @@ pub const ENTRIES: [Link; 5] = [
 ];
 
 /// Sections by their names.
-pub const NAMED: [Link; 3] = [
+pub const NAMED: &[Link] = &[
     Link {
         words: &["rvld", "-s", "--gc-sections", "one.o"],
         store: Store::LinkerSymbols,
@@ -1141,7 +1141,7 @@ pub const NAMED: [Link; 3] = [
 ];
 
 /// Names of sections that are not there.
-pub const LACKING: [Refusal; 4] = [
+pub const LACKING: &[Refusal] = &[
     Refusal {
         words: &["rvld", "-s", "none.o"],
         store: Store::LinkerSymbols,

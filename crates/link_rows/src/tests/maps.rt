@@ -151,7 +151,7 @@ const ODD_LIBRARY: Library = Library {
     tail: b"",
 };
 
-const INPUTS: [Input; 3] = [
+const INPUTS: &[Input] = &[
     Input {
         name: "classes.o",
         object: CLASSES,
@@ -172,7 +172,7 @@ const INPUTS: [Input; 3] = [
 /// The files that are at hand.
 pub fn files(alloc: Global) -> Result<Files, AllocError> {
     let mut files = Vec::new(alloc);
-    for input in &INPUTS {
+    for input in INPUTS {
         push_object(&mut files, alloc, input)?;
     }
     Ok(files)
@@ -233,7 +233,7 @@ const CLASSES_IMAGE: Image = Image {
 };
 
 /// What is written.
-pub const WRITTEN: [Link; 5] = [
+pub const WRITTEN: &[Link] = &[
     Link {
         words: &["rvld", "--Map", "m", "a.o"],
         image: FIRST_LISTED,
@@ -298,7 +298,7 @@ pub const WRITTEN: [Link; 5] = [
 ];
 
 /// What is folded, dropped and discarded; of a member that takes no part nothing is.
-pub const LEFT_OUT: [Link; 6] = [
+pub const LEFT_OUT: &[Link] = &[
     Link {
         words: &["rvld", "-s", "--Map", "m", "t.o", "u.o"],
         store: Store::Groups,
@@ -413,7 +413,7 @@ pub const LEFT_OUT: [Link; 6] = [
 ];
 
 /// Pools, and the global offset table.
-pub const GENERAL: [Link; 3] = [
+pub const GENERAL: &[Link] = &[
     Link {
         words: &["rvld", "-s", "--Map", "m", "said.o", "again.o"],
         store: Store::Merged,
@@ -482,7 +482,7 @@ pub const GENERAL: [Link; 3] = [
 ];
 
 /// Names of files, members, sections and symbols.
-pub const NAMES: [Link; 3] = [
+pub const NAMES: &[Link] = &[
     Link {
         words: &["rvld", "-s", "--Map", "m", "m.o", "lib.a"],
         libraries: &[ONE_MEMBER],

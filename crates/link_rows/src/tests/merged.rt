@@ -311,7 +311,7 @@ const FOUR_CONSTANTS: Object = Object {
     symbols: &[START],
 };
 
-const INPUTS: [Input; 8] = [
+const INPUTS: &[Input] = &[
     Input {
         name: "said.o",
         object: SAID,
@@ -357,7 +357,7 @@ const INPUTS: [Input; 8] = [
 /// The files that are at hand.
 pub fn files(alloc: Global) -> Result<Files, AllocError> {
     let mut files = Vec::new(alloc);
-    for input in &INPUTS {
+    for input in INPUTS {
         push_object(&mut files, alloc, input)?;
     }
     Ok(files)
@@ -568,7 +568,7 @@ pub const FOUR_ALONE: Image = Image {
 };
 
 /// A string stands once, whoever has it; what is dropped gives none.
-pub const STRINGS_OF_FILES: [Link; 6] = [
+pub const STRINGS_OF_FILES: &[Link] = &[
     Link {
         words: &["rvld", "-s", "said.o", "again.o"],
         store: Store::Merged,
@@ -608,7 +608,7 @@ pub const STRINGS_OF_FILES: [Link; 6] = [
 ];
 
 /// Constants, wide characters, and what is merged with what.
-pub const PIECES: [Link; 5] = [
+pub const PIECES: &[Link] = &[
     Link {
         words: &["rvld", "-s", "three.o"],
         store: Store::Merged,

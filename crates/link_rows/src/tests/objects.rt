@@ -414,7 +414,7 @@ const WEAK_N: Object = Object {
 };
 
 /// All inputs that are objects. Each link has them all at hand.
-pub const INPUTS: [Input; 24] = [
+pub const INPUTS: &[Input] = &[
     Input {
         name: "a.o",
         object: A,

@@ -187,7 +187,7 @@ const READ_ONLY: Object = Object {
     symbols: &[START],
 };
 
-const INPUTS: [Input; 5] = [
+const INPUTS: &[Input] = &[
     Input {
         name: "notes.o",
         object: NOTES,
@@ -216,7 +216,7 @@ const INPUTS: [Input; 5] = [
 ];
 
 fn push_inputs(files: &mut Files, alloc: Global) -> Result<(), AllocError> {
-    for input in &INPUTS {
+    for input in INPUTS {
         push_object(files, alloc, input)?;
     }
     Ok(())
@@ -230,7 +230,7 @@ pub fn files(alloc: Global) -> Result<Files, AllocError> {
 }
 
 /// An output section that begins with a note stands before all other read-only ones.
-pub const NOTES_FIRST: [Link; 3] = [
+pub const NOTES_FIRST: &[Link] = &[
     Link {
         words: &["rvld", "-s", "notes.o"],
         store: Store::Orders,
@@ -252,7 +252,7 @@ pub const NOTES_FIRST: [Link; 3] = [
 ];
 
 /// Arrays with and without numbers.
-pub const BY_NUMBER: [Link; 3] = [
+pub const BY_NUMBER: &[Link] = &[
     Link {
         words: &["rvld", "-s", "arrays.o"],
         store: Store::Orders,

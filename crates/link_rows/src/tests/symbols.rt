@@ -342,7 +342,7 @@ const IDLE_MEMBER: Library = Library {
     tail: b"",
 };
 
-const INPUTS: [Input; 7] = [
+const INPUTS: &[Input] = &[
     Input {
         name: "a.o",
         object: A,
@@ -383,7 +383,7 @@ const INPUTS: [Input; 7] = [
 /// The files that are at hand.
 pub fn files(alloc: Global) -> Result<Files, AllocError> {
     let mut files = Vec::new(alloc);
-    for input in &INPUTS {
+    for input in INPUTS {
         push_object(&mut files, alloc, input)?;
     }
     Ok(files)
@@ -598,7 +598,7 @@ const COMMONS_LISTED: Image = Image {
 };
 
 /// Each kind of symbol.
-pub const LISTED: [Link; 6] = [
+pub const LISTED: &[Link] = &[
     Link {
         words: &["rvld", "a.o"],
         image: FIRST_LISTED,
@@ -731,7 +731,7 @@ const WORD_OF_OWN_END: Image = Image {
 };
 
 /// What is discarded has no symbol, and of the linker's symbols those alone that a file of the link asks for.
-pub const CHOSEN: [Link; 6] = [
+pub const CHOSEN: &[Link] = &[
     Link {
         words: &["rvld", "t.o", "u.o"],
         store: Store::Groups,

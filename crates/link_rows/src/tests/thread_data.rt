@@ -400,7 +400,7 @@ const ZEROS_ALONE: Object = Object {
     ],
 };
 
-const INPUTS: [Input; 8] = [
+const INPUTS: &[Input] = &[
     Input {
         name: "dynamic.o",
         object: DYNAMIC,
@@ -446,7 +446,7 @@ const INPUTS: [Input; 8] = [
 /// The files that are at hand.
 pub fn files(alloc: Global) -> Result<Files, AllocError> {
     let mut files = Vec::new(alloc);
-    for input in &INPUTS {
+    for input in INPUTS {
         push_object(&mut files, alloc, input)?;
     }
     Ok(files)
@@ -653,7 +653,7 @@ const ZEROS_IMAGE: Image = Image {
 };
 
 /// Entries of the global offset table.
-pub const TABLES: [Link; 4] = [
+pub const TABLES: &[Link] = &[
     Link {
         words: &["rvld", "-s", "dynamic.o"],
         store: Store::Threads,
@@ -681,7 +681,7 @@ pub const TABLES: [Link; 4] = [
 ];
 
 /// Offsets in the block of a thread.
-pub const OFFSETS_OF_THREADS: [Link; 3] = [
+pub const OFFSETS_OF_THREADS: &[Link] = &[
     Link {
         words: &["rvld", "-s", "direct.o"],
         store: Store::Threads,

@@ -140,7 +140,7 @@ const MEMBER_TAKEN: Object = Object {
     symbols: &[N_IN_3, START],
 };
 
-const FIRST_INPUTS: [Input; 9] = [
+const FIRST_INPUTS: &[Input] = &[
     Input {
         name: "entsize.o",
         object: ENTRIES_OF_8,
@@ -188,7 +188,7 @@ const FIRST_INPUTS: [Input; 9] = [
     },
 ];
 
-const OTHER_INPUTS: [Input; 2] = [
+const OTHER_INPUTS: &[Input] = &[
     Input {
         name: "taken.o",
         object: MEMBER_TAKEN,
@@ -202,14 +202,14 @@ const OTHER_INPUTS: [Input; 2] = [
 ];
 
 fn push_first_inputs(files: &mut Files, alloc: Global) -> Result<(), AllocError> {
-    for input in &FIRST_INPUTS {
+    for input in FIRST_INPUTS {
         push_object(files, alloc, input)?;
     }
     Ok(())
 }
 
 fn push_other_inputs(files: &mut Files, alloc: Global) -> Result<(), AllocError> {
-    for input in &OTHER_INPUTS {
+    for input in OTHER_INPUTS {
         push_object(files, alloc, input)?;
     }
     Ok(())
@@ -224,7 +224,7 @@ pub fn files(alloc: Global) -> Result<Files, AllocError> {
 }
 
 /// Each rule for the form of a group, broken.
-pub const FORMS: [Refusal; 5] = [
+pub const FORMS: &[Refusal] = &[
     Refusal {
         words: &["rvld", "-s", "entsize.o"],
         store: Store::WrongGroups,
@@ -268,7 +268,7 @@ pub const FORMS: [Refusal; 5] = [
 ];
 
 /// A signature or a member that is none; the first file's defect.
-pub const MEMBERS: [Refusal; 6] = [
+pub const MEMBERS: &[Refusal] = &[
     Refusal {
         words: &["rvld", "-s", "symbol.o"],
         store: Store::WrongGroups,

@@ -22,7 +22,7 @@ returns-in-Err-clause-ends g c = λ before given loaded bytes.
     let stops = rw c.standard-limits.ensures at c.in-Err.ensures in
     not_linked (asks c.args.command.now) before (g.D.Depot.store c.args.depot.now) (g.S.Sink.output c.args.say.now) given
     (input_contents c.args.inputs.now) (sources_of c.as_slice.result.now) c.in-Err.stop c.report_stop.result loaded bytes
-    (ap sources_of c.as_slice.ensures.value ∙ found) stops c.report_stop.ensures
+    (ap sources_of c.as_slice.ensures.value ∙ found) stops.first c.report_stop.ensures
 
 pub returns-clause-ends : goal.returns-clause-ends
 returns-clause-ends g c = λ before given loaded bytes.

@@ -12,24 +12,29 @@ use Rattle.link_driver.specs.Phases.{Makes}
 use Rattle.link_driver.specs.Sources.{shown_files}
 use Rattle.lk_tables.specs.Binding.{first_phase}
 use Rattle.link_driver.proofs.Chain.{at_reading, at_binding, at_last, at_pieces, no_defects}
+use Rattle.link_driver.proofs.FirstLeast.{least_stop}
 use Rattle.link_driver.proofs.Handing.{binding_is, bound_are, collected_are, gives_all, made_as, stand_so}
 use Rattle.link_driver.proofs.linking.link_sources.Goals as goal
 
 pub returns-in-Err : goal.returns-in-Err
-returns-in-Err g c = at_reading c.args.limits.now (asks c.args.command.now) (sources_of c.args.sources.now) c.in-Err.stop c.in-Err.ensures.goes
+returns-in-Err g c =
+    least_stop c.args.limits.now c.requires.limits (sources_of c.args.sources.now) (asks c.args.command.now) c.in-Err.stop
+    (at_reading c.args.limits.now (asks c.args.command.now) (sources_of c.args.sources.now) c.in-Err.stop c.in-Err.ensures.goes)
 
 pub returns-in-Err-check_pieces : goal.returns-in-Err-check_pieces
 returns-in-Err-check_pieces g c =
-    at_pieces c.args.limits.now (asks c.args.command.now) (sources_of c.args.sources.now) c.in-Ok.ensures.goes
-    (files_of c.in-Ok.tables) c.in-Ok.ensures.tables c.in-Err-check_pieces.stop c.in-Err-check_pieces.ensures
+    least_stop c.args.limits.now c.requires.limits (sources_of c.args.sources.now) (asks c.args.command.now) c.in-Err-check_pieces.stop
+    (at_pieces c.args.limits.now (asks c.args.command.now) (sources_of c.args.sources.now) c.in-Ok.ensures.goes
+    (files_of c.in-Ok.tables) c.in-Ok.ensures.tables c.in-Err-check_pieces.stop c.in-Err-check_pieces.ensures)
 
 pub returns-in-Err-bind_names : goal.returns-in-Err-bind_names
 returns-in-Err-bind_names g c =
     let files = files_of c.in-Ok.tables in
     let P : List ℕ → Type 0 = λ entry. StopsAt c.in-Err-bind_names.stop (binding_defects files (discarded files) entry) in
-    at_binding c.args.limits.now (asks c.args.command.now) (sources_of c.args.sources.now) c.in-Ok.ensures.goes
+    least_stop c.args.limits.now c.requires.limits (sources_of c.args.sources.now) (asks c.args.command.now) c.in-Err-bind_names.stop
+    (at_binding c.args.limits.now (asks c.args.command.now) (sources_of c.args.sources.now) c.in-Ok.ensures.goes
     files c.in-Ok.ensures.tables c.in-Ok-check_pieces.ensures c.in-Err-bind_names.stop
-    (subst P c.as_str-entry.ensures.value c.in-Err-bind_names.ensures.goes)
+    (subst P c.as_str-entry.ensures.value c.in-Err-bind_names.ensures.goes))
 
 pub find_kept-requires-clause-bound : goal.find_kept-requires-clause-bound
 find_kept-requires-clause-bound g c = λ κs within.
@@ -44,12 +49,13 @@ returns-in-Err-link_kept g c =
     let asked = asks c.args.command.now in
     let files = files_of c.in-Ok.tables in
     let names = c.in-Ok-bind_names.ensures.names ∙ ap (bound_names files) c.as_str-entry.ensures.value in
-    at_last c.args.limits.now asked (sources_of c.args.sources.now) c.in-Ok.ensures.goes files c.in-Ok.ensures.tables c.in-Ok-check_pieces.ensures
+    least_stop c.args.limits.now c.requires.limits (sources_of c.args.sources.now) asked c.in-Err-link_kept.stop
+    (at_last c.args.limits.now asked (sources_of c.args.sources.now) c.in-Ok.ensures.goes files c.in-Ok.ensures.tables c.in-Ok-check_pieces.ensures
     (ap (binding_defects files (discarded files)) (sym c.as_str-entry.ensures.value) ∙ c.in-Ok-bind_names.ensures.goes)
     (binding_view c.in-Ok-bind_names.binding) names c.as_slice.result.now (c.as_slice.ensures.value ∙ c.in_ok-kept.ensures.kept)
     c.in-Err-link_kept.stop
     (let P : Wishes → Type 0 = λ w. StopsAt c.in-Err-link_kept.stop (first_phase (last_phases c.args.limits.now w files (binding_view c.in-Ok-bind_names.binding) c.as_slice.result.now)) in
-    subst P c.options_of-options.ensures c.in-Err-link_kept.ensures.goes)
+    subst P c.options_of-options.ensures c.in-Err-link_kept.ensures.goes))
 
 pub returns : goal.returns
 returns g c =
