@@ -168,7 +168,9 @@ fn fill_nops(block: &mut [u8], from: u64, at: u64, count: u64)
     ensures bytes { (i : ℕ) → i < length block.old → slice_index block.new i ≡ over (piece at (spec.nops count)) (slice_index block.old i) (from + i) }
     ensures same { length block.new ≡ length block.old }
 {
-    for i in 0..block.len() {
+    let first = at.saturating_sub(from).min(block.len() as u64) as usize;
+    let end = (at + count).saturating_sub(from).min(block.len() as u64) as usize;
+    for i in first..end {
         block[i] = nop_over(block[i], at, count, from + i as u64);
     }
 }
