@@ -564,8 +564,9 @@ pub fn link_sources<R: Threads + Sync, G: Gate>(
 /// Links the inputs of a command: those that it names, in order, with their bytes, or the objects that are generated for it.
 ///
 /// The answer is what the link gives if the inputs have no defect: the executable, the map if one is asked, in which files have the names of
-/// their inputs, and for generated objects the report. Else it is the first defect of the first phase that has any, whatever the number of
-/// workers and the order of their steps; or out of memory. No limit is above the standard one. The command's `threads` is from 1 to 64.
+/// their inputs, and for generated objects the report. Else it is the first defect of the first phase that has any, before which none of that
+/// phase stands by file, section and place, whatever the number of workers and the order of their steps; or out of memory. No limit is above
+/// the standard one. The command's `threads` is from 1 to 64.
 pub fn link<R: Threads + Sync, G: Gate>(
     rt: &R,
     alloc: Global,
