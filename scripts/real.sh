@@ -5,12 +5,15 @@
 # and 64 workers, which must give the same bytes. Then compiler drivers are called with scripts/rvld-ld as their linker; inputs that rvld
 # refuses must be so by the line that docs/rules.md has; and the commands of README.md, docs/guide.md and docs/rules.md are run.
 #
-# Usage: scripts/real.sh [PART..]     PART: free picolibc musl glibc refused guide; without any, all of them
+# Usage: scripts/real.sh [PART..]     PART: free picolibc musl glibc refused guide; without any, all of them. Two have to be named:
+#                                     newer: programs by clang 19, and with picolibc 1.8.10, of Debian 13, which are some 200 MB to get;
+#                                     size: the bytes of code of some programs beside a ld.lld that shortens calls, and a GNU ld (scripts/code_size.py)
 #   RVLD=PROGRAM      the linker; else crates/rvld/out/rvld. scripts/real/peer puts the other in its place
 #   RVLD_WORDS=..     words that each of its links gets; if it is not set, -s where rvld takes no command without it
 #   REAL_ONCE=1       each program is linked once, with --gc-sections: for a build of rvld that is slow, as one with checks
 #   REAL_WORK=DIR     where to work, kept for the next run: packages, sources and objects are made once; else a folder that is removed
 #   REAL_MIRROR=URI   a mirror of Debian's archive; else the one that apt uses here
+#   LLD, GNULD        for size: ld.lld 18 or later, and GNU ld 2.41 or later for RISC-V; else those of Debian 13, taken apart in the work folder
 # A line for each program whose links are all OK; else one for each link that `differs`, with how, or that rvld `refused`, with its line.
 # What is skipped is named with the reason.
 # The status is 0 where all are OK.
@@ -215,10 +218,11 @@ part_picolibc() {
 
 # ------------------------------------------------------------------------------------------------------------------------ musl
 
-# apt_here COMMAND..: apt-get with a list of sources, lists and a cache of its own; nothing is installed
+# apt_here COMMAND..: apt-get with a list of sources, lists and a cache of its own, in the folder $apt; nothing is installed
+apt=apt architecture=riscv64
 apt_here() {
-    apt-get -q -o "Dir::Etc::sourcelist=$work/apt/list.sources" -o Dir::Etc::sourceparts=- -o "Dir::State::lists=$work/apt/lists" \
-        -o "Dir::Cache=$work/apt/cache" -o APT::Architecture=riscv64 -o APT::Architectures::=riscv64 -o Acquire::Languages=none \
+    apt-get -q -o "Dir::Etc::sourcelist=$work/$apt/list.sources" -o Dir::Etc::sourceparts=- -o "Dir::State::lists=$work/$apt/lists" \
+        -o "Dir::Cache=$work/$apt/cache" -o "APT::Architecture=$architecture" -o "APT::Architectures::=$architecture" -o Acquire::Languages=none \
         -o "APT::Sandbox::User=$(id -un)" -o Debug::NoLocking=1 -o Acquire::Retries=1 -o Acquire::http::Timeout=20 -o Acquire::https::Timeout=20 "$@"
 }
 
@@ -228,9 +232,9 @@ make_lists() {
     # shellcheck disable=SC2016
     [ -n "$mirror" ] || mirror=$(apt-get indextargets --format '$(CREATED_BY) $(SITE)' 'Origin: Debian' | sed -n 's/^Packages //p' | head -n 1)
     [ -n "$mirror" ] || { echo "no mirror of Debian is known"; return 1; }
-    mkdir -p apt/lists/partial apt/cache/archives/partial
-    printf 'Types: deb deb-src\nURIs: %s\nSuites: trixie\nComponents: main\n' "$mirror" >apt/list.sources
-    [ ! -e $keys ] || echo "Signed-By: $keys" >>apt/list.sources
+    mkdir -p "$apt/lists/partial" "$apt/cache/archives/partial"
+    printf 'Types: deb deb-src\nURIs: %s\nSuites: trixie\nComponents: main\n' "$mirror" >"$apt/list.sources"
+    [ ! -e $keys ] || echo "Signed-By: $keys" >>"$apt/list.sources"
     apt_here -o APT::Update::Error-Mode=any update
 }
 
@@ -349,13 +353,19 @@ mend_glibc() {
         mv mended.o libc-tls.o && riscv64-linux-gnu-ar r libc.a libc-tls.o
 }
 
+# glibc_words FILE..: sets `words` to what makes a static program on glibc of these files
+glibc_words() {
+    local cc=riscv64-linux-gnu-gcc
+    words=("$($cc -print-file-name=crt1.o)" "$($cc -print-file-name=crti.o)" "$($cc -print-file-name=crtbeginT.o)" "$@"
+        "$($cc -print-file-name=libm.a)" glibc/libc.a "$($cc -print-libgcc-file-name)"
+        "$($cc -print-file-name=libgcc_eh.a)" "$($cc -print-file-name=crtend.o)" "$($cc -print-file-name=crtn.o)")
+}
+
 # glibc_made NAME KNOWN FILE..: a static program on glibc of these files
 glibc_made() {
-    local name=$1 known=$2 cc=riscv64-linux-gnu-gcc
-    shift 2
-    made "$name" run_words "$known" "$($cc -print-file-name=crt1.o)" "$($cc -print-file-name=crti.o)" "$($cc -print-file-name=crtbeginT.o)" "$@" \
-        "$($cc -print-file-name=libm.a)" glibc/libc.a "$($cc -print-libgcc-file-name)" \
-        "$($cc -print-file-name=libgcc_eh.a)" "$($cc -print-file-name=crtend.o)" "$($cc -print-file-name=crtn.o)"
+    local name=$1 known=$2 words
+    glibc_words "${@:3}"
+    made "$name" run_words "$known" "${words[@]}"
 }
 
 part_glibc() {
@@ -377,6 +387,24 @@ part_glibc() {
         driven "glibc streams by the driver" streams riscv64-linux-gnu-g++ -static -B drivers streams.o -L glibc
     else
         skip "glibc streams" "it is not compiled: $(first_line told)"
+    fi
+    [ -n "${REAL_ONCE:-}" ] || own_rules
+}
+
+# zlib's own configure and Makefile, which call rvld through gcc
+own_rules() {
+    local what="zlib on glibc by its own rules"
+    there "$what" make apt-get dpkg || return
+    once apt make_lists || { skip "$what" "no lists of Debian 13: $(tail -n 1 apt.log)"; return; }
+    once zlib-source get_source zlib zlib || { skip "$what" "no source: $(tail -n 1 zlib-source.log)"; return; }
+    rm -rf own && cp -r src/zlib own || return
+    if ! (cd own && export CHOST=riscv64-linux-gnu CC="riscv64-linux-gnu-gcc -B $work/drivers -static -L $work/glibc" CFLAGS="-O2 -fdata-sections" &&
+        ./configure --static && make static) >told 2>&1; then
+        refuses "$what" "$(grep -m 1 -e '^rvld' -e '[Ee]rror' told)"
+    elif [ "$(cd own && emulate ./example 2>&1 | tail -n 1)" = "inflate with dictionary: hello, hello!" ]; then
+        ok "$what"
+    else
+        differs "$what" "its example does not end as it should"
     fi
 }
 
@@ -451,6 +479,164 @@ part_refused() {
         "$(find newer -name libstdc++.a)"
 }
 
+# --------------------------------------------------------------------------------------------- newer tools, and sizes of code
+
+# Debian 13's ld.lld and GNU ld for RISC-V, for this machine, with all that they are linked with
+get_linkers() {
+    local file
+    apt_here download lld-19 libllvm19 binutils-riscv64-linux-gnu libjansson4 libsframe1 libc6 libstdc++6 libgcc-s1 libxml2 libedit2 libzstd1 zlib1g \
+        libtinfo6 libffi8 libbsd0 libmd0 liblzma5 libz3-4 || return 1
+    for file in *_"$architecture".deb; do dpkg -x "$file" linkers || return 1; done
+    rm -f ./*_"$architecture".deb
+}
+
+get_clang() { apt_here download clang-19 libclang-cpp19 libclang-common-19-dev && for file in *clang*_"$architecture".deb; do dpkg -x "$file" linkers || return 1; done; }
+get_picolibc() { apt_here download picolibc-riscv64-unknown-elf && dpkg -x picolibc-riscv64-unknown-elf_*.deb picolibc && rm -f picolibc-riscv64-unknown-elf_*.deb; }
+
+# newer_here WHAT GET..: runs each get_GET once, with the lists of Debian 13 for this machine; else WHAT is skipped
+newer_here() {
+    local what=$1 get apt=apt-here architecture
+    shift
+    there "$what" apt-get dpkg || return 1
+    architecture=$(dpkg --print-architecture)
+    once apt-here make_lists || { skip "$what" "no lists of Debian 13: $(tail -n 1 apt-here.log)"; return 1; }
+    for get; do once "get-$get" "get_$get" || { skip "$what" "no packages: $(tail -n 1 "get-$get.log")"; return 1; }; done
+}
+
+# wrap NAME PROGRAM WORD..: bin/NAME runs the program of Debian 13 with Debian 13's libraries, and with the words before its own
+wrap() {
+    local loader libraries
+    loader=$(find "$work/linkers/usr" -name 'ld-linux*.so*' | head -n 1)
+    libraries=$(dirname "$(find "$work/linkers/usr" -name 'libLLVM*.so*' -path '*-linux-gnu/*' | head -n 1)"):$work/linkers/usr/lib/llvm-19/lib
+    printf '#!/bin/sh\nexec "%s" --library-path "%s" "%s" %s "$@"\n' "$loader" "$libraries" "$work/linkers/$2" "${*:3}" >"bin/$1"
+    chmod +x "bin/$1"
+}
+
+# sized NAME WORD..: a row of the table, and what differs
+sized() {
+    local name=$1 status
+    shift
+    timeout "$limit" "$top/scripts/code_size.py" "$name" "$rvld" "$LLD" "${GNULD:--}" "$work/sizes" --gc-sections "$@" >told 2>&1
+    status=$?
+    cat told
+    if [ "$status" = 0 ]; then ok=$((ok + 1)); else differs "size of $name" "status $status"; fi
+}
+
+# find_linkers: sets LLD and GNULD, unless LLD is given
+find_linkers() {
+    if [ -n "${LLD:-}" ]; then
+        "$LLD" --help 2>/dev/null | grep -q relax-gp || { skip size "$LLD knows no --no-relax-gp"; return 1; }
+        return 0
+    fi
+    newer_here size linkers || return 1
+    wrap new-lld usr/lib/llvm-19/bin/ld.lld
+    new-lld --help 2>/dev/null | grep -q relax-gp || { skip size "Debian 13's ld.lld does not run here"; return 1; }
+    LLD=$work/bin/new-lld
+    [ -z "${GNULD:-}" ] || return 0
+    wrap new-ld usr/bin/riscv64-linux-gnu-ld
+    if new-ld --help 2>/dev/null | grep -q relax-gp; then GNULD=$work/bin/new-ld; else skip "size beside GNU ld" "Debian 13's does not run here"; fi
+}
+
+part_newer() {
+    local name options folder words bare cxx="-std=c++17 -fno-exceptions -fno-rtti -fno-threadsafe-statics"
+    newer_here "programs by clang 19" linkers clang && find_musl || return
+    wrap new-clang usr/lib/llvm-19/bin/clang -resource-dir "$(find "$work/linkers/usr/lib/llvm-19/lib/clang" -mindepth 1 -maxdepth 1 | head -n 1)"
+    new-clang --version >told 2>&1 || { skip "programs by clang 19" "it does not run here: $(first_line told)"; return; }
+    words="-march=rv64gc -mabi=lp64d -ffunction-sections -fdata-sections"
+    for options in "-O2 -fno-pic" "-Os -fpic" "-O3 -g -fno-pic"; do
+        for name in hello formats memory locals threads; do
+            # shellcheck disable=SC2086
+            new-clang --target=riscv64-linux-gnu $words $options -nostdinc -isystem "$musl_include" \
+                -isystem "$(new-clang -print-resource-dir)/include" -c -o newer.o "$sources/$name.c" >told 2>&1 ||
+                { skip "musl $name by clang 19 $options" "it is not compiled: $(first_line told)"; continue; }
+            musl_made "musl $name by clang 19 $options" run_words $name newer.o
+        done
+    done
+    bare="new-clang --target=riscv64-unknown-elf $words -mcmodel=medany -ffreestanding -O2"
+    # shellcheck disable=SC2086
+    if { $bare -fno-pic -c -o start-newer.o "$sources/start.c" && $bare -fno-pic $cxx -c -o cells-newer.o "$sources/cells.cpp" &&
+        $bare -fpic $cxx -c -o cells-pic.o "$sources/cells.cpp" &&
+        $bare -fno-pic -fexperimental-relative-c++-abi-vtables $cxx -c -o cells-relative.o "$sources/cells.cpp" &&
+        $bare -fpic -mtls-dialect=desc $cxx -c -o cells-desc.o "$sources/cells.cpp"; } >told 2>&1; then
+        made "cells by clang 19" run_words cells start-newer.o cells-newer.o
+        if [ "$is_rvld" = 1 ]; then
+            refused_so "thread-local data without a C library" "rvld: F22 Undefined file=cells-pic.o section=N place=N name=__tls_get_addr other=0" start-newer.o cells-pic.o
+            refused_so "tables of distances to functions" "rvld: F12 RelocKind file=cells-relative.o section=N place=N name= other=59" start-newer.o cells-relative.o
+            refused_so "thread-local data by descriptors" "rvld: F12 RelocKind file=cells-desc.o section=N place=N name= other=62" start-newer.o cells-desc.o
+        fi
+    else
+        skip "cells by clang 19" "it is not compiled: $(first_line told)"
+    fi
+    there "picolibc 1.8.10" riscv64-unknown-elf-gcc && newer_here "picolibc 1.8.10" picolibc || return
+    folder=$(dirname "$(find "$work/picolibc" -path '*riscv64-unknown-elf/lib/libc.a')")
+    for name in start syscalls hello formats memory locals; do
+        riscv64-unknown-elf-gcc -isystem "$(dirname "$folder")/include" -ftls-model=local-exec -O2 -mcmodel=medany -ffunction-sections -fdata-sections \
+            -c -o "newer-$name.o" "$sources/$name.c" >told 2>&1 || { skip "picolibc 1.8.10, $name" "it is not compiled: $(first_line told)"; return; }
+    done
+    # what atexit registers is called by way of a section that its linker script puts among the destructors
+    wrap new-objcopy usr/bin/riscv64-linux-gnu-objcopy
+    new-objcopy --rename-section .fini_array_onexit=.fini_array "$folder/libc.a" picolibc/mended.a >told 2>&1 ||
+        { skip "picolibc 1.8.10" "its libc.a is not mended: $(first_line told)"; return; }
+    for name in hello formats memory locals; do
+        options=$name
+        [ ! -e "$said/$name.picolibc" ] || options=$name.picolibc
+        made "picolibc 1.8.10 $name" run_words "$options" newer-start.o newer-syscalls.o "newer-$name.o" "$folder/libm.a" picolibc/mended.a \
+            "$(riscv64-unknown-elf-gcc -print-libgcc-file-name)"
+    done
+}
+
+part_size() {
+    local level name folder file clang words
+    there size python3 riscv64-linux-gnu-gcc || return
+    find_linkers || return
+    mkdir -p sizes
+    echo "| bytes of code | rvld | ld.lld | ld.lld, files in rvld's order | GNU ld |"
+    echo "|---|---|---|---|---|"
+    folder=$(riscv64-unknown-elf-gcc --specs=picolibc.specs -### start.o 2>&1 | tr ' ' '\n' | sed -n 's/^-L\(.*picolibc.*[^.]\)$/\1/p' | head -n 1)
+    if [ -e "${folder:-.}/libc.a" ]; then
+        for level in O2 Os; do
+            for name in start syscalls hello formats; do
+                riscv64-unknown-elf-gcc --specs=picolibc.specs -$level -mcmodel=medany -ffunction-sections -fdata-sections -c -o "size-$name.o" "$sources/$name.c" || return
+            done
+            for name in hello formats; do
+                sized "picolibc $name, GCC -$level" size-start.o size-syscalls.o "size-$name.o" "$folder/libm.a" "$folder/libc.a" "$(riscv64-unknown-elf-gcc -print-libgcc-file-name)"
+            done
+        done
+    else
+        skip "size of programs on picolibc" "it is not installed"
+    fi
+    if there "size of a program on glibc" riscv64-linux-gnu-g++ && once glibc eval '(mend_glibc)'; then
+        riscv64-linux-gnu-g++ -O2 -std=c++17 -c -o streams.o "$sources/streams.cpp" || return
+        glibc_words streams.o "$(riscv64-linux-gnu-g++ -print-file-name=libstdc++.a)"
+        sized "glibc streams, G++ -O2" "${words[@]}"
+    fi
+    find_musl || return
+    musl_sized() { sized "$1" "$musl/crt1.o" "$musl/crti.o" "${@:2}" "$musl/libc.a" "$(riscv64-linux-gnu-gcc -print-libgcc-file-name)" "$musl/crtn.o"; }
+    cc_musl musl-formats.o "$sources/formats.c" -O2 && musl_sized "musl formats, GCC -O2" musl-formats.o
+    once zlib-source get_source zlib zlib && once zlib-objects compile_zlib && musl_sized "musl minigzip, GCC -O2" minigzip.o zlib/libz.a
+    if once lua-source get_source lua5.4 lua && once lua-objects compile_lua; then
+        musl_sized "musl Lua, GCC -O2" lua/*.o
+        if there "size of Lua by clang" clang; then
+            mkdir -p lua-clang
+            clang="clang --target=riscv64-linux-gnu -march=rv64gc -mabi=lp64d -mrelax -fno-pic -Os -nostdinc -isystem $musl_include -isystem $(clang -print-resource-dir)/include"
+            for file in src/lua/src/*.c; do
+                # shellcheck disable=SC2086
+                [ "$(basename "$file")" = luac.c ] || $clang -ffunction-sections -fdata-sections -DLUA_USE_POSIX -c -o "lua-clang/$(basename "$file" .c).o" "$file" || return
+            done
+            musl_sized "musl Lua, clang -Os" lua-clang/*.o
+        fi
+    fi
+    there "size of musl SQLite" tclsh make cc || return
+    once sqlite-source get_source sqlite3 sqlite && once sqlite-objects compile_sqlite || return
+    musl_sized "musl SQLite, GCC -O1" sqlite/*.o
+    # more code than a call of 4 bytes reaches over
+    mkdir -p sqlite-long
+    for file in sqlite3 shell; do
+        cc_musl "sqlite-long/$file.o" "src/sqlite/made/$file.c" -O0 -march=rv64g -mabi=lp64d -DSQLITE_THREADSAFE=0 -DSQLITE_OMIT_LOAD_EXTENSION -I src/sqlite/made || return
+    done
+    musl_sized "musl SQLite, GCC -O0 -march=rv64g" sqlite-long/*.o
+}
+
 # ----------------------------------------------------------------------------------------------------------------------- guide
 
 # followed PAGE OPTION..: the commands of a page write what it says
@@ -462,6 +648,8 @@ followed() {
     mkdir "$folder"
     cp "$sources"/*.c "$sources"/*.cpp "$folder"
     ln -s "$top/scripts" "$folder/scripts"
+    mkdir -p "$folder/crates/rvld/out"
+    ln -s "$rvld" "$folder/crates/rvld/out/rvld"
     while IFS= read -r line; do
         case $line in
             OK:*) ok "$page, ${line#OK: }" ;;
@@ -481,7 +669,7 @@ part_guide() {
     case $(riscv64-linux-gnu-as --version 2>/dev/null | head -n 1) in *" 2.40"*) ;; *) options+=(--places-differ) ;; esac
     [ "$has_map" = 1 ] || options+=(--without=--Map)
     [ "$has_input" = 1 ] || options+=(--without=--self-input)
-    followed README.md
+    followed README.md "${options[@]}"
     followed docs/guide.md "${options[@]}"
     followed docs/rules.md --refusals "${options[@]}"
 }

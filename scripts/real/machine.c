@@ -29,6 +29,7 @@ struct {
 } machine_room __attribute__((aligned(16)));
 
 __asm__(".section .text.machine, \"ax\"\n"
+        ".p2align 1\n"
         ".globl machine\n"
         ".type machine, @function\n"
         "machine:\n"

@@ -14,6 +14,7 @@ long ask(long number, long a, long b, long c);
 _Noreturn void exit(int status);
 
 __asm__(".section .text._start, \"ax\"\n"
+        ".p2align 1\n" /* else the section may stand at any address, and its calls are not shortened */
         ".globl _start\n"
         ".type _start, @function\n"
         "_start:\n"

@@ -15,6 +15,3 @@ mod names;
 
 pub use archive::{Member, members};
 pub use headers::{ArHead, header_at};
-
-#[cfg(test)]
-mod tests;

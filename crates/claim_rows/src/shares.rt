@@ -68,7 +68,7 @@ fn seats_for(
     count: usize,
 ) -> Result<Vec<ClaimSeat>, AllocError>
     requires { SitsAt claims.now seat.old }
-    ensures same { seat.new ≡ seat.old }
+    ensures sits { SitsAt claims.now seat.new }
     ensures count { IfOk result (λ seats. vec_len seats ≡ count) }
     ensures seated { IfOk result (λ seats. All (SitsAt claims.now) seats.items) }
 {

@@ -10,7 +10,5 @@ mod claims;
 mod discarded_sections;
 mod groups;
 mod marks;
-#[cfg(test)]
-mod tests;
 
 pub use discarded_sections::discard;

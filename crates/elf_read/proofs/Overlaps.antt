@@ -5,10 +5,11 @@ use Rattle.std.specs.List.{All, list_any, range_with_len}
 use Rattle.std.proofs.lemmas.Bool.Decides.{nat_tests}
 use Rattle.std.proofs.lemmas.List.{at_drop_more, get_or-map, length-map}
 use Rattle.std.proofs.lemmas.List.Elements.{All-from_recursion}
-use Rattle.std.proofs.lemmas.List.FromFn.{length-range_with_len, get_or-range_with_len, length-map-range_with_len, get_or-map-range_with_len, fill_by_all}
+use Rattle.std.proofs.lemmas.List.FromFn.{length-range_with_len, length-map-range_with_len, get_or-map-range_with_len, fill_by_all}
 use Rattle.std.proofs.lemmas.List.Sums.{fold-append}
 use Rattle.std.specs.List.Sorted.{IsNonDecreasingBy}
 use Rattle.lk_base.proofs.StableOrder.{sorted_is}
+use Rattle.lk_base.proofs.Ranges.{range_read}
 use Rattle.lk_base.specs.Order.{put_in, stable_order}
 use Rattle.lk_base.specs.RelocKinds.{moves_bytes}
 use Rattle.lk_base.specs.declared.defects.Flaw.{Flaw}
@@ -148,9 +149,6 @@ reloc_at : (b : List ℕ) (i : ℕ) (rs : List Reloc) (k : ℕ) → rs ≡ map (
 reloc_at b i rs k are lt =
     ap (λ xs. get_or xs k no_reloc) are ∙ get_or-map-range_with_len (reloc b i) 0 (rela_count b i) k k no_reloc lt (omega arith)
 
-number_in_range : (n k d : ℕ) → k < n → get_or (range_with_len 0 n) k d ≡ k
-number_in_range n k d lt = get_or-range_with_len 0 n k d lt ∙ omega arith
-
 -- if their offsets rise the stable order is that of the file
 pub rising_order : (b : List ℕ) (i : ℕ) (rs : List Reloc) → rs ≡ map (reloc b i) (range_with_len 0 (rela_count b i)) →
     IsNonDecreasingBy (λ (r : Reloc). r.offset) rs → in_order b i ≡ range_with_len 0 (rela_count b i)
@@ -159,7 +157,7 @@ rising_order b i rs are up =
     let key : ℕ → ℕ = λ j. (reloc b i j).offset in
     let long : length (range_with_len 0 n) ≡ n = length-range_with_len 0 n in
     let at : (k d : ℕ) → k < n → (get_or rs k no_reloc).offset ≡ key (get_or (range_with_len 0 n) k d) =
-    λ k d lt. ap (λ (r : Reloc). r.offset) (reloc_at b i rs k are lt) ∙ ap key (sym (number_in_range n k d lt)) in
+    λ k d lt. ap (λ (r : Reloc). r.offset) (reloc_at b i rs k are lt) ∙ ap key (sym (range_read n k d lt)) in
     sym (sorted_is key (range_with_len 0 n) (range_with_len 0 n)
     (λ x y d le lt.
     let high : y < n = omega (arith, long) in
@@ -173,7 +171,7 @@ pub rising_reported : (b : List ℕ) (i : ℕ) (rs : List Reloc) (r : Option ℕ
 rising_reported b i rs r are up is =
     let n = rela_count b i in
     overlap_reported b i (range_with_len 0 n) (λ k. flaw_at BAD_RELOC i (rela_place b i k)) rs r
-    (λ k lt. ap (λ j. flaw_at BAD_RELOC i (rela_place b i j)) (sym (number_in_range n k 0 (omega (arith, length-range_with_len 0 n))))) are is
+    (λ k lt. ap (λ j. flaw_at BAD_RELOC i (rela_place b i j)) (sym (range_read n k 0 (omega (arith, length-range_with_len 0 n))))) are is
     ∙ ap (λ js. passes (overlap_checks b i [] js)) (sym (rising_order b i rs are up))
 
 pub sorted_reported : (b : List ℕ) (i : ℕ) (es : List Numbered) (rs : List Reloc) (r : Option ℕ) (d : Numbered) → es ≡ map (numbered b i) (in_order b i) →

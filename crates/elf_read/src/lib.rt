@@ -24,8 +24,6 @@ mod sections;
 mod sound_file;
 mod symbol_checks;
 mod symbols;
-#[cfg(test)]
-mod tests;
 
 pub use body::read_body;
 pub use head::read_head;

@@ -1,10 +1,10 @@
 -- The members that files pull.
-use Rattle.std.proofs.Common.{◌≡◌, ◌≢◌, ℕ, ◌+◌, ◌^◌, ◌<◌, ◌≤◌, ◌==◌, ◌&&◌, min, Bool, true, false, if◌then◌else◌, Option, Some, None, List, [], ◌∷◌, length, get_or, All, Contains, refl, sym, ap, ◌∙◌, subst, ⊎_elim, arith}
+use Rattle.std.proofs.Common.{◌≡◌, ◌≢◌, ℕ, ◌^◌, ◌<◌, ◌≤◌, ◌==◌, ◌&&◌, min, Bool, true, false, if◌then◌else◌, Option, Some, None, List, [], ◌∷◌, length, get_or, All, Contains, refl, sym, ap, ◌∙◌, subst, ⊎_elim, arith}
 use Rattle.std.specs.Prelude.{option_to_list}
 use Rattle.std.specs.List.{range_with_len}
 use Rattle.std.specs.Str.{bytes_eq}
 use Rattle.std.proofs.lemmas.List.{get_or_past}
-use Rattle.std.proofs.lemmas.List.FromFn.{length-range_with_len, get_or-range_with_len, length-map-range_with_len, get_or-map-range_with_len}
+use Rattle.std.proofs.lemmas.List.FromFn.{length-range_with_len, length-map-range_with_len, get_or-map-range_with_len}
 use Rattle.std.proofs.lemmas.List.Folds.{Any-from_list_any, list_any_at}
 use Rattle.std.proofs.lemmas.List.Elements.{All-nil, All-cons, All-head, All-tail, All-contains}
 use Rattle.std.proofs.lemmas.Bool.{cases_Bool, cases_lt, cond-true, cond-false, and_parts, and_from, eqb-true, eq-eqb}
@@ -18,9 +18,7 @@ use Rattle.file_live.specs.declared.claims.TheConstants.{MEMBER_CLASS}
 use Rattle.file_live.specs.Live.{early_class, early_rank, early_offer_at, early_offers_in, early_offers, early, asks, is_of_member, pulls_by, pulls}
 use Rattle.file_live.specs.Pulls.{pulled, pulled_in, ends}
 use Rattle.file_live.proofs.Claimed.{offer_of}
-
-pub range_read : (n k d : ℕ) → k < n → get_or (range_with_len 0 n) k d ≡ k
-range_read n k d lt = let e : 0 + k ≡ k = omega arith in get_or-range_with_len 0 n k d lt ∙ e
+use Rattle.lk_base.proofs.Ranges.{range_read}
 
 -- a symbol that pulls
 pub record IsPuller (files : List File) (f g : ℕ) : Type 0 where

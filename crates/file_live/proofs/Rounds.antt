@@ -7,7 +7,7 @@ use Rattle.std.proofs.lemmas.List.Folds.{Any-from_list_any, list_any_at}
 use Rattle.std.proofs.lemmas.Bool.{cases_lt, and_parts, and_from, or_left, or_right, or_cases, lt-ltb, ltb-true, not-true, not_from_false, both_ways}
 use Rattle.lk_tables.specs.Files.{File, file_at}
 use Rattle.file_live.specs.Live.{pulls, live_in, is_live, live_of, IsClosedSet, IsLive}
-use Rattle.file_live.proofs.Pulling.{range_read}
+use Rattle.lk_base.proofs.Ranges.{range_read}
 
 -- how many of a range pass a test
 abbrev one : Bool → ℕ

@@ -11,7 +11,5 @@ mod claims;
 mod live_files;
 mod pulls;
 mod search;
-#[cfg(test)]
-mod tests;
 
 pub use live_files::live;

@@ -5,6 +5,3 @@
 mod rows;
 
 pub use rows::Rows;
-
-#[cfg(test)]
-mod tests;

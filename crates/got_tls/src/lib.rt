@@ -5,6 +5,3 @@
 mod listing;
 
 pub use listing::entries;
-
-#[cfg(test)]
-mod tests;

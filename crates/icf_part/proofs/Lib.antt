@@ -1,9 +1,11 @@
 pub mod Collected
 pub mod Deciding
 pub mod Paired
+pub mod PartSteps
 pub mod Rows
 pub mod RowSteps
 pub mod SectionPlaces
+pub mod Steady
 pub mod Sublists
 pub mod NumberedRows
 pub mod Targets

@@ -1,12 +1,9 @@
 -- What the rounds keep of the classes, from the first ones on.
-use Rattle.std.proofs.Common.{◌≡◌, ℕ, true, false, List, length, sym, ◌∙◌, subst}
-use Rattle.std.specs.Str.{bytes_eq}
-use Rattle.std.proofs.lemmas.Bool.{both_ways}
-use Rattle.std.proofs.lemmas.Slice.Eq.{bytes_eq-Decides}
+use Rattle.std.proofs.Common.{◌≡◌, ℕ, List, length, subst}
 use Rattle.std.specs.List.Sorted.{IsStrictlyIncreasing}
 use Rattle.std.proofs.lemmas.List.{length-map}
 use Rattle.link_sections.specs.FoldItems.{FoldItem, sections_of}
-use Rattle.icf_part.specs.Numbered.{AreFirsts, IsNumbering, IsRefining, IsStable}
+use Rattle.icf_part.specs.Numbered.{AreFirsts, IsNumbering, IsRefining}
 use Rattle.icf_part.specs.Signatures.{all_places, places, round_words}
 use Rattle.icf_part.proofs.Refined.{firsts_of, refining_next}
 
@@ -30,21 +27,6 @@ way_next ends start c next way step = record {
       refining_next items order c next (way.refining items order is r) (subst Q (places_wide items) (subst P is step));
 }
 
--- a round that gives the same classes splits none
-pub way_last : (ends : List (List ℕ)) (c next : List ℕ) → IsNumbering (round_words c ends) (length ends) next → next ≡ c → IsStable (round_words c ends) (length ends) c
-way_last ends c next step same =
-    let P : List ℕ → Type 0 = IsNumbering (round_words c ends) (length ends) in
-    let own = subst P same step in
-    record { stays = own.tells }
-
 -- the classes that were lent to a round
 pub step_of : (ends : List (List ℕ)) (lent c next : List ℕ) → lent ≡ c → IsNumbering (round_words lent ends) (length ends) next → IsNumbering (round_words c ends) (length ends) next
 step_of ends lent c next is step = let P : List ℕ → Type 0 = λ l. IsNumbering (round_words l ends) (length ends) next in subst P is step
-
--- what a comparison of lists says
-pub told_other : (xs ys a b : List ℕ) → xs ≡ a → ys ≡ b → bytes_eq xs ys ≡ false → a ≡ b → ⊥
-told_other xs ys a b ex ey fails same =
-    let d = bytes_eq-Decides xs ys in both_ways (bytes_eq xs ys) fails (d.1 (ex ∙ same ∙ sym ey))
-
-pub told_same : (xs ys a b : List ℕ) → xs ≡ a → ys ≡ b → bytes_eq xs ys ≡ true → a ≡ b
-told_same xs ys a b ex ey holds = let d = bytes_eq-Decides xs ys in sym ex ∙ d.0 holds ∙ ey

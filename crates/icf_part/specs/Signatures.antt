@@ -1,7 +1,10 @@
 -- What the passes over items compare: rows of numbers, as bytes.
-use Rattle.std.specs.Prelude.{◌≡◌, ℕ, ◌<◌, ◌==◌, ◌^◌, ℤ, pos, negsuc, Bool, true, false, Option, Some, None, List, [], ◌∷◌, ◌++◌, length, map, flat_map, find, slice_index, slice_index_or, nat_lt, if◌then◌else◌, All}
+use Rattle.std.specs.Prelude.{◌≡◌, ℕ, ◌<◌, ◌≤◌, ◌-◌, ◌==◌, ◌&&◌, ◌^◌, ℤ, pos, negsuc, Bool, true, false, Option, Some, None, List, [], ◌∷◌, ◌++◌, length, map, flat_map, find, slice_index, slice_index_or, nat_lt, if◌then◌else◌, All, Result, IfOk}
 use Rattle.std.specs.Int.{w32, w64, to_le_bytes}
-use Rattle.std.specs.List.{range_with_len}
+use Rattle.std.specs.Global.{Vec}
+use Rattle.std.specs.List.{list_all, range_with_len}
+use Rattle.std.specs.declared.ops.Range.{Range}
+use Rattle.lk_base.specs.declared.defects.LinkStop.{LinkStop}
 use Rattle.link_sections.specs.declared.targets.Target.{Target}
 use Rattle.link_sections.specs.declared.targets.Target.TheVariants.{Section, Piece, Number, Zero, Linker, Unbound}
 use Rattle.link_sections.specs.declared.fold_items.FoldReloc.{FoldReloc}
@@ -76,9 +79,28 @@ places sections i = flat_map (reloc_places sections) i.relocs
 unfoldable pub all_places : List FoldItem → List (List ℕ)
 all_places items = map (places (sections_of items)) items
 
+-- those of the items from one on and before another
+abbrev pub places_from : (sections : List ℕ) → List FoldItem → (start end : ℕ) → List (List ℕ)
+places_from sections items start end = map (λ a. places sections (item_at items a)) (range_with_len start (end - start))
+
+-- what is found for a piece: the places of its items, in parts
+abbrev pub IsPlacesPart : (sections : List ℕ) → List FoldItem → Range ℕ → Result (Vec (List (List ℕ))) LinkStop → Type 0
+IsPlacesPart sections items piece r = IfOk r (λ parts. flat_map (λ part. part) parts.items ≡ places_from sections items piece.start piece.end)
+
 -- what a round compares: an item's class, and those of the items to which it leads
 unfoldable pub round_words : (classes : List ℕ) → (ends : List (List ℕ)) → (a : ℕ) → List ℕ
 round_words classes ends a = slice_index classes a ∷ map (slice_index classes) (slice_index_or ends a [])
+
+-- what stands at one place of two lists has one class
+abbrev pub agrees_at : (classes ones others : List ℕ) → (k : ℕ) → Bool
+agrees_at classes ones others k = slice_index classes (slice_index ones k) == slice_index classes (slice_index others k)
+
+unfoldable pub are_alike : (classes ones others : List ℕ) → Bool
+are_alike classes ones others = length ones == length others && list_all (agrees_at classes ones others) (range_with_len 0 (length ones))
+
+-- an item leads to the classes to which the first of its class leads
+unfoldable pub leads_as_first : (classes : List ℕ) → (ends : List (List ℕ)) → (a : ℕ) → Bool
+leads_as_first classes ends a = are_alike classes (slice_index_or ends a []) (slice_index_or ends (slice_index classes a) [])
 
 -- numbers as bytes: one byte of a number below 254, four bytes after 254, eight after 255
 unfoldable pub word_bytes : ℕ → List ℕ
@@ -89,6 +111,15 @@ row_bytes words = flat_map word_bytes words
 
 abbrev pub AllFit : List ℕ → Type 0
 AllFit words = All (λ w. w < 2 ^ 64) words
+
+-- a row for each of the items from one on and before another
+pub record AreRowsFrom (words : ℕ → List ℕ) (start end : ℕ) (rows : List (List ℕ)) : Type 0 where
+  pub rows_are : rows ≡ map (λ a. row_bytes (words a)) (range_with_len start (end - start))
+  pub fit : (a : ℕ) → start ≤ a → a < end → AllFit (words a)
+
+-- what is made for a piece: a list of rows for its items, in parts
+abbrev pub IsRowsPart : (words : ℕ → List ℕ) → Range ℕ → Result (Vec (List (List ℕ))) LinkStop → Type 0
+IsRowsPart words piece r = IfOk r (λ parts. AreRowsFrom words piece.start piece.end (flat_map (λ part. part) parts.items))
 
 -- a row for each of n items
 pub record AreRows (words : ℕ → List ℕ) (n : ℕ) (rows : List (List ℕ)) : Type 0 where

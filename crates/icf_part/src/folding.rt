@@ -7,6 +7,7 @@ ghost use Rattle.icf_part.specs.Folding.{AreLeaders, HoldsAll, IsCongruence, cla
 ghost use Rattle.icf_part.specs.Leaders.{leaders_of};
 
 use crate::numbering::{number_contents, number_outputs, number_rows};
+use crate::parts::pieces_of;
 use crate::places::{all_places, sections_of};
 use crate::refining::refine;
 use crate::shapes::all_shapes;
@@ -19,14 +20,14 @@ use work_split::Gate;
 const ITEM_END: usize = 1 << 31;
 
 /// For each item the place of its leader: the least item that can stand for it. Items are given in order of their sections' numbers. The
-/// answer is the same whatever the number of workers; more than one sort as many as the machine has processors. The gate is not called. The
-/// only error is out of memory, which 2^31 items or more are answered with.
+/// answer is the same whatever the number of workers; each makes what is compared of one piece of the items, and more than one sort as many as
+/// the machine has processors. The only error is out of memory, which 2^31 items or more are answered with.
 pub fn fold<R: Threads + Sync, G: Gate>(
     rt: &R,
     alloc: Global,
     items: &[FoldItem],
     workers: u32,
-    _gate: &G,
+    gate: &G,
 ) -> Result<Vec<u32>, AllocError>
     requires some { 1 ≤ workers }
     requires most { workers ≤ 64 }
@@ -42,15 +43,16 @@ pub fn fold<R: Threads + Sync, G: Gate>(
     if items.len() >= ITEM_END {
         return Err(AllocError);
     }
-    fold_few(rt, alloc, items, workers)
+    fold_few(rt, alloc, items, workers, gate)
 }
 
 /// That of fewer items.
-fn fold_few<R: Threads + Sync>(
+fn fold_few<R: Threads + Sync, G: Gate>(
     rt: &R,
     alloc: Global,
     items: &[FoldItem],
     workers: u32,
+    gate: &G,
 ) -> Result<Vec<u32>, AllocError>
     requires some { 1 ≤ workers }
     requires most { workers ≤ 64 }
@@ -65,17 +67,28 @@ fn fold_few<R: Threads + Sync>(
     ensures least { IfOk result (λ l. (a : ℕ) → slice_index l.items a ≤ a) }
 {
     let sections = sections_of(alloc, items)?;
-    let ends = all_places(alloc, items, sections.as_slice())?;
+    let pieces = pieces_of(alloc, items.len(), workers)?;
+    let ends = all_places(
+        rt,
+        alloc,
+        items,
+        sections.as_slice(),
+        pieces.as_slice(),
+        gate,
+    )?;
     let bytes = number_contents(rt, alloc, items, workers)?;
-    let outputs = number_outputs(rt, alloc, items, workers)?;
-    let rows = all_shapes(
+    let outputs = number_outputs(rt, alloc, items)?;
+    let parts = all_shapes(
+        rt,
         alloc,
         items,
         sections.as_slice(),
         bytes.as_slice(),
         outputs.as_slice(),
+        pieces.as_slice(),
+        gate,
     )?;
-    let start = number_rows(rt, alloc, &rows, workers)?;
-    let leaders = refine(rt, alloc, &ends, start, workers)?;
+    let start = number_rows(rt, alloc, parts.as_slice(), workers)?;
+    let leaders = refine(rt, alloc, &ends, start, workers, pieces.as_slice(), gate)?;
     Ok(leaders)
 }

@@ -2,16 +2,18 @@
 //!
 //! Items are put into classes. At first a class has the items of one shape: equal bytes, headers and relocations, where a relocation that
 //! stands for another item counts by its offset and rest alone. Each round then compares the classes to which the relocations of an
-//! item lead, and splits the classes in which these differ, until a round splits none. No two items that some congruence pairs are
+//! item lead, and splits the classes in which these differ, until they differ in none. No two items that some congruence pairs are
 //! ever split, and the classes that stay are a congruence, so they are the greatest one. A class's number is the place of its first item.
 #![tactic(auto)]
 
 mod folding;
 mod numbering;
+mod parts;
 mod places;
 mod refining;
 mod rounds;
 mod shapes;
+mod stable;
 #[cfg(test)]
 mod tests;
 mod words;

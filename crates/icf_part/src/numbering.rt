@@ -1,6 +1,6 @@
 //! Rows by number: the number of a row is the place of the first that is equal to it.
 
-ghost use Rattle.std.specs.Prelude.{◌≡◌, ◌<◌, ◌^◌, length, map, IfOk};
+ghost use Rattle.std.specs.Prelude.{◌≡◌, ◌<◌, ◌^◌, ◌++◌, length, map, flat_map, IfOk, OnOk};
 ghost use Rattle.link_sections.specs.FoldItems.{item_views};
 ghost use Rattle.icf_part.specs.Signatures.{bytes_of, output_of};
 ghost use Rattle.name_numbers.specs.Texts.{lent_texts, text_numbers};
@@ -11,29 +11,33 @@ use name_numbers::number_texts;
 use std::alloc::{AllocError, Global};
 use std::thread::Threads;
 
-/// The number of each row. Rows are sorted by tags that their bytes decide, and compared byte by byte where these are equal.
+/// The number of each row, of rows in parts. They are sorted by tags that their bytes decide, and compared byte by byte where these are
+/// equal.
 pub fn number_rows<R: Threads + Sync>(
     rt: &R,
     alloc: Global,
-    rows: &Rows<u8>,
+    parts: &[Rows<u8>],
     workers: u32,
 ) -> Result<Vec<u32>, AllocError>
-    requires { length rows.now < 2 ^ 31 }
-    ensures { IfOk result (λ list. list.items ≡ text_numbers rows.now) }
+    requires { length (flat_map (λ part. part) parts.now) < 2 ^ 31 }
+    ensures { IfOk result (λ list. list.items ≡ text_numbers (flat_map (λ part. part) parts.now)) }
 {
-    let texts = texts_of(alloc, rows)?;
+    let mut texts = Vec::new(alloc);
+    for part in parts {
+        push_texts(&mut texts, part)?;
+    }
     number_texts(rt, alloc, texts.as_slice(), workers)
 }
 
-/// The rows, lent.
-fn texts_of<'a>(alloc: Global, rows: &'a Rows<u8>) -> Result<Vec<&'a [u8]>, AllocError>
-    ensures { IfOk result (λ texts. lent_texts texts.items ≡ rows.now) }
+/// Adds the rows of a part, lent.
+fn push_texts<'a>(texts: &mut Vec<&'a [u8]>, rows: &'a Rows<u8>) -> Result<(), AllocError>
+    ensures { OnOk result (lent_texts texts.new.items ≡ lent_texts texts.old.items ++ rows.now) }
 {
-    let mut texts = Vec::with_capacity(alloc, rows.count())?;
+    texts.reserve(rows.count())?;
     for n in 0..rows.count() {
         texts.push(rows.row(n))?;
     }
-    Ok(texts)
+    Ok(())
 }
 
 /// The number of each item's contents.
@@ -61,18 +65,17 @@ fn contents_of<'a>(alloc: Global, items: &[FoldItem<'a>]) -> Result<Vec<&'a [u8]
     Ok(texts)
 }
 
-/// The number of each item's output section, by its name.
+/// The number of each item's output section, by its name. Most often they are all one, so that they stand in order, and one worker is quicker.
 pub fn number_outputs<R: Threads + Sync>(
     rt: &R,
     alloc: Global,
     items: &[FoldItem],
-    workers: u32,
 ) -> Result<Vec<u32>, AllocError>
     requires { length items.now < 2 ^ 31 }
     ensures { IfOk result (λ list. list.items ≡ text_numbers (map output_of (item_views items.now))) }
 {
     let texts = outputs_of(alloc, items)?;
-    number_texts(rt, alloc, texts.as_slice(), workers)
+    number_texts(rt, alloc, texts.as_slice(), 1)
 }
 
 /// The names of the output sections of items, lent.

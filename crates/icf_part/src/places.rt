@@ -1,14 +1,19 @@
 //! Which items are the targets of an item's relocations.
 
-ghost use Rattle.std.specs.Prelude.{◌≡◌, ◌<◌, ◌^◌, ◌++◌, length, IfOk, OnOk};
+ghost use Rattle.std.specs.Prelude.{◌≡◌, ◌<◌, ◌≤◌, ◌^◌, ◌++◌, length, flat_map, IfOk, OnOk};
 ghost use Rattle.std.specs.List.Sorted.{IsStrictlyIncreasing};
 ghost use Rattle.link_sections.specs.FoldItems.{item_view, item_views, sections_of};
+ghost use Rattle.work_split.specs.Pieces.{Tiles};
 ghost use Rattle.icf_part.specs.Signatures as spec;
 
+use crate::parts::{join_rows, one_part};
 use flat_rows::Rows;
 use link_sections::{FoldItem, FoldReloc, Target};
-use lk_base::SecNo;
+use lk_base::{LinkStop, SecNo};
 use std::alloc::{AllocError, Global};
+use std::ops::Range;
+use std::thread::Threads;
+use work_split::{Gate, over_shares};
 
 /// The sections of items.
 #[tactic(auto, unfolding(link_sections::specs::FoldItems::sections_of))]
@@ -34,38 +39,80 @@ pub fn place_of(sections: &[SecNo], section: SecNo) -> Option<u32>
     }
 }
 
-/// By item, the places of the items for which its relocations stand, in order of these.
-#[tactic(auto, unfolding(crate::specs::Signatures::all_places))]
-pub fn all_places(
+/// By item, the places of the items for which its relocations stand, in order of these. The workers find those of one piece of the items
+/// each.
+pub fn all_places<R: Threads + Sync, G: Gate>(
+    rt: &R,
     alloc: Global,
     items: &[FoldItem],
     sections: &[SecNo],
+    pieces: &[Range<usize>],
+    gate: &G,
 ) -> Result<Rows<u32>, AllocError>
     requires order { IsStrictlyIncreasing sections.now }
     requires few { length sections.now < 2 ^ 31 }
     requires sections { sections.now ≡ sections_of (item_views items.now) }
+    requires tiles { Tiles 0 (length items.now) pieces.now }
+    requires most { length pieces.now ≤ 64 }
     ensures { IfOk result (λ rows. rows ≡ spec.all_places (item_views items.now)) }
 {
-    let mut rows = Rows::empty(alloc)?;
-    for a in 0..items.len() {
-        let places = places(alloc, &items[a], sections)?;
-        rows.push(places.as_slice())?;
+    let found = over_shares(
+        rt,
+        alloc,
+        gate,
+        pieces,
+        |piece: Range<usize>| -> Result<Vec<Rows<u32>>, LinkStop>
+            requires order { IsStrictlyIncreasing sections.now }
+            requires few { length sections.now < 2 ^ 31 }
+            requires ordered { piece.start ≤ piece.end }
+            requires within { piece.end ≤ length items.now }
+            ensures { spec.IsPlacesPart sections.entry.now (item_views items.entry.now) piece result }
+        { Ok(places_of(alloc, items, sections, piece)?) },
+    );
+    match found {
+        Ok(parts) => {
+            let rows = join_rows(alloc, parts.as_slice())?;
+            Ok(rows)
+        }
+        Err(_) => Err(AllocError),
     }
-    Ok(rows)
 }
 
-/// Those of one item.
-#[tactic(auto, unfolding(crate::specs::Signatures::places))]
-fn places(alloc: Global, item: &FoldItem, sections: &[SecNo]) -> Result<Vec<u32>, AllocError>
+/// Those of a run of items, as one part.
+fn places_of(
+    alloc: Global,
+    items: &[FoldItem],
+    sections: &[SecNo],
+    piece: Range<usize>,
+) -> Result<Vec<Rows<u32>>, AllocError>
     requires order { IsStrictlyIncreasing sections.now }
     requires few { length sections.now < 2 ^ 31 }
-    ensures { IfOk result (λ list. list.items ≡ spec.places sections.now (item_view item.now)) }
+    requires ordered { piece.start ≤ piece.end }
+    requires within { piece.end ≤ length items.now }
+    ensures { IfOk result (λ parts. flat_map (λ part. part) parts.items ≡ spec.places_from sections.now (item_views items.now) piece.start piece.end) }
 {
+    let mut rows = Rows::empty(alloc)?;
     let mut list = Vec::new(alloc);
-    for k in 0..item.relocs.len() {
-        push_place(&mut list, &item.relocs[k], sections)?;
+    for a in piece.start..piece.end {
+        put_places(&mut list, &items[a], sections)?;
+        rows.push(list.as_slice())?;
     }
-    Ok(list)
+    let parts = one_part(alloc, rows)?;
+    Ok(parts)
+}
+
+/// Puts those of one item into a list, whatever stands there.
+#[tactic(auto, unfolding(crate::specs::Signatures::places))]
+fn put_places(list: &mut Vec<u32>, item: &FoldItem, sections: &[SecNo]) -> Result<(), AllocError>
+    requires order { IsStrictlyIncreasing sections.now }
+    requires few { length sections.now < 2 ^ 31 }
+    ensures { OnOk result (list.new.items ≡ spec.places sections.now (item_view item.now)) }
+{
+    list.clear();
+    for k in 0..item.relocs.len() {
+        push_place(list, &item.relocs[k], sections)?;
+    }
+    Ok(())
 }
 
 /// Adds the place of the item for which a relocation stands, if it stands for one.

@@ -1,54 +1,108 @@
 //! What is compared of items before the first round.
 
-ghost use Rattle.std.specs.Prelude.{◌≡◌, ◌<◌, ◌^◌, ◌++◌, length, IfOk, OnOk};
+ghost use Rattle.std.specs.Prelude.{◌≡◌, ◌<◌, ◌≤◌, ◌^◌, ◌++◌, length, flat_map, IfOk, OnOk};
 ghost use Rattle.std.specs.List.Sorted.{IsStrictlyIncreasing};
 ghost use Rattle.link_sections.specs.FoldItems.{item_view, item_views, sections_of};
+ghost use Rattle.work_split.specs.Pieces.{Tiles};
 ghost use Rattle.icf_part.specs.Signatures as spec;
 
+use crate::parts::one_part;
 use crate::places::place_of;
 use crate::words::push_row;
 use flat_rows::Rows;
 use link_sections::{FoldItem, FoldReloc, Target};
-use lk_base::SecNo;
+use lk_base::{LinkStop, SecNo};
 use std::alloc::{AllocError, Global};
+use std::ops::Range;
+use std::thread::Threads;
+use work_split::{Gate, over_shares};
 
-/// A row for each item; `bytes` and `outputs` are the numbers of their contents and of their output sections.
-pub fn all_shapes(
+/// A row for each item, in parts; `bytes` and `outputs` are the numbers of their contents and of their output sections. The workers make
+/// one part each.
+pub fn all_shapes<R: Threads + Sync, G: Gate>(
+    rt: &R,
     alloc: Global,
     items: &[FoldItem],
     sections: &[SecNo],
     bytes: &[u32],
     outputs: &[u32],
-) -> Result<Rows<u8>, AllocError>
+    pieces: &[Range<usize>],
+    gate: &G,
+) -> Result<Vec<Rows<u8>>, AllocError>
     requires order { IsStrictlyIncreasing sections.now }
     requires few { length sections.now < 2 ^ 31 }
     requires sections { sections.now ≡ sections_of (item_views items.now) }
     requires bytes { length bytes.now ≡ length items.now }
     requires outputs { length outputs.now ≡ length items.now }
-    ensures { IfOk result (λ rows. spec.AreRows (spec.shape_at (item_views items.now) bytes.now outputs.now) (length items.now) rows) }
+    requires tiles { Tiles 0 (length items.now) pieces.now }
+    requires most { length pieces.now ≤ 64 }
+    ensures { IfOk result (λ parts. spec.AreRows (spec.shape_at (item_views items.now) bytes.now outputs.now) (length items.now) (flat_map (λ part. part) parts.items)) }
 {
-    let mut rows = Rows::empty(alloc)?;
-    for a in 0..items.len() {
-        let words = shape_words(alloc, &items[a], sections, bytes[a], outputs[a])?;
-        push_row(alloc, &mut rows, words.as_slice())?;
+    let found = over_shares(
+        rt,
+        alloc,
+        gate,
+        pieces,
+        |piece: Range<usize>| -> Result<Vec<Rows<u8>>, LinkStop>
+            requires order { IsStrictlyIncreasing sections.now }
+            requires few { length sections.now < 2 ^ 31 }
+            requires sections { sections.now ≡ sections_of (item_views items.now) }
+            requires bytes { length bytes.now ≡ length items.now }
+            requires outputs { length outputs.now ≡ length items.now }
+            requires ordered { piece.start ≤ piece.end }
+            requires within { piece.end ≤ length items.now }
+            ensures { spec.IsRowsPart (spec.shape_at (item_views items.entry.now) bytes.entry.now outputs.entry.now) piece result }
+        { Ok(shape_rows(alloc, items, sections, bytes, outputs, piece)?) },
+    );
+    match found {
+        Ok(parts) => Ok(parts),
+        Err(_) => Err(AllocError),
     }
-    Ok(rows)
 }
 
-/// The row of one item.
-#[tactic(auto, unfolding(crate::specs::Signatures::shape_words))]
-fn shape_words(
+/// The rows of a run of items, as one part.
+fn shape_rows(
     alloc: Global,
+    items: &[FoldItem],
+    sections: &[SecNo],
+    bytes: &[u32],
+    outputs: &[u32],
+    piece: Range<usize>,
+) -> Result<Vec<Rows<u8>>, AllocError>
+    requires order { IsStrictlyIncreasing sections.now }
+    requires few { length sections.now < 2 ^ 31 }
+    requires sections { sections.now ≡ sections_of (item_views items.now) }
+    requires bytes { length bytes.now ≡ length items.now }
+    requires outputs { length outputs.now ≡ length items.now }
+    requires ordered { piece.start ≤ piece.end }
+    requires within { piece.end ≤ length items.now }
+    ensures { IfOk result (λ parts. spec.AreRowsFrom (spec.shape_at (item_views items.now) bytes.now outputs.now) piece.start piece.end (flat_map (λ part. part) parts.items)) }
+{
+    let mut rows = Rows::empty(alloc)?;
+    let mut words = Vec::new(alloc);
+    let mut row = Vec::new(alloc);
+    for a in piece.start..piece.end {
+        put_shape(&mut words, &items[a], sections, bytes[a], outputs[a])?;
+        push_row(&mut rows, &mut row, words.as_slice())?;
+    }
+    let parts = one_part(alloc, rows)?;
+    Ok(parts)
+}
+
+/// Puts what is compared of one item into a list, whatever stands there.
+#[tactic(auto, unfolding(crate::specs::Signatures::shape_words))]
+fn put_shape(
+    words: &mut Vec<u64>,
     item: &FoldItem,
     sections: &[SecNo],
     bytes: u32,
     output: u32,
-) -> Result<Vec<u64>, AllocError>
+) -> Result<(), AllocError>
     requires order { IsStrictlyIncreasing sections.now }
     requires few { length sections.now < 2 ^ 31 }
-    ensures { IfOk result (λ words. words.items ≡ spec.shape_words sections.now bytes output (item_view item.now)) }
+    ensures { OnOk result (words.new.items ≡ spec.shape_words sections.now bytes output (item_view item.now)) }
 {
-    let mut words = Vec::new(alloc);
+    words.clear();
     words.extend_from_slice(&[
         bytes as u64,
         output as u64,
@@ -57,9 +111,9 @@ fn shape_words(
         item.align,
     ])?;
     for k in 0..item.relocs.len() {
-        push_reloc(&mut words, &item.relocs[k], sections)?;
+        push_reloc(words, &item.relocs[k], sections)?;
     }
-    Ok(words)
+    Ok(())
 }
 
 /// Adds what is compared of a relocation.

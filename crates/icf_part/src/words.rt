@@ -1,30 +1,30 @@
 //! Rows of numbers as bytes.
 
-ghost use Rattle.std.specs.Prelude.{◌≡◌, ◌++◌, ◌∷◌, [], OnOk, IfOk};
+ghost use Rattle.std.specs.Prelude.{◌≡◌, ◌++◌, ◌∷◌, [], OnOk};
 ghost use Rattle.icf_part.specs.Signatures.{AllFit, row_bytes, word_bytes};
 
 use flat_rows::Rows;
-use std::alloc::{AllocError, Global};
+use std::alloc::AllocError;
 
-/// Adds a row of numbers.
-pub fn push_row(alloc: Global, rows: &mut Rows<u8>, words: &[u64]) -> Result<(), AllocError>
+/// Adds a row of numbers. Its bytes are made in `bytes`, whatever stands there, which so takes memory once for many rows.
+pub fn push_row(rows: &mut Rows<u8>, bytes: &mut Vec<u8>, words: &[u64]) -> Result<(), AllocError>
     ensures row { OnOk result (rows.new ≡ rows.old ++ row_bytes words.now ∷ []) }
     ensures fit { AllFit words.now }
 {
-    let bytes = bytes_of(alloc, words)?;
+    bytes.clear();
+    push_words(bytes, words)?;
     rows.push(bytes.as_slice())
 }
 
-/// Numbers as bytes.
+/// Adds numbers as bytes.
 #[tactic(auto, unfolding(crate::specs::Signatures::row_bytes))]
-fn bytes_of(alloc: Global, words: &[u64]) -> Result<Vec<u8>, AllocError>
-    ensures { IfOk result (λ bytes. bytes.items ≡ row_bytes words.now) }
+fn push_words(bytes: &mut Vec<u8>, words: &[u64]) -> Result<(), AllocError>
+    ensures { OnOk result (bytes.new.items ≡ bytes.old.items ++ row_bytes words.now) }
 {
-    let mut bytes = Vec::new(alloc);
     for i in 0..words.len() {
-        push_word(&mut bytes, words[i])?;
+        push_word(bytes, words[i])?;
     }
-    Ok(bytes)
+    Ok(())
 }
 
 /// Adds a number: one byte if it is below 254, else four or eight, the lowest one first, after a byte that says so.

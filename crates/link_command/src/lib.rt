@@ -11,6 +11,3 @@ mod matching;
 mod values;
 
 pub use command::{Command, IcfMode, Wanted, command_of};
-
-#[cfg(test)]
-mod tests;

@@ -37,11 +37,11 @@ one : (d : Defect) (xs : List Defect) → BeginsWith xs d → BeginsWith (first_
 one d [] begins = begins
 one d (x ∷ xs) begins = begins
 
-one_stop : (stop : LinkStop) (xs : List Defect) → StopsAt stop xs → StopsAt stop (first_phase (xs ∷ []))
+pub one_stop : (stop : LinkStop) (xs : List Defect) → StopsAt stop xs → StopsAt stop (first_phase (xs ∷ []))
 one_stop (stops.Defect d) xs begins = one d xs begins
 one_stop stops.Memory xs begins = tt
 
-one_none : (xs : List Defect) → xs ≡ [] → first_phase (xs ∷ []) ≡ []
+pub one_none : (xs : List Defect) → xs ≡ [] → first_phase (xs ∷ []) ≡ []
 one_none [] none = refl
 one_none (x ∷ xs) none = none
 

@@ -12,6 +12,7 @@ pub mod LaidOrder
 pub mod Laws
 pub mod Leading
 pub mod Opened
+pub mod Passing
 pub mod PhaseOrder
 pub mod Promising
 pub mod Starting

@@ -107,22 +107,40 @@ module _ (limits : Limits) (w : Wishes) (files : List File) (b : Bindings) (kept
   abbrev pub last_phases : List (List Defect)
   last_phases = undefined_defects files b kept ∷ final_phases
 
+  -- those of them before values are computed
+  abbrev pub placing_phases : List (List Defect)
+  placing_phases = undefined_defects files b kept ∷ layout_defects limits files (laid_out w files b kept) ∷ []
+
 -- too many pieces of sections that would be merged if they are kept; 64 bits hold the count
 unfoldable pub piece_defects : Limits → List File → List Defect
 piece_defects limits files = count_defects limits.pieces (min (piece_count files) (2 ^ 64 - 1))
 
-abbrev pub later_phases : Limits → Asked → List File → List (List Defect)
-later_phases limits asked files =
+-- pieces are few enough, and names are bound
+abbrev pub binding_phases : Limits → Asked → List File → List (List Defect)
+binding_phases limits asked files =
     piece_defects limits files
     ∷ flag_defects files
     ∷ duplicate_defects files (discarded files)
     ∷ entry_defects files (discarded files) asked.entry
-    ∷ last_phases limits (wishes_of asked) files (bound_names files asked.entry) (kept_of asked.gc files (bound_names files asked.entry))
+    ∷ []
+
+abbrev pub later_phases : Limits → Asked → List File → List (List Defect)
+later_phases limits asked files =
+    binding_phases limits asked files
+    ++ last_phases limits (wishes_of asked) files (bound_names files asked.entry) (kept_of asked.gc files (bound_names files asked.entry))
 
 -- the defects are those of the first phase that has any
 unfoldable pub defects_in : Limits → Asked → List Source → List Defect
 defects_in limits asked ss =
     first_phase (reading_defects limits ss ∷ opening_defects limits ss ∷ later_phases limits asked (files_in ss))
+
+-- the same of the phases up to the layout alone: if there is none, only the values of relocations are left to fail
+unfoldable pub placing_defects : Limits → Asked → List Source → List Defect
+placing_defects limits asked ss =
+    let files = files_in ss in
+    let b = bound_names files asked.entry in
+    first_phase (reading_defects limits ss ∷ opening_defects limits ss
+    ∷ (binding_phases limits asked files ++ placing_phases limits (wishes_of asked) files b (kept_of asked.gc files b)))
 
 abbrev pub defects_of : Limits → Asked → List (List ℕ) → List Defect
 defects_of limits asked inputs = defects_in limits asked (sources limits inputs)

@@ -1,9 +1,12 @@
 -- What each step of a link hands on.
 use Rattle.std.specs.Prelude.{◌≡◌, ℕ, true, Bool, if◌then◌else◌, List, [], Option, Some, Result, Ok, Err}
+use Rattle.lk_base.specs.declared.defects.Defect.{Defect}
 use Rattle.lk_base.specs.declared.defects.LinkStop.{LinkStop}
+use Rattle.lk_base.specs.declared.defects.LinkStop.TheVariants as stops
 use Rattle.lk_base.specs.declared.limits.Limits.{Limits}
 use Rattle.lk_tables.specs.Binding.{Bindings}
 use Rattle.lk_tables.specs.Files.{File}
+use Rattle.call_reach.specs.Reach.{CallsReach}
 use Rattle.elf_out.specs.Executable.{executable}
 use Rattle.elf_out.specs.Standing.{SectionsStand}
 use Rattle.file_live.specs.Live.{IsLive}
@@ -14,7 +17,7 @@ use Rattle.sym_resolve.specs.Law.{IsLawful}
 use Rattle.link_driver.specs.declared.linking.Linked.{Linked}
 use Rattle.comdat.specs.Discarded.{discarded}
 use Rattle.link_driver.specs.Laws.{StopsAtLeast}
-use Rattle.link_driver.specs.Link.{Wishes, bound_names, defects_in, executable_in, executable_with, kept_in, laid_out, leaders_in, link, map_in, map_with, report_by, report_in, report_with, wishes_of}
+use Rattle.link_driver.specs.Link.{Wishes, bound_names, defects_in, executable_in, executable_with, kept_in, laid_out, leaders_in, link, map_in, map_with, placing_defects, report_by, report_in, report_with, wishes_of}
 use Rattle.link_driver.specs.Sources.{Source, files_in, heads_in, live_in}
 use Rattle.link_driver.specs.Tables.{IsCollected}
 
@@ -36,10 +39,23 @@ pub record Gives (asked : Asked) (names : List (List ℕ)) (ss : List Source) (l
   pub map : linked.map.items ≡ map_in asked ss names
   pub report : linked.report.items ≡ report_in asked ss
 
+-- each shortened call of a link reaches its target: no relocation of one is odd or out of range
+abbrev pub ShortenedCallsReach : Wishes → List File → Bindings → (kept : List Bool) → Type 0
+ShortenedCallsReach w files b kept = CallsReach files b (leaders_in w files b kept) (laid_out w files b kept)
+
+-- what holds once there are none of these defects, whether the link stops later or not; nothing is said where memory ran out
+abbrev pub HoldsAtStop : LinkStop → (earlier : List Defect) → Type 0 → Type 0
+HoldsAtStop (stops.Defect defect) earlier holds = earlier ≡ [] → holds
+HoldsAtStop stops.Memory earlier holds = Unit {0}
+
+abbrev pub HoldsPast : Result Linked LinkStop → (earlier : List Defect) → Type 0 → Type 0
+HoldsPast (Ok linked) earlier holds = holds
+HoldsPast (Err stop) earlier holds = HoldsAtStop stop earlier holds
+
 -- a link without a defect gives Link. Of Link's own words it is said, as laws: the files that take part are the least set with
 -- the command's objects and all that they pull; each name is bound to the least offer of it, if there is one, and bound COMMON
--- symbols get the greatest room asked for; what garbage collection keeps is the least set with the roots that the rules close; and the
--- bytes of each section stand whole in the executable
+-- symbols get the greatest room asked for; what garbage collection keeps is the least set with the roots that the rules close; the
+-- bytes of each section stand whole in the executable; and each shortened call reaches its target
 pub record Links (limits : Limits) (asked : Asked) (names : List (List ℕ)) (ss : List Source) (linked : Linked) : Type 0 where
   pub sound : defects_in limits asked ss ≡ []
   pub taking_part : IsLive (heads_in ss) (live_in ss)
@@ -48,12 +64,20 @@ pub record Links (limits : Limits) (asked : Asked) (names : List (List ℕ)) (ss
   pub stands : SectionsStand (files_in ss) (bound_names (files_in ss) asked.entry)
       (leaders_in (wishes_of asked) (files_in ss) (bound_names (files_in ss) asked.entry) (kept_in asked ss))
       (laid_out (wishes_of asked) (files_in ss) (bound_names (files_in ss) asked.entry) (kept_in asked ss)) linked.exe.items
+  pub reach : ShortenedCallsReach (wishes_of asked) (files_in ss) (bound_names (files_in ss) asked.entry) (kept_in asked ss)
   pub gives : Gives asked names ss linked
+
+-- a link stops at the first of its defects, and none of them comes before it; or memory ran out. If none is of a phase up to the layout,
+-- each shortened call reaches its target: a relocation whose value does not fit is none of these calls
+pub record Stops (limits : Limits) (asked : Asked) (ss : List Source) (stop : LinkStop) : Type 0 where
+  pub ends : StopsAtLeast stop (defects_in limits asked ss)
+  pub reach : HoldsAtStop stop (placing_defects limits asked ss)
+      (ShortenedCallsReach (wishes_of asked) (files_in ss) (bound_names (files_in ss) asked.entry) (kept_in asked ss))
 
 -- Link if there is no defect, the first defect if there is one, before which none stands, or out of memory
 abbrev pub AfterLink : Limits → Asked → (names : List (List ℕ)) → List Source → Result Linked LinkStop → Type 0
 AfterLink limits asked names ss (Ok linked) = Links limits asked names ss linked
-AfterLink limits asked names ss (Err stop) = StopsAtLeast stop (defects_in limits asked ss)
+AfterLink limits asked names ss (Err stop) = Stops limits asked ss stop
 
 -- what a link without a defect gives is what Link is
 pub record IsLinked (asked : Asked) (given : List (List ℕ)) (linked : Linked) : Type 0 where

@@ -5,12 +5,10 @@ ghost use Rattle.lk_depot.specs.Faults.{HasCause, Rises};
 ghost use Rattle.lk_depot.specs.Files.{told_put};
 ghost use Rattle.lk_depot.specs.Loading.{name_at};
 ghost use Rattle.lk_depot.specs.Store.{Store};
-ghost use Rattle.lk_base.specs.Limits.{standard};
 ghost use Rattle.link_command.specs.Command.{asked_of, asks, texts_of};
-ghost use Rattle.link_driver.specs.Contents.{input_contents, input_names, sources_of};
+ghost use Rattle.link_driver.specs.Contents.{input_contents, input_names};
 ghost use Rattle.link_driver.specs.Given.{contents_for, names_for};
 ghost use Rattle.link_driver.specs.Link.{cannot_read, line_of_defect};
-ghost use Rattle.link_driver.specs.Sources as spec;
 ghost use Rattle.link_driver.specs.Phases.{IsLinked};
 ghost use Rattle.link_driver.specs.Ends.{Accepts, IsCut, IsTold, Ends, EndsSo};
 ghost use Rattle.link_driver.specs.Promises.{Promises};
@@ -19,11 +17,10 @@ ghost use Rattle.link_driver.specs.Endings.{status_of, told_line, TellsDefect, T
 use crate::diagnostics::{Lines, line_about, line_for, lines_for};
 use crate::finding::find_sources;
 use crate::inputs::{Inputs, generated_inputs, inputs_of};
-use crate::linking::{Linked, link_sources};
-use crate::sources::Source;
+use crate::linking::{Linked, link};
 use link_command::{Command, Wanted, command_of};
 use lk_base::{Defect, Limits, LinkStop};
-use lk_depot::{Depot, Failed, FileKind, LoadAllStop, Sink, load_all, put_all, say_all};
+use lk_depot::{Depot, Failed, FileKind, LoadAllStop, Sink, put_all, say_all};
 use std::alloc::{AllocError, Global};
 use std::thread::Threads;
 use work_split::Gate;
@@ -85,38 +82,27 @@ fn blame_input(alloc: Global, command: &Command, index: usize) -> Ending
     Ending::Unread { line }
 }
 
-/// The first defect, by the files of the link.
-fn report_defect(
-    alloc: Global,
-    command: &Command,
-    inputs: &Inputs,
-    sources: &[Source],
-    defect: &Defect,
-) -> Ending
-    requires names { input_names inputs.now ≡ names_for (asks command.now) }
-    requires sources { sources_of sources.now ≡ spec.sources standard (input_contents inputs.now) }
+/// The first defect, by the files of the link, which are found once more for its line.
+fn report_defect(alloc: Global, command: &Command, inputs: &Inputs, defect: &Defect) -> Ending
+    requires { input_names inputs.now ≡ names_for (asks command.now) }
     ensures { TellsDefect (line_of_defect (asks command.now) (input_contents inputs.now) defect.now) result }
 {
-    let Ok(line) = line_for(alloc, command, inputs, sources, defect) else {
+    let Ok(sources) = find_sources(alloc, &Limits::standard(), inputs) else {
+        return Ending::Memory;
+    };
+    let Ok(line) = line_for(alloc, command, inputs, sources.as_slice(), defect) else {
         return Ending::Memory;
     };
     Ending::Defective { line }
 }
 
 /// Why there is no link.
-fn report_stop(
-    alloc: Global,
-    command: &Command,
-    inputs: &Inputs,
-    sources: &[Source],
-    stop: &LinkStop,
-) -> Ending
-    requires names { input_names inputs.now ≡ names_for (asks command.now) }
-    requires sources { sources_of sources.now ≡ spec.sources standard (input_contents inputs.now) }
+fn report_stop(alloc: Global, command: &Command, inputs: &Inputs, stop: &LinkStop) -> Ending
+    requires { input_names inputs.now ≡ names_for (asks command.now) }
     ensures { TellsStop (asks command.now) (input_contents inputs.now) stop.now result }
 {
     match stop {
-        LinkStop::Defect(defect) => report_defect(alloc, command, inputs, sources, defect),
+        LinkStop::Defect(defect) => report_defect(alloc, command, inputs, defect),
         LinkStop::Memory => Ending::Memory,
     }
 }
@@ -183,21 +169,9 @@ fn link_inputs<R: Threads + Sync, D: Depot, S: Sink, G: Gate>(
     ensures begun { (D.store depot.old).begun ≤ (D.store depot.new).begun }
     ensures say_faults { (S.output say.old).faults ≤ (S.output say.new).faults }
 {
-    let limits = Limits::standard();
-    let Ok(sources) = find_sources(alloc, &limits, inputs) else {
-        return Ending::Memory;
-    };
-    let linked = match link_sources(
-        rt,
-        alloc,
-        command,
-        inputs,
-        sources.as_slice(),
-        &limits,
-        gate,
-    ) {
+    let linked = match link(rt, alloc, command, inputs, &Limits::standard(), gate) {
         Ok(linked) => linked,
-        Err(stop) => return report_stop(alloc, command, inputs, sources.as_slice(), &stop),
+        Err(stop) => return report_stop(alloc, command, inputs, &stop),
     };
     let Ok(lines) = lines_for(alloc, command) else {
         return Ending::Memory;
@@ -224,7 +198,7 @@ fn link_files<R: Threads + Sync, D: Depot, S: Sink, G: Gate>(
     ensures begun { (D.store depot.old).begun ≤ (D.store depot.new).begun }
     ensures say_faults { (S.output say.old).faults ≤ (S.output say.new).faults }
 {
-    let contents = match load_all(alloc, depot, names) {
+    let contents = match depot.load_files(rt, alloc, names, command.threads) {
         Ok(contents) => contents,
         Err(stop) => return report_load_stop(alloc, command, &stop),
     };
@@ -353,15 +327,15 @@ fn tell<E: Sink>(err: &mut E, line: &[u8])
 
 /// Runs a command: reads its words, loads its inputs, links them, writes the executable, and says what there is to say.
 ///
-/// `words` are the command's, the program's name first. Inputs are loaded from `depot` in the order of the command, before the
+/// `words` are the command's, the program's name first. Inputs are loaded from `depot`, as in the order of the command, before the
 /// executable, and the map where one is asked, are begun there; all of them are named as the command says. The report goes to
 /// `say`, the line of an end that is not 0 or 4 to `err`. All memory is taken from `alloc` before a
 /// file is begun, and given back at the end.
 ///
 /// The answer is the exit status: 0 linked; 1 the inputs have a defect, whose line is told; 2 the command is refused; 3 an input
 /// could not be read, or a file or the report could not be written; 4 out of memory. `rt` starts as many workers as the
-/// command asks for; they share the passes over files, symbols, sections and blocks, and where there are two or more, names are sorted by as
-/// many threads as there are processors. `gate` is called by each worker before and after its piece, where there are two pieces or more. No answer depends on
+/// command asks for; they share the loads and the passes over files, symbols, sections and blocks, and where there are two or more, names are sorted by as
+/// many threads as there are processors. `gate` is called by each worker of a pass before and after its piece, where there are two pieces or more. No answer depends on
 /// either.
 pub fn run<R: Threads + Sync, D: Depot, S: Sink, E: Sink, G: Gate>(
     rt: &R,

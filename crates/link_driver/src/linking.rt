@@ -1,6 +1,7 @@
 //! The link of one command, pass after pass.
 
 ghost use Rattle.std.specs.Prelude.{◌≡◌, ◌<◌, ◌≤◌, ◌^◌, ◌∷◌, [], true, if◌then◌else◌, IfOk};
+ghost use Rattle.call_reach.specs.Reach.{AreAlike, CallsReach};
 ghost use Rattle.comdat.specs.Discarded.{discarded};
 ghost use Rattle.elf_out.specs.Standing.{SectionsStand};
 ghost use Rattle.file_live.specs.Live.{IsLive, live_of};
@@ -24,8 +25,8 @@ ghost use Rattle.lk_tables.specs.NameNumbers.{NumbersNames, heads_alone};
 ghost use Rattle.lk_tables.specs.TablesView.{files_of, heads_of};
 ghost use Rattle.link_driver.specs.Contents.{input_contents, input_names, names_of, sources_of};
 ghost use Rattle.link_driver.specs.Defects.{opening_defects, reading_defects};
-ghost use Rattle.link_driver.specs.Link.{bound_names, final_phases, kept_of, laid_out, last_phases, leaders_in, piece_defects, report_by, table_of, wishes_of};
-ghost use Rattle.link_driver.specs.Phases.{AfterLink, IsWritten, Makes};
+ghost use Rattle.link_driver.specs.Link.{bound_names, final_phases, kept_of, laid_out, last_phases, leaders_in, piece_defects, placing_phases, report_by, table_of, wishes_of};
+ghost use Rattle.link_driver.specs.Phases.{AfterLink, HoldsPast, IsWritten, Makes, ShortenedCallsReach};
 ghost use Rattle.link_driver.specs.Sources.{files_in, heads_in, live_in, shown_files, sources};
 ghost use Rattle.link_driver.specs.Tables.{IsCollected, MayStay, wished};
 ghost use Rattle.map_file.specs.MapView.{map_in};
@@ -39,6 +40,7 @@ use crate::inputs::Inputs;
 use crate::reports::report_if;
 use crate::shown::names_if;
 use crate::sources::Source;
+use call_reach::calls_reach;
 use comdat::discard;
 use elf_out::write_executable;
 use file_live::live;
@@ -260,6 +262,7 @@ pub fn find_leaders<R: Threads + Sync, G: Gate>(
     requires pools { pools_view (files_of tables.now) pools.now ≡ pools_of (files_of tables.now) kept.now }
     ensures leaders { IfOk result (λ leaders. leaders.items ≡ leaders_in (wished options) (files_of tables.now) (binding_view binding.now) kept.now) }
     ensures stay { IfOk result (λ leaders. AreLeaders (files_of tables.now) (binding_view binding.now) leaders.items) }
+    ensures alike { IfOk result (λ leaders. AreAlike (files_of tables.now) (binding_view binding.now) leaders.items) }
 {
     tables.is_few();
     let mut leaders = own_leaders(alloc, kept, pools)?;
@@ -289,16 +292,24 @@ pub fn lay_out<'a>(
     requires bound { IsBindingOf (files_of tables.now) (binding_view binding.now) }
     requires stay { MayStay (files_of tables.now) (binding_view binding.now) kept.now }
     requires lead { AreLeaders (files_of tables.now) (binding_view binding.now) leaders.now }
+    requires alike { AreAlike (files_of tables.now) (binding_view binding.now) leaders.now }
     requires pools { pools_view (files_of tables.now) pools.now ≡ pools_of (files_of tables.now) kept.now }
     requires leaders { leaders.now ≡ leaders_in (wished options) (files_of tables.now) (binding_view binding.now) kept.now }
     requires table { entries_of got.now ≡ table_of (wished options) (files_of tables.now) (binding_view binding.now) kept.now }
     ensures goes { Goes result (layout_defects limits.now (files_of tables.now) (laid_out (wished options) (files_of tables.now) (binding_view binding.now) kept.now)) }
     ensures laid { IfOk result (λ layout. with_contents (layout_view layout) (pools_view (files_of tables.now) pools.now) (entries_of got.now) ≡ laid_out (wished options) (files_of tables.now) (binding_view binding.now) kept.now) }
     ensures sound { IfOk result (λ layout. IsSound (files_of tables.now) (binding_view binding.now) leaders.now (with_contents (layout_view layout) (pools_view (files_of tables.now) pools.now) (entries_of got.now))) }
+    ensures reach { IfOk result (λ layout. CallsReach (files_of tables.now) (binding_view binding.now) leaders.now (with_contents (layout_view layout) (pools_view (files_of tables.now) pools.now) (entries_of got.now))) }
 {
-    let sizes = sizes(alloc, tables, binding, pools, leaders, options.relax)?;
+    let on = options.relax;
+    let sizes = sizes(alloc, tables, binding, pools, leaders, on)?;
     match place(alloc, tables, binding, pools, got, leaders, &sizes, limits) {
-        Ok(layout) => Ok(layout),
+        Ok(layout) => {
+            calls_reach(
+                tables, binding, pools, got, leaders, &sizes, &layout, limits, on,
+            );
+            Ok(layout)
+        }
         Err(stop) => Err(stop),
     }
 }
@@ -420,6 +431,7 @@ fn link_numbered<R: Threads + Sync, G: Gate>(
     ensures goes { Goes result (first_phase (final_phases limits.now (wished options) (files_of tables.now) (binding_view binding.now) kept.now)) }
     ensures written { IfOk result (λ linked. Makes (wished options) (names_of names.now) (files_of tables.now) (binding_view binding.now) kept.now linked) }
     ensures stands { IfOk result (λ linked. SectionsStand (files_of tables.now) (binding_view binding.now) (leaders_in (wished options) (files_of tables.now) (binding_view binding.now) kept.now) (laid_out (wished options) (files_of tables.now) (binding_view binding.now) kept.now) linked.exe.items) }
+    ensures reach { HoldsPast result (layout_defects limits.now (files_of tables.now) (laid_out (wished options) (files_of tables.now) (binding_view binding.now) kept.now)) (ShortenedCallsReach (wished options) (files_of tables.now) (binding_view binding.now) kept.now) }
 {
     // Equal strings and constants stand once from here on.
     let pools = merge(rt, alloc, tables, kept, workers, gate)?;
@@ -482,6 +494,7 @@ fn link_kept<R: Threads + Sync, G: Gate>(
     ensures goes { Goes result (first_phase (last_phases limits.now (wished options) (files_of tables.now) (binding_view binding.now) kept.now)) }
     ensures written { IfOk result (λ linked. Makes (wished options) (names_of names.now) (files_of tables.now) (binding_view binding.now) kept.now linked) }
     ensures stands { IfOk result (λ linked. SectionsStand (files_of tables.now) (binding_view binding.now) (leaders_in (wished options) (files_of tables.now) (binding_view binding.now) kept.now) (laid_out (wished options) (files_of tables.now) (binding_view binding.now) kept.now) linked.exe.items) }
+    ensures reach { HoldsPast result (first_phase (placing_phases limits.now (wished options) (files_of tables.now) (binding_view binding.now) kept.now)) (ShortenedCallsReach (wished options) (files_of tables.now) (binding_view binding.now) kept.now) }
 {
     tables.is_few();
     if let Some(defect) = undefined(tables, binding, kept) {

@@ -1,5 +1,4 @@
 pub mod CalledObjects
-pub mod Decimals
 pub mod HeaderWalk
 pub mod Lengths
 pub mod NamedSymbols

@@ -15,7 +15,5 @@ mod generator;
 mod numbers;
 mod sections;
 mod symbols;
-#[cfg(test)]
-mod tests;
 
 pub use generator::objects;

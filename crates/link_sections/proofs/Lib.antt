@@ -7,4 +7,3 @@ pub mod MergedAt
 mod NoCuts
 pub mod OwnLeaders
 pub mod PoolHeads
-mod RowSteps

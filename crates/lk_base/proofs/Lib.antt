@@ -1,6 +1,8 @@
+pub mod Decimals
 pub mod EscapedNames
 pub mod Loops
 pub mod Multiples
+pub mod Ranges
 pub mod ShownBytes
 pub mod StableOrder
 pub mod TableLines

@@ -76,21 +76,3 @@ pub fn check_count(limit: u64, count: u64) -> Result<(), Defect>
     }
     Ok(())
 }
-
-#[cfg(test)]
-mod tests {
-    use super::*;
-
-    #[test]
-    fn sizes_at_the_limit(rt: HostRuntime) {
-        let limits = Limits::standard();
-        assert_eq!(rt; check_file_size(2147483647, &limits), Ok(()));
-        let flaw = Flaw {
-            kind: LIMIT,
-            section: 0,
-            place: 2147483648,
-            other: 0,
-        };
-        assert_eq!(rt; check_file_size(2147483648, &limits), Err(flaw));
-    }
-}

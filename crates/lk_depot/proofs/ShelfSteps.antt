@@ -1,14 +1,16 @@
 -- What the calls on a shelf answer and leave, said of its outputs.
-use Rattle.std.proofs.Common.{◌≡◌, ℕ, ◌-◌, ◌<◌, ◌≤◌, min, Bool, true, false, not, cond, nat_lt, nat_le, ◌||◌, ◌&&◌, ◌==◌, List, [], ◌∷◌, ◌++◌, length, set, take, refl, sym, ◌∙◌, ap, subst, arith, eq-eqb, None, Ok, Err}
+use Rattle.std.proofs.Common.{◌≡◌, ℕ, ◌-◌, ◌<◌, ◌≤◌, min, Bool, true, false, not, cond, nat_lt, nat_le, ◌||◌, ◌&&◌, ◌==◌, List, [], ◌∷◌, ◌++◌, length, set, take, refl, sym, ◌∙◌, ap, subst, arith, eq-eqb, None, Some, Option, Ok, Err}
 use Rattle.std.proofs.lemmas.Grind.{common_steps}
 use Rattle.std.proofs.lemmas.List.{length-take}
-use Rattle.std.specs.FinMap.{insert, contains_key, len}
+use Rattle.std.specs.FinMap.{get, insert, contains_key, len}
+use Rattle.std.specs.Prelude.{if◌then◌else◌, ok_or}
 use Rattle.lk_depot.specs.Faults.{next_count}
 use Rattle.lk_depot.specs.Files.{Files, content, added}
 use Rattle.lk_depot.specs.Held.{Held}
 use Rattle.lk_depot.specs.Overlays.{place_of, files_with, kinds_of}
-use Rattle.lk_depot.specs.Shelf.{Shelf, fails_now, is_output, room_left, refuses_begin, answer_begin, after_begin, refuses_append, answer_append, after_append, length_appended}
+use Rattle.lk_depot.specs.Shelf.{Shelf, fails_now, is_output, room_left, answer_load, refuses_begin, answer_begin, after_begin, refuses_append, answer_append, after_append, length_appended}
 use Rattle.lk_depot.specs.declared.kinds.FileKind.{FileKind}
+use Rattle.lk_depot.specs.declared.stops.LoadStop.TheVariants.{Absent, Failed}
 use Rattle.lk_depot.proofs.OutputMaps.{IsHeldAt, started, not_output, is_output_found, content_found, files_appended, kinds_appended, files_begun, kinds_begun, files_pushed, kinds_pushed}
 
 picked : {X : Type 0} (b v : Bool) (x y : X) → b ≡ v → cond b x y ≡ cond v x y
@@ -161,3 +163,12 @@ module _ (s : Shelf) (outputs : List Held) (inputs : Files) (shows : Shows s out
         ∙ sym (files_appended outputs inputs name i held placed (take taken piece) prefix) in
         let kinds = shows.kinds ∙ sym (kinds_appended outputs inputs name i held placed (take taken piece)) in
         (done.0 ∙ ap Ok length_is, done.1 ∙ (λ j. record s { calls = next_count s.calls; files = files j; kinds = kinds j }))
+
+held_if_given : (listed : Bool) (held : Option (List ℕ)) (bytes : List ℕ) → (if listed then Err Failed else ok_or held Absent) ≡ Ok bytes → held ≡ Some bytes
+held_if_given true held bytes is = absurd cc
+held_if_given false None bytes is = absurd cc
+held_if_given false (Some x) bytes is = cc
+
+-- A load that answers bytes answers those of the file.
+pub loaded_is_there : (shelf : Shelf) (name bytes : List ℕ) → answer_load shelf name ≡ Ok bytes → get shelf.files name ≡ Some bytes
+loaded_is_there shelf name bytes is = held_if_given (fails_now shelf) (get shelf.files name) bytes is

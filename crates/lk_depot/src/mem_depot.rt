@@ -10,10 +10,11 @@ use crate::faults::counted;
 use crate::kinds::FileKind;
 use crate::script::Script;
 use crate::slot::{NAME_ROOM, Slot};
-use crate::stops::{Failed, LoadStop};
+use crate::stops::{Failed, LoadAllStop, LoadStop};
 use crate::store::Depot;
 use std::alloc::{AllocError, Global};
 use std::marker::Model;
+use std::thread::Threads;
 
 /// A store of files in memory, for tests of what is written and of what follows a fault.
 ///
@@ -202,6 +203,27 @@ impl Depot for MemDepot {
             Ok(copy) => Ok(copy),
             Err(_) => Err(LoadStop::Memory),
         }
+    }
+
+    /// One worker loads the files, one after another.
+    fn load_files<R: Threads + Sync>(
+        &mut self,
+        _rt: &R,
+        alloc: Global,
+        names: &[String],
+        _workers: u32,
+    ) -> Result<Vec<Vec<u8>>, LoadAllStop> {
+        let mut contents = Vec::new(alloc);
+        for (index, name) in names.iter().enumerate() {
+            let bytes = match self.load(alloc, name.as_str()) {
+                Ok(bytes) => bytes,
+                Err(LoadStop::Absent) => return Err(LoadAllStop::Absent { index }),
+                Err(LoadStop::Failed) => return Err(LoadAllStop::Failed { index }),
+                Err(LoadStop::Memory) => return Err(LoadAllStop::Memory),
+            };
+            contents.push(bytes).map_err(|_| LoadAllStop::Memory)?;
+        }
+        Ok(contents)
     }
 
     fn begin(&mut self, name: &str, kind: FileKind) -> Result<(), Failed>

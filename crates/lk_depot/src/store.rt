@@ -1,14 +1,17 @@
 // A store of files by name: what a program may ask of the file system, and what each answer means.
 #![tactic(auto)]
 
-ghost use Rattle.std.specs.Prelude.{◌≡◌, ◌<◌, ◌≤◌, [], take, length, if◌then◌else◌, is_ok, IfOk, IsErrOf, MatchResult};
+ghost use Rattle.std.specs.Prelude.{◌≡◌, ◌<◌, ◌≤◌, [], map, take, length, string_bytes, if◌then◌else◌, is_ok, IfOk, IsErrOf, MatchResult};
+ghost use Rattle.std.specs.Thread.{IsSync};
 ghost use Rattle.lk_depot.specs.Faults.{Rose, Rises, HasCause};
 ghost use Rattle.lk_depot.specs.Files.{IsFile, Lacks, told_added, told_put};
+ghost use Rattle.lk_depot.specs.Loading.{AfterLoads};
 ghost use Rattle.lk_depot.specs.Store.{Store, unread_after};
 
 use crate::kinds::FileKind;
-use crate::stops::{Failed, LoadStop};
+use crate::stops::{Failed, LoadAllStop, LoadStop};
 use std::alloc::Global;
+use std::thread::Threads;
 
 /// A store of files.
 ///
@@ -25,6 +28,27 @@ pub trait Depot {
         ensures absent { IsErrOf result LoadStop.Absent → Lacks (store self.old).files name.now }
         ensures failed { IsErrOf result LoadStop.Failed → Rose (store self.old).faults (store self.new).faults }
         ensures unread { (store self.new).unread ≡ unread_after result name.now (store self.old).unread }
+        ensures later { (store self.old).faults ≤ (store self.new).faults }
+        ensures files { (store self.new).files ≡ (store self.old).files }
+        ensures kinds { (store self.new).kinds ≡ (store self.old).kinds }
+        ensures begun { (store self.new).begun ≡ (store self.old).begun };
+
+    /// The files of these names, each in memory of its own from `alloc`, as loads one after another would give them.
+    ///
+    /// A depot may have up to so many workers, each in a thread of its own that `rt` starts, read files at once. At a failure
+    /// the first one in the list is answered, whichever worker was ahead, and files that come after it may have been read.
+    /// The clause on `rt` says what its bound does: that workers may share it.
+    fn load_files<R: Threads + Sync>(
+        &mut self,
+        rt: &R,
+        alloc: Global,
+        names: &[String],
+        workers: u32,
+    ) -> Result<Vec<Vec<u8>>, LoadAllStop>
+        requires sync { IsSync R.row }
+        requires some { 1 ≤ workers }
+        requires most { workers ≤ 64 }
+        ensures loads { AfterLoads (store self.old) (store self.new) (map string_bytes names.now) result }
         ensures later { (store self.old).faults ≤ (store self.new).faults }
         ensures files { (store self.new).files ≡ (store self.old).files }
         ensures kinds { (store self.new).kinds ≡ (store self.old).kinds }

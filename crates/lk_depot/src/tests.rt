@@ -38,6 +38,12 @@ fn files_are_loaded_in_order(rt: HostRuntime) -> Result<(), Fail> {
     assert_eq!(rt; contents[1].as_slice(), b"first".as_slice());
     assert_eq!(rt; contents[2].as_slice(), b"second".as_slice());
     assert_eq!(rt; depot.calls(), 3);
+    // The same where workers may share them, which in memory they do not.
+    let Ok(shared) = depot.load_files(&rt, alloc, names.as_slice(), 4) else {
+        panic!(rt; "the files are there")
+    };
+    assert_eq!(rt; shared, contents);
+    assert_eq!(rt; depot.calls(), 6);
     Ok(())
 }
 
@@ -60,6 +66,8 @@ fn the_first_stop_ends_the_loads(rt: HostRuntime) -> Result<(), Fail> {
     )?;
     let absent = load_all(alloc, &mut lacking, names.as_slice());
     assert_eq!(rt; absent.err(), Some(LoadAllStop::Absent { index: 1 }));
+    let shared = lacking.load_files(&rt, alloc, names.as_slice(), 4);
+    assert_eq!(rt; shared.err(), Some(LoadAllStop::Absent { index: 1 }));
     assert_eq!(rt; lacking.faults(), 0);
     Ok(())
 }

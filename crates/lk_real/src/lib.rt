@@ -3,6 +3,7 @@
 #![tactic(auto)]
 
 mod output;
+mod reading;
 mod real_depot;
 mod std_sink;
 #[cfg(test)]

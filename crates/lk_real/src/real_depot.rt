@@ -1,22 +1,20 @@
 // The files of the system as a store of files.
 #![tactic(auto)]
 
-ghost use Rattle.std.specs.Prelude.{◌≡◌, ◌≢◌, ◌^◌, ◌<◌, ◌≤◌, [], map, length, string_bytes, IfOk, Err};
-ghost use Rattle.lk_real.specs.RealFiles.{store_of, after_load, after_begin, after_append};
+ghost use Rattle.std.specs.Prelude.{◌≡◌, ◌≢◌, ◌<◌, ◌≤◌, [], map, length, string_bytes, IfOk, OnOk, OnErr, Err};
+ghost use Rattle.std.specs.Thread.{IsSync};
+ghost use Rattle.lk_real.specs.Reading.{IsOfNames};
+ghost use Rattle.lk_real.specs.RealFiles.{store_of, with_unread, after_load, after_loads, after_begin, after_append};
 
 use crate::output::{Output, at_end, begun};
-use lk_depot::{Depot, Failed, FileKind, LoadStop};
-use std::alloc::Global;
+use crate::reading::{bytes_of, read_files};
+use lk_depot::{Depot, Failed, FileKind, LoadAllStop, LoadStop};
+use std::alloc::{AllocError, Global};
 use std::fs::File;
 use std::io;
-use std::io::{ErrorKind, Read, Seek, SeekFrom, Write};
+use std::io::{ErrorKind, Write};
 use std::marker::Model;
-
-/// How many bytes of a file a load takes at most: one more than an input may have, so that its length is refused.
-const MOST_READ: u64 = 1 << 31;
-
-/// An end that no file has. A folder may seek to such a one, and its read then fails as it should.
-const NO_END: u64 = 1 << 62;
+use std::thread::Threads;
 
 /// The files of the system, by path.
 ///
@@ -45,31 +43,6 @@ impl<'a> Model for RealDepot<'a> {
       begun = d.begun;
       unread = map string_bytes d.unread.items;
     } };
-}
-
-/// How many bytes a load makes room for at first: those of the file, or none if seeking does not tell them, as at a pipe.
-/// It takes less time than `metadata`, which fills a buffer for a path.
-fn first_room(file: &mut File) -> io::Result<u64>
-    ensures { IfOk result (λ n. n ≤ 2 ^ 31) }
-{
-    let Ok(end) = file.seek(SeekFrom::End(0)) else {
-        return Ok(0);
-    };
-    file.seek(SeekFrom::Start(0))?;
-    if end >= NO_END {
-        return Ok(0);
-    }
-    Ok(end.min(MOST_READ))
-}
-
-/// Up to `MOST_READ` bytes of a file, from its start.
-fn bytes_of(rt: &HostRuntime, alloc: Global, name: &str) -> io::Result<Vec<u8>> {
-    let mut file = File::open(rt, name)?;
-    let room = first_room(&mut file)?;
-    // With room for one byte more the last read, which finds the end, moves nothing.
-    let mut bytes = Vec::with_capacity(alloc, room as usize + 1)?;
-    file.take(MOST_READ).read_to_end(&mut bytes)?;
-    Ok(bytes)
 }
 
 /// One write, made again if a signal interrupts it.
@@ -126,6 +99,17 @@ impl<'a> RealDepot<'a> {
         self.unread.as_slice()
     }
 
+    /// Counts a load that failed, and keeps its name. If there is no memory for the name nothing changes.
+    fn keep_unread(&mut self, name: &str) -> Result<(), AllocError>
+        ensures kept { OnOk result (self.new ≡ with_unread self.old name.now) }
+        ensures same { OnErr result (self.new ≡ self.old) }
+    {
+        let kept = String::from_str(self.alloc, name)?;
+        self.unread.push(kept)?;
+        self.faults = self.faults.saturating_add(1);
+        Ok(())
+    }
+
     /// Writes some of a piece to the end of the file of this name.
     fn write_to(&mut self, name: &str, piece: &[u8]) -> io::Result<usize>
         ensures most { IfOk result (λ n. n ≤ length piece.now) }
@@ -158,14 +142,38 @@ impl Depot for RealDepot<'_> {
         if error.kind() == ErrorKind::OutOfMemory {
             return Err(LoadStop::Memory);
         }
-        let Ok(kept) = String::from_str(self.alloc, name) else {
-            return Err(LoadStop::Memory);
-        };
-        if self.unread.push(kept).is_err() {
-            return Err(LoadStop::Memory);
+        match self.keep_unread(name) {
+            Ok(()) => Err(LoadStop::Failed),
+            Err(_) => Err(LoadStop::Memory),
         }
-        self.faults = self.faults.saturating_add(1);
-        Err(LoadStop::Failed)
+    }
+
+    /// Each worker opens and reads the files of its share of the list, each as [`RealDepot::load`] does, up to the first that
+    /// it cannot read. Up to 63 files are read with no thread. The first failure in the list is counted, and only its name kept.
+    fn load_files<R: Threads + Sync>(
+        &mut self,
+        rt: &R,
+        alloc: Global,
+        names: &[String],
+        workers: u32,
+    ) -> Result<Vec<Vec<u8>>, LoadAllStop>
+        requires sync { IsSync R.row }
+        requires some { 1 ≤ workers }
+        requires most { workers ≤ 64 }
+        ensures names { IsOfNames (length names.now) result }
+        ensures after { self.new ≡ after_loads self.old (map string_bytes names.now) result }
+    {
+        let stop = match read_files(self.rt, rt, alloc, names, workers) {
+            Ok(contents) => return Ok(contents),
+            Err(stop) => stop,
+        };
+        let LoadAllStop::Failed { index } = stop else {
+            return Err(LoadAllStop::Memory);
+        };
+        match self.keep_unread(names[index].as_str()) {
+            Ok(()) => Err(LoadAllStop::Failed { index }),
+            Err(_) => Err(LoadAllStop::Memory),
+        }
     }
 
     /// The file is a new one, with the permissions 0755 or 0644, less the umask. A regular file that is there makes way for

@@ -1,11 +1,14 @@
 // Real files and streams: what reaches the system and comes back, which no clause says.
+ghost use Rattle.std.specs.Prelude.{◌≤◌};
+
 use crate::{RealDepot, StdSink, Stream};
-use lk_depot::{Depot, Failed, FileKind, LoadStop, put_all, say_all};
+use lk_depot::{Depot, Failed, FileKind, LoadAllStop, LoadStop, put_all, say_all};
 use std::alloc::{AllocError, Global};
 use std::fs::{File, Permissions};
 use std::io::Read;
 use std::os::unix::fs::{FileTypeExt, MetadataExt, PermissionsExt, symlink};
 use std::test::Fail;
+use std::thread::Threads;
 use std::{env, fs, io, process};
 
 fn joined(alloc: Global, folder: &str, name: &str) -> Result<String, AllocError> {
@@ -124,6 +127,115 @@ fn files_are_made_written_and_read(rt: HostRuntime) -> Result<(), Fail> {
     assert_eq!(rt; depot.begun(), 4);
     assert_eq!(rt; depot.unread().len(), 2);
     assert_eq!(rt; depot.unread()[0].as_str(), nowhere.as_str());
+    fs::remove_dir_all(&rt, folder.as_str())?;
+    Ok(())
+}
+
+/// So many files, each of which holds its own name.
+fn made_files(
+    rt: &HostRuntime,
+    alloc: Global,
+    folder: &str,
+    count: u32,
+) -> io::Result<Vec<String>> {
+    let mut names = Vec::new(alloc);
+    for number in 0..count {
+        let name = format!(in alloc; "{folder}/{number}.o")?;
+        fs::write(rt, name.as_str(), name.as_bytes())?;
+        names.push(name)?;
+    }
+    Ok(names)
+}
+
+/// Whether so many workers load the files of these names, each of which holds its own.
+fn are_loaded<R: Threads + Sync>(
+    rt: &R,
+    alloc: Global,
+    depot: &mut RealDepot<'_>,
+    names: &[String],
+    workers: u32,
+) -> bool
+    requires some { 1 ≤ workers }
+    requires most { workers ≤ 64 }
+{
+    let Ok(contents) = depot.load_files(rt, alloc, names, workers) else {
+        return false;
+    };
+    if contents.len() != names.len() {
+        return false;
+    }
+    for place in 0..contents.len() {
+        if contents[place].as_slice() != names[place].as_bytes() {
+            return false;
+        }
+    }
+    true
+}
+
+/// The place of the name at which so many workers fail, if it alone is kept as unread.
+fn failed_place<R: Threads + Sync>(
+    files: &HostRuntime,
+    rt: &R,
+    alloc: Global,
+    names: &[String],
+    workers: u32,
+) -> Option<usize>
+    requires some { 1 ≤ workers }
+    requires most { workers ≤ 64 }
+{
+    let mut depot = RealDepot::new(files, alloc);
+    let stop = depot.load_files(rt, alloc, names, workers).err();
+    let Some(LoadAllStop::Failed { index }) = stop else {
+        return None;
+    };
+    if depot.faults() != 1 || depot.unread().len() != 1 || index >= names.len() {
+        return None;
+    }
+    if depot.unread()[0].as_str() != names[index].as_str() {
+        return None;
+    }
+    Some(index)
+}
+
+#[test]
+fn workers_load_in_order(rt: HostRuntime) -> Result<(), Fail> {
+    let alloc = rt.alloc();
+    let folder = made_folder(&rt, alloc, "many")?;
+    let names = made_files(&rt, alloc, folder.as_str(), 200)?;
+    assert_eq!(rt; names.len(), 200);
+    let mut depot = RealDepot::new(&rt, alloc);
+    assert!(rt; are_loaded(&rt, alloc, &mut depot, names.as_slice(), 1));
+    assert!(rt; are_loaded(&rt, alloc, &mut depot, names.as_slice(), 2));
+    assert!(rt; are_loaded(&rt, alloc, &mut depot, names.as_slice(), 64));
+    assert!(rt; are_loaded(&rt, alloc, &mut depot, &names[..3], 64));
+    assert!(rt; are_loaded(&rt, alloc, &mut depot, &[], 64));
+    assert_eq!(rt; depot.faults(), 0);
+    assert!(rt; depot.unread().is_empty());
+
+    // Of files that are not there the first in the list is told, whichever worker is there first.
+    fs::remove_file(&rt, names[150].as_str())?;
+    assert_eq!(rt;
+        failed_place(&rt, &rt, alloc, names.as_slice(), 1),
+        Some(150)
+    );
+    assert_eq!(rt;
+        failed_place(&rt, &rt, alloc, names.as_slice(), 64),
+        Some(150)
+    );
+    fs::remove_file(&rt, names[90].as_str())?;
+    fs::remove_file(&rt, names[30].as_str())?;
+    assert_eq!(rt;
+        failed_place(&rt, &rt, alloc, names.as_slice(), 1),
+        Some(30)
+    );
+    assert_eq!(rt;
+        failed_place(&rt, &rt, alloc, names.as_slice(), 2),
+        Some(30)
+    );
+    assert_eq!(rt;
+        failed_place(&rt, &rt, alloc, names.as_slice(), 64),
+        Some(30)
+    );
     fs::remove_dir_all(&rt, folder.as_str())?;
     Ok(())
 }

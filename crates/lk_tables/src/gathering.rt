@@ -1,12 +1,12 @@
 //! The files of a link gathered, one after the other, when their heads are read.
 
-ghost use Rattle.std.specs.Prelude.{◌≡◌, ◌++◌, ◌∷◌, ◌+◌, ◌<◌, ◌≤◌, ◌^◌, [], length, Ok, Some, None, IfSome, OnOk, OnErr};
+ghost use Rattle.std.specs.Prelude.{◌≡◌, ◌++◌, ◌∷◌, ◌+◌, ◌<◌, ◌≤◌, ◌^◌, [], length, true, is_some, Ok, Some, None, IfSome, OnOk, OnErr};
 ghost use Rattle.lk_base.specs.declared.abi.TheConstants.{FILE_MAX};
 ghost use Rattle.lk_tables.specs.Gathering.{added, head_or_none};
 ghost use Rattle.lk_tables.specs.Heads.{head_of, head_view};
 ghost use Rattle.lk_tables.specs.NameNumbers.{NumbersNames, heads_alone};
 ghost use Rattle.lk_tables.specs.FileView.{file_views};
-ghost use Rattle.lk_tables.specs.TablesView.{heads_of};
+ghost use Rattle.lk_tables.specs.TablesView.{are_numbered, heads_of};
 
 use crate::files::File;
 use crate::heads::Head;
@@ -67,7 +67,8 @@ impl<'a> Heads<'a> {
 
     /// The numbers of the files' names, if these are numbered.
     pub fn names(&self) -> Option<&NameNumbers>
-        ensures { IfSome result (λ names. NumbersNames (heads_alone (heads_of self.now)) names.now) }
+        ensures some { is_some result ≡ are_numbered self.now }
+        ensures numbers { IfSome result (λ names. NumbersNames (heads_alone (heads_of self.now)) names.now) }
     {
         self.names.as_ref()
     }
@@ -75,7 +76,8 @@ impl<'a> Heads<'a> {
     /// Keeps the numbers of the files' names for all later passes.
     pub fn keep_names(&mut self, names: NameNumbers)
         requires { NumbersNames (heads_alone (heads_of self.old)) names }
-        ensures { heads_of self.new ≡ heads_of self.old }
+        ensures files { heads_of self.new ≡ heads_of self.old }
+        ensures kept { are_numbered self.new ≡ true }
     {
         self.names = Some(names);
     }

@@ -5,7 +5,7 @@ ghost use Rattle.lk_base.specs.declared.abi.TheConstants.{FILE_MAX};
 ghost use Rattle.lk_tables.specs.FileView.{file_view, file_views};
 ghost use Rattle.lk_tables.specs.Files.{file_at, no_head, section_total, symbol_total};
 ghost use Rattle.lk_tables.specs.Gathering.{AreBodies, IsBodyOf, with_object, with_objects};
-ghost use Rattle.lk_tables.specs.TablesView.{files_of, heads_of};
+ghost use Rattle.lk_tables.specs.TablesView.{are_numbered, files_of, have_numbers, heads_of};
 
 use crate::files::File;
 use crate::objects::Object;
@@ -25,7 +25,8 @@ impl<'a> Tables<'a> {
         requires bodies { AreBodies (heads_of heads) objects.items }
         requires symbols { symbol_total (heads_of heads) < 2 ^ 31 }
         requires sections { section_total (with_objects (heads_of heads) objects.items) ≤ 2 ^ 28 }
-        ensures { IfOk result (λ tables. files_of tables ≡ with_objects (heads_of heads.entry) objects.items) }
+        ensures files { IfOk result (λ tables. files_of tables ≡ with_objects (heads_of heads.entry) objects.items) }
+        ensures names { IfOk result (λ tables. have_numbers tables ≡ are_numbered heads.entry) }
     {
         let mut files = heads.files;
         put_bodies(&mut files, objects);

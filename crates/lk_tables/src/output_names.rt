@@ -95,28 +95,3 @@ fn number_of(digits: &[u8]) -> Option<u32>
     }
     Some(number)
 }
-
-#[cfg(test)]
-mod tests {
-    use super::*;
-
-    const NAMES: [(&[u8], &[u8]); 10] = [
-        (b".text.hot", b".text"),
-        (b".text.", b".text."),
-        (b".textual", b".textual"),
-        (b".data.rel.ro.local", b".data.rel.ro"),
-        (b".data.rel.ro", b".data.rel.ro"),
-        (b".data.rel", b".data"),
-        (b".rodata.str1.1", b".rodata"),
-        (b".init_array.5", b".init_array"),
-        (b"COMMON", b".bss"),
-        (b".comment", b".comment"),
-    ];
-
-    #[test]
-    fn names_of_output_sections(rt: HostRuntime) {
-        for (name, output) in NAMES.iter() {
-            assert_eq!(rt; output_name(*name), *output);
-        }
-    }
-}

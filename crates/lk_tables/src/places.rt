@@ -1,11 +1,11 @@
 //! Files, symbols and sections by their numbers.
 
-ghost use Rattle.std.specs.Prelude.{◌≡◌, ◌+◌, ◌<◌, ◌≤◌, ◌^◌, length, IfSome};
+ghost use Rattle.std.specs.Prelude.{◌≡◌, ◌+◌, ◌<◌, ◌≤◌, ◌^◌, length, is_some, IfSome};
 ghost use Rattle.lk_tables.specs.FileView.{file_views};
 ghost use Rattle.lk_tables.specs.Files.{AreFew, file_at, first_section, section_count, section_no, section_total, symbol_no, symbol_total};
 ghost use Rattle.lk_tables.specs.NameNumbers.{NumbersNames, heads_alone};
 ghost use Rattle.lk_tables.specs.Sites.{IsPlaceOf, place_of};
-ghost use Rattle.lk_tables.specs.TablesView.{files_of};
+ghost use Rattle.lk_tables.specs.TablesView.{files_of, have_numbers};
 
 use crate::files::File;
 use crate::numbering::NameNumbers;
@@ -30,7 +30,8 @@ impl<'a> Tables<'a> {
 
     /// The numbers of the files' names, if these are numbered.
     pub fn names(&self) -> Option<&NameNumbers>
-        ensures { IfSome result (λ names. NumbersNames (heads_alone (files_of self.now)) names.now) }
+        ensures some { is_some result ≡ have_numbers self.now }
+        ensures numbers { IfSome result (λ names. NumbersNames (heads_alone (files_of self.now)) names.now) }
     {
         self.names.as_ref()
     }

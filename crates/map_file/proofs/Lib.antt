@@ -1,4 +1,3 @@
-pub mod Decimals
 pub mod FoldedSteps
 pub mod LeftLines
 pub mod OutputSteps

@@ -1,5 +1,5 @@
 -- Lists over the numbers of all sections, walked file by file.
-use Rattle.std.proofs.Common.{◌≡◌, ℕ, zero, suc, ◌+◌, ◌-◌, ◌<◌, ◌≤◌, List, ◌∷◌, ◌++◌, length, append_assoc, sym, ap, ◌∙◌, arith}
+use Rattle.std.proofs.Common.{◌≡◌, ℕ, ◌+◌, ◌-◌, ◌<◌, ◌≤◌, List, ◌++◌, length, append_assoc, sym, ap, ◌∙◌, arith}
 use Rattle.std.specs.Prelude.{flat_map}
 use Rattle.std.specs.List.{range_with_len}
 use Rattle.std.proofs.lemmas.Grind.{flat_map-append}
@@ -8,16 +8,7 @@ use Rattle.lk_tables.specs.Files.{File, file_at, first_section, section_count, s
 use Rattle.lk_tables.specs.Sites.{place_of}
 use Rattle.lk_tables.proofs.FirstNumbers.{section_more}
 use Rattle.lk_tables.proofs.Owners.{place_is}
-
-range_parts : (a m b : ℕ) → range_with_len a (m + b) ≡ range_with_len a m ++ range_with_len (a + m) b
-range_parts a zero b =
-    let e : a ≡ a + 0 = omega arith in
-    let n : 0 + b ≡ b = omega arith in
-    ap (range_with_len a) n ∙ ap (λ k. range_with_len k b) e
-range_parts a (suc m) b =
-    let e : (a + 1) + m ≡ a + suc m = omega arith in
-    let n : suc m + b ≡ suc (m + b) = omega arith in
-    ap (range_with_len a) n ∙ ap (λ l. a ∷ l) (range_parts (a + 1) m b ∙ ap (λ k. range_with_len (a + 1) m ++ range_with_len k b) e)
+use Rattle.lk_base.proofs.Ranges.{range_parts}
 
 -- the numbers before a run, and those of the run
 run_step : {Y : Type 0} (give : ℕ → List Y) (start count : ℕ) (old now new : List Y) →

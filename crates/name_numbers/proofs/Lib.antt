@@ -7,3 +7,4 @@ pub mod Numbered
 pub mod NameWords
 pub mod LeastClaims
 pub mod TextPlaces
+pub mod TagRuns

@@ -5,13 +5,12 @@
 //! by symbol; the first key of a run of equal names has the number of the whole run. Other texts are numbered in the same way.
 #![tactic(auto)]
 
+mod entries;
 mod keys;
 mod numbers;
 mod sorting;
 mod spans;
 mod tags;
-#[cfg(test)]
-mod tests;
 mod texts;
 
 pub use numbers::number_names;

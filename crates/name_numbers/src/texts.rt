@@ -4,6 +4,7 @@ ghost use Rattle.std.specs.Prelude.{◌≡◌, ◌<◌, ◌^◌, length, IfOk};
 ghost use Rattle.name_numbers.specs.Keys.{key_views};
 ghost use Rattle.name_numbers.specs.Texts.{lent_texts, text_keys, text_numbers};
 
+use crate::entries::{are_told, number_by_tags, sorted_entries};
 use crate::keys::{Key, TaggedName};
 use crate::numbers::mark_keys;
 use crate::sorting::sort_keys;
@@ -14,6 +15,23 @@ use std::thread::Threads;
 /// For each text the index of the first that is equal to it. One worker sorts by itself; more are as many as the machine has
 /// processors.
 pub fn number_texts<R: Threads + Sync>(
+    rt: &R,
+    alloc: Global,
+    texts: &[&[u8]],
+    workers: u32,
+) -> Result<Vec<u32>, AllocError>
+    requires { length texts.now < 2 ^ 31 }
+    ensures { IfOk result (λ list. list.items ≡ text_numbers (lent_texts texts.now)) }
+{
+    let list = sorted_entries(rt, alloc, texts, workers)?;
+    if !are_told(rt, texts, list.as_slice(), workers) {
+        return number_by_names(rt, alloc, texts, workers);
+    }
+    number_by_tags(alloc, texts, list.as_slice())
+}
+
+/// The same where texts that differ have one tag: they are sorted by their bytes, too.
+fn number_by_names<R: Threads + Sync>(
     rt: &R,
     alloc: Global,
     texts: &[&[u8]],

@@ -10,15 +10,15 @@ use Rattle.claim_core.specs.declared.events.Event.{Event}
 use Rattle.claim_core.specs.declared.events.TheConstants.{NONE}
 use Rattle.claim_core.specs.Events.{event, none_of, lowered, after, IsReached, IsOffered}
 use Rattle.claim_core.proofs.EventLemmas.{length-lowered, after-push, lowered_at, lowered_else, lowered_falls, IsReached-offered}
-use Rattle.rank_claims.specs.declared.rule.OwnStep.TheVariants.{Claimed, Read}
+use Rattle.rank_claims.specs.declared.rule.OwnStep.TheVariants.{Claimed, Read, SplitOff}
 use Rattle.rank_claims.specs.declared.rule.View.{View}
 use Rattle.rank_claims.specs.Claims.{HasClaimed}
-use Rattle.rank_claims.specs.Rule.{is_live, Seated, Fits, Kept, ViewFinds, TellsClaim, TellsLook, IsSeated, Covers, founder, view_after_claim, view_after_look, view_split, view_joined, view_spent}
+use Rattle.rank_claims.specs.Rule.{is_live, Seated, Fits, Kept, ViewFinds, TellsClaim, TellsLook, IsSeated, Covers, founder, view_after_claim, view_after_look, view_after_split, view_split, view_joined, view_spent}
 use Rattle.rank_claims.proofs.Claimed.{HasClaimed-left, HasClaimed-push, HasClaimed-right, claimed_lowered, claimed_none, claimed_stays}
 use Rattle.seat_views.proofs.EachViews.{each_first, each_join, each_split, each_step}
 use Rattle.seat_views.proofs.Places.{other_view}
 use Rattle.seat_views.proofs.SomeViews.{some_here, some_join, some_split, some_step}
-use Rattle.rank_claims.proofs.Rows.{length-lesser_of, le-lesser_of, Covers-claimed, Covers-looked, Covers-joined}
+use Rattle.rank_claims.proofs.Rows.{length-lesser_of, le-lesser_of, Covers-claimed, Covers-looked, Covers-split, Covers-joined}
 
 abbrev Table : Type 0
 Table = State (Unit {0}) View
@@ -113,12 +113,15 @@ look_keeps count slots id offers me word lt live s r wide at small =
       record { view = refl; slots = refl; finds = finds count offers s me.0 word lt r f },
     )
 
-pub split_keeps : (count id : ℕ) (offers : List Event) (v : View) → Splits (Kept count offers) id v v (view_split v)
-split_keeps count id offers v s r at = record {
+pub split_keeps : (count id : ℕ) (offers : List Event) (v : View) → v.live ≡ true → Splits (Kept count offers) id v (view_after_split v) (view_split v)
+split_keeps count id offers v live s r at = record {
   wide = r.wide;
   reached = r.reached;
-  claimed = claimed_stays s.views (set s.views id v ++ view_split v ∷ []) s.words (λ word rank. some_split is_live (λ u. HasClaimed u.steps (event word rank)) s.views id v (view_split v) at) r.claimed;
-  each = each_split is_live (Fits count offers s.words) s.views id v (view_split v) (r.each id v at)
+  claimed = claimed_stays s.views (set s.views id (view_after_split v) ++ view_split v ∷ []) s.words
+      (λ word rank. some_split is_live (λ u. HasClaimed u.steps (event word rank)) s.views id v (view_after_split v) (view_split v) at live (HasClaimed-left v.steps (SplitOff ∷ []) (event word rank)))
+      r.claimed;
+  each = each_split is_live (Fits count offers s.words) s.views id (view_after_split v) (view_split v)
+      (λ on. let f = r.each id v at on in record { one_list = f.one_list; wide = f.wide; above = f.above })
       (λ on. let f = r.each id v at on in record { one_list = f.one_list; wide = f.wide; above = f.above }) r.each;
 }
 
@@ -169,6 +172,15 @@ seated-looked slots word m m' found seated told =
     let P : View → Type 0 = λ v. (v.live ≡ true) × Covers v.known v.steps in
     let after = subst P (sym told.view) (seated.live, Covers-looked m.0.known m.0.steps word found told.finds.1 seated.covers) in
     record { live = after.0; slots = told.slots ∙ seated.slots; covers = after.1 }
+
+pub seated-split : (m m' : Seated) → IsSeated m → m' ≡ (view_after_split m.0, m.1) → IsSeated m'
+seated-split m m' seated same =
+    let after : IsSeated (view_after_split m.0, m.1) = record {
+      live = seated.live;
+      slots = seated.slots;
+      covers = Covers-split m.0.known m.0.steps seated.covers;
+    } in
+    subst IsSeated (sym same) after
 
 pub seated-joined : (m w m' : Seated) → IsSeated m → IsSeated w → m' ≡ (view_joined m.0 w.0, m.1) → IsSeated m'
 seated-joined m w m' seated other same =

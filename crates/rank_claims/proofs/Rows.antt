@@ -7,7 +7,7 @@ use mathlib.Core.Option.{some, some-injective, some-ne-none}
 use lib.ListN.{get_elem?}
 use Rattle.claim_core.specs.declared.events.Event.{Event}
 use Rattle.rank_claims.specs.declared.rule.OwnStep.{OwnStep}
-use Rattle.rank_claims.specs.declared.rule.OwnStep.TheVariants.{Claimed, Read}
+use Rattle.rank_claims.specs.declared.rule.OwnStep.TheVariants.{Claimed, Read, SplitOff}
 use Rattle.rank_claims.specs.Claims.{lesser_of}
 use Rattle.rank_claims.specs.Rule.{Covers}
 
@@ -59,6 +59,12 @@ Covers-looked known steps word found le covers e' found' has = ⊎_elim
     (λ (old : Contains steps (Claimed e' found')). omega (arith, covers e' found' old, written_falls known word found e'.word le))
     (λ (new : Read word found ≡ Claimed e' found'). cc)
     (Contains-push_cases steps (Read word found) (Claimed e' found') has)
+
+pub Covers-split : (known : List ℕ) (steps : List OwnStep) → Covers known steps → Covers known (steps ++ SplitOff ∷ [])
+Covers-split known steps covers e found has = ⊎_elim
+    (λ (old : Contains steps (Claimed e found)). covers e found old)
+    (λ (new : SplitOff ≡ Claimed e found). cc)
+    (Contains-push_cases steps SplitOff (Claimed e found) has)
 
 pub Covers-joined : (known others : List ℕ) (steps theirs : List OwnStep) → Covers known steps → Covers others theirs → Covers (lesser_of known others) (steps ++ theirs)
 Covers-joined known others steps theirs p q e found has = ⊎_elim

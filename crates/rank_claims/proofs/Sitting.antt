@@ -2,7 +2,7 @@
 use Rattle.std.proofs.Common.{◌≡◌, ℕ, length, sym, ◌∙◌, ap}
 use Rattle.std.proofs.lemmas.List.{length-set}
 use Rattle.claim_core.specs.declared.events.Event.{Event}
-use Rattle.rank_claims.specs.Claims.{TableView, SeatView, SitsAt, after_claim, after_look, joined}
+use Rattle.rank_claims.specs.Claims.{TableView, SeatView, SitsAt, after_claim, after_look, after_split, joined}
 use Rattle.rank_claims.proofs.Rows.{length-lesser_of}
 
 pub sits_claimed : (t : TableView) (s s' : SeatView) (e : Event) (found : ℕ) → SitsAt t s → s' ≡ after_claim s e found → SitsAt t s'
@@ -17,6 +17,13 @@ sits_looked t s s' word found sits is = record {
   table = ap (λ (x : SeatView). x.table) is ∙ sits.table;
   offers = ap (λ (x : SeatView). x.offers) is ∙ sits.offers;
   wide = ap (λ (x : SeatView). length x.known) is ∙ simp length-set sits.wide;
+}
+
+pub sits_split : (t : TableView) (s s' : SeatView) → SitsAt t s → s' ≡ after_split s → SitsAt t s'
+sits_split t s s' sits is = record {
+  table = ap (λ (x : SeatView). x.table) is ∙ sits.table;
+  offers = ap (λ (x : SeatView). x.offers) is ∙ sits.offers;
+  wide = ap (λ (x : SeatView). length x.known) is ∙ sits.wide;
 }
 
 pub sits_joined : (t : TableView) (s other s' : SeatView) → SitsAt t s → SitsAt t other → s' ≡ joined s other → SitsAt t s'

@@ -4,7 +4,7 @@ use Rattle.atomic_table.specs.Seated.{TableId}
 use Rattle.claim_core.specs.declared.events.Event.{Event}
 use Rattle.claim_core.specs.Events.{event, none_of, after, IsReached, IsOffered, EachIsOffered, EachIsLeast, DrawsEach}
 use Rattle.rank_claims.specs.declared.rule.OwnStep.{OwnStep}
-use Rattle.rank_claims.specs.declared.rule.OwnStep.TheVariants.{Claimed, Read}
+use Rattle.rank_claims.specs.declared.rule.OwnStep.TheVariants.{Claimed, Read, SplitOff}
 
 -- a table: which one it is, how many words it has, and the offers that it was opened for
 pub record TableView : Type 0 where
@@ -40,6 +40,10 @@ after_claim s e found = record s { known = slice_set s.known e.word (min found e
 -- The seat after its look at a word that held `found`
 abbrev pub after_look : SeatView → ℕ → ℕ → SeatView
 after_look s word found = record s { known = slice_set s.known word found; steps = s.steps ++ Read word found ∷ [] }
+
+-- the seat after another was split off it, which is a step of its own
+abbrev pub after_split : SeatView → SeatView
+after_split s = record s { steps = s.steps ++ SplitOff ∷ [] }
 
 -- the seat that is split from this one: it knows the same, and has made no step
 abbrev pub newcomer : SeatView → SeatView

@@ -7,7 +7,7 @@ use Rattle.claim_core.specs.declared.events.Event.{Event}
 use Rattle.claim_core.specs.declared.events.TheConstants.{NONE}
 use Rattle.claim_core.specs.Events.{event, none_of, AllInRow, IsReached, IsOffered}
 use Rattle.rank_claims.specs.declared.rule.OwnStep.{OwnStep}
-use Rattle.rank_claims.specs.declared.rule.OwnStep.TheVariants.{Claimed, Read}
+use Rattle.rank_claims.specs.declared.rule.OwnStep.TheVariants.{Claimed, Read, SplitOff}
 use Rattle.rank_claims.specs.declared.rule.View.{View}
 use Rattle.rank_claims.specs.Claims.{HasClaimed, SeatView, lesser_of}
 use Rattle.seat_views.specs.Views.{EachView, SomeView}
@@ -29,6 +29,9 @@ view_after_claim v e found = record v { known = slice_set v.known e.word (min fo
 
 abbrev pub view_after_look : View → ℕ → ℕ → View
 view_after_look v word found = record v { known = slice_set v.known word found; steps = v.steps ++ Read word found ∷ [] }
+
+abbrev pub view_after_split : View → View
+view_after_split v = record v { steps = v.steps ++ SplitOff ∷ [] }
 
 abbrev pub view_split : View → View
 view_split v = record v { steps = [] }

@@ -9,6 +9,8 @@ pub enum OwnStep {
     Claimed(Event, u64),
     /// A look at a word.
     Read(u32, u64),
+    /// Another seat was split off it.
+    SplitOff,
 }
 
 // What a seat knows. No value of it is made. A view that is not live was joined into another.
@@ -55,13 +57,13 @@ impl Play<(), View> for Looking {
     ghost then = { λ step before found after. TellsLook step before found after };
 }
 
-// A new seat knows what the old one knows, and a seat learns what a joined one knew.
+// A new seat knows what the old one knows, which counts the split as a step, and a seat learns what a joined one knew.
 pub struct Sharing;
 
 impl Split<View> for Sharing {
-    ghost use Rattle.rank_claims.specs.Rule.{view_split};
+    ghost use Rattle.rank_claims.specs.Rule.{view_after_split, view_split};
 
-    ghost left = { λ v. v };
+    ghost left = { view_after_split };
 
     ghost right = { view_split };
 }

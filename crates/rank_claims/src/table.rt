@@ -2,7 +2,7 @@
 ghost use Rattle.std.specs.Prelude.{◌≡◌, ◌<◌, ◌≤◌, [], length, take, vec_capacity, IfOk, IfErr};
 ghost use Rattle.claim_core.specs.Events.{AllInRow};
 ghost use Rattle.rank_claims.specs.Claims.{SitsAt, IsFound, IsClosing, offer_at, first_seat};
-ghost use Rattle.rank_claims.specs.Claims.{after_claim, after_look, newcomer, joined};
+ghost use Rattle.rank_claims.specs.Claims.{after_claim, after_look, after_split, newcomer, joined};
 ghost use Rattle.std.specs.Slots.{slots_items, slots_len, IsFull};
 
 use crate::rule::{Claiming, Falling, Key, Looking, Sharing, View};
@@ -102,7 +102,7 @@ impl<'a> Claims<'a> {
     /// A second seat, which knows what the first one knows and has made no step.
     pub fn split(&self, seat: &mut ClaimSeat) -> ClaimSeat
         requires { SitsAt self.now seat.old }
-        ensures same { seat.new ≡ seat.old }
+        ensures step { seat.new ≡ after_split seat.old }
         ensures split { result ≡ newcomer seat.old }
     {
         let shared = &self.table.shared;

@@ -10,8 +10,7 @@ use Rattle.std.proofs.lemmas.List.Elements.{All-cons}
 use Rattle.std.proofs.lemmas.List.Sums.{sum_by-le, sum_by-take-le, sum_by-set, sum_by_more, sum_by_push, sum_by-cons}
 use Rattle.lk_base.proofs.Loops.{range_more}
 use Rattle.relax.specs.declared.jumps.Jump.{Jump}
-use Rattle.relax.specs.declared.settling.Rise.{Rise}
-use Rattle.relax.specs.Jumps.{AreBelow, AreLawful, AreRising, AreSafe, gained_before, IsJump, IsLawful, all_lost, allows, is_allowed, is_small, jump_at, jump_bytes, least_of, lost_before, lost_in, lost_sums, lost_upto, no_jump, raised, raised_size, reach, size_at, some_rises}
+use Rattle.relax.specs.Jumps.{AreBelow, AreLawful, AreSafe, IsJump, IsLawful, all_lost, allows, is_allowed, is_small, jump_at, jump_bytes, least_of, lost_before, lost_in, lost_sums, lost_upto, no_jump, raised, raised_size, reach, size_at, some_rises}
 
 -- what calls lose, one call on
 pub upto_more : (z : List ℕ) (k : ℕ) → k < length z → lost_upto z (k + 1) ≡ lost_upto z k + (8 - size_at z k)
@@ -290,7 +289,7 @@ upto_low z k =
     omega (arith, most, few)
 
 -- one size that rises
-set_lost : (z : List ℕ) (k s m : ℕ) → k < length z → size_at z k ≤ s → s ≤ 8 → lost_upto (set z k s) m + (if nat_lt k m then s - size_at z k else 0) ≡ lost_upto z m
+pub set_lost : (z : List ℕ) (k s m : ℕ) → k < length z → size_at z k ≤ s → s ≤ 8 → lost_upto (set z k s) m + (if nat_lt k m then s - size_at z k else 0) ≡ lost_upto z m
 set_lost z k s m lt low few = elim (cases_lt k m) [
   | inl before ↦
       let f : ℕ → ℕ = λ x. 8 - x in
@@ -307,25 +306,12 @@ set_lost z k s m lt low few = elim (cases_lt k m) [
       omega (arith, same, gain)
 ]
 
-gained_push : (rises : List Rise) (r : Rise) (m : ℕ) → gained_before (rises ++ r ∷ []) m ≡ gained_before rises m + (if nat_lt r.call m then r.bytes else 0)
-gained_push rises r m = sum_by_push (λ (x : Rise). if nat_lt x.call m then x.bytes else 0) rises r
-
-pub gained_more : (rises : List Rise) (i m : ℕ) (d : Rise) → i < length rises → gained_before (take (i + 1) rises) m ≡ gained_before (take i rises) m + (if nat_lt (get_or rises i d).call m then (get_or rises i d).bytes else 0)
-gained_more rises i m d lt = sum_by_more (λ (x : Rise). if nat_lt x.call m then x.bytes else 0) rises i d lt
-
-pub no_rises : (jumps : List Jump) (z : List ℕ) → AreLawful jumps z → AreBelow jumps z → AreRising jumps z z []
-no_rises jumps z lawful below = record {
-  lawful = lawful;
-  below = below;
-  risen = record { count = refl; each = λ m. omega arith };
-}
-
-module _ (jumps : List Jump) (are : (k : ℕ) → k < length jumps → IsJump (length jumps) (jump_at jumps k)) (start z : List ℕ) (rises : List Rise) (is : AreRising jumps start z rises) (k : ℕ) (lt : k < length jumps) (differs : is_allowed jumps z k ≡ false) where
+module _ (jumps : List Jump) (are : (k : ℕ) → k < length jumps → IsJump (length jumps) (jump_at jumps k)) (z : List ℕ) (lawful : AreLawful jumps z) (below : AreBelow jumps z) (k : ℕ) (lt : k < length jumps) (differs : is_allowed jumps z k ≡ false) where
   abbrev larger : List ℕ
   larger = set z k (2 * size_at z k)
 
   within : k < length z
-  within = omega (arith, lt, is.lawful.count)
+  within = omega (arith, lt, lawful.count)
 
   at_k : size_at larger k ≡ 2 * size_at z k
   at_k = get_or-set_same z k (2 * size_at z k) 8 within
@@ -333,41 +319,29 @@ module _ (jumps : List Jump) (are : (k : ℕ) → k < length jumps → IsJump (l
   at_other : (m : ℕ) → (m ≡ k → ⊥) → size_at larger m ≡ size_at z m
   at_other m other = get_or-set_other z k m (2 * size_at z k) 8 other
 
-  twice_few : 2 * size_at z k ≤ 8
+  pub twice_few : 2 * size_at z k ≤ 8
   twice_few =
       let other = small_if jumps are z k differs in
-      elim (is.lawful.each k lt).1 [
+      elim (lawful.each k lt).1 [
         | inl two ↦ omega (arith, two)
         | inr q ↦ elim q [ inl four ↦ omega (arith, four) | inr eight ↦ absurd (other eight) ]
       ]
 
-  pub raise_rising : AreRising jumps start larger (rises ++ record { call = k; bytes = size_at z k } ∷ [])
-  raise_rising = record {
-    lawful = record {
-      count = length-set z k (2 * size_at z k) ∙ is.lawful.count;
-      each = λ m less. elim (cases_eq m k) [
-        | inl same ↦
-            let own = lawful_step jumps are z k false is.lawful lt differs in
-            subst (λ n. IsLawful jumps n (size_at larger n)) (sym same) (subst (IsLawful jumps k) (sym at_k) own)
-        | inr other ↦ subst (IsLawful jumps m) (sym (at_other m other)) (is.lawful.each m less)
-      ];
-    };
-    below = λ y safe m less. elim (cases_eq m k) [
+  pub larger_lawful : AreLawful jumps larger
+  larger_lawful = record {
+    count = length-set z k (2 * size_at z k) ∙ lawful.count;
+    each = λ m less. elim (cases_eq m k) [
       | inl same ↦
-          let own = below_step jumps are z y k false is.lawful is.below safe lt differs in
-          subst (λ n. size_at larger n ≤ size_at y n) (sym same) (omega (arith, own, at_k))
-      | inr other ↦ omega (arith, at_other m other, is.below y safe m less)
+          let own = lawful_step jumps are z k false lawful lt differs in
+          subst (λ n. IsLawful jumps n (size_at larger n)) (sym same) (subst (IsLawful jumps k) (sym at_k) own)
+      | inr other ↦ subst (IsLawful jumps m) (sym (at_other m other)) (lawful.each m less)
     ];
-    risen = record {
-      count = length-set z k (2 * size_at z k) ∙ is.risen.count;
-      each = λ m.
-          let lost = set_lost z k (2 * size_at z k) m within (omega arith) twice_few in
-          let gained = gained_push rises (record { call = k; bytes = size_at z k }) m in
-          let before = is.risen.each m in
-          let same : (if nat_lt k m then 2 * size_at z k - size_at z k else 0) ≡ (if nat_lt k m then size_at z k else 0) = ap (λ n. if nat_lt k m then n else 0) (omega arith) in
-          omega (arith, lost, gained, before, same);
-    };
   }
 
-  pub raise_lost : all_lost larger ≤ all_lost z
-  raise_lost = omega (arith, sum_by-set (λ x. 8 - x) z k (2 * size_at z k) 8 within)
+  pub larger_below : AreBelow jumps larger
+  larger_below y safe m less = elim (cases_eq m k) [
+    | inl same ↦
+        let own = below_step jumps are z y k false lawful below safe lt differs in
+        subst (λ n. size_at larger n ≤ size_at y n) (sym same) (omega (arith, own, at_k))
+    | inr other ↦ omega (arith, at_other m other, below y safe m less)
+  ]

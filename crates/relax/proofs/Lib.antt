@@ -8,4 +8,5 @@ pub mod MemberFacts
 mod Places
 pub mod PointSteps
 pub mod RowFacts
+mod RunSteps
 mod SafeSizes

@@ -1,10 +1,9 @@
 -- Calls by the distances that they reach: each is a jump between two points, and the bytes between these grow with the sizes of the calls
 -- there (RISC-V ELF psABI, "Function Call Relaxation").
-use Rattle.std.specs.Prelude.{◌≡◌, ℕ, ◌+◌, ◌-◌, ◌*◌, ◌^◌, ◌<◌, ◌≤◌, ◌⊎◌, ◌==◌, nat_le, nat_lt, Bool, true, false, if◌then◌else◌, min, List, length, take, map, slice_index_or}
+use Rattle.std.specs.Prelude.{◌≡◌, ℕ, ◌+◌, ◌-◌, ◌*◌, ◌^◌, ◌<◌, ◌≤◌, ◌⊎◌, ◌==◌, nat_le, Bool, true, false, if◌then◌else◌, min, List, length, take, map, slice_index_or}
 use Rattle.std.specs.List.{list_any, range_with_len, sum_by}
 use Rattle.relax.specs.declared.jumps.Jump.{Jump}
 use Rattle.relax.specs.declared.jumps.Point.{Point}
-use Rattle.relax.specs.declared.settling.Rise.{Rise}
 
 -- how far a call of a size reaches: `jal` has 21 bits, `c.j` has 12
 abbrev pub reach : (size : ℕ) → (forwards : Bool) → ℕ
@@ -95,18 +94,3 @@ all_lost sizes = sum_by (λ size. 8 - size) sizes
 -- the sums of what the calls before each lose, and of what all lose
 abbrev pub lost_sums : List ℕ → List ℕ
 lost_sums sizes = map (lost_upto sizes) (range_with_len 0 (length sizes + 1))
-
--- the bytes that calls before a number gained of late
-abbrev pub gained_before : List Rise → (call : ℕ) → ℕ
-gained_before rises call = sum_by (λ r. if nat_lt r.call call then r.bytes else 0) rises
-
--- sizes that rose of late, since the sums of what calls lose were made
-pub record AreRisen (start sizes : List ℕ) (rises : List Rise) : Type 0 where
-  pub count : length sizes ≡ length start
-  pub each : (m : ℕ) → lost_upto sizes m + gained_before rises m ≡ lost_upto start m
-
--- what holds of sizes while they rise
-pub record AreRising (jumps : List Jump) (start sizes : List ℕ) (rises : List Rise) : Type 0 where
-  pub lawful : AreLawful jumps sizes
-  pub below : AreBelow jumps sizes
-  pub risen : AreRisen start sizes rises

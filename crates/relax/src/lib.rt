@@ -6,9 +6,11 @@ mod calls;
 mod items;
 mod jumps;
 mod keeping;
+mod losses;
 mod members;
 mod settling;
 mod solving;
+mod watching;
 
 pub use keeping::sizes;
 

@@ -119,3 +119,54 @@ fn chain_of_calls(rt: HostRuntime) -> Result<(), Fail> {
     }
     Ok(())
 }
+
+/// When a call of a zigzag gets larger: the first, then the last, then the second, and so on.
+fn turn_of(count: usize, k: usize) -> usize {
+    if k < count / 2 {
+        return k.saturating_mul(2);
+    }
+    count
+        .saturating_sub(1)
+        .saturating_sub(k)
+        .saturating_mul(2)
+        .saturating_add(1)
+}
+
+/// So many calls that have to get larger from both ends in turn. The first goes too far from the start. Each other goes over the one before
+/// it, and over none of those before that; it must have eight bytes once that one has, but for the one of a turn, which has room for four
+/// bytes more.
+fn zigzag(alloc: Global, count: usize, with_room: usize) -> Result<Vec<Jump>, AllocError> {
+    let mut jumps = Vec::with_capacity(alloc, count)?;
+    for k in 0..count {
+        let turn = turn_of(count, k);
+        let forwards = turn % 2 == 0;
+        let low = turn / 2;
+        let high = count.saturating_sub(low).saturating_add(1).min(count);
+        let high = if forwards { high } else { k };
+        let reach: u128 = if forwards { 1_048_574 } else { 1_048_576 };
+        let most = reach + 4 * high.saturating_sub(low) as u128;
+        let place = if turn == with_room { most - 4 } else { most };
+        jumps.push(Jump {
+            low: point(0, low),
+            high: point(if turn == 0 { place + 4 } else { place }, high),
+            forwards,
+            least: 4,
+        })?;
+    }
+    Ok(jumps)
+}
+
+/// A zigzag of calls, each raised by the one before, as far as the one that has room.
+#[test]
+fn zigzag_of_calls(rt: HostRuntime) -> Result<(), Fail> {
+    for with_room in [1, 2, 151, 299, 300] {
+        let jumps = zigzag(rt.alloc(), 300, with_room)?;
+        let found = sizes(rt.alloc(), jumps.as_slice())?;
+        assert_eq!(rt; found.len(), 300);
+        for k in 0..found.len() {
+            let size = if turn_of(300, k) < with_room { 8 } else { 4 };
+            assert_eq!(rt; found[k], size);
+        }
+    }
+    Ok(())
+}

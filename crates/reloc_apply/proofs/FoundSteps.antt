@@ -1,6 +1,6 @@
 -- The least defect of relocations that touch some bytes, over the members that meet them.
 use Rattle.std.proofs.Common.{◌≡◌, ◌⊎◌, inl, inr, ℕ, ◌+◌, ◌<◌, ◌≤◌, Bool, true, false, nat_lt, List, [], length, flat_map, get_or, refl, sym, ap, ◌∙◌, arith, subst, Option, Some, None}
-use Rattle.std.specs.Prelude.{if◌then◌else◌}
+use Rattle.std.specs.Prelude.{if◌then◌else◌, IfSome}
 use Rattle.std.specs.List.{range_with_len}
 use Rattle.std.proofs.lemmas.Bool.{cases_Bool, cases_lt, ltb-true, ltb-false}
 use Rattle.std.proofs.lemmas.List.FromFn.{get_or-range_with_len, length-range_with_len}
@@ -15,13 +15,22 @@ use Rattle.lk_tables.specs.Sites.{relocs_of}
 use Rattle.link_sections.specs.LaidOut.{LaidOut}
 use Rattle.link_sections.specs.Sound.{IsSound}
 use Rattle.reloc_apply.specs.declared.founds.Found.{Found}
-use Rattle.reloc_apply.specs.Founds.{IsFound, IsQuiet, IsTrueOf, earlier}
+use Rattle.reloc_apply.specs.Founds.{IsFound, earlier}
 use Rattle.reloc_apply.specs.Relocated.{is_laid, reloc_defects, section_touching, touches, touching_defects, written_in}
 use Rattle.reloc_apply.proofs.LaidFacts.{IsMemberOf, member_of}
 use Rattle.reloc_apply.proofs.MemberFacts.{member, written}
 use Rattle.reloc_apply.proofs.MemberSteps.{quiet_first, quiet_last}
 use Rattle.reloc_apply.proofs.SoundLists.{AllSound}
 use Rattle.reloc_apply.proofs.TouchingSteps.{rest_none, skipped}
+
+-- section n has no defect, or one of a lesser number was found
+abbrev pub IsQuiet : (defects : ℕ → List Defect) → Option Found → (n : ℕ) → Type 0
+IsQuiet defects None n = defects n ≡ []
+IsQuiet defects (Some found) n = n < found.section → defects n ≡ []
+
+-- what was found is the first defect of its section
+abbrev pub IsTrueOf : (defects : ℕ → List Defect) → (total : ℕ) → Option Found → Type 0
+IsTrueOf defects total found = IfSome found (λ f. (f.section < total) × BeginsWith (defects f.section) f.defect)
 
 -- one of two
 left_by : (t : ℕ → List Defect) (d : Bool) (f g : Found) (n : ℕ) → nat_lt g.section f.section ≡ d → (n < f.section → t n ≡ []) → IsQuiet t (if d then Some g else Some f) n

@@ -1,9 +1,8 @@
 -- Pieces of a run of numbers that are tested each by a worker: the first defect of the first piece that has one is the first of all.
-use Rattle.std.proofs.Common.{◌≡◌, ℕ, zero, suc, ◌+◌, ◌-◌, ◌≤◌, inl, inr, Result, Ok, Err, List, [], ◌∷◌, ◌++◌, flat_map, sym, ap, ◌∙◌, subst, arith}
+use Rattle.std.proofs.Common.{◌≡◌, ℕ, ◌-◌, inl, inr, Result, Ok, Err, List, [], ◌∷◌, ◌++◌, flat_map, sym, ap, ◌∙◌, subst, arith}
 use Rattle.std.specs.List.{range_with_len}
 use Rattle.std.specs.Global.{Vec}
 use Rattle.std.specs.declared.ops.Range.{Range}
-use Rattle.std.proofs.lemmas.Grind.{flat_map-append}
 use Rattle.lk_base.specs.Firsts.{Goes, StopsAt}
 use Rattle.lk_base.specs.declared.defects.Defect.{Defect}
 use Rattle.lk_base.specs.declared.defects.LinkStop.{LinkStop}
@@ -11,27 +10,10 @@ use Rattle.lk_base.specs.declared.defects.LinkStop.TheVariants as stops
 use Rattle.work_split.specs.Pieces.{Tiles}
 use Rattle.work_split.specs.Shares.{AreGivenBy, IsJoined, IsJoinedFrom, joined, with_prefix}
 use Rattle.work_split.proofs.Tiling.{tiles_rise}
-
-range_parts : (a m b : ℕ) → range_with_len a (m + b) ≡ range_with_len a m ++ range_with_len (a + m) b
-range_parts a zero b =
-    let e : a ≡ a + 0 = omega arith in
-    let n : 0 + b ≡ b = omega arith in
-    ap (range_with_len a) n ∙ ap (λ k. range_with_len k b) e
-range_parts a (suc m) b =
-    let e : (a + 1) + m ≡ a + suc m = omega arith in
-    let n : suc m + b ≡ suc (m + b) = omega arith in
-    ap (range_with_len a) n ∙ ap (λ l. a ∷ l) (range_parts (a + 1) m b ∙ ap (λ k. range_with_len (a + 1) m ++ range_with_len k b) e)
+use Rattle.lk_base.proofs.Ranges.{two_parts}
 
 abbrev pub run : (ℕ → List Defect) → (start end : ℕ) → List Defect
 run f start end = flat_map f (range_with_len start (end - start))
-
-two_runs : (f : ℕ → List Defect) (a m b : ℕ) → a ≤ m → m ≤ b → run f a b ≡ run f a m ++ run f m b
-two_runs f a m b low high =
-    let n : b - a ≡ (m - a) + (b - m) = omega arith in
-    let from : a + (m - a) ≡ m = omega arith in
-    ap (λ k. flat_map f (range_with_len a k)) n ∙ ap (flat_map f) (range_parts a (m - a) (b - m))
-    ∙ flat_map-append f (range_with_len a (m - a)) (range_with_len (a + (m - a)) (b - m))
-    ∙ ap (λ k. flat_map f (range_with_len a (m - a)) ++ flat_map f (range_with_len k (b - m))) from
 
 stops_earlier : (xs ys : List Defect) (stop : LinkStop) → StopsAt stop xs → StopsAt stop (xs ++ ys)
 stops_earlier xs ys (stops.Defect first) begins = (begins.0 ++ ys, ap (λ l. l ++ ys) begins.1)
@@ -51,13 +33,13 @@ all_go f Gives a b (p ∷ ps) (Err stop ∷ rs) gives tiles given =
     let P : ℕ → Type 0 = λ k. StopsAt stop (run f k p.end) in
     let Q : List Defect → Type 0 = λ l. StopsAt stop l in
     let some = tiles.1 in
-    subst Q (sym (two_runs f a p.end b (omega (arith, tiles.0)) (tiles_rise p.end b ps tiles.2)))
+    subst Q (sym (two_parts f a p.end b (omega (arith, tiles.0)) (tiles_rise p.end b ps tiles.2)))
     (stops_earlier (run f a p.end) (run f p.end b) stop (subst P tiles.0 (gives p (Err stop) given.0)))
 all_go {X} f Gives a b (p ∷ ps) (Ok list ∷ rs) gives tiles given =
     let P : ℕ → Type 0 = λ k. run f k p.end ≡ [] in
     let Q : List Defect → Type 0 = λ l. Goes (with_prefix list.items (joined rs)) l in
     let some = tiles.1 in
-    subst Q (sym (two_runs f a p.end b (omega (arith, tiles.0)) (tiles_rise p.end b ps tiles.2)))
+    subst Q (sym (two_parts f a p.end b (omega (arith, tiles.0)) (tiles_rise p.end b ps tiles.2)))
     (later (run f a p.end) (run f p.end b) list.items (joined rs) (subst P tiles.0 (gives p (Ok list) given.0))
     (all_go f Gives p.end b ps rs gives tiles.2 given.1))
 

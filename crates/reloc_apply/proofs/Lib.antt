@@ -14,7 +14,6 @@ pub mod MemberSteps
 pub mod PieceWalks
 pub mod Placing
 pub mod PoolSteps
-pub mod RowSteps
 pub mod ScanSteps
 pub mod SetPlaces
 pub mod SitePlaces

@@ -1,5 +1,5 @@
 -- Defects that are found in sections, of which the one of the least section number counts.
-use Rattle.std.specs.Prelude.{◌≡◌, ℕ, ◌+◌, ◌<◌, ◌≤◌, nat_lt, Option, Some, None, IfSome, if◌then◌else◌, List, [], length, slice_index_or}
+use Rattle.std.specs.Prelude.{◌≡◌, ℕ, ◌+◌, ◌<◌, ◌≤◌, nat_lt, Option, Some, None, if◌then◌else◌, List, [], length, slice_index_or}
 use Rattle.lk_base.specs.Firsts.{BeginsWith}
 use Rattle.lk_base.specs.declared.defects.Defect.{Defect}
 use Rattle.link_sections.specs.declared.members.Content.TheVariants.{Got}
@@ -27,12 +27,3 @@ unfoldable pub earlier : Option Found → Option Found → Option Found
 earlier None other = other
 earlier (Some found) None = Some found
 earlier (Some found) (Some other) = if nat_lt other.section found.section then Some other else Some found
-
--- section n has no defect, or one of a lesser number was found
-abbrev pub IsQuiet : (defects : ℕ → List Defect) → Option Found → (n : ℕ) → Type 0
-IsQuiet defects None n = defects n ≡ []
-IsQuiet defects (Some found) n = n < found.section → defects n ≡ []
-
--- what was found is the first defect of its section
-abbrev pub IsTrueOf : (defects : ℕ → List Defect) → (total : ℕ) → Option Found → Type 0
-IsTrueOf defects total found = IfSome found (λ f. (f.section < total) × BeginsWith (defects f.section) f.defect)

@@ -3,7 +3,7 @@ use Rattle.std.proofs.Common.{◌≡◌, ◌≢◌, ℕ, Bool, true, List, [], �
 use Rattle.std.proofs.lemmas.Bool.{cases_eq}
 use mathlib.Core.Option.{some}
 use lib.ListN.{get_elem?}
-use Rattle.atomic_table.proofs.Lists.{at_longer, set_again, set_else}
+use Rattle.atomic_table.proofs.Lists.{at_longer, set_else}
 use Rattle.seat_views.specs.Views.{SomeView}
 use Rattle.seat_views.proofs.Places.{same_view, set_there}
 
@@ -25,10 +25,9 @@ module _ {V : Type 0} (live : V → Bool) where
   some_more Is views w one = record { seat = one.seat; view = one.view; at = at_longer views (w ∷ []) one.seat one.view one.at; lives = one.lives; is = one.is }
 
   -- a seat that is split keeps what it has
-  pub some_split : (Is : V → Type 0) (views : List V) (id : ℕ) (v right : V) → get_elem? views id ≡ some v → SomeView live Is views → SomeView live Is (set views id v ++ right ∷ [])
-  some_split Is views id v right at one =
-      let P : List V → Type 0 = λ vs. SomeView live Is (vs ++ right ∷ []) in
-      subst P (sym (set_again views id v at)) (some_more Is views right one)
+  pub some_split : (Is : V → Type 0) (views : List V) (id : ℕ) (v left right : V) → get_elem? views id ≡ some v → live left ≡ true → (Is v → Is left)
+      → SomeView live Is views → SomeView live Is (set views id left ++ right ∷ [])
+  some_split Is views id v left right at lives goes one = some_more Is (set views id left) right (some_step Is views id v left at lives goes one)
 
   -- what either of two seats has, the joined one has
   pub some_join : (Is : V → Type 0) (views : List V) (id other : ℕ) (v w both spent : V) → get_elem? views id ≡ some v → ¬ (other ≡ id) → get_elem? views other ≡ some w → live both ≡ true

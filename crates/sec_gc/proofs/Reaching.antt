@@ -1,14 +1,15 @@
 -- What is reached in rounds, and what marks are that say it.
-use Rattle.std.proofs.Common.{◌≡◌, ℕ, zero, suc, ◌+◌, ◌<◌, ◌≤◌, ◌==◌, ◌&&◌, Bool, true, false, List, [], length, get_or, Contains, refl, sym, ◌∙◌, subst, ⊎_elim, arith}
+use Rattle.std.proofs.Common.{◌≡◌, ℕ, zero, suc, ◌<◌, ◌≤◌, ◌==◌, ◌&&◌, Bool, true, false, List, [], length, get_or, Contains, refl, sym, ◌∙◌, subst, ⊎_elim, arith}
 use Rattle.std.specs.List.{list_any, range_with_len}
 use Rattle.std.proofs.Math.Nat.{eq-or-lt_of_le}
 use Rattle.std.proofs.lemmas.Bool.{and_from, and_parts, cases_lt, eq-eqb, eqb-true, or_cases, or_left, or_right}
 use Rattle.std.proofs.lemmas.List.{get_or_past}
 use Rattle.std.proofs.lemmas.List.Folds.{Any-from_list_any, list_any_at}
-use Rattle.std.proofs.lemmas.List.FromFn.{fill_by_all, get_or-range_with_len, length-range_with_len}
+use Rattle.std.proofs.lemmas.List.FromFn.{fill_by_all, length-range_with_len}
 use Rattle.lk_base.specs.RelocKinds.{is_among}
 use Rattle.lk_tables.specs.Reach.{mark, ends_at, IsClosed, IsReach}
 use Rattle.sec_gc.specs.Kept.{reached, reached_in}
+use Rattle.lk_base.proofs.Ranges.{range_read}
 
 -- a number of a list
 among_there : (list : List ℕ) (f : ℕ) → Contains list f → is_among list f ≡ true
@@ -22,9 +23,6 @@ among_is list f is =
     let g : ℕ = any.1 in
     let P : ℕ → Type 0 = Contains list in
     subst P (eqb-true g f any.4) (any.0, any.2, any.3)
-
-range_read : (n k d : ℕ) → k < n → get_or (range_with_len 0 n) k d ≡ k
-range_read n k d lt = let e : 0 + k ≡ k = omega arith in get_or-range_with_len 0 n k d lt ∙ e
 
 -- a place that has ends is one of the list
 leader_within : (ends : List (List ℕ)) (e g : ℕ) → Contains (ends_at ends e) g → e < length ends

@@ -82,17 +82,17 @@ pub record AreStrings (bytes : List ℕ) (size i start : ℕ) (texts : List (Lis
   pub order : start ≤ i * size
   pub strings : texts ++ strings_from (begun bytes start (i * size)) (drop i (elements size bytes)) ≡ strings_from [] (elements size bytes)
 
-begun_more : (bytes : List ℕ) (start at size : ℕ) → start ≤ at → begun bytes start at ++ take size (drop at bytes) ≡ begun bytes start (at + size)
+pub begun_more : (bytes : List ℕ) (start at size : ℕ) → start ≤ at → begun bytes start at ++ take size (drop at bytes) ≡ begun bytes start (at + size)
 begun_more bytes start at size le =
     let there : start + (at - start) ≡ at = omega arith in
     let long : (at - start) + size ≡ at + size - start = omega arith in
     ap (λ l. begun bytes start at ++ take size l) (sym (drop-drop (at - start) start bytes ∙ ap (λ k. drop k bytes) there))
     ∙ sym (take-add (at - start) size (drop start bytes)) ∙ ap (λ k. take k (drop start bytes)) long
 
-begun_none : (bytes : List ℕ) (at : ℕ) → begun bytes at at ≡ []
+pub begun_none : (bytes : List ℕ) (at : ℕ) → begun bytes at at ≡ []
 begun_none bytes at = let none : at - at ≡ 0 = omega arith in ap (λ k. take k (drop at bytes)) none
 
-begun_at : (bytes : List ℕ) (at : ℕ) → at ≡ 0 → begun bytes 0 at ≡ []
+pub begun_at : (bytes : List ℕ) (at : ℕ) → at ≡ 0 → begun bytes 0 at ≡ []
 begun_at bytes at none = ap (begun bytes 0) none
 
 pub string_step : (bytes : List ℕ) (size i start next : ℕ) (old new : List (List ℕ)) → i < length bytes / size → AreStrings bytes size i start old →

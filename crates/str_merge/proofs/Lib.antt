@@ -7,6 +7,7 @@ pub mod PlacedSteps
 pub mod MemberSteps
 pub mod SpreadSteps
 pub mod CutTexts
+pub mod ByteStrings
 pub mod CutLists
 pub mod PoolFacts
 pub mod PoolTexts

@@ -59,6 +59,12 @@ gathered_texts files cuts (i ∷ places) =
     ∙ ap (λ l. l ++ span_texts files (gathered (span_lists cuts) places)) (texts_at files cuts i)
     ∙ ap (λ l. get_or (cut_views files cuts) i [] ++ l) (gathered_texts files cuts places)
 
+-- the list at one place
+pub gathered_one : {X : Type 0} (lists : List (List X)) (places : List ℕ) → length places ≡ 1 → gathered lists places ≡ get_or lists (get_or places 0 0) []
+gathered_one lists [] one = absurd (omega (arith, one))
+gathered_one lists (p ∷ []) one = append-nil (get_or lists p [])
+gathered_one lists (p ∷ q ∷ ps) one = absurd (omega (arith, one))
+
 -- a filter by index
 filter_map_is : {X Y : Type 0} (t : Y → Bool) (g : X → Y) (xs : List X) → filter t (map g xs) ≡ map g (filter (λ x. t (g x)) xs)
 filter_map_is t g [] = refl

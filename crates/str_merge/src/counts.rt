@@ -13,6 +13,7 @@ use crate::sections::{is_mergeable, is_zero_char};
 use lk_base::abi::SHF_STRINGS;
 use lk_base::{FileNo, NO_FILE};
 use lk_tables::{File, Section, Span, Tables, section_count, text_of};
+use memchr::memchr_iter;
 
 /// How many pieces the written sections of the files that take part have that are merged if they are kept; 2^64 - 1 if there are more.
 /// Takes no memory.
@@ -82,6 +83,9 @@ fn string_count(bytes: &[u8], size: usize) -> usize
 {
     if size == 0 {
         return 0;
+    }
+    if size == 1 {
+        return memchr_iter(0, bytes).count();
     }
     let mut count = 0;
     for i in 0..bytes.len() / size {

@@ -16,6 +16,7 @@ use crate::sites::Site;
 use lk_base::abi::SHF_STRINGS;
 use lk_base::{FileNo, LinkStop};
 use lk_tables::{Section, Span, Tables, text_of};
+use memchr::memchr_iter;
 use std::alloc::{AllocError, Global};
 use std::ops::Range;
 use std::thread::Threads;
@@ -153,12 +154,31 @@ fn strings(alloc: Global, bytes: &[u8], whole: &Span, size: usize) -> Result<Vec
     ensures texts { IfOk result (λ list. texts_in bytes.now list.items ≡ spec.strings_from [] (spec.elements size (names.text_of bytes.now whole.now))) }
     ensures file { IfOk result (λ list. All (IsOfFile whole.now.file) list.items) }
 {
+    if size == 1 {
+        return byte_strings(alloc, bytes, whole);
+    }
     let contents = text_of(bytes, whole);
     let mut list = Vec::new(alloc);
     let mut start = 0;
     for i in 0..contents.len() / size {
         let at = i * size;
         start = end_string(&mut list, contents, whole, start, at, at + size)?;
+    }
+    Ok(list)
+}
+
+/// Bytes of a file as strings of bytes, each with the zero that ends it: a vector search finds the zeros.
+fn byte_strings(alloc: Global, bytes: &[u8], whole: &Span) -> Result<Vec<Span>, AllocError>
+    ensures texts { IfOk result (λ list. texts_in bytes.now list.items ≡ spec.strings_from [] (spec.elements 1 (names.text_of bytes.now whole.now))) }
+    ensures file { IfOk result (λ list. All (IsOfFile whole.now.file) list.items) }
+{
+    let contents = text_of(bytes, whole);
+    let mut list = Vec::with_capacity(alloc, memchr_iter(0, contents).count())?;
+    let mut found = memchr_iter(0, contents);
+    let mut start = 0;
+    'places: while let Some(at) = found.next() {
+        list.push(part_of(whole, start, at + 1))?;
+        start = at + 1;
     }
     Ok(list)
 }

@@ -13,12 +13,23 @@ pub fn gather(alloc: Global, cuts: &[Vec<Span>], members: &[u32]) -> Result<Vec<
     requires { All (λ i. i < length cuts.now) members.now }
     ensures { IfOk result (λ spans. spans.items ≡ gathered (span_lists cuts.now) members.now) }
 {
-    let mut spans = Vec::new(alloc);
+    let mut spans = Vec::with_capacity(alloc, room_of(cuts, members))?;
     for n in 0..members.len() {
         let cut = &cuts[members[n] as usize];
         spans.extend_from_slice(cut.as_slice())?;
     }
     Ok(spans)
+}
+
+/// How many pieces these sections have; where that is no number of 64 bits, the last one.
+fn room_of(cuts: &[Vec<Span>], members: &[u32]) -> usize
+    requires { All (λ i. i < length cuts.now) members.now }
+{
+    let mut room: usize = 0;
+    for n in 0..members.len() {
+        room = room.saturating_add(cuts[members[n] as usize].len());
+    }
+    room
 }
 
 /// The bytes of each of these spans.

@@ -1,9 +1,10 @@
 //! The pieces of one pool.
 
-ghost use Rattle.std.specs.Prelude.{◌≡◌, ◌<◌, ◌≤◌, length, IfOk};
+ghost use Rattle.std.specs.Prelude.{◌≡◌, ◌<◌, ◌≤◌, length, flat_map, IfOk};
 ghost use Rattle.lk_tables.specs.TablesView.{files_of};
-ghost use Rattle.link_sections.specs.Merging.{pool_site, site_key};
+ghost use Rattle.link_sections.specs.Merging.{pool_members, pool_site, site_key, site_pieces};
 ghost use Rattle.str_merge.specs.Pooling.{IsPooled};
+ghost use Rattle.str_merge.specs.Sites.{span_texts};
 ghost use Rattle.str_merge.specs.Works.{IsWork, members_at};
 
 use crate::gathering::{gather, texts_of};
@@ -62,8 +63,29 @@ pub fn pool_texts<'a, R: Threads + Sync>(
     requires members { members.now ≡ members_at (files_of work.now.tables.now) work.now.kept.now pool }
     ensures { IfOk result (IsPooled (files_of work.now.tables.now) work.now.kept.now pool) }
 {
+    if members.len() == 1 {
+        let cut = &work.cuts[members[0] as usize];
+        return pool_spans(rt, alloc, work, pool, cut.as_slice(), workers);
+    }
     let spans = gather(alloc, work.cuts, members)?;
-    let texts = texts_of(alloc, work.tables, spans.as_slice())?;
+    pool_spans(rt, alloc, work, pool, spans.as_slice(), workers)
+}
+
+/// The same, if `spans` are the pieces of its sections, one section after the other.
+fn pool_spans<'a, R: Threads + Sync>(
+    rt: &R,
+    alloc: Global,
+    work: &Work<'_, 'a>,
+    pool: usize,
+    spans: &[Span],
+    workers: u32,
+) -> Result<Pooled<'a>, AllocError>
+    requires work { IsWork work.now }
+    requires pool { pool < length work.now.firsts.now }
+    requires spans { span_texts (files_of work.now.tables.now) spans.now ≡ flat_map (site_pieces (files_of work.now.tables.now)) (pool_members (files_of work.now.tables.now) work.now.kept.now pool) }
+    ensures { IfOk result (IsPooled (files_of work.now.tables.now) work.now.kept.now pool) }
+{
+    let texts = texts_of(alloc, work.tables, spans)?;
     if texts.len() > PIECE_MAX {
         return Err(AllocError);
     }
@@ -71,7 +93,7 @@ pub fn pool_texts<'a, R: Threads + Sync>(
     let order = order_of(alloc, numbers.as_slice())?;
     let placed = place_pieces(
         alloc,
-        spans.as_slice(),
+        spans,
         texts.as_slice(),
         order.firsts.as_slice(),
         align_of(work, pool),

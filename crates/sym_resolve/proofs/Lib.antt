@@ -1,5 +1,4 @@
 pub mod Walks
-pub mod Runs
 pub mod Claiming
 pub mod CommonNumbers
 pub mod GreatestAsks

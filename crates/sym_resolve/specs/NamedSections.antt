@@ -1,6 +1,5 @@
 -- The sections that may be kept, by those of their names that are identifiers of C.
-use Rattle.std.specs.Prelude.{◌≡◌, ℕ, ◌&&◌, Bool, true, Option, Some, None, if◌then◌else◌, List, find}
-use Rattle.std.specs.List.{range_with_len}
+use Rattle.std.specs.Prelude.{◌≡◌, ℕ, ◌&&◌, Bool, true, Option, Some, None, if◌then◌else◌, List}
 use Rattle.std.specs.Borrow.{Bor}
 use Rattle.std.specs.Str.{bytes_eq}
 use Rattle.lk_tables.specs.Binding.{Bindings}
@@ -21,9 +20,6 @@ module _ (files : List File) (b : Bindings) where
   abbrev pub named_if : (text : List ℕ) → (n : ℕ) → Option ℕ
   named_if text n = if is_named files b text n then Some n else None
 
-  -- a look-up finds the first section of each such name: among the first n, and among all
-  abbrev pub IsIndexUpto : (n : ℕ) → (Bor (List ℕ) → Option ℕ) → Type 0
-  IsIndexUpto n look = (q : Bor (List ℕ)) → is_c_identifier q.now ≡ true → look q ≡ find (is_named files b q.now) (range_with_len 0 n)
-
+  -- a look-up finds the first section of each such name
   abbrev pub IsIndex : (Bor (List ℕ) → Option ℕ) → Type 0
   IsIndex look = (q : Bor (List ℕ)) → is_c_identifier q.now ≡ true → look q ≡ first_named files b q.now

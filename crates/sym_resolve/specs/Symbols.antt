@@ -1,9 +1,6 @@
--- The symbols of the live files, in order of file and symbol; and runs of files.
-use Rattle.std.specs.Prelude.{◌≡◌, ℕ, ◌-◌, if◌then◌else◌, Result, IfOk, List, [], length, flat_map}
+-- The symbols of the live files, in order of file and symbol.
+use Rattle.std.specs.Prelude.{ℕ, if◌then◌else◌, List, [], length, flat_map}
 use Rattle.std.specs.List.{range_with_len}
-use Rattle.std.specs.Global.{Vec}
-use Rattle.std.specs.declared.ops.Range.{Range}
-use Rattle.lk_base.specs.declared.defects.LinkStop.{LinkStop}
 use Rattle.lk_tables.specs.Files.{File, file_at, commons_before}
 
 -- what the symbols of a live file give, and what those of all live files give
@@ -13,10 +10,6 @@ in_file files give f = if (file_at files f).live
 
 abbrev pub over_symbols : {X : Type 0} → List File → (ℕ → ℕ → List X) → List X
 over_symbols files give = flat_map (in_file files give) (range_with_len 0 (length files))
-
--- what the files of a piece give, in order
-abbrev pub IsRun : {X : Type 0} → (ℕ → List X) → Range ℕ → Result (Vec X) LinkStop → Type 0
-IsRun give piece r = IfOk r (λ list. list.items ≡ flat_map give (range_with_len piece.start (piece.end - piece.start)))
 
 -- how many COMMON symbols a live file has
 abbrev pub common_count : File → ℕ

@@ -18,8 +18,6 @@ mod named_sections;
 mod offers;
 mod ranks;
 mod rooms;
-#[cfg(test)]
-mod tests;
 mod unbound;
 
 pub use binding::bind;

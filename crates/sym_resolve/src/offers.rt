@@ -7,8 +7,9 @@ ghost use Rattle.lk_tables.specs.Files.{file_at};
 ghost use Rattle.lk_tables.specs.NameNumbers.{NumbersNames, heads_alone};
 ghost use Rattle.lk_tables.specs.TablesView.{files_of};
 ghost use Rattle.sym_resolve.specs.Claims.{claim_at, claims};
-ghost use Rattle.sym_resolve.specs.Symbols.{IsRun, in_file};
+ghost use Rattle.sym_resolve.specs.Symbols.{in_file};
 ghost use Rattle.work_split.specs.Pieces.{Tiles};
+ghost use Rattle.work_split.specs.Runs.{IsRun};
 
 use crate::counts::file;
 use lk_base::LinkStop;

@@ -7,8 +7,8 @@ ghost use Rattle.lk_tables.specs.NameNumbers.{NumbersNames, heads_alone};
 ghost use Rattle.lk_tables.specs.TablesView.{files_of};
 ghost use Rattle.lk_tables.proofs.ByNumber.{symbol_row};
 ghost use Rattle.sym_resolve.specs.Claims.{rank_at, rank_by};
-ghost use Rattle.sym_resolve.specs.Symbols.{IsRun};
 ghost use Rattle.work_split.specs.Pieces.{Tiles};
+ghost use Rattle.work_split.specs.Runs.{IsRun};
 
 use crate::counts::file;
 use lk_base::LinkStop;

@@ -7,9 +7,10 @@ ghost use Rattle.lk_tables.specs.Files.{is_visible};
 ghost use Rattle.lk_tables.specs.Ranks.{no_rank};
 ghost use Rattle.lk_tables.specs.TablesView.{files_of};
 ghost use Rattle.lk_tables.specs.Targets.{rank_at};
-ghost use Rattle.sym_resolve.specs.Symbols.{IsRun, in_file};
+ghost use Rattle.sym_resolve.specs.Symbols.{in_file};
 ghost use Rattle.sym_resolve.specs.Unbound.{all_unbound, unbound_at};
 ghost use Rattle.work_split.specs.Pieces.{Tiles};
+ghost use Rattle.work_split.specs.Runs.{IsRun};
 
 use crate::counts::file;
 use lk_base::{FileNo, LinkStop, SymNo};

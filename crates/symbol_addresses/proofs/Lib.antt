@@ -6,5 +6,4 @@ pub mod NoFiles
 pub mod NotedSteps
 pub mod PastSymbols
 pub mod PoolPositions
-pub mod RowSteps
 pub mod SectionNames

@@ -1,35 +1,17 @@
 -- What the workers list for the pieces of a run of numbers is, joined and shown as plain records, what one would list for all of them.
-use Rattle.std.proofs.Common.{◌≡◌, ℕ, zero, suc, ◌+◌, ◌-◌, ◌≤◌, inl, inr, Result, Ok, Err, List, [], ◌∷◌, ◌++◌, map, refl, sym, ap, ◌∙◌, subst, arith}
+use Rattle.std.proofs.Common.{◌≡◌, ℕ, ◌-◌, ◌≤◌, inl, inr, Result, Ok, Err, List, [], ◌∷◌, ◌++◌, map, refl, sym, ap, ◌∙◌, subst, arith}
 use Rattle.std.specs.Prelude.{IfOk, flat_map}
 use Rattle.std.specs.List.{range_with_len}
 use Rattle.std.specs.Global.{Vec}
 use Rattle.std.specs.declared.ops.Range.{Range}
-use Rattle.std.proofs.lemmas.Grind.{flat_map-append}
 use Rattle.lk_base.specs.declared.defects.LinkStop.{LinkStop}
 use Rattle.work_split.specs.Pieces.{Tiles}
 use Rattle.work_split.specs.Shares.{AreGivenBy, IsJoined, IsJoinedFrom, joined, with_prefix}
 use Rattle.work_split.proofs.Tiling.{tiles_rise}
-
-range_parts : (a m b : ℕ) → range_with_len a (m + b) ≡ range_with_len a m ++ range_with_len (a + m) b
-range_parts a zero b =
-    let e : a ≡ a + 0 = omega arith in
-    let n : 0 + b ≡ b = omega arith in
-    ap (range_with_len a) n ∙ ap (λ k. range_with_len k b) e
-range_parts a (suc m) b =
-    let e : (a + 1) + m ≡ a + suc m = omega arith in
-    let n : suc m + b ≡ suc (m + b) = omega arith in
-    ap (range_with_len a) n ∙ ap (λ l. a ∷ l) (range_parts (a + 1) m b ∙ ap (λ k. range_with_len (a + 1) m ++ range_with_len k b) e)
+use Rattle.lk_base.proofs.Ranges.{two_parts}
 
 abbrev run : {Y : Type 0} → (ℕ → List Y) → (start end : ℕ) → List Y
 run give start end = flat_map give (range_with_len start (end - start))
-
-two_runs : {Y : Type 0} (give : ℕ → List Y) (a m b : ℕ) → a ≤ m → m ≤ b → run give a b ≡ run give a m ++ run give m b
-two_runs give a m b low high =
-    let n : b - a ≡ (m - a) + (b - m) = omega arith in
-    let from : a + (m - a) ≡ m = omega arith in
-    ap (λ k. flat_map give (range_with_len a k)) n ∙ ap (flat_map give) (range_parts a (m - a) (b - m))
-    ∙ flat_map-append give (range_with_len a (m - a)) (range_with_len (a + (m - a)) (b - m))
-    ∙ ap (λ k. run give a m ++ flat_map give (range_with_len k (b - m))) from
 
 map_append : {X Y : Type 0} (v : X → Y) (xs ys : List X) → map v (xs ++ ys) ≡ map v xs ++ map v ys
 map_append v [] ys = refl
@@ -44,7 +26,7 @@ module _ {X Y : Type 0} (v : X → Y) (give : ℕ → List Y) where
   whole_after : (a m b : ℕ) (front : List X) (o : Result (List X) LinkStop) → a ≤ m → m ≤ b → map v front ≡ run give a m → IsWhole m b o → IsWhole a b (with_prefix front o)
   unfolding IsWhole
   whole_after a m b front (Ok rest) low high is also =
-      map_append v front rest ∙ ap (λ l. l ++ map v rest) is ∙ ap (λ l. run give a m ++ l) also ∙ sym (two_runs give a m b low high)
+      map_append v front rest ∙ ap (λ l. l ++ map v rest) is ∙ ap (λ l. run give a m ++ l) also ∙ sym (two_parts give a m b low high)
   whole_after a m b front (Err stop) low high is also = tt
 
   abbrev pub AreShown : Range ℕ → Result (Vec X) LinkStop → Type 0

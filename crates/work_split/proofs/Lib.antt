@@ -4,3 +4,4 @@ pub mod Sharing
 pub mod Tiling
 pub mod Weighing
 pub mod RunsJoined
+pub mod RunsBeside

@@ -1,37 +1,19 @@
 -- What the workers list for the pieces of a run of numbers is, joined, what one would list for all of them.
-use Rattle.std.proofs.Common.{◌≡◌, ℕ, zero, suc, ◌+◌, ◌-◌, ◌<◌, ◌≤◌, inl, inr, Result, Ok, Err, List, [], ◌∷◌, ◌++◌, length, sym, ap, ◌∙◌, subst, arith}
+use Rattle.std.proofs.Common.{◌≡◌, ℕ, ◌-◌, ◌<◌, ◌≤◌, inl, inr, Result, Ok, Err, List, [], ◌∷◌, ◌++◌, length, sym, ap, ◌∙◌, subst, arith}
 use Rattle.std.specs.Prelude.{flat_map}
 use Rattle.std.specs.List.{range_with_len}
 use Rattle.std.specs.Global.{Vec}
 use Rattle.std.specs.declared.ops.Range.{Range}
-use Rattle.std.proofs.lemmas.Grind.{flat_map-append}
 use Rattle.lk_base.specs.declared.defects.LinkStop.{LinkStop}
 use Rattle.work_split.specs.Pieces.{Tiles}
 use Rattle.work_split.specs.Shares.{AreGivenBy, IsJoined, IsJoinedFrom, joined, with_prefix}
 use Rattle.work_split.specs.Tasks.{IsAt}
 use Rattle.work_split.proofs.Tiling.{tiles_rise, tiles_within}
 use Rattle.work_split.specs.Runs.{IsRun}
-
-range_parts : (a m b : ℕ) → range_with_len a (m + b) ≡ range_with_len a m ++ range_with_len (a + m) b
-range_parts a zero b =
-    let e : a ≡ a + 0 = omega arith in
-    let n : 0 + b ≡ b = omega arith in
-    ap (range_with_len a) n ∙ ap (λ k. range_with_len k b) e
-range_parts a (suc m) b =
-    let e : (a + 1) + m ≡ a + suc m = omega arith in
-    let n : suc m + b ≡ suc (m + b) = omega arith in
-    ap (range_with_len a) n ∙ ap (λ l. a ∷ l) (range_parts (a + 1) m b ∙ ap (λ k. range_with_len (a + 1) m ++ range_with_len k b) e)
+use Rattle.lk_base.proofs.Ranges.{two_parts}
 
 abbrev run : {X : Type 0} → (ℕ → List X) → (start end : ℕ) → List X
 run give start end = flat_map give (range_with_len start (end - start))
-
-two_runs : {X : Type 0} (give : ℕ → List X) (a m b : ℕ) → a ≤ m → m ≤ b → run give a b ≡ run give a m ++ run give m b
-two_runs give a m b low high =
-    let n : b - a ≡ (m - a) + (b - m) = omega arith in
-    let from : a + (m - a) ≡ m = omega arith in
-    ap (λ k. flat_map give (range_with_len a k)) n ∙ ap (flat_map give) (range_parts a (m - a) (b - m))
-    ∙ flat_map-append give (range_with_len a (m - a)) (range_with_len (a + (m - a)) (b - m))
-    ∙ ap (λ k. run give a m ++ flat_map give (range_with_len k (b - m))) from
 
 -- a joined list, before what later shares have
 IsWhole : {X : Type 0} → (ℕ → List X) → (a b : ℕ) → Result (List X) LinkStop → Type 0
@@ -41,7 +23,7 @@ IsWhole give a b (Err stop) = Unit {0}
 whole_after : {X : Type 0} (give : ℕ → List X) (a m b : ℕ) (front : List X) (o : Result (List X) LinkStop) → a ≤ m → m ≤ b → front ≡ run give a m → IsWhole give m b o → IsWhole give a b (with_prefix front o)
 unfolding IsWhole
 whole_after give a m b front (Ok rest) low high is also =
-    ap (λ l. l ++ rest) is ∙ ap (λ l. run give a m ++ l) also ∙ sym (two_runs give a m b low high)
+    ap (λ l. l ++ rest) is ∙ ap (λ l. run give a m ++ l) also ∙ sym (two_parts give a m b low high)
 whole_after give a m b front (Err stop) low high is also = tt
 
 whole_from : {X : Type 0} (give : ℕ → List X) (Gives : Range ℕ → Result (Vec X) LinkStop → Type 0) (a b : ℕ) (ps : List (Range ℕ)) (rs : List (Result (Vec X) LinkStop)) →

@@ -4,15 +4,21 @@ use Rattle.std.specs.Prelude.{flat_map}
 use Rattle.std.specs.List.{range_with_len}
 use Rattle.std.specs.Global.{Vec}
 use Rattle.std.specs.declared.ops.Range.{Range}
-use Rattle.std.proofs.lemmas.Grind.{flat_map-append}
 use Rattle.std.proofs.lemmas.List.{append-nil, get_or_default, nil_from_length}
 use Rattle.lk_base.specs.declared.defects.Defect.{Defect}
 use Rattle.lk_base.specs.declared.defects.LinkStop.{LinkStop}
 use Rattle.lk_base.specs.declared.defects.LinkStop.TheVariants as stops
 use Rattle.lk_base.specs.Firsts.{Goes, StopsAt}
 use Rattle.work_split.specs.Pieces.{Tiles}
-use Rattle.work_split.specs.Shares.{AreGivenBy, AreShares, EachFrom, IsJoined, IsJoinedFrom, IsShare, joined, with_prefix}
+use Rattle.work_split.specs.Shares.{AreGivenBy, EachFrom, IsJoined, IsJoinedFrom, IsShare, joined, with_prefix}
 use Rattle.work_split.specs.Tasks.{IsAt}
+use Rattle.lk_base.proofs.Ranges.{two_parts}
+
+-- the shares, one after the other, are together of the numbers from `start` up to `end`
+abbrev pub AreShares : {X : Type 0} → (ℕ → List Defect) → (ℕ → X → Type 0) → (start end : ℕ) → List (Result (Vec X) LinkStop) → Type 0
+AreShares defects Is start end [] = start ≡ end
+AreShares defects Is start end (share ∷ shares) =
+    (middle : ℕ) × (start ≤ middle) × IsShare defects Is start middle share × AreShares defects Is middle end shares
 
 -- one list after the other
 each_append : {X : Type 0} (Is : ℕ → X → Type 0) (a b c : ℕ) (xs ys : List X) → EachFrom Is a b xs → EachFrom Is b c ys → EachFrom Is a c (xs ++ ys)
@@ -28,26 +34,6 @@ each_pushed {X} Is a b old new x is held here = let P : List X → Type 0 = λ l
 pub each_rises : {X : Type 0} (Is : ℕ → X → Type 0) (a b : ℕ) (xs : List X) → EachFrom Is a b xs → a + length xs ≡ b
 each_rises Is a b [] held = omega (arith, held)
 each_rises Is a b (x ∷ xs) held = omega (arith, each_rises Is (a + 1) b xs held.1)
-
--- the defects of a run are those of its two parts
-range_parts : (a m b : ℕ) → range_with_len a (m + b) ≡ range_with_len a m ++ range_with_len (a + m) b
-range_parts a zero b =
-    let e : a ≡ a + 0 = omega arith in
-    let n : 0 + b ≡ b = omega arith in
-    ap (range_with_len a) n ∙ ap (λ k. range_with_len k b) e
-range_parts a (suc m) b =
-    let e : (a + 1) + m ≡ a + suc m = omega arith in
-    let n : suc m + b ≡ suc (m + b) = omega arith in
-    ap (range_with_len a) n ∙ ap (λ l. a ∷ l) (range_parts (a + 1) m b ∙ ap (λ k. range_with_len (a + 1) m ++ range_with_len k b) e)
-
-two_parts : {X : Type 0} (f : ℕ → List X) (a m b : ℕ) → a ≤ m → m ≤ b →
-    flat_map f (range_with_len a (b - a)) ≡ flat_map f (range_with_len a (m - a)) ++ flat_map f (range_with_len m (b - m))
-two_parts f a m b low high =
-    let n : b - a ≡ (m - a) + (b - m) = omega arith in
-    let from : a + (m - a) ≡ m = omega arith in
-    ap (λ k. flat_map f (range_with_len a k)) n ∙ ap (flat_map f) (range_parts a (m - a) (b - m))
-    ∙ flat_map-append f (range_with_len a (m - a)) (range_with_len (a + (m - a)) (b - m))
-    ∙ ap (λ k. flat_map f (range_with_len a (m - a)) ++ flat_map f (range_with_len k (b - m))) from
 
 -- what all shares together say
 Outcome : {X : Type 0} → (ℕ → List Defect) → (ℕ → X → Type 0) → (a b : ℕ) → Result (List X) LinkStop → Type 0

@@ -1,5 +1,5 @@
 -- How workers share a run of numbers: each does those of its piece, and what they give is joined in order.
-use Rattle.std.specs.Prelude.{◌≡◌, ◌⊎◌, ℕ, ◌+◌, ◌-◌, ◌≤◌, Result, Ok, Err, IfOk, List, [], ◌∷◌, ◌++◌, flat_map}
+use Rattle.std.specs.Prelude.{◌≡◌, ◌⊎◌, ℕ, ◌+◌, ◌-◌, Result, Ok, Err, IfOk, List, [], ◌∷◌, ◌++◌, flat_map}
 use Rattle.std.specs.List.{range_with_len}
 use Rattle.std.specs.Global.{Vec}
 use Rattle.std.specs.declared.ops.Range.{Range}
@@ -18,12 +18,6 @@ EachFrom Is start end (x ∷ xs) = Is start x × EachFrom Is (start + 1) end xs
 pub record IsShare {X : Type 0} (defects : ℕ → List Defect) (Is : ℕ → X → Type 0) (start end : ℕ) (r : Result (Vec X) LinkStop) : Type 0 where
   pub goes : Goes r (flat_map defects (range_with_len start (end - start)))
   pub each : IfOk r (λ list. EachFrom Is start end list.items)
-
--- the shares, one after the other, are together of the numbers from `start` up to `end`
-abbrev pub AreShares : {X : Type 0} → (ℕ → List Defect) → (ℕ → X → Type 0) → (start end : ℕ) → List (Result (Vec X) LinkStop) → Type 0
-AreShares defects Is start end [] = start ≡ end
-AreShares defects Is start end (share ∷ shares) =
-    (middle : ℕ) × (start ≤ middle) × IsShare defects Is start middle share × AreShares defects Is middle end shares
 
 -- a list before what later shares have, if none of these has stopped
 abbrev pub with_prefix : {X : Type 0} → List X → Result (List X) LinkStop → Result (List X) LinkStop

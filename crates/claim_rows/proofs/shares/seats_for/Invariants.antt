@@ -4,7 +4,7 @@ use Rattle.claim_rows.proofs.shares.seats_for.Given as goal
 
 abbrev pub invariant-loop-worker : goal.invariant-loop-worker
 invariant-loop-worker l = record {
-  same : l.seat ≡ l.initial.seat;
+  sits : SitsAt l.claims l.seat;
   count : vec_len l.seats ≡ l.worker;
   seated : All (SitsAt l.claims) l.seats.items;
 }

@@ -1,18 +1,26 @@
-use Rattle.std.proofs.Common.{[], ◌∷◌, ◌++◌, map, ap, ◌∙◌, arith}
-use Rattle.link_sections.specs.declared.fold_items.FoldItem.{FoldItem as LentItem}
-use Rattle.link_sections.specs.FoldItems.{item_view, item_views}
-use Rattle.icf_part.specs.Signatures.{places, all_places}
-use Rattle.icf_part.proofs.Collected.{mapped_more, mapped_views}
+use Rattle.std.proofs.Common.{◌≡◌, ℕ, ◌-◌, List, length, map, flat_map, ap, ◌∙◌, arith}
+use Rattle.std.specs.List.{range_with_len}
+use Rattle.link_sections.specs.FoldItems.{item_views}
+use Rattle.work_split.proofs.RunsBeside.{joined_beside}
+use Rattle.work_split.proofs.Tiling.{tiles_within}
+use Rattle.icf_part.specs.Folding.{item_at}
+use Rattle.icf_part.specs.Signatures.{places}
+use Rattle.icf_part.proofs.PartSteps.{parts_beside, places_all}
 use Rattle.icf_part.proofs.places.all_places.Goals as goal
 
-pub loop-a-preserved : goal.loop-a-preserved
-loop-a-preserved c =
-    mapped_more (λ (i : LentItem). places c.args.sections.now (item_view i)) c.args.items.now c.loop-a.a c.index-items-a.result c.loop-a.rows c.push.new.self
-    c.loop-a-test.true c.index-items-a.is c.loop-a.invariant
-    (c.in_ok-push.ensures.ok ∙ ap (λ l. c.loop-a.rows ++ l ∷ []) (c.as_slice.ensures.value ∙ c.in_ok-places.ensures))
+pub over_shares-found-requires-clause-accepts : goal.over_shares-found-requires-clause-accepts
+over_shares-found-requires-clause-accepts g c = λ κs within w p lt at.
+    let own = tiles_within 0 (length c.args.items.now) c.args.pieces.now w p c.requires.tiles lt at in
+    let some = own.some in
+    (c.requires.order, (c.requires.few, (omega (arith, some), own.end_in)))
 
-pub returns : goal.returns
-unfolding all_places
-returns c =
-    mapped_views (places c.args.sections.now) c.args.items.now c.loop-a.a c.loop-a.rows (omega arith) c.loop-a.invariant
-    ∙ ap (λ s. map (places s) (item_views c.args.items.now)) c.requires.sections
+pub returns-in_ok-rows-in-Ok : goal.returns-in_ok-rows-in-Ok
+returns-in_ok-rows-in-Ok g c =
+    let secs = c.args.sections.now in
+    let views = item_views c.args.items.now in
+    let n = length c.args.items.now in
+    let f : ℕ → List ℕ = λ a. places secs (item_at views a) in
+    let Is : ℕ → ℕ → List (List (List ℕ)) → Type 0 = λ a b parts. flat_map (λ part. part) parts ≡ map f (range_with_len a (b - a)) in
+    let found : flat_map (λ part. part) c.in-Ok.parts.items ≡ map f (range_with_len 0 (n - 0)) =
+    joined_beside Is (parts_beside f) _ n c.args.pieces.now c.over_shares-found.result c.in-Ok.parts c.over_shares-found.ensures (λ p s h. h.1) c.requires.tiles c.in-Ok.is in
+    places_all secs c.args.items.now c.in_ok-rows-in-Ok.rows c.requires.sections (c.in_ok-rows-in-Ok.ensures ∙ ap (flat_map (λ part. part)) c.as_slice.ensures.value ∙ found)

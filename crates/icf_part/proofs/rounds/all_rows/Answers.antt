@@ -1,20 +1,20 @@
-use Rattle.std.proofs.Common.{ℕ, List, ◌∙◌, subst, sym, length, arith}
-use Rattle.icf_part.specs.Signatures.{AreRows, round_words}
-use Rattle.icf_part.proofs.RowSteps.{rows_first, rows_more, rows_all}
+use Rattle.std.proofs.Common.{ℕ, List, length, flat_map, arith}
+use Rattle.work_split.proofs.RunsBeside.{joined_beside}
+use Rattle.work_split.proofs.Tiling.{tiles_within}
+use Rattle.icf_part.specs.Signatures.{AreRowsFrom, round_words}
+use Rattle.icf_part.proofs.PartSteps.{rows_beside, rows_of_all}
 use Rattle.icf_part.proofs.rounds.all_rows.Goals as goal
 
-pub loop-a-init : goal.loop-a-init
-loop-a-init c =
-    let words = round_words c.args.classes.now c.args.ends.now in
-    let P : List (List ℕ) → Type 0 = AreRows words 0 in
-    subst P (sym c.in_ok-rows.ensures) (rows_first words)
+pub over_shares-found-requires-clause-accepts : goal.over_shares-found-requires-clause-accepts
+over_shares-found-requires-clause-accepts g c = λ κs within w p lt at.
+    let own = tiles_within 0 (length c.args.ends.now) c.args.pieces.now w p c.requires.tiles lt at in
+    let some = own.some in
+    omega (arith, some)
 
-pub loop-a-preserved : goal.loop-a-preserved
-loop-a-preserved c =
+pub returns-in-Ok : goal.returns-in-Ok
+returns-in-Ok g c =
     let words = round_words c.args.classes.now c.args.ends.now in
-    rows_more words c.loop-a.a c.loop-a.rows c.push_row.new.rows c.as_slice.result.now c.loop-a.invariant
-    (c.as_slice.ensures.value ∙ c.in_ok-words.ensures) c.in_ok-push_row.ensures.fit c.in_ok-push_row.ensures.row
-
-pub returns : goal.returns
-returns c =
-    rows_all (round_words c.args.classes.now c.args.ends.now) c.loop-a.a (length c.args.ends.now) c.loop-a.rows (omega (arith, c.count-a-end.ensures)) c.loop-a.invariant
+    let Is : ℕ → ℕ → List (List (List ℕ)) → Type 0 = λ a b parts. AreRowsFrom words a b (flat_map (λ part. part) parts) in
+    rows_of_all words (length c.args.ends.now) _
+    (joined_beside Is (rows_beside words) _ (length c.args.ends.now) c.args.pieces.now c.over_shares-found.result
+    c.in-Ok.parts c.over_shares-found.ensures (λ p s h. h.1) c.requires.tiles c.in-Ok.is)

@@ -132,5 +132,5 @@ returns-clause-tables g c =
     let live = c.args.live.now in
     let To : ℕ → Type 0 = λ k. EachFrom (IsBodyAt ss live) 0 k c.in-Ok.objects.items in
     let each : To (length ss) = subst To n c.in-Ok.ensures.each in
-    c.in_ok-of.ensures ∙ ap (λ (l : List File). with_objects l c.in-Ok.objects.items) c.requires.heads_are
+    c.in_ok-of.ensures.files ∙ ap (λ (l : List File). with_objects l c.in-Ok.objects.items) c.requires.heads_are
     ∙ with_bodies ss live c.in-Ok.objects.items each c.requires.live

@@ -10,14 +10,14 @@ use Rattle.link_driver.proofs.driving.link_files.Goals as goal
 
 pub returns-in-Err-clause-ends : goal.returns-in-Err-clause-ends
 returns-in-Err-clause-ends g c =
-    not_loaded (asks c.args.command.now) (texts_of c.args.names.now) (g.D.Depot.store c.args.depot.now) (g.D.Depot.store c.load_all.new.depot)
+    not_loaded (asks c.args.command.now) (texts_of c.args.names.now) (g.D.Depot.store c.args.depot.now) (g.D.Depot.store c.load_files.new.self)
     (g.S.Sink.output c.args.say.now) c.in-Err.stop c.report_load_stop.result c.requires.names c.in-Err.ensures.loads
     (record { files = c.in-Err.ensures.files; kinds = c.in-Err.ensures.kinds; begun = c.in-Err.ensures.begun })
     c.report_load_stop.ensures
 
 pub returns-in_default-clause-ends : goal.returns-in_default-clause-ends
 returns-in_default-clause-ends g c =
-    lacking (Some (asks c.args.command.now)) (g.D.Depot.store c.args.depot.now) (g.D.Depot.store c.load_all.new.depot) (g.S.Sink.output c.args.say.now)
+    lacking (Some (asks c.args.command.now)) (g.D.Depot.store c.args.depot.now) (g.D.Depot.store c.load_files.new.self) (g.S.Sink.output c.args.say.now)
     (record { files = c.in-Ok.ensures.files; kinds = c.in-Ok.ensures.kinds; begun = c.in-Ok.ensures.begun })
     (none_failed c.in-Ok.ensures.loads.1)
 

@@ -1,8 +1,10 @@
-use Rattle.std.proofs.Common.{◌∙◌, ap}
+use Rattle.std.proofs.Common.{refl}
 use Rattle.std.specs.Prelude.{Some}
+use Rattle.lk_base.specs.Limits.{standard}
 use Rattle.link_command.specs.Command.{asks}
-use Rattle.link_driver.specs.Contents.{input_contents, input_names, sources_of}
+use Rattle.link_driver.specs.Contents.{input_contents, input_names}
 use Rattle.link_driver.specs.Ends.{none_failed}
+use Rattle.link_driver.specs.Sources.{sources}
 use Rattle.link_driver.proofs.Starting.{is_linked, lacking, not_linked}
 use Rattle.link_driver.proofs.driving.link_inputs.Goals as goal
 
@@ -11,25 +13,18 @@ returns-in_default-clause-ends g c = λ before given loaded bytes.
     lacking (Some (asks c.args.command.now)) before (g.D.Depot.store c.args.depot.now) (g.S.Sink.output c.args.say.now)
     loaded.untouched (none_failed loaded.unread)
 
-pub returns-in_default-lines_for-clause-ends : goal.returns-in_default-lines_for-clause-ends
-returns-in_default-lines_for-clause-ends g c = λ before given loaded bytes.
-    lacking (Some (asks c.args.command.now)) before (g.D.Depot.store c.args.depot.now) (g.S.Sink.output c.args.say.now)
-    loaded.untouched (none_failed loaded.unread)
-
 pub returns-in-Err-clause-ends : goal.returns-in-Err-clause-ends
 returns-in-Err-clause-ends g c = λ before given loaded bytes.
-    let found = rw c.standard-limits.ensures at c.in-Ok.ensures in
-    let stops = rw c.standard-limits.ensures at c.in-Err.ensures in
+    let stops = rw c.standard.ensures at c.in-Err.ensures in
     not_linked (asks c.args.command.now) before (g.D.Depot.store c.args.depot.now) (g.S.Sink.output c.args.say.now) given
-    (input_contents c.args.inputs.now) (sources_of c.as_slice.result.now) c.in-Err.stop c.report_stop.result loaded bytes
-    (ap sources_of c.as_slice.ensures.value ∙ found) stops.first c.report_stop.ensures
+    (input_contents c.args.inputs.now) (sources standard (input_contents c.args.inputs.now)) c.in-Err.stop c.report_stop.result loaded bytes
+    refl stops.ends.first c.report_stop.ensures
 
 pub returns-clause-ends : goal.returns-clause-ends
 returns-clause-ends g c = λ before given loaded bytes.
-    let found = rw c.standard-limits.ensures at c.in-Ok.ensures in
-    let links = rw c.standard-limits.ensures at c.in-Ok-link_sources.ensures in
+    let links = rw c.standard.ensures at c.in-Ok.ensures in
     c.conclude.ensures.ends before given (record {
       inputs_are = loaded;
       is_link = is_linked (asks c.args.command.now) given (input_names c.args.inputs.now) (input_contents c.args.inputs.now)
-          (sources_of c.as_slice.result.now) c.in-Ok-link_sources.linked c.requires.names bytes (ap sources_of c.as_slice.ensures.value ∙ found) links;
+          (sources standard (input_contents c.args.inputs.now)) c.in-Ok.linked c.requires.names bytes refl links;
     }) c.in-Ok-lines_for.ensures

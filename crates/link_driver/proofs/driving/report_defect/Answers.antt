@@ -1,3 +1,4 @@
+use Rattle.std.proofs.Common.{◌∙◌, ap}
 use Rattle.link_command.specs.Command.{asks}
 use Rattle.link_driver.specs.Contents.{input_contents, sources_of}
 use Rattle.link_driver.proofs.Starting.{line_is}
@@ -5,4 +6,6 @@ use Rattle.link_driver.proofs.driving.report_defect.Goals as goal
 
 pub returns : goal.returns
 returns c =
-    line_is (asks c.args.command.now) (input_contents c.args.inputs.now) (sources_of c.args.sources.now) c.args.defect.now c.in-Ok.line.items c.requires.sources c.in-Ok.ensures
+    let found = rw c.standard.ensures at c.in-Ok.ensures in
+    line_is (asks c.args.command.now) (input_contents c.args.inputs.now) (sources_of c.as_slice.result.now) c.args.defect.now c.in-Ok-line_for.line.items
+    (ap sources_of c.as_slice.ensures.value ∙ found) c.in-Ok-line_for.ensures

@@ -9,6 +9,7 @@ use Rattle.lk_tables.specs.BindingView.{binding_view}
 use Rattle.lk_tables.specs.TablesView.{files_of}
 use Rattle.link_driver.specs.Tables.{wished}
 use Rattle.link_driver.proofs.Leading.{folded_are, folded_stay, lead_items, own_are, own_stay}
+use Rattle.link_driver.proofs.Passing.{folded_so, own_so}
 use Rattle.link_driver.proofs.linking.find_leaders.Goals as goal
 
 off_of : (on : Bool) → not on ≡ true → on ≡ false
@@ -57,3 +58,19 @@ returns-clause-stay g c =
     ∙ ap (λ ps. folded_leaders (item_views lent) ps c.in_ok-leaders.leaders.items) c.as_slice-3.ensures.value in
     folded_stay files b c.args.kept.now c.args.pools.now c.in_ok-leaders.leaders.items c.fold_leaders.new.leaders.items (item_views lent) places
     c.in_ok-leaders.ensures found order lead is c.requires.stay
+
+pub returns-then-not-options-clause-alike : goal.returns-then-not-options-clause-alike
+returns-then-not-options-clause-alike g c =
+    own_so c.args.tables.now (binding_view c.args.binding.now) c.args.kept.now c.args.pools.now c.in_ok-leaders.leaders.items c.in_ok-leaders.ensures
+    c.requires.stay
+
+pub returns-clause-alike : goal.returns-clause-alike
+returns-clause-alike g c =
+    let lent = c.as_slice.result.now in
+    let places = c.in_ok-places.places.items in
+    let found = ap item_views c.as_slice.ensures.value ∙ c.in_ok-items.ensures.items in
+    let same = c.as_slice-2.ensures.value ∙ sym c.as_slice.ensures.value in
+    let is = c.fold_leaders.ensures ∙ ap (λ l. folded_leaders (item_views l) c.as_slice-3.result.now c.in_ok-leaders.leaders.items) same
+    ∙ ap (λ ps. folded_leaders (item_views lent) ps c.in_ok-leaders.leaders.items) c.as_slice-3.ensures.value in
+    folded_so c.args.tables.now (binding_view c.args.binding.now) c.args.kept.now c.args.pools.now c.in_ok-leaders.leaders.items
+    c.fold_leaders.new.leaders.items (item_views lent) places c.in_ok-leaders.ensures found c.in_ok-places.ensures.leaders is c.requires.stay

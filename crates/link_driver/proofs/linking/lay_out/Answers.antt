@@ -1,5 +1,6 @@
 use Rattle.std.proofs.Common.{List, ap, sym, subst, ◌∙◌}
 use Rattle.layout.specs.Items.{HaveFirsts}
+use Rattle.layout.specs.Layout.{layout_defects}
 use Rattle.link_sections.specs.declared.pools.Pool.{Pool}
 use Rattle.link_sections.specs.GotView.{entries_of}
 use Rattle.link_sections.specs.PoolViews.{pool_heads}
@@ -51,3 +52,14 @@ returns-clause-goes c =
     let P : List Defect → Type 0 = λ ds. StopsAt c.in-Err.stop ds in
     subst P (defects_are w files b c.args.kept.now c.args.pools.now c.requires.pools c.args.leaders.now c.requires.leaders (entries_of c.args.got.now) c.requires.table
     (sizes_of c.in_ok-sizes.sizes) c.in_ok-sizes.ensures.cuts c.args.limits.now) c.in-Err.ensures.goes
+
+pub calls_reach-requires-clause-pools : goal.calls_reach-requires-clause-pools
+calls_reach-requires-clause-pools c =
+    let files = files_of c.args.tables.now in
+    let b = binding_view c.args.binding.now in
+    let P : List Pool → Type 0 = λ pools. HaveFirsts files b pools in
+    subst P (sym (ap pool_heads c.requires.pools) ∙ pool_heads_are files c.args.pools.now) (firsts_stay files b c.args.kept.now c.requires.stay)
+
+pub calls_reach-requires-clause-room : goal.calls_reach-requires-clause-room
+calls_reach-requires-clause-room c =
+    ap (layout_defects c.args.limits.now (files_of c.args.tables.now)) c.in-Ok.ensures.found ∙ c.in-Ok.ensures.goes

@@ -1,40 +1,64 @@
 use Rattle.std.proofs.Common.{◌≡◌, ◌∙◌, List, [], true, ap, sym, subst, ℕ}
 use Rattle.comdat.specs.Discarded.{discarded}
-use Rattle.link_command.specs.Command.{asks}
+use Rattle.link_command.specs.Command.{Asked, asks}
+use Rattle.lk_base.specs.declared.defects.LinkStop.{LinkStop}
+use Rattle.lk_base.specs.declared.limits.Limits.{Limits}
 use Rattle.lk_base.specs.Firsts.{StopsAt}
+use Rattle.lk_base.specs.Limits.{IsWithinStandard}
 use Rattle.lk_tables.specs.BoundNames.{binding_defects}
 use Rattle.lk_tables.specs.BindingView.{binding_view}
 use Rattle.lk_tables.specs.TablesView.{files_of}
 use Rattle.link_driver.specs.Contents.{input_contents, input_names, names_of, sources_of}
 use Rattle.elf_out.specs.Standing.{SectionsStand}
-use Rattle.link_driver.specs.Link.{Wishes, bound_names, laid_out, last_phases, leaders_in, wishes_of}
-use Rattle.link_driver.specs.Phases.{Makes}
-use Rattle.link_driver.specs.Sources.{shown_files}
+use Rattle.link_driver.specs.Link.{Wishes, bound_names, defects_in, kept_in, laid_out, last_phases, leaders_in, placing_defects, placing_phases, wishes_of}
+use Rattle.link_driver.specs.Phases.{HoldsAtStop, Makes, ShortenedCallsReach, Stops}
+use Rattle.link_driver.specs.Sources.{Source, files_in, shown_files}
 use Rattle.lk_tables.specs.Binding.{first_phase}
 use Rattle.link_driver.proofs.Chain.{at_reading, at_binding, at_last, at_pieces, no_defects}
 use Rattle.link_driver.proofs.FirstLeast.{least_stop}
 use Rattle.link_driver.proofs.Handing.{binding_is, bound_are, collected_are, gives_all, made_as, stand_so}
+use Rattle.link_driver.proofs.Passing.{early_binding, early_pieces, early_reading, not_past, past_on, placing_left, reach_in}
 use Rattle.link_driver.proofs.linking.link_sources.Goals as goal
+
+-- a stop before the layout
+early : (limits : Limits) → IsWithinStandard limits → (ss : List Source) (asked : Asked) (stop : LinkStop) → StopsAt stop (defects_in limits asked ss)
+    → StopsAt stop (placing_defects limits asked ss) → Stops limits asked ss stop
+early limits within ss asked stop at before = record {
+  ends = least_stop limits within ss asked stop at;
+  reach = not_past stop (placing_defects limits asked ss) _ before;
+}
 
 pub returns-in-Err : goal.returns-in-Err
 returns-in-Err g c =
-    least_stop c.args.limits.now c.requires.limits (sources_of c.args.sources.now) (asks c.args.command.now) c.in-Err.stop
-    (at_reading c.args.limits.now (asks c.args.command.now) (sources_of c.args.sources.now) c.in-Err.stop c.in-Err.ensures.goes)
+    let limits = c.args.limits.now in
+    let asked = asks c.args.command.now in
+    let ss = sources_of c.args.sources.now in
+    early limits c.requires.limits ss asked c.in-Err.stop (at_reading limits asked ss c.in-Err.stop c.in-Err.ensures.goes)
+    (early_reading limits asked ss c.in-Err.stop c.in-Err.ensures.goes)
 
 pub returns-in-Err-check_pieces : goal.returns-in-Err-check_pieces
 returns-in-Err-check_pieces g c =
-    least_stop c.args.limits.now c.requires.limits (sources_of c.args.sources.now) (asks c.args.command.now) c.in-Err-check_pieces.stop
-    (at_pieces c.args.limits.now (asks c.args.command.now) (sources_of c.args.sources.now) c.in-Ok.ensures.goes
-    (files_of c.in-Ok.tables) c.in-Ok.ensures.tables c.in-Err-check_pieces.stop c.in-Err-check_pieces.ensures)
+    let limits = c.args.limits.now in
+    let asked = asks c.args.command.now in
+    let ss = sources_of c.args.sources.now in
+    let files = files_of c.in-Ok.tables in
+    let stop = c.in-Err-check_pieces.stop in
+    early limits c.requires.limits ss asked stop
+    (at_pieces limits asked ss c.in-Ok.ensures.goes files c.in-Ok.ensures.tables stop c.in-Err-check_pieces.ensures)
+    (early_pieces limits asked ss c.in-Ok.ensures.goes files c.in-Ok.ensures.tables stop c.in-Err-check_pieces.ensures)
 
 pub returns-in-Err-bind_names : goal.returns-in-Err-bind_names
 returns-in-Err-bind_names g c =
+    let limits = c.args.limits.now in
+    let asked = asks c.args.command.now in
+    let ss = sources_of c.args.sources.now in
     let files = files_of c.in-Ok.tables in
-    let P : List ℕ → Type 0 = λ entry. StopsAt c.in-Err-bind_names.stop (binding_defects files (discarded files) entry) in
-    least_stop c.args.limits.now c.requires.limits (sources_of c.args.sources.now) (asks c.args.command.now) c.in-Err-bind_names.stop
-    (at_binding c.args.limits.now (asks c.args.command.now) (sources_of c.args.sources.now) c.in-Ok.ensures.goes
-    files c.in-Ok.ensures.tables c.in-Ok-check_pieces.ensures c.in-Err-bind_names.stop
-    (subst P c.as_str-entry.ensures.value c.in-Err-bind_names.ensures.goes))
+    let stop = c.in-Err-bind_names.stop in
+    let P : List ℕ → Type 0 = λ entry. StopsAt stop (binding_defects files (discarded files) entry) in
+    let at = subst P c.as_str-entry.ensures.value c.in-Err-bind_names.ensures.goes in
+    early limits c.requires.limits ss asked stop
+    (at_binding limits asked ss c.in-Ok.ensures.goes files c.in-Ok.ensures.tables c.in-Ok-check_pieces.ensures stop at)
+    (early_binding limits asked ss c.in-Ok.ensures.goes files c.in-Ok.ensures.tables c.in-Ok-check_pieces.ensures stop at)
 
 pub find_kept-requires-clause-bound : goal.find_kept-requires-clause-bound
 find_kept-requires-clause-bound g c = λ κs within.
@@ -46,16 +70,29 @@ link_kept-requires-clause-bound g c = λ κs within.
 
 pub returns-in-Err-link_kept : goal.returns-in-Err-link_kept
 returns-in-Err-link_kept g c =
+    let limits = c.args.limits.now in
     let asked = asks c.args.command.now in
+    let ss = sources_of c.args.sources.now in
     let files = files_of c.in-Ok.tables in
-    let names = c.in-Ok-bind_names.ensures.names ∙ ap (bound_names files) c.as_str-entry.ensures.value in
-    least_stop c.args.limits.now c.requires.limits (sources_of c.args.sources.now) asked c.in-Err-link_kept.stop
-    (at_last c.args.limits.now asked (sources_of c.args.sources.now) c.in-Ok.ensures.goes files c.in-Ok.ensures.tables c.in-Ok-check_pieces.ensures
-    (ap (binding_defects files (discarded files)) (sym c.as_str-entry.ensures.value) ∙ c.in-Ok-bind_names.ensures.goes)
-    (binding_view c.in-Ok-bind_names.binding) names c.as_slice.result.now (c.as_slice.ensures.value ∙ c.in_ok-kept.ensures.kept)
-    c.in-Err-link_kept.stop
-    (let P : Wishes → Type 0 = λ w. StopsAt c.in-Err-link_kept.stop (first_phase (last_phases c.args.limits.now w files (binding_view c.in-Ok-bind_names.binding) c.as_slice.result.now)) in
-    subst P c.options_of-options.ensures c.in-Err-link_kept.ensures.goes))
+    let b = binding_view c.in-Ok-bind_names.binding in
+    let kept = c.as_slice.result.now in
+    let stop = c.in-Err-link_kept.stop in
+    let named = c.in-Ok-bind_names.ensures.names ∙ ap (bound_names files) c.as_str-entry.ensures.value in
+    let stays = c.as_slice.ensures.value ∙ c.in_ok-kept.ensures.kept in
+    let bound = ap (binding_defects files (discarded files)) (sym c.as_str-entry.ensures.value) ∙ c.in-Ok-bind_names.ensures.goes in
+    let P : Wishes → Type 0 = λ w. StopsAt stop (first_phase (last_phases limits w files b kept)) in
+    let Q : Wishes → Type 0 = λ w. HoldsAtStop stop (first_phase (placing_phases limits w files b kept)) (ShortenedCallsReach w files b kept) in
+    let w = wishes_of asked in
+    record {
+      ends = least_stop limits c.requires.limits ss asked stop
+          (at_last limits asked ss c.in-Ok.ensures.goes files c.in-Ok.ensures.tables c.in-Ok-check_pieces.ensures bound b named kept stays stop
+          (subst P c.options_of-options.ensures c.in-Err-link_kept.ensures.goes));
+      reach = past_on stop (first_phase (placing_phases limits w files b kept)) (placing_defects limits asked ss) (ShortenedCallsReach w files b kept)
+          (ShortenedCallsReach w (files_in ss) (bound_names (files_in ss) asked.entry) (kept_in asked ss))
+          (λ none. sym (placing_left limits asked ss c.in-Ok.ensures.goes files c.in-Ok.ensures.tables c.in-Ok-check_pieces.ensures bound b named kept stays) ∙ none)
+          (reach_in asked ss files b kept c.in-Ok.ensures.tables named stays)
+          (subst Q c.options_of-options.ensures c.in-Err-link_kept.ensures.reach);
+    }
 
 pub returns : goal.returns
 returns g c =
@@ -73,6 +110,7 @@ returns g c =
     let P : Wishes → Type 0 = λ w. first_phase (last_phases c.args.limits.now w files b kept) ≡ [] in
     let Q : Wishes → Type 0 = λ w. SectionsStand files b (leaders_in w files b kept) (laid_out w files b kept) exe in
     let R : Wishes → Type 0 = λ w. Makes w (names_of given) files b kept linked in
+    let S : Wishes → Type 0 = λ w. ShortenedCallsReach w files b kept in
     let wanted : Wishes → Type 0 = λ w. w.map ≡ true → names_of given ≡ shown in
     let same = subst wanted c.options_of-options.ensures (λ on. ap names_of c.as_slice-2.ensures.value ∙ c.in_ok-names.ensures on) in
     record {
@@ -84,6 +122,7 @@ returns g c =
           c.in-Ok.ensures.tables c.as_str-entry.ensures.value c.in-Ok-bind_names.ensures.least;
       collected = λ gc. collected_are asked ss files b c.in_ok-kept.kept.items c.in-Ok.ensures.tables named c.in_ok-kept.ensures.kept (c.in_ok-kept.ensures.collected gc);
       stands = stand_so asked ss files b kept exe c.in-Ok.ensures.tables named stays (subst Q c.options_of-options.ensures c.in-Ok-link_kept.ensures.stands);
+      reach = reach_in asked ss files b kept c.in-Ok.ensures.tables named stays (subst S c.options_of-options.ensures c.in-Ok-link_kept.ensures.reach);
       gives = gives_all asked shown ss files b kept linked c.in-Ok.ensures.tables named stays
           (made_as (wishes_of asked) (names_of given) shown files b kept linked same (subst R c.options_of-options.ensures c.in-Ok-link_kept.ensures.written));
     }

@@ -1,6 +1,6 @@
 use Rattle.std.proofs.Common.{arith}
 use Rattle.std.proofs.lemmas.Fmt.{length-decimal-le}
-use Rattle.link_gen.proofs.Decimals.{more_digits, one_digit}
+use Rattle.lk_base.proofs.Decimals.{more_digits, one_digit}
 use Rattle.link_gen.proofs.numbers.+digit_count.Goals as goal
 
 pub returns-then-n-lt10-clause-value : goal.returns-then-n-lt10-clause-value

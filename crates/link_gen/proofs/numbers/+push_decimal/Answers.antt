@@ -1,4 +1,4 @@
-use Rattle.link_gen.proofs.Decimals.{digit_pushed, last_pushed}
+use Rattle.lk_base.proofs.Decimals.{digit_pushed, last_pushed}
 use Rattle.link_gen.proofs.numbers.+push_decimal.Goals as goal
 
 pub returns-then-n-lt10 : goal.returns-then-n-lt10

@@ -4,7 +4,7 @@ use Rattle.lk_tables.specs.Files.{section_count}
 use Rattle.lk_tables.specs.TablesView.{files_of}
 use Rattle.lk_tables.proofs.FirstNumbers.{section_within}
 use Rattle.link_sections.specs.InputSections as spec
-use Rattle.link_sections.proofs.RowSteps.{row_step}
+use Rattle.lk_base.proofs.Ranges.{row_step}
 use Rattle.link_sections.proofs.input_sections.push_file.Goals as goal
 
 pub overflow_cast-index : goal.overflow_cast-index

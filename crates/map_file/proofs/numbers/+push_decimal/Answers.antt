@@ -1,4 +1,4 @@
-use Rattle.map_file.proofs.Decimals.{digit_pushed, last_pushed}
+use Rattle.lk_base.proofs.Decimals.{digit_pushed, last_pushed}
 use Rattle.map_file.proofs.numbers.+push_decimal.Goals as goal
 
 pub returns-then-number-lt10 : goal.returns-then-number-lt10

@@ -3,7 +3,7 @@ use Rattle.lk_tables.specs.declared.objects.Reloc.{Reloc}
 use Rattle.lk_tables.specs.Files.{file_at, relocs_at, section_count}
 use Rattle.lk_tables.specs.TablesView.{files_of}
 use Rattle.lk_tables.proofs.FirstNumbers.{section_within}
-use Rattle.reloc_apply.proofs.RowSteps.{row_step}
+use Rattle.lk_base.proofs.Ranges.{row_step}
 use Rattle.reloc_apply.proofs.checks.push_counts.Goals as goal
 
 pub overflow_cast-section : goal.overflow_cast-section

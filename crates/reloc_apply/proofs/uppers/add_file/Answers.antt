@@ -7,7 +7,7 @@ use Rattle.lk_tables.specs.Files.{section_count}
 use Rattle.lk_tables.specs.TablesView.{files_of}
 use Rattle.lk_tables.specs.Uppers.{AreListed, uppers_at}
 use Rattle.lk_tables.proofs.FirstNumbers.{section_within}
-use Rattle.reloc_apply.proofs.RowSteps.{row_step}
+use Rattle.lk_base.proofs.Ranges.{row_step}
 use Rattle.reloc_apply.proofs.uppers.add_file.Goals as goal
 
 pub overflow_cast-section : goal.overflow_cast-section

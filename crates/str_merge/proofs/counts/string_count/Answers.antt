@@ -2,6 +2,7 @@ use Rattle.std.proofs.Common.{◌≡◌, ◌+◌, ◌-◌, ◌*◌, Bool, [], le
 use Rattle.std.specs.Prelude.{if◌then◌else◌}
 use Rattle.std.proofs.lemmas.List.{nil_from_length}
 use Rattle.link_sections.specs.MergeSections.{elements, is_zero_char, strings_from}
+use Rattle.str_merge.proofs.ByteStrings.{count_zeros}
 use Rattle.str_merge.proofs.CountSteps.{no_size, strings_done, strings_next}
 use Rattle.str_merge.proofs.CutTexts.{element_of}
 use Rattle.str_merge.proofs.counts.string_count.Goals as goal
@@ -10,6 +11,11 @@ pub returns-then-size-eq0 : goal.returns-then-size-eq0
 returns-then-size-eq0 c =
     let none = nil_from_length (elements c.args.size c.args.bytes.now) (no_size c.args.bytes.now c.args.size c.if-size-eq0.true) in
     sym (ap (λ l. length (strings_from [] l)) none)
+
+pub returns-then-size-eq1 : goal.returns-then-size-eq1
+returns-then-size-eq1 c =
+    c.count.ensures ∙ ap length c.memchr_iter.ensures.value ∙ count_zeros c.args.bytes.now
+    ∙ ap (λ n. length (strings_from [] (elements n c.args.bytes.now))) (sym c.if-size-eq1.true)
 
 pub loop-i-preserved : goal.loop-i-preserved
 loop-i-preserved c =

@@ -2,7 +2,7 @@ use Rattle.std.proofs.Common.{length}
 use Rattle.lk_tables.specs.TablesView.{files_of}
 use Rattle.sym_resolve.specs.Claims.{claim_at, claims}
 use Rattle.sym_resolve.specs.Symbols.{in_file}
-use Rattle.sym_resolve.proofs.Runs.{joined_run, piece_within}
+use Rattle.work_split.proofs.RunsJoined.{joined_run, piece_within}
 use Rattle.sym_resolve.proofs.offers.offers_of.Goals as goal
 
 pub over_shares-listed-requires-clause-accepts : goal.over_shares-listed-requires-clause-accepts

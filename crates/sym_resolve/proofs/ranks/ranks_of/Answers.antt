@@ -3,7 +3,7 @@ use Rattle.lk_tables.specs.Files.{by_symbol}
 use Rattle.lk_tables.specs.TablesView.{files_of}
 use Rattle.lk_tables.proofs.ByNumber.{symbol_row}
 use Rattle.sym_resolve.specs.Claims.{rank_by}
-use Rattle.sym_resolve.proofs.Runs.{joined_run, piece_within}
+use Rattle.work_split.proofs.RunsJoined.{joined_run, piece_within}
 use Rattle.sym_resolve.proofs.ranks.ranks_of.Goals as goal
 
 pub over_shares-filled-requires-clause-accepts : goal.over_shares-filled-requires-clause-accepts

@@ -3,7 +3,7 @@ use Rattle.lk_tables.specs.TablesView.{files_of}
 use Rattle.lk_tables.specs.BindingView.{binding_view}
 use Rattle.sym_resolve.specs.Unbound.{all_unbound, unbound_at}
 use Rattle.sym_resolve.specs.Symbols.{in_file}
-use Rattle.sym_resolve.proofs.Runs.{joined_run, piece_within}
+use Rattle.work_split.proofs.RunsJoined.{joined_run, piece_within}
 use Rattle.sym_resolve.proofs.unbound.unbound_of.Goals as goal
 
 pub over_shares-listed-requires-clause-accepts : goal.over_shares-listed-requires-clause-accepts

@@ -3,7 +3,7 @@ use Rattle.lk_tables.specs.Files.{File}
 use Rattle.lk_tables.proofs.FirstNumbers.{first_within}
 use Rattle.symbol_addresses.specs.Links.{link_files}
 use Rattle.symbol_addresses.specs.Sources.{address_in}
-use Rattle.symbol_addresses.proofs.RowSteps.{row_step}
+use Rattle.lk_base.proofs.Ranges.{row_step}
 use Rattle.symbol_addresses.proofs.addresses.push_addresses.Goals as goal
 
 pub overflow_cast-symbol : goal.overflow_cast-symbol

@@ -1,6 +1,6 @@
-use Rattle.std.proofs.Common.{[], refl, None}
+use Rattle.std.proofs.Common.{[], refl, None, string_bytes}
 use Rattle.lk_real.proofs.StreamSteps.{either_way}
-use Rattle.lk_real.proofs.FileSteps.{loaded, untold_file, appended, begun, put_nowhere}
+use Rattle.lk_real.proofs.FileSteps.{loaded, loaded_all, untold_file, appended, begun, put_nowhere}
 use Rattle.lk_real.proofs.real_depot.RealDepotDepot.TheImpl.Goals as goal
 
 pub load-tells : goal.load-tells
@@ -11,6 +11,20 @@ load-tells g c =
       absent = λ is. absurd (c.ensures.untold is);
       failed = step.failed;
       unread = step.unread;
+      later = step.later;
+      files = refl;
+      kinds = refl;
+      begun = step.begun;
+    }
+
+pub load_files-asks : goal.load_files-asks
+load_files-asks g c = record { sync = record { shared = c.requires.sync.shared }; some = c.requires.some; most = c.requires.most }
+
+pub load_files-tells : goal.load_files-tells
+load_files-tells g c =
+    let step = loaded_all string_bytes c.args.names.now c.result _ _ c.ensures.names c.ensures.after in
+    record {
+      loads = step.loads;
       later = step.later;
       files = refl;
       kinds = refl;

@@ -1,0 +1,145 @@
+-- What holds of a link past its layout: each shortened call reaches its target.
+use Rattle.std.proofs.Common.{◌≡◌, Bool, List, Option, [], ◌∷◌, ◌++◌, ℕ, sym, ap, ◌∙◌, subst}
+use Rattle.std.specs.Prelude.{Result, Ok, Err}
+use Rattle.call_reach.specs.Reach.{AreAlike, CallsReach}
+use Rattle.call_reach.proofs.Alike.{folded_alike, own_alike}
+use Rattle.comdat.specs.Discarded.{discarded}
+use Rattle.icf_part.specs.Folding.{AreLeaders}
+use Rattle.layout.specs.Layout.{layout_defects}
+use Rattle.link_command.specs.Command.{Asked}
+use Rattle.link_sections.specs.FoldItems.{FoldItem}
+use Rattle.link_sections.specs.LaidOut.{LaidOut}
+use Rattle.link_sections.specs.Leaders.{folded_leaders, own_leaders}
+use Rattle.link_sections.specs.PoolViews.{merged_views}
+use Rattle.link_sections.specs.declared.pools.Pools.{Pools}
+use Rattle.lk_base.specs.declared.defects.Defect.{Defect}
+use Rattle.lk_base.specs.declared.defects.LinkStop.{LinkStop}
+use Rattle.lk_base.specs.declared.defects.LinkStop.TheVariants as stops
+use Rattle.lk_base.specs.declared.limits.Limits.{Limits}
+use Rattle.lk_base.specs.Firsts.{StopsAt}
+use Rattle.lk_tables.specs.declared.tables.Tables.{Tables}
+use Rattle.lk_tables.specs.Binding.{Bindings, duplicate_defects, first_phase, flag_defects}
+use Rattle.lk_tables.specs.BoundNames.{binding_defects, entry_defects}
+use Rattle.lk_tables.specs.Files.{File}
+use Rattle.lk_tables.specs.TablesView.{files_of}
+use Rattle.sec_graph.specs.Foldable.{items}
+use Rattle.sec_graph.specs.Undefined.{undefined_defects}
+use Rattle.link_driver.specs.declared.linking.Linked.{Linked}
+use Rattle.link_driver.specs.Defects.{opening_defects, reading_defects}
+use Rattle.link_driver.specs.Link.{Wishes, binding_phases, bound_names, kept_in, kept_of, laid_out, leaders_in, piece_defects, placing_defects, placing_phases, wishes_of}
+use Rattle.link_driver.specs.Phases.{HoldsAtStop, HoldsPast, ShortenedCallsReach}
+use Rattle.link_driver.specs.Sources.{Source, files_in}
+use Rattle.link_driver.specs.Tables.{MayStay}
+use Rattle.link_driver.proofs.Chain.{one_none, one_stop, passed, stopped}
+
+-- each section has as many bytes as its leader, without folding and with it
+pub own_so : (tables : Tables) (b : Bindings) (kept : List Bool) (pools : Pools) (own : List (Option ℕ)) → own ≡ own_leaders kept (merged_views pools) →
+    MayStay (files_of tables) b kept → AreAlike (files_of tables) b own
+own_so tables b kept pools own is stay =
+    let Q : List (Option ℕ) → Type 0 = λ l. AreAlike (files_of tables) b l in
+    subst Q (sym is) (own_alike tables b kept stay.each (merged_views pools))
+
+pub folded_so : (tables : Tables) (b : Bindings) (kept : List Bool) (pools : Pools) (own leaders : List (Option ℕ)) (list : List FoldItem) (places : List ℕ) →
+    own ≡ own_leaders kept (merged_views pools) → list ≡ items (files_of tables) b (merged_views pools) kept → AreLeaders list places →
+    leaders ≡ folded_leaders list places own → MayStay (files_of tables) b kept → AreAlike (files_of tables) b leaders
+folded_so tables b kept pools own leaders list places own_is list_is lead is stay =
+    let files = files_of tables in
+    let merged = merged_views pools in
+    let P : List FoldItem → Type 0 = λ l. AreLeaders l places in
+    let Q : List (Option ℕ) → Type 0 = λ l. AreAlike files b l in
+    let whole = is ∙ ap (λ l. folded_leaders l places own) list_is ∙ ap (folded_leaders (items files b merged kept) places) own_is in
+    subst Q (sym whole) (folded_alike tables b kept stay.each merged places (subst P list_is lead))
+
+-- over the leaders and the layout of a link
+pub reaches_so : (w : Wishes) (files : List File) (b : Bindings) (kept : List Bool) (leaders : List (Option ℕ)) (laid : LaidOut) → leaders ≡ leaders_in w files b kept →
+    laid ≡ laid_out w files b kept → CallsReach files b leaders laid → ShortenedCallsReach w files b kept
+reaches_so w files b kept leaders laid lead found reach =
+    let P : List (Option ℕ) → Type 0 = λ l. CallsReach files b l laid in
+    let Q : LaidOut → Type 0 = λ l. CallsReach files b (leaders_in w files b kept) l in
+    subst Q found (subst P lead reach)
+
+-- and of the files of these sources
+pub reach_in : (asked : Asked) (ss : List Source) (files : List File) (b : Bindings) (kept : List Bool) → files ≡ files_in ss → b ≡ bound_names files asked.entry →
+    kept ≡ kept_of asked.gc files b → ShortenedCallsReach (wishes_of asked) files b kept →
+    ShortenedCallsReach (wishes_of asked) (files_in ss) (bound_names (files_in ss) asked.entry) (kept_in asked ss)
+reach_in asked ss files b kept are names stays reach =
+    let w = wishes_of asked in
+    let P : List Bool → Type 0 = λ k. ShortenedCallsReach w files b k in
+    let Q : Bindings → Type 0 = λ n. ShortenedCallsReach w files n (kept_of asked.gc files n) in
+    let R : List File → Type 0 = λ fs. ShortenedCallsReach w fs (bound_names fs asked.entry) (kept_of asked.gc fs (bound_names fs asked.entry)) in
+    subst R are (subst Q names (subst P stays reach))
+
+-- a link that stops at one of these defects has some
+pub not_past : (stop : LinkStop) (defects : List Defect) (P : Type 0) → StopsAt stop defects → HoldsAtStop stop defects P
+not_past (stops.Defect d) defects P begins = λ none. let some : [] ≡ d ∷ begins.0 = sym none ∙ begins.1 in cc
+not_past stops.Memory defects P at = tt
+
+-- what holds in any case
+pub past_all : (r : Result Linked LinkStop) (defects : List Defect) (P : Type 0) → P → HoldsPast r defects P
+past_all (Ok linked) defects P holds = holds
+past_all (Err (stops.Defect d)) defects P holds = λ none. holds
+past_all (Err stops.Memory) defects P holds = tt
+
+-- what follows, past more phases
+pub past_on : (stop : LinkStop) (earlier more : List Defect) (P Q : Type 0) → (more ≡ [] → earlier ≡ []) → (P → Q) → HoldsAtStop stop earlier P → HoldsAtStop stop more Q
+past_on (stops.Defect d) earlier more P Q less step holds = λ none. step (holds (less none))
+past_on stops.Memory earlier more P Q less step holds = tt
+
+pub past_each : (r : Result Linked LinkStop) (earlier more : List Defect) (P : Type 0) → (more ≡ [] → earlier ≡ []) → HoldsPast r earlier P → HoldsPast r more P
+past_each (Ok linked) earlier more P less holds = holds
+past_each (Err stop) earlier more P less holds = past_on stop earlier more P P less (λ p. p) holds
+
+-- the only phase with a defect
+one_left : (xs : List Defect) → first_phase (xs ∷ []) ≡ [] → xs ≡ []
+one_left [] none = none
+one_left (x ∷ xs) none = none
+
+module _ (limits : Limits) (w : Wishes) (files : List File) (b : Bindings) (kept : List Bool) where
+  -- past what is undefined
+  pub past_undefined : (r : Result Linked LinkStop) (P : Type 0) → undefined_defects files b kept ≡ [] → HoldsPast r (layout_defects limits files (laid_out w files b kept)) P →
+      HoldsPast r (first_phase (placing_phases limits w files b kept)) P
+  past_undefined r P defined holds =
+      let layout = layout_defects limits files (laid_out w files b kept) in
+      past_each r layout (first_phase (placing_phases limits w files b kept)) P
+      (λ none. one_left layout (sym (passed (undefined_defects files b kept ∷ []) (layout ∷ []) (one_none (undefined_defects files b kept) defined)) ∙ none)) holds
+
+module _ (limits : Limits) (asked : Asked) (ss : List Source) where
+  abbrev read_phases : List (List Defect)
+  read_phases = reading_defects limits ss ∷ opening_defects limits ss ∷ []
+
+  abbrev placing_of : List File → Bindings → List Bool → List (List Defect)
+  placing_of files b kept = placing_phases limits (wishes_of asked) files b kept
+
+  abbrev rest_of : List File → List (List Defect)
+  rest_of files = binding_phases limits asked files ++ placing_of files (bound_names files asked.entry) (kept_of asked.gc files (bound_names files asked.entry))
+
+  pub early_reading : (stop : LinkStop) → StopsAt stop (first_phase read_phases) → StopsAt stop (placing_defects limits asked ss)
+  unfolding placing_defects
+  early_reading stop at = stopped read_phases (rest_of (files_in ss)) stop at
+
+  module _ (read : first_phase read_phases ≡ []) (files : List File) (are : files ≡ files_in ss) where
+    left : placing_defects limits asked ss ≡ first_phase (rest_of files)
+    unfolding placing_defects
+    left = passed read_phases (rest_of (files_in ss)) read ∙ ap (λ fs. first_phase (rest_of fs)) (sym are)
+
+    pub early_pieces : (stop : LinkStop) → StopsAt stop (piece_defects limits files) → StopsAt stop (placing_defects limits asked ss)
+    early_pieces stop at = let P : List Defect → Type 0 = λ ds. StopsAt stop ds in
+        subst P (sym left) (stopped (piece_defects limits files ∷ []) _ stop (one_stop stop (piece_defects limits files) at))
+
+    abbrev name_phases : List (List Defect)
+    name_phases = flag_defects files ∷ duplicate_defects files (discarded files) ∷ entry_defects files (discarded files) asked.entry ∷ []
+
+    module _ (few : piece_defects limits files ≡ []) where
+      past : placing_defects limits asked ss
+          ≡ first_phase (name_phases ++ placing_of files (bound_names files asked.entry) (kept_of asked.gc files (bound_names files asked.entry)))
+      past = left ∙ passed (piece_defects limits files ∷ []) _ (one_none (piece_defects limits files) few)
+
+      pub early_binding : (stop : LinkStop) → StopsAt stop (binding_defects files (discarded files) asked.entry) → StopsAt stop (placing_defects limits asked ss)
+      early_binding stop at = let P : List Defect → Type 0 = λ ds. StopsAt stop ds in subst P (sym past) (stopped name_phases _ stop at)
+
+      pub placing_left : binding_defects files (discarded files) asked.entry ≡ [] → (b : Bindings) → b ≡ bound_names files asked.entry →
+          (kept : List Bool) → kept ≡ kept_of asked.gc files b → placing_defects limits asked ss ≡ first_phase (placing_of files b kept)
+      placing_left bound b names kept stays =
+          past ∙ passed name_phases _ bound
+          ∙ ap (λ n. first_phase (placing_of files n (kept_of asked.gc files n))) (sym names)
+          ∙ ap (λ k. first_phase (placing_of files b k)) (sym stays)

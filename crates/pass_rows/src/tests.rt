@@ -1,0 +1,11 @@
+//! One file for each pass, and `alone` for what a call answers where there is nothing to do.
+
+mod alone;
+mod archives;
+mod bound_names;
+mod commands;
+mod defect_lines;
+mod generated;
+mod known_names;
+mod objects;
+mod tables;

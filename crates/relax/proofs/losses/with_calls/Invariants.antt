@@ -1,0 +1,6 @@
+use Rattle.std.proofs.Common.{◌≡◌}
+use Rattle.relax.specs.Jumps.{lost_upto}
+use Rattle.relax.proofs.losses.with_calls.Given as goal
+
+abbrev pub invariant-loop-i : goal.invariant-loop-i
+invariant-loop-i l = l.lost ≡ lost_upto l.sizes l.i
