@@ -59,7 +59,7 @@ use sec_gc::{keep, roots};
 use sec_graph::{edges, items, undefined};
 use std::alloc::{AllocError, Global};
 use std::thread::Threads;
-use str_merge::{merge, piece_count};
+use str_merge::{merge, piece_bound, piece_count};
 use sym_resolve::bind;
 use symbol_addresses::find_addresses;
 use work_split::Gate;
@@ -511,11 +511,14 @@ fn link_kept<R: Threads + Sync, G: Gate>(
     )
 }
 
-/// Refuses more pieces than a link may have.
+/// Refuses more pieces than a link may have. They are counted only where there are enough bytes for so many.
 #[tactic(auto, unfolding(crate::specs::Link::piece_defects))]
 fn check_pieces(tables: &Tables, limits: &Limits) -> Result<(), LinkStop>
     ensures { Goes result (piece_defects limits.now (files_of tables.now)) }
 {
+    if piece_bound(tables) <= limits.pieces {
+        return Ok(());
+    }
     match check_count(limits.pieces, piece_count(tables)) {
         Ok(()) => Ok(()),
         Err(defect) => Err(LinkStop::Defect(defect)),

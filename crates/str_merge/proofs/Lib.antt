@@ -9,6 +9,7 @@ pub mod SpreadSteps
 pub mod CutTexts
 pub mod ByteStrings
 pub mod CutLists
+pub mod Gathered
 pub mod PoolFacts
 pub mod PoolTexts
 pub mod WorkFacts
@@ -17,4 +18,5 @@ pub mod PoolSteps
 pub mod SiteRows
 pub mod PoolOrder
 pub mod CountSteps
+pub mod BoundSteps
 pub mod PieceLaws

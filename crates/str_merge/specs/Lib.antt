@@ -1,6 +1,7 @@
 pub mod Counting
 pub mod Cutting
 pub mod Filling
+pub mod Gathering
 pub mod Keys
 pub mod Members
 pub mod Orders

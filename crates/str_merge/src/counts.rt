@@ -1,9 +1,9 @@
 //! How many pieces a link has at most.
 
-ghost use Rattle.std.specs.Prelude.{◌≡◌, ◌<◌, ◌-◌, ◌^◌, ◌&&◌, [], min, length, map, sum, if◌then◌else◌};
+ghost use Rattle.std.specs.Prelude.{◌≡◌, ◌<◌, ◌≤◌, ◌-◌, ◌^◌, ◌&&◌, [], min, length, map, sum, if◌then◌else◌};
 ghost use Rattle.std.specs.List.{range_with_len};
 ghost use Rattle.lk_tables.specs.FileView.{file_view};
-ghost use Rattle.lk_tables.specs.Files.{file_at, section_count, writes};
+ghost use Rattle.lk_tables.specs.Files.{file_at, section_at, section_count, writes};
 ghost use Rattle.lk_tables.specs.TablesView.{files_of};
 ghost use Rattle.link_sections.specs.MergeSections as spec;
 ghost use Rattle.link_sections.specs.Merging.{piece_count, pieces_at};
@@ -38,6 +38,41 @@ fn count_file(tables: &Tables, file: FileNo, before: u64) -> u64
         total = total.saturating_add(count_section(entry, index));
     }
     total
+}
+
+/// No less than [`piece_count`], and found without a look at the pieces: the bytes of these sections; 2^64 - 1 if there are more.
+/// Takes no memory.
+pub fn piece_bound(tables: &Tables) -> u64
+    ensures { min (piece_count (files_of tables.now)) (2 ^ 64 - 1) ≤ result }
+{
+    let mut total = 0;
+    for file in 0..tables.file_count() as u32 {
+        total = bound_file(tables, file, total);
+    }
+    total
+}
+
+/// That of one file, and `before` more.
+fn bound_file(tables: &Tables, file: FileNo, before: u64) -> u64
+    requires file { file < length (files_of tables.now) }
+    ensures { added before (sum (map (pieces_at (files_of tables.now) file) (range_with_len 0 (section_count (file_at (files_of tables.now) file))))) ≤ result }
+{
+    let entry = tables.file(file);
+    let mut total = before;
+    for index in 0..section_count(entry) {
+        total = total.saturating_add(bound_section(entry, index));
+    }
+    total
+}
+
+/// The bytes of a section, if it is written and is merged if it is kept.
+fn bound_section(file: &File, index: usize) -> u64
+    ensures { result ≡ (if writes (file_view file.now) index && spec.is_mergeable (file_view file.now) index then (section_at (file_view file.now) index).size else 0) }
+{
+    if file.writes(index) && is_mergeable(file, index) {
+        return file.section(index).size;
+    }
+    0
 }
 
 /// How many pieces a section has, if it is written and is merged if it is kept.

@@ -15,6 +15,7 @@ use link_sections::{Merged, PieceRows, Pool};
 use lk_base::SecNo;
 use std::alloc::{AllocError, Global};
 use std::thread::Threads;
+use work_split::Gate;
 
 /// The pools of a link have fewer bytes.
 const BYTES_END: u64 = 1 << 60;
@@ -36,18 +37,21 @@ pub struct Filled {
 }
 
 /// All pools.
-pub fn fill<R: Threads + Sync>(
+pub fn fill<R: Threads + Sync, G: Gate>(
     rt: &R,
     alloc: Global,
     work: &Work,
     workers: u32,
+    gate: &G,
 ) -> Result<Filled, AllocError>
-    requires { IsWork work.now }
+    requires work { IsWork work.now }
+    requires some { 1 ≤ workers }
+    requires most { workers ≤ 64 }
     ensures { IfOk result (IsFilledTo work.now (length work.now.firsts.now)) }
 {
     let mut filled = empty(alloc, work)?;
     for pool in 0..work.firsts.len() as u32 {
-        add_pool(rt, alloc, work, pool, workers, &mut filled)?;
+        add_pool(rt, alloc, work, pool, workers, gate, &mut filled)?;
     }
     Ok(filled)
 }
@@ -69,21 +73,24 @@ fn empty(alloc: Global, work: &Work) -> Result<Filled, AllocError>
 }
 
 /// One pool more.
-fn add_pool<R: Threads + Sync>(
+fn add_pool<R: Threads + Sync, G: Gate>(
     rt: &R,
     alloc: Global,
     work: &Work,
     pool: u32,
     workers: u32,
+    gate: &G,
     filled: &mut Filled,
 ) -> Result<(), AllocError>
     requires work { IsWork work.now }
     requires pool { pool < length work.now.firsts.now }
+    requires some { 1 ≤ workers }
+    requires most { workers ≤ 64 }
     requires filled { IsFilledTo work.now pool filled.old }
     ensures { OnOk result (IsFilledTo work.now (pool + 1) filled.new) }
 {
     let members = work.members[pool as usize].as_slice();
-    let pooled = pool_texts(rt, alloc, work, pool as usize, members, workers)?;
+    let pooled = pool_texts(rt, alloc, work, pool as usize, members, workers, gate)?;
     let site = &work.sites[work.firsts[pool as usize] as usize];
     push_pool(filled, site.section, &pooled.placed)?;
     push_parts(alloc, filled, work, members, &pooled, pool)?;

@@ -1,48 +1,192 @@
-//! The pieces of several sections, one after the other.
+//! The pieces of several sections, one after the other, read where the cuts have them.
 
-ghost use Rattle.std.specs.Prelude.{◌≡◌, ◌<◌, All, length, IfOk};
+ghost use Rattle.std.specs.Prelude.{◌≡◌, ◌+◌, ◌<◌, ◌≤◌, [], All, length, slice_index_or, IfOk, OnOk};
+ghost use Rattle.lk_tables.specs.Names.{no_name};
 ghost use Rattle.lk_tables.specs.TablesView.{files_of};
+ghost use Rattle.str_merge.specs.Gathering.{AreTexts, IsFound, IsPlace};
 ghost use Rattle.str_merge.specs.Sites.{gathered, span_lists, span_text, span_texts};
 ghost use Rattle.str_merge.specs.Texts.{lent_texts};
 
+use lk_base::LinkStop;
 use lk_tables::{Span, Tables, text_of};
 use std::alloc::{AllocError, Global};
+use std::ops::Range;
+use std::thread::Threads;
+use work_split::{Gate, over_shares, pieces};
 
-/// The pieces of these sections, by their places in the list.
-pub fn gather(alloc: Global, cuts: &[Vec<Span>], members: &[u32]) -> Result<Vec<Span>, AllocError>
-    requires { All (λ i. i < length cuts.now) members.now }
-    ensures { IfOk result (λ spans. spans.items ≡ gathered (span_lists cuts.now) members.now) }
-{
-    let mut spans = Vec::with_capacity(alloc, room_of(cuts, members))?;
-    for n in 0..members.len() {
-        let cut = &cuts[members[n] as usize];
-        spans.extend_from_slice(cut.as_slice())?;
-    }
-    Ok(spans)
+/// Fewer pieces are not worth a thread.
+const LEAST: usize = 16_384;
+
+/// Where the pieces of one of several sections begin.
+#[derive(Clone, Copy, Debug)]
+pub struct Place {
+    /// The section's place among these.
+    pub section: usize,
+    /// How many pieces the sections before it have.
+    pub before: usize,
 }
 
-/// How many pieces these sections have; where that is no number of 64 bits, the last one.
-fn room_of(cuts: &[Vec<Span>], members: &[u32]) -> usize
+/// The first section.
+pub const START: Place = Place {
+    section: 0,
+    before: 0,
+};
+
+/// How many pieces these sections have.
+pub fn count_of(cuts: &[Vec<Span>], members: &[u32]) -> Result<usize, AllocError>
     requires { All (λ i. i < length cuts.now) members.now }
+    ensures { IfOk result (λ count. count ≡ length (gathered (span_lists cuts.now) members.now)) }
 {
-    let mut room: usize = 0;
+    let mut count: usize = 0;
     for n in 0..members.len() {
-        room = room.saturating_add(cuts[members[n] as usize].len());
+        count = sum_of(count, cut_at(cuts, members, n).len())?;
     }
-    room
+    Ok(count)
 }
 
-/// The bytes of each of these spans.
-pub fn texts_of<'a>(
+/// The pieces of one of these sections.
+fn cut_at<'c>(cuts: &'c [Vec<Span>], members: &[u32], n: usize) -> &'c [Span]
+    requires members { All (λ i. i < length cuts.now) members.now }
+    requires n { n < length members.now }
+    ensures { result.now ≡ slice_index_or (span_lists cuts.now) (slice_index_or members.now n 0) [] }
+{
+    cuts[members[n] as usize].as_slice()
+}
+
+/// Two counts together.
+fn sum_of(count: usize, more: usize) -> Result<usize, AllocError>
+    ensures { IfOk result (λ sum. sum ≡ count + more) }
+{
+    match count.checked_add(more) {
+        Some(sum) => Ok(sum),
+        None => Err(AllocError),
+    }
+}
+
+/// The span of piece `i`. Pieces that are asked for in order are found without a search.
+pub fn span_at(
+    cuts: &[Vec<Span>],
+    members: &[u32],
+    place: &mut Place,
+    i: usize,
+) -> Result<Span, AllocError>
+    requires members { All (λ m. m < length cuts.now) members.now }
+    requires place { IsPlace (span_lists cuts.now) members.now place.old }
+    ensures span { IfOk result (λ span. span ≡ slice_index_or (gathered (span_lists cuts.now) members.now) i no_name) }
+    ensures place { OnOk result (IsPlace (span_lists cuts.now) members.now place.new) }
+{
+    let found = find(cuts, members, place, i)?;
+    *place = found;
+    let cut = cut_at(cuts, members, found.section);
+    Ok(cut[i - found.before])
+}
+
+/// The section of piece `i`.
+fn find(cuts: &[Vec<Span>], members: &[u32], from: &Place, i: usize) -> Result<Place, AllocError>
+    requires members { All (λ m. m < length cuts.now) members.now }
+    requires from { IsPlace (span_lists cuts.now) members.now from.now }
+    ensures { IfOk result (IsFound (span_lists cuts.now) members.now i) }
+{
+    if i < from.before {
+        return find_from(cuts, members, &START, i);
+    }
+    find_from(cuts, members, from, i)
+}
+
+/// The same, from a section on whose pieces don't begin after it.
+fn find_from(
+    cuts: &[Vec<Span>],
+    members: &[u32],
+    from: &Place,
+    i: usize,
+) -> Result<Place, AllocError>
+    requires members { All (λ m. m < length cuts.now) members.now }
+    requires from { IsPlace (span_lists cuts.now) members.now from.now }
+    requires order { from.now.before ≤ i }
+    ensures { IfOk result (IsFound (span_lists cuts.now) members.now i) }
+{
+    let mut before = from.before;
+    for section in from.section..members.len() {
+        let len = cut_at(cuts, members, section).len();
+        if i - before < len {
+            return Ok(Place { section, before });
+        }
+        before += len;
+    }
+    Err(AllocError)
+}
+
+/// The bytes of each piece of these sections, which are so many. The workers find those of a share each; one finds a few.
+pub fn texts_of<'a, R: Threads + Sync, G: Gate>(
+    rt: &R,
     alloc: Global,
     tables: &Tables<'a>,
-    spans: &[Span],
+    cuts: &[Vec<Span>],
+    members: &[u32],
+    count: usize,
+    workers: u32,
+    gate: &G,
 ) -> Result<Vec<&'a [u8]>, AllocError>
-    ensures { IfOk result (λ texts. lent_texts texts.items ≡ span_texts (files_of tables.now) spans.now) }
+    requires members { All (λ m. m < length cuts.now) members.now }
+    requires count { count ≡ length (gathered (span_lists cuts.now) members.now) }
+    requires some { 1 ≤ workers }
+    requires most { workers ≤ 64 }
+    ensures { IfOk result (λ texts. lent_texts texts.items ≡ span_texts (files_of tables.now) (gathered (span_lists cuts.now) members.now)) }
 {
-    let mut texts = Vec::with_capacity(alloc, spans.len())?;
-    for i in 0..spans.len() {
-        texts.push(text_at(tables, &spans[i]))?;
+    if workers == 1 || count < LEAST {
+        return all_texts(alloc, tables, cuts, members, count);
+    }
+    let shares = pieces(alloc, count, workers)?;
+    let texts = over_shares(
+        rt,
+        alloc,
+        gate,
+        shares.as_slice(),
+        |share: Range<usize>| -> Result<Vec<&[u8]>, LinkStop>
+            requires members { All (λ m. m < length cuts.now) members.now }
+            requires ordered { share.start ≤ share.end }
+            ensures { IfOk result (λ texts. AreTexts (files_of tables.entry.now) (gathered (span_lists cuts.entry.now) members.entry.now) share.start share.end texts.items) }
+        { Ok(texts_share(alloc, tables, cuts, members, share)?) },
+    );
+    match texts {
+        Ok(texts) => Ok(texts),
+        Err(_) => Err(AllocError),
+    }
+}
+
+/// The same by one worker.
+fn all_texts<'a>(
+    alloc: Global,
+    tables: &Tables<'a>,
+    cuts: &[Vec<Span>],
+    members: &[u32],
+    count: usize,
+) -> Result<Vec<&'a [u8]>, AllocError>
+    requires members { All (λ m. m < length cuts.now) members.now }
+    requires count { count ≡ length (gathered (span_lists cuts.now) members.now) }
+    ensures { IfOk result (λ texts. lent_texts texts.items ≡ span_texts (files_of tables.now) (gathered (span_lists cuts.now) members.now)) }
+{
+    let texts = texts_share(alloc, tables, cuts, members, 0..count)?;
+    Ok(texts)
+}
+
+/// The bytes of the pieces of one share.
+fn texts_share<'a>(
+    alloc: Global,
+    tables: &Tables<'a>,
+    cuts: &[Vec<Span>],
+    members: &[u32],
+    share: Range<usize>,
+) -> Result<Vec<&'a [u8]>, AllocError>
+    requires members { All (λ m. m < length cuts.now) members.now }
+    requires ordered { share.start ≤ share.end }
+    ensures { IfOk result (λ texts. AreTexts (files_of tables.now) (gathered (span_lists cuts.now) members.now) share.start share.end texts.items) }
+{
+    let mut texts = Vec::with_capacity(alloc, share.end - share.start)?;
+    let mut place = START;
+    for i in share.start..share.end {
+        let span = span_at(cuts, members, &mut place, i)?;
+        texts.push(text_at(tables, &span))?;
     }
     Ok(texts)
 }

@@ -19,5 +19,5 @@ mod spreading;
 #[cfg(test)]
 mod tests;
 
-pub use counts::piece_count;
+pub use counts::{piece_bound, piece_count};
 pub use merging::merge;

@@ -3,7 +3,7 @@
 ghost use Rattle.std.specs.Prelude.{◌≡◌, ◌≤◌, length, IfOk};
 ghost use Rattle.lk_tables.specs.TablesView.{files_of};
 ghost use Rattle.link_sections.specs.Merging.{pools_of};
-ghost use Rattle.link_sections.specs.PoolViews.{pools_view};
+ghost use Rattle.link_sections.specs.PoolViews.{piece_rows, pools_view};
 ghost use Rattle.str_merge.specs.Filling.{IsFilledTo};
 ghost use Rattle.str_merge.specs.Works.{IsWork};
 
@@ -37,7 +37,8 @@ pub fn merge<R: Threads + Sync, G: Gate>(
 ) -> Result<Pools, AllocError>
     requires some { 1 ≤ workers }
     requires most { workers ≤ 64 }
-    ensures { IfOk result (λ pools. pools_view (files_of tables.now) pools ≡ pools_of (files_of tables.now) kept.now) }
+    ensures value { IfOk result (λ pools. pools_view (files_of tables.now) pools ≡ pools_of (files_of tables.now) kept.now) }
+    ensures rows { IfOk result (λ pools. length (piece_rows pools) ≡ length pools.pools.items) }
 {
     let sites = merge_sites(alloc, tables, kept)?;
     if sites.len() >= SITE_END {
@@ -57,7 +58,7 @@ pub fn merge<R: Threads + Sync, G: Gate>(
         firsts: order.firsts.as_slice(),
         members: members.as_slice(),
     };
-    let filled = fill(rt, alloc, &work, workers)?;
+    let filled = fill(rt, alloc, &work, workers, gate)?;
     let pools = finish(alloc, &work, filled)?;
     Ok(pools)
 }
@@ -66,7 +67,8 @@ pub fn merge<R: Threads + Sync, G: Gate>(
 fn finish(alloc: Global, work: &Work, filled: Filled) -> Result<Pools, AllocError>
     requires work { IsWork work.now }
     requires filled { IsFilledTo work.now (length work.now.firsts.now) filled }
-    ensures { IfOk result (λ pools. pools_view (files_of work.now.tables.now) pools ≡ pools_of (files_of work.now.tables.now) work.now.kept.now) }
+    ensures value { IfOk result (λ pools. pools_view (files_of work.now.tables.now) pools ≡ pools_of (files_of work.now.tables.now) work.now.kept.now) }
+    ensures rows { IfOk result (λ pools. length (piece_rows pools) ≡ length pools.pools.items) }
 {
     let merged = spread(alloc, work.tables, work.kept, filled.answers.as_slice())?;
     Ok(Pools::of(filled.pools, merged, filled.rows))

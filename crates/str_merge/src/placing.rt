@@ -4,8 +4,10 @@ ghost use Rattle.std.specs.Prelude.{◌≡◌, ◌+◌, ◌<◌, ◌≤◌, ◌^
 ghost use Rattle.lk_base.specs.Arithmetic.{up};
 ghost use Rattle.link_sections.specs.Merging.{end_from, positions_from};
 ghost use Rattle.str_merge.specs.Placing.{IsPlaced, chosen, fitted};
+ghost use Rattle.str_merge.specs.Sites.{gathered, span_lists};
 ghost use Rattle.str_merge.specs.Texts.{lent_texts};
 
+use crate::gathering::{START, span_at};
 use link_sections::Piece;
 use lk_base::up;
 use lk_tables::Span;
@@ -23,25 +25,28 @@ pub struct Placed {
     pub size: u64,
 }
 
-/// The pieces of these indexes, one after the other, each at a multiple of the alignment.
+/// The pieces of these indexes among those of some sections, one after the other, each at a multiple of the alignment.
 pub fn place_pieces(
     alloc: Global,
-    spans: &[Span],
+    cuts: &[Vec<Span>],
+    members: &[u32],
     texts: &[&[u8]],
     firsts: &[u32],
     align: u64,
 ) -> Result<Placed, AllocError>
     requires align { 1 ≤ align }
-    requires same { length spans.now ≡ length texts.now }
-    requires within { All (λ i. i < length spans.now) firsts.now }
-    ensures { IfOk result (IsPlaced spans.now (lent_texts texts.now) firsts.now align) }
+    requires members { All (λ m. m < length cuts.now) members.now }
+    requires within { All (λ i. i < length texts.now) firsts.now }
+    ensures { IfOk result (IsPlaced (gathered (span_lists cuts.now) members.now) (lent_texts texts.now) firsts.now align) }
 {
     let mut pieces = Vec::with_capacity(alloc, firsts.len())?;
+    let mut place = START;
     let mut size = 0;
     for n in 0..firsts.len() {
         let at = firsts[n] as usize;
         let position = next_position(size, align)?;
-        pieces.push(piece_at(&spans[at], texts[at], position))?;
+        let span = span_at(cuts, members, &mut place, at)?;
+        pieces.push(piece_at(&span, texts[at], position))?;
         size = end_of(position, texts[at].len())?;
     }
     Ok(Placed { pieces, size })

@@ -1,13 +1,12 @@
 //! The pieces of one pool.
 
-ghost use Rattle.std.specs.Prelude.{◌≡◌, ◌<◌, ◌≤◌, length, flat_map, IfOk};
+ghost use Rattle.std.specs.Prelude.{◌≡◌, ◌<◌, ◌≤◌, length, IfOk};
 ghost use Rattle.lk_tables.specs.TablesView.{files_of};
-ghost use Rattle.link_sections.specs.Merging.{pool_members, pool_site, site_key, site_pieces};
+ghost use Rattle.link_sections.specs.Merging.{pool_site, site_key};
 ghost use Rattle.str_merge.specs.Pooling.{IsPooled};
-ghost use Rattle.str_merge.specs.Sites.{span_texts};
 ghost use Rattle.str_merge.specs.Works.{IsWork, members_at};
 
-use crate::gathering::{gather, texts_of};
+use crate::gathering::{count_of, texts_of};
 use crate::keys::PoolKey;
 use crate::orders::order_of;
 use crate::placing::{Placed, place_pieces};
@@ -16,6 +15,7 @@ use lk_tables::{Span, Tables};
 use name_numbers::number_texts;
 use std::alloc::{AllocError, Global};
 use std::thread::Threads;
+use work_split::Gate;
 
 /// So many pieces have numbers. A link has no more, since that is its limit.
 const PIECE_MAX: usize = 0x7fff_ffff;
@@ -50,42 +50,33 @@ pub struct Pooled<'a> {
 }
 
 /// The pieces of the sections of a pool, of which `members` are the places in the list.
-pub fn pool_texts<'a, R: Threads + Sync>(
+pub fn pool_texts<'a, R: Threads + Sync, G: Gate>(
     rt: &R,
     alloc: Global,
     work: &Work<'_, 'a>,
     pool: usize,
     members: &[u32],
     workers: u32,
+    gate: &G,
 ) -> Result<Pooled<'a>, AllocError>
     requires work { IsWork work.now }
     requires pool { pool < length work.now.firsts.now }
     requires members { members.now ≡ members_at (files_of work.now.tables.now) work.now.kept.now pool }
+    requires some { 1 ≤ workers }
+    requires most { workers ≤ 64 }
     ensures { IfOk result (IsPooled (files_of work.now.tables.now) work.now.kept.now pool) }
 {
-    if members.len() == 1 {
-        let cut = &work.cuts[members[0] as usize];
-        return pool_spans(rt, alloc, work, pool, cut.as_slice(), workers);
-    }
-    let spans = gather(alloc, work.cuts, members)?;
-    pool_spans(rt, alloc, work, pool, spans.as_slice(), workers)
-}
-
-/// The same, if `spans` are the pieces of its sections, one section after the other.
-fn pool_spans<'a, R: Threads + Sync>(
-    rt: &R,
-    alloc: Global,
-    work: &Work<'_, 'a>,
-    pool: usize,
-    spans: &[Span],
-    workers: u32,
-) -> Result<Pooled<'a>, AllocError>
-    requires work { IsWork work.now }
-    requires pool { pool < length work.now.firsts.now }
-    requires spans { span_texts (files_of work.now.tables.now) spans.now ≡ flat_map (site_pieces (files_of work.now.tables.now)) (pool_members (files_of work.now.tables.now) work.now.kept.now pool) }
-    ensures { IfOk result (IsPooled (files_of work.now.tables.now) work.now.kept.now pool) }
-{
-    let texts = texts_of(alloc, work.tables, spans)?;
+    let count = count_of(work.cuts, members)?;
+    let texts = texts_of(
+        rt,
+        alloc,
+        work.tables,
+        work.cuts,
+        members,
+        count,
+        workers,
+        gate,
+    )?;
     if texts.len() > PIECE_MAX {
         return Err(AllocError);
     }
@@ -93,7 +84,8 @@ fn pool_spans<'a, R: Threads + Sync>(
     let order = order_of(alloc, numbers.as_slice())?;
     let placed = place_pieces(
         alloc,
-        spans,
+        work.cuts,
+        members,
         texts.as_slice(),
         order.firsts.as_slice(),
         align_of(work, pool),

@@ -62,17 +62,20 @@ fn pieces_of_sections(rt: HostRuntime) -> Result<(), Fail> {
     Ok(())
 }
 
-// The distinct ones of `abc`, the empty string, the empty string and `xyz`, at multiples of 8.
+// The distinct ones of `abc`, the empty string, the empty string and `xyz`, at multiples of 8. The last one is that of another section.
 #[test]
 fn pieces_of_a_pool(rt: HostRuntime) -> Result<(), Fail> {
-    let spans = [WHOLE, WHOLE, WHOLE, WHOLE];
+    let cuts = [
+        [WHOLE].to_vec(rt.alloc())?,
+        [WHOLE, WHOLE, WHOLE].to_vec(rt.alloc())?,
+    ];
     let texts = [
         b"abc\0".as_slice(),
         b"\0".as_slice(),
         b"\0".as_slice(),
         b"xyz\0".as_slice(),
     ];
-    let placed = place_pieces(rt.alloc(), &spans, &texts, &[0, 1, 3], 8)?;
+    let placed = place_pieces(rt.alloc(), &cuts, &[1, 0], &texts, &[0, 1, 3], 8)?;
     let mut positions = Vec::new(rt.alloc());
     for piece in placed.pieces.iter() {
         positions.push(piece.position)?;

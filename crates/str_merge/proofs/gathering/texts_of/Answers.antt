@@ -1,17 +1,28 @@
-use Rattle.std.proofs.Common.{ℕ, List, get_or, ap, ◌∙◌, arith}
-use Rattle.std.specs.Borrow.{Bor}
-use Rattle.std.proofs.lemmas.List.{get_or_default}
-use Rattle.lk_tables.specs.Names.{no_name}
+use Rattle.std.proofs.Common.{ℕ, List, subst, sym, arith}
+use Rattle.std.specs.declared.ops.Range.{Range}
 use Rattle.lk_tables.specs.TablesView.{files_of}
-use Rattle.str_merge.specs.Sites.{span_text}
-use Rattle.str_merge.proofs.ListSteps.{by_index, view_step}
+use Rattle.work_split.specs.Pieces.{Tiles}
+use Rattle.work_split.proofs.RunsBeside.{joined_beside}
+use Rattle.work_split.proofs.Tiling.{tiles_within}
+use Rattle.str_merge.specs.Gathering.{AreTexts}
+use Rattle.str_merge.specs.Sites.{gathered, span_lists}
+use Rattle.str_merge.proofs.Gathered.{texts_all, texts_beside}
 use Rattle.str_merge.proofs.gathering.texts_of.Goals as goal
 
-pub loop-i-preserved : goal.loop-i-preserved
-loop-i-preserved c =
-    let files = files_of c.args.tables.now in
-    view_step (λ (t : Bor (List ℕ)). t.now) (λ i. span_text files (get_or c.args.spans.now i no_name)) c.loop-i.i c.loop-i.texts.items c.push.new.self.items c.text_at.result
-    c.loop-i.invariant c.in_ok-push.ensures.items (c.text_at.ensures ∙ ap (span_text files) (get_or_default c.args.spans.now c.loop-i.i _ no_name (omega arith)))
+pub over_shares-texts-requires-clause-accepts : goal.over_shares-texts-requires-clause-accepts
+over_shares-texts-requires-clause-accepts g c κs within = λ w p lt at.
+    let Tile : List (Range ℕ) → Type 0 = λ l. Tiles 0 c.args.count l in
+    let tiles : Tile c.as_slice.result.now = subst Tile (sym c.as_slice.ensures.value) c.in_ok-shares.ensures.tiles in
+    let own = tiles_within 0 c.args.count c.as_slice.result.now w p tiles lt at in
+    let some = own.some in
+    (c.requires.members, omega (arith, some))
 
-pub returns : goal.returns
-returns c = c.loop-i.invariant ∙ by_index (span_text (files_of c.args.tables.now)) c.args.spans.now no_name c.loop-i.i (omega arith)
+pub returns-in-Ok : goal.returns-in-Ok
+returns-in-Ok g c =
+    let files = files_of c.args.tables.now in
+    let spans = gathered (span_lists c.args.cuts.now) c.args.members.now in
+    let n = c.args.count in
+    let Tile : List (Range ℕ) → Type 0 = λ l. Tiles 0 n l in
+    let tiles : Tile c.as_slice.result.now = subst Tile (sym c.as_slice.ensures.value) c.in_ok-shares.ensures.tiles in
+    texts_all files spans n c.in-Ok.texts.items c.requires.count
+    (joined_beside (AreTexts files spans) (texts_beside files spans) _ n c.as_slice.result.now c.over_shares-texts.result c.in-Ok.texts c.over_shares-texts.ensures (λ p s h. h.1) tiles c.in-Ok.is)

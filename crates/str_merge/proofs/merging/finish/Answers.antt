@@ -18,9 +18,9 @@ of-requires c =
       piled = c.requires.filled.piled;
     }
 
-pub returns : goal.returns
+pub returns-clause-value : goal.returns-clause-value
 unfolding pools_view
-returns c =
+returns-clause-value c =
     let w = c.args.work.now in
     let files = files_of w.tables.now in
     let kept = w.kept.now in
@@ -29,3 +29,6 @@ returns c =
     pools_are_of files kept (pool_views files c.of.result.pools.items (piece_rows c.of.result)) (merged_views c.of.result) (length w.firsts.now) count
     (ap (λ (l : List Pool). pool_views files l (piece_rows c.of.result)) c.of.ensures.pools ∙ ap (pool_views files c.args.filled.pools.items) c.of.ensures.pieces ∙ c.requires.filled.pools_are)
     (c.of.ensures.merged ∙ ap (merged_by parts) (c.in_ok-merged.ensures ∙ ap (spread files kept) c.as_slice.ensures.value) ∙ spread_is w c.args.filled c.requires.work c.requires.filled)
+
+pub returns-clause-rows : goal.returns-clause-rows
+returns-clause-rows c = ap length c.of.ensures.pieces ∙ sym c.requires.filled.paired ∙ ap length (sym c.of.ensures.pools)

@@ -81,8 +81,8 @@ members_of-requires-clause-few g c =
     let ranked : c.as_slice-5.result.now ≡ ranks (site_numbers files kept) = c.as_slice-5.ensures.value ∙ c.in_ok-order.ensures.ranks ∙ ap ranks numbered in
     omega (arith, few, ap length ranked, count_ranks files kept)
 
-pub fill-requires-after_bounds : goal.fill-requires-after_bounds
-fill-requires-after_bounds g c = λ κs bound.
+pub fill-requires-clause-work : goal.fill-requires-clause-work
+fill-requires-clause-work g c = λ κs bound.
     let files = files_of c.args.tables.now in
     let kept = c.args.kept.now in
     let all = sites files kept in

@@ -1,14 +1,19 @@
-use Rattle.std.proofs.Common.{◌≡◌, ◌<◌, ℕ, List, [], length, get_or, ap, sym, subst, ◌∙◌, arith}
-use Rattle.std.specs.Prelude.{All}
-use Rattle.std.specs.Global.{Vec}
-use Rattle.std.proofs.lemmas.List.{get_or-map, length-map}
-use Rattle.lk_tables.specs.declared.spans.Span.{Span}
+use Rattle.std.proofs.Common.{◌≡◌, ◌<◌, ℕ, List, length, ap, sym, subst, ◌∙◌, arith}
+use Rattle.std.specs.Prelude.{All, flat_map}
+use Rattle.std.specs.Borrow.{Bor}
+use Rattle.std.proofs.lemmas.List.{length-map}
 use Rattle.lk_tables.specs.TablesView.{files_of}
-use Rattle.link_sections.specs.Merging.{site_pieces, sites}
+use Rattle.link_sections.specs.Merging.{pool_members, site_pieces, sites}
+use Rattle.name_numbers.specs.Texts.{text_numbers}
 use Rattle.str_merge.specs.declared.pooling.Work.{Work}
+use Rattle.str_merge.specs.Orders.{firsts}
+use Rattle.str_merge.specs.Placing.{IsPlaced}
 use Rattle.str_merge.specs.Sites.{cut_views, gathered, span_lists, span_texts}
+use Rattle.str_merge.specs.Texts.{lent_texts}
 use Rattle.str_merge.specs.Works.{IsWork, members_at}
-use Rattle.str_merge.proofs.PoolFacts.{gathered_one, gathered_texts, members_within, pool_texts_are}
+use Rattle.str_merge.proofs.ListSteps.{length_texts}
+use Rattle.str_merge.proofs.PoolFacts.{gathered_texts, members_within, pool_texts_are}
+use Rattle.str_merge.proofs.PoolTexts.{pooled_is, texts_first, texts_within}
 use Rattle.str_merge.proofs.pooling.pool_texts.Goals as goal
 
 -- the sections of a pool have pieces
@@ -21,33 +26,51 @@ within w pool members is own =
     let Q : List ℕ → Type 0 = All (λ i. i < length all) in
     subst P count (subst Q (sym own) (members_within files w.kept.now pool))
 
-pub gather-requires : goal.gather-requires
-gather-requires g c = within c.args.work.now c.args.pool c.args.members.now c.requires.work c.requires.members
+-- their texts
+own_texts : (w : Work) (pool : ℕ) (members : List ℕ) → IsWork w → members ≡ members_at (files_of w.tables.now) w.kept.now pool →
+    span_texts (files_of w.tables.now) (gathered (span_lists w.cuts.now) members) ≡ flat_map (site_pieces (files_of w.tables.now)) (pool_members (files_of w.tables.now) w.kept.now pool)
+own_texts w pool members is own =
+    let files = files_of w.tables.now in
+    let kept = w.kept.now in
+    gathered_texts files w.cuts.now members ∙ ap (gathered (cut_views files w.cuts.now)) own ∙ pool_texts_are files kept (cut_views files w.cuts.now) pool is.cuts_are
 
-pub pool_spans-requires-2-clause-spans : goal.pool_spans-requires-2-clause-spans
-pool_spans-requires-2-clause-spans g c κs bound =
+pub count_of-requires : goal.count_of-requires
+count_of-requires g c = within c.args.work.now c.args.pool c.args.members.now c.requires.work c.requires.members
+
+pub texts_of-requires-clause-members : goal.texts_of-requires-clause-members
+texts_of-requires-clause-members g c κs bound = within c.args.work.now c.args.pool c.args.members.now c.requires.work c.requires.members
+
+pub order_of-requires : goal.order_of-requires
+order_of-requires g c =
+    let texts = lent_texts c.in_ok-texts.texts.items in
+    let is : c.as_slice-2.result.now ≡ text_numbers texts = c.as_slice-2.ensures.value ∙ c.in_ok-numbers.ensures ∙ ap (λ (l : List (Bor (List ℕ))). text_numbers (lent_texts l)) c.as_slice.ensures.value in
+    let few = c.if-len-gt-PIECE_MAX.false in
+    texts_first texts c.as_slice-2.result.now is (omega (arith, length_texts c.in_ok-texts.texts.items, c.len.ensures, c.in_ok-texts.texts.ok))
+
+pub place_pieces-requires : goal.place_pieces-requires
+place_pieces-requires g c =
+    let texts = lent_texts c.in_ok-texts.texts.items in
+    let is : c.as_slice-2.result.now ≡ text_numbers texts = c.as_slice-2.ensures.value ∙ c.in_ok-numbers.ensures ∙ ap (λ (l : List (Bor (List ℕ))). text_numbers (lent_texts l)) c.as_slice.ensures.value in
+    let first : c.as_slice-4.result.now ≡ firsts c.as_slice-2.result.now = c.as_slice-4.ensures.value ∙ c.in_ok-order.ensures.firsts in
+    let count : length texts ≡ length c.as_slice-3.result.now = length_texts c.in_ok-texts.texts.items ∙ ap length (sym c.as_slice-3.ensures.value) in
+    let P : ℕ → Type 0 = λ n. All (λ i. i < n) c.as_slice-4.result.now in
+    record {
+      align = c.align_of.ensures.some;
+      members = within c.args.work.now c.args.pool c.args.members.now c.requires.work c.requires.members;
+      within = subst P count (texts_within texts c.as_slice-2.result.now c.as_slice-4.result.now is first);
+    }
+
+pub returns : goal.returns
+returns g c =
     let w = c.args.work.now in
     let files = files_of w.tables.now in
     let kept = w.kept.now in
-    ap (span_texts files) (c.as_slice-2.ensures.value ∙ c.in_ok-spans.ensures) ∙ gathered_texts files w.cuts.now c.args.members.now
-    ∙ ap (gathered (cut_views files w.cuts.now)) c.requires.members ∙ pool_texts_are files kept (cut_views files w.cuts.now) c.args.pool c.requires.work.cuts_are
-
-pub bounds-work-members : goal.bounds-work-members
-bounds-work-members g c =
-    let one = c.if-members-eq1.true in
-    within c.args.work.now c.args.pool c.args.members.now c.requires.work c.requires.members 0 0 (omega (arith, one))
-
-pub pool_spans-requires-clause-spans : goal.pool_spans-requires-clause-spans
-pool_spans-requires-clause-spans g c κs bound =
-    let w = c.args.work.now in
-    let files = files_of w.tables.now in
-    let kept = w.kept.now in
-    let members = c.args.members.now in
-    let one = c.if-members-eq1.true in
-    let at = get_or members 0 0 in
-    let lt : at < length w.cuts.now = within w c.args.pool members c.requires.work c.requires.members 0 0 (omega (arith, one)) in
-    ap (span_texts files)
-    (c.as_slice.ensures.value ∙ sym (get_or-map (λ (v : Vec Span). v.items) w.cuts.now at c.index-work-members.result [] lt)
-    ∙ sym (gathered_one (span_lists w.cuts.now) members one))
-    ∙ gathered_texts files w.cuts.now members
-    ∙ ap (gathered (cut_views files w.cuts.now)) c.requires.members ∙ pool_texts_are files kept (cut_views files w.cuts.now) c.args.pool c.requires.work.cuts_are
+    let pool = c.args.pool in
+    let spans = gathered (span_lists w.cuts.now) c.args.members.now in
+    let texts = lent_texts c.in_ok-texts.texts.items in
+    let lent : texts ≡ span_texts files spans = c.in_ok-texts.ensures in
+    let is : c.as_slice-2.result.now ≡ text_numbers texts = c.as_slice-2.ensures.value ∙ c.in_ok-numbers.ensures ∙ ap (λ (l : List (Bor (List ℕ))). text_numbers (lent_texts l)) c.as_slice.ensures.value in
+    pooled_is files kept pool spans c.as_slice-2.result.now c.in_ok-order.order.firsts.items c.align_of.result _ lent (own_texts w pool c.args.members.now c.requires.work c.requires.members)
+    is c.in_ok-order.ensures.firsts c.in_ok-order.ensures.ranks c.align_of.ensures.value
+    (subst (λ (fs : List ℕ). IsPlaced spans texts fs c.align_of.result c.in_ok-placed.placed) (c.as_slice-4.ensures.value)
+    (subst (λ (l : List (Bor (List ℕ))). IsPlaced spans (lent_texts l) c.as_slice-4.result.now c.align_of.result c.in_ok-placed.placed) c.as_slice-3.ensures.value c.in_ok-placed.ensures))
