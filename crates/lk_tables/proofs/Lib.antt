@@ -16,5 +16,6 @@ pub mod SoundHead
 pub mod SoundBody
 pub mod Widths
 pub mod LiveFiles
+pub mod SectionFiles
 pub mod SoundFiles
 pub mod SoundGroups

@@ -38,33 +38,8 @@ place_law files section f is =
     let below = is.below in
     record { file = is.file; index = omega (arith, section_more files f is.file); number = omega arith }
 
--- the first p of the files' first numbers are not above the section's, and the others are
-pub record IsSplit (files : List File) (section p : ℕ) : Type 0 where
-  pub below : (k : ℕ) → k < p → k ≤ length files → first_section files k ≤ section
-  pub above : (k : ℕ) → p ≤ k → k ≤ length files → section < first_section files k
-
-pub some_below : (files : List File) (section p : ℕ) → IsSplit files section p → 1 ≤ p
-some_below files section p split = elim (cases_lt 0 p) [
-  | inl lt ↦ lt
-  | inr none ↦ absurd (let no : section < 0 = split.above 0 none (omega arith) in omega (arith, no))
-]
-
-pub split_owner : (files : List File) (section p : ℕ) → section < section_total files → IsSplit files section p → IsOwner files section (p - 1)
-split_owner files section p within split =
-    let some = some_below files section p split in
-    let most : p ≤ length files = elim (cases_lt (length files) p) [
-      | inl lt ↦ absurd (let no = split.below (length files) lt (omega arith) in omega (arith, no, within))
-      | inr le ↦ le
-    ] in
-    let next : p - 1 + 1 ≡ p = omega arith in
-    record {
-      file = omega arith;
-      from = split.below (p - 1) (omega arith) (omega arith);
-      below = omega (arith, split.above p (omega arith) most, ap (first_section files) next);
-    }
-
 -- each number of a section has an owner
-owner_below : (files : List File) (section m : ℕ) → m ≤ length files → section < first_section files m → (f : ℕ) × IsOwner files section f
+pub owner_below : (files : List File) (section m : ℕ) → m ≤ length files → section < first_section files m → (f : ℕ) × IsOwner files section f
 owner_below files section zero le lt = absurd (omega arith)
 owner_below files section (suc m) le lt = elim (cases_lt section (first_section files m)) [
   | inl below ↦ owner_below files section m (omega arith) below

@@ -9,7 +9,7 @@ ghost use Rattle.lk_tables.specs.TablesView.{are_numbered, files_of, have_number
 
 use crate::files::File;
 use crate::objects::Object;
-use crate::starts::{first_sections, first_symbols};
+use crate::starts::{first_sections, first_symbols, section_files};
 use crate::tables::{Heads, Tables};
 use std::alloc::{AllocError, Global};
 
@@ -32,11 +32,13 @@ impl<'a> Tables<'a> {
         put_bodies(&mut files, objects);
         let first_symbols = first_symbols(alloc, files.as_slice())?;
         let first_sections = first_sections(alloc, files.as_slice())?;
+        let section_files = section_files(alloc, files.as_slice(), first_sections.as_slice())?;
         Ok(Tables {
             files,
             names: heads.names,
             first_symbols,
             first_sections,
+            section_files,
         })
     }
 }

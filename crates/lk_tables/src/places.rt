@@ -75,13 +75,10 @@ impl<'a> Tables<'a> {
         ensures place { result ≡ place_of (files_of self.now) section }
         ensures law { IsPlaceOf (files_of self.now) section result }
     {
-        let file = self
-            .first_sections
-            .partition_point(|first| *first <= section)
-            - 1;
+        let file = self.section_files[section as usize];
         SectionPlace {
-            file: file as u32,
-            index: section - self.first_sections[file],
+            file,
+            index: section - self.first_sections[file as usize],
         }
     }
 

@@ -1,12 +1,13 @@
-//! The numbers of each file's first symbol and first section.
+//! The numbers of each file's first symbol and first section, and the file of each section number.
 
 ghost use Rattle.std.specs.Prelude.{◌≡◌, ◌+◌, ◌<◌, ◌≤◌, ◌^◌, map, length, IfOk};
 ghost use Rattle.std.specs.List.{range_with_len};
 ghost use Rattle.lk_tables.specs.FileView.{file_view, file_views};
-ghost use Rattle.lk_tables.specs.Files.{commons_before, first_section, first_symbol, section_count, section_total, symbol_total};
+ghost use Rattle.lk_tables.specs.Files.{by_section, commons_before, first_section, first_symbol, section_count, section_total, symbol_total};
 
 use crate::files::File;
 use crate::reading::is_common;
+use lk_base::FileNo;
 use std::alloc::{AllocError, Global};
 
 /// The number of each file's first symbol, and after these how many symbols there are.
@@ -37,6 +38,23 @@ pub fn first_sections(alloc: Global, files: &[File]) -> Result<Vec<u32>, AllocEr
     }
     firsts.push(total)?;
     Ok(firsts)
+}
+
+/// The file of each section number, by the numbers of the files' first sections.
+pub fn section_files(
+    alloc: Global,
+    files: &[File],
+    firsts: &[u32],
+) -> Result<Vec<FileNo>, AllocError>
+    requires few { length files.now < 2 ^ 24 }
+    requires firsts { firsts.now ≡ map (first_section (file_views files.now)) (range_with_len 0 (length files.now + 1)) }
+    ensures { IfOk result (λ owners. owners.items ≡ by_section (file_views files.now) (λ file index. file)) }
+{
+    let mut owners = Vec::with_capacity(alloc, firsts[files.len()] as usize)?;
+    for f in 0..files.len() {
+        owners.resize(firsts[f + 1] as usize, f as u32)?;
+    }
+    Ok(owners)
 }
 
 /// How many section numbers a file has: its own sections, and one for each of its COMMON symbols; none if it takes no part.
