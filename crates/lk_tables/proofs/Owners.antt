@@ -58,12 +58,13 @@ unwritten : (b : List ℕ) → is_written b no_section ≡ false
 unfolding is_written is_loaded
 unwritten b = refl
 
+pub unwritten_past : (file : File) (k : ℕ) → length file.head.sections ≤ k → writes file k ≡ false
+unwritten_past file k past =
+    let none : section_at file k ≡ no_section = get_or_past file.head.sections k no_section past in
+    ap (λ s. nat_lt 0 k && is_written file.bytes s) none ∙ ap (λ b. nat_lt 0 k && b) (unwritten file.bytes) ∙ and-false (nat_lt 0 k)
+
 pub written_within : (file : File) (k : ℕ) → writes file k ≡ true → k < length file.head.sections
 written_within file k written = elim (cases_lt k (length file.head.sections)) [
   | inl lt ↦ lt
-  | inr past ↦
-      let none : section_at file k ≡ no_section = get_or_past file.head.sections k no_section past in
-      let not_written : writes file k ≡ false =
-      ap (λ s. nat_lt 0 k && is_written file.bytes s) none ∙ ap (λ b. nat_lt 0 k && b) (unwritten file.bytes) ∙ and-false (nat_lt 0 k) in
-      absurd cc
+  | inr past ↦ let not_written = unwritten_past file k past in absurd cc
 ]

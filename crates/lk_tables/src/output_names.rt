@@ -58,7 +58,7 @@ fn gathered<'a>(prefixes: &[&'a [u8]], name: &'a [u8]) -> &'a [u8]
     name
 }
 
-// Whether a name is `prefix`, or `prefix` with a dot and more after it.
+// Whether a name is `prefix`, or `prefix` with a dot and more after it. The dot is looked for first: most names have none there.
 #[tactic(auto, unfolding(crate::specs::OutputNames::is_under))]
 fn is_under(name: &[u8], prefix: &[u8]) -> bool
     ensures { result ≡ is_under prefix.now name.now }
@@ -66,10 +66,10 @@ fn is_under(name: &[u8], prefix: &[u8]) -> bool
     if name == prefix {
         return true;
     }
-    name.starts_with(prefix)
-        && prefix.len() < name.len()
+    prefix.len() < name.len()
         && name[prefix.len()] == b'.'
         && prefix.len() < name.len() - 1
+        && name.starts_with(prefix)
 }
 
 // Whether a name is one of those that may end in a priority, with one to five bytes in its place.

@@ -154,7 +154,10 @@ impl<'a> File<'a> {
     pub fn writes(&self, index: usize) -> bool
         ensures { result ≡ spec.writes (file_view self.now) index }
     {
-        0 < index && is_written(self.bytes, &self.section(index))
+        match self.head.sections.get(index) {
+            Some(section) => 0 < index && is_written(self.bytes, section),
+            None => false,
+        }
     }
 }
 
