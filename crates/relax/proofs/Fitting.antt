@@ -53,7 +53,7 @@ none_sound contents size = record {
   apart = λ i j d lt high. absurd (omega (arith, high));
 }
 
-sound_at : (tables : Tables) (f k : ℕ) → (file_at (files_of tables) f).live ≡ true →
+pub sound_at : (tables : Tables) (f k : ℕ) → (file_at (files_of tables) f).live ≡ true →
     AreSound (contents_of (file_at (files_of tables) f).bytes (section_at (file_at (files_of tables) f) k)) (section_at (file_at (files_of tables) f) k).size
     (relocs_at (file_at (files_of tables) f) k)
 sound_at tables f k live =

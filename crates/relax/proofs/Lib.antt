@@ -5,6 +5,7 @@ mod KeyMaps
 mod LeastSizes
 mod ListSteps
 pub mod MemberFacts
+mod NoCalls
 mod Places
 pub mod PointSteps
 pub mod RowFacts

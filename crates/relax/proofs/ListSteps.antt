@@ -1,5 +1,7 @@
 -- Lists that loops collect, one element on.
-use Rattle.std.proofs.Common.{◌≡◌, ℕ, ◌+◌, ◌<◌, List, [], ◌∷◌, ◌++◌, length, map, take, flat_map, get_or, sym, ap, ◌∙◌, append_assoc}
+use Rattle.std.proofs.Common.{◌≡◌, ℕ, ◌+◌, ◌<◌, List, [], ◌∷◌, ◌++◌, length, map, take, flat_map, get_or, sym, ap, ◌∙◌, append_assoc, arith}
+use Rattle.std.specs.List.{range_with_len}
+use Rattle.std.proofs.lemmas.List.FromFn.{map-range_with_len_more}
 use Rattle.std.proofs.lemmas.Grind.{flat_map-append}
 use Rattle.std.proofs.lemmas.List.{append-nil, map-append, take_more}
 use Rattle.link_sections.specs.declared.pools.Pool.{Pool}
@@ -22,3 +24,11 @@ pub rooms_step : (f : Room → List Item) (pools : List Pool) (k : ℕ) (d : Poo
     old ≡ first ++ flat_map f (rooms_of (take k pools)) → new ≡ old ++ f (room_of (get_or pools k d)) → new ≡ first ++ flat_map f (rooms_of (take (k + 1) pools))
 unfolding rooms_of
 rooms_step f pools k d first old new lt held is = mapped_step room_of f pools k d first old new lt held is
+
+-- one element more, after a prefix
+pub row_step : {X : Type 0} (give : ℕ → X) (n : ℕ) (prefix old new : List X) (x : X) → old ≡ prefix ++ map give (range_with_len 0 n) → new ≡ old ++ x ∷ [] →
+    x ≡ give n → new ≡ prefix ++ map give (range_with_len 0 (n + 1))
+row_step give n prefix old new x held is own =
+    is ∙ ap (λ l. l ++ x ∷ []) held ∙ ap (λ y. (prefix ++ map give (range_with_len 0 n)) ++ y ∷ []) own
+    ∙ append_assoc prefix (map give (range_with_len 0 n)) (give n ∷ [])
+    ∙ ap (λ l. prefix ++ l) (sym (map-range_with_len_more give 0 n n (omega arith)))

@@ -1,30 +1,30 @@
 //! The bytes that sections keep before anything has a place.
 
-ghost use Rattle.std.specs.Prelude.{◌≡◌, ◌+◌, ◌-◌, ◌<◌, ◌≤◌, ◌^◌, ◌++◌, length, map, All, IfOk, OnOk, if◌then◌else◌};
+ghost use Rattle.std.specs.Prelude.{◌≡◌, ◌<◌, ◌≤◌, ◌^◌, length, map, All, IfOk};
 ghost use Rattle.std.specs.List.{range_with_len};
 ghost use Rattle.lk_tables.specs.BindingView.{binding_view};
 ghost use Rattle.lk_tables.specs.Files.{section_total};
-ghost use Rattle.lk_tables.specs.Relocations.{is_alignment};
 ghost use Rattle.lk_tables.specs.Sites.{relocs_of};
 ghost use Rattle.lk_tables.specs.TablesView.{files_of};
-ghost use Rattle.link_sections.specs.CutsView.{AreCuts, cut_view, cut_views};
+ghost use Rattle.link_sections.specs.CutsView.{AreCuts, cut_views};
 ghost use Rattle.link_sections.specs.PoolViews.{pools_view};
 ghost use Rattle.link_sections.specs.SizesView.{sizes_of};
 ghost use Rattle.relax.specs.CallSizes as spec;
 ghost use Rattle.relax.specs.Points.{AreSoundRows, mark_at};
-ghost use Rattle.relax.specs.Placing.{ArePlaced, IsKnown, IsOneSize, added};
+ghost use Rattle.relax.specs.Placing.{IsKnown, IsOneSize};
 ghost use Rattle.relax.specs.Scenes.{cuts_in, rows_in};
 ghost use Rattle.relax.specs.Sizes.{FitSections};
 
 use crate::calls::{Call, Scene, call_rows, place_of, places_of};
+use crate::cutting::push_cut;
 use crate::jumps::{Mark, count_of, jumps_of, marks_of};
 use crate::members::{Member, members_of};
 use crate::solving::{least_sizes, size_at};
+use crate::unrelaxed::{may_relax, unrelaxed_sizes};
 use flat_rows::Rows;
 use link_sections::{Cut, Pool, Pools, Sizes};
 use lk_base::SecNo;
-use lk_base::abi::{R_RISCV_CALL, R_RISCV_CALL_PLT};
-use lk_tables::{Binding, Reloc, Tables, is_alignment, place_width};
+use lk_tables::{Binding, Tables};
 use std::alloc::{AllocError, Global};
 
 /// By section number, where each section loses bytes, in order of offset: each alignment with all its bytes, since no place is known yet, and
@@ -32,6 +32,26 @@ use std::alloc::{AllocError, Global};
 /// has the least size that allows the greatest distance that its target can have, wherever the sections stand; without it no call is
 /// relaxed. `leaders` are by section number. The only error is out of memory.
 pub fn sizes(
+    alloc: Global,
+    tables: &Tables,
+    binding: &Binding,
+    pools: &Pools,
+    leaders: &[Option<SecNo>],
+    on: bool,
+) -> Result<Sizes, AllocError>
+    ensures cuts { IfOk result (λ sizes. sizes_of sizes ≡ spec.cuts_of (files_of tables.now) (binding_view binding.now) (pools_view (files_of tables.now) pools.now) leaders.now on) }
+    ensures fit { IfOk result (λ sizes. FitSections (files_of tables.now) (sizes_of sizes)) }
+    ensures law { IfOk result (λ _. spec.IsLeastSafe (files_of tables.now) (binding_view binding.now) (pools_view (files_of tables.now) pools.now) leaders.now on) }
+{
+    if !may_relax(tables, on) {
+        let sizes = unrelaxed_sizes(alloc, tables)?;
+        return Ok(sizes);
+    }
+    relaxed_sizes(alloc, tables, binding, pools, leaders, on)
+}
+
+/// The same, whether or not there is a call.
+fn relaxed_sizes(
     alloc: Global,
     tables: &Tables,
     binding: &Binding,
@@ -146,57 +166,6 @@ fn section_cuts(
         lost = push_cut(&mut cuts, lost, &relocs[k], size)?;
     }
     Ok(cuts)
-}
-
-/// Adds what a relocation keeps of its bytes, if it is an alignment, or a call of less than eight. Gives how many bytes are lost so far.
-#[tactic(auto, unfolding(crate::specs::Placing::added))]
-fn push_cut(cuts: &mut Vec<Cut>, lost: u128, reloc: &Reloc, size: u64) -> Result<u128, AllocError>
-    requires { lost + 2 ^ 64 ≤ 2 ^ 128 }
-    ensures views { OnOk result (cut_views cuts.new.items ≡ cut_views cuts.old.items ++ added size reloc.now) }
-    ensures placed { IfOk result (λ after. ArePlaced cuts.old.items lost → ArePlaced cuts.new.items after) }
-    ensures few { IfOk result (λ after. after ≤ lost + (2 ^ 64 - 1)) }
-{
-    if !is_cut(reloc, size) {
-        return Ok(lost);
-    }
-    let cut = held_cut(reloc, size, lost);
-    cuts.push(cut)?;
-    Ok(lost + cut.whole.saturating_sub(cut.kept) as u128)
-}
-
-/// Whether a relocation is an alignment that has nops, or a call of this size that has less than eight bytes.
-#[tactic(auto, unfolding(crate::specs::CallSizes::is_cut, crate::specs::Sizes::has_nops, link_sections::specs::Calls::is_call))]
-fn is_cut(reloc: &Reloc, size: u64) -> bool
-    ensures { result ≡ spec.is_cut size reloc.now }
-{
-    (is_alignment(reloc) && 0 < place_width(reloc))
-        || ((reloc.kind == R_RISCV_CALL || reloc.kind == R_RISCV_CALL_PLT) && size < 8)
-}
-
-/// A relocation's bytes, where so many are lost before them.
-#[tactic(auto, unfolding(crate::specs::CallSizes::cut_of))]
-fn held_cut(reloc: &Reloc, size: u64, lost: u128) -> Cut
-    ensures view { cut_view result ≡ spec.cut_of size reloc.now }
-    ensures place { result.new_at ≡ result.at - lost }
-{
-    let whole = place_width(reloc);
-    Cut {
-        at: reloc.offset,
-        whole,
-        kept: kept_of(reloc, whole, size),
-        is_align: is_alignment(reloc),
-        new_at: (reloc.offset as u128).saturating_sub(lost) as u64,
-    }
-}
-
-/// How many bytes stay: all of an alignment, or those of a call's size.
-fn kept_of(reloc: &Reloc, whole: u64, size: u64) -> u64
-    ensures { result ≡ (if is_alignment reloc.now then whole else size) }
-{
-    if is_alignment(reloc) {
-        return whole;
-    }
-    size
 }
 
 /// The size of the call at a relocation of a member; eight if there is none.

@@ -3,6 +3,7 @@
 #![tactic(auto)]
 
 mod calls;
+mod cutting;
 mod items;
 mod jumps;
 mod keeping;
@@ -10,6 +11,7 @@ mod losses;
 mod members;
 mod settling;
 mod solving;
+mod unrelaxed;
 mod watching;
 
 pub use keeping::sizes;
