@@ -7,19 +7,20 @@ ghost use Rattle.std.specs.List.Sorted.{IsNonDecreasing};
 ghost use Rattle.lk_tables.specs.BindingView.{binding_view};
 ghost use Rattle.lk_tables.specs.Files.{section_total};
 ghost use Rattle.lk_tables.specs.FileView.{file_view};
-ghost use Rattle.lk_tables.specs.Sites.{relocs_of};
+ghost use Rattle.lk_tables.specs.Sites.{place_of, relocs_of};
 ghost use Rattle.lk_tables.specs.TablesView.{files_of};
 ghost use Rattle.link_sections.specs.Leaders.{leader_at};
+ghost use Rattle.link_sections.specs.PieceTargets.{target_at};
 ghost use Rattle.link_sections.specs.PoolViews.{merged_views};
 ghost use Rattle.relax.specs.CallSizes as spec;
 ghost use Rattle.relax.specs.ItemViews.{noted};
 
 use crate::members::Member;
 use flat_rows::Rows;
-use link_sections::{Pools, Target, target_of};
-use lk_base::SecNo;
+use link_sections::{Pools, Target};
 use lk_base::abi::{EF_RISCV_RVC, R_RISCV_CALL, R_RISCV_CALL_PLT, R_RISCV_NONE, R_RISCV_RELAX};
-use lk_tables::{Binding, File, Reloc, Tables};
+use lk_base::{FileNo, SecNo};
+use lk_tables::{Binding, File, Reloc, Tables, target_in};
 use std::alloc::{AllocError, Global};
 
 /// A call that may be relaxed.
@@ -53,6 +54,26 @@ pub struct Scene<'t, 'a> {
 
     ghost within: { All (λ m. m.section < section_total (files_of tables.now)) members.now } by { Prim.hlevel props },
     ghost placed: { places.now ≡ map (spec.place_in members.now) (range_with_len 0 (section_total (files_of tables.now))) } by { Prim.hlevel props },
+}
+
+/// A section in which calls are found.
+#[derive(Clone, Copy)]
+struct Code<'t, 'a> {
+    tables: &'t Tables<'a>,
+    section: SecNo,
+    /// Its file, by number too.
+    number: FileNo,
+    file: &'t File<'a>,
+    /// Its relocations, in stable order of offset.
+    relocs: &'t [Reloc],
+    /// Where its bytes begin in the file.
+    start: u64,
+
+    ghost within: { number < length (files_of tables.now) } by { Prim.hlevel props },
+    ghost numbered: { number ≡ (place_of (files_of tables.now) section).file } by { Prim.hlevel props },
+    ghost found: { file_view file.now ≡ spec.file_of (files_of tables.now) section } by { Prim.hlevel props },
+    ghost listed: { relocs.now ≡ relocs_of (files_of tables.now) section } by { Prim.hlevel props },
+    ghost placed: { start ≡ spec.bytes_from (files_of tables.now) section } by { Prim.hlevel props },
 }
 
 /// The place of each section among the members, by number; those that are none have the number of members.
@@ -248,57 +269,58 @@ fn leader_at(leaders: &[Option<SecNo>], section: SecNo) -> Option<SecNo>
 fn push_call(
     calls: &mut Vec<Call>,
     scene: &Scene,
+    code: &Code,
     hints: &[u64],
     from: usize,
-    section: SecNo,
     k: usize,
 ) -> Result<(), AllocError>
-    requires section { section < section_total (files_of scene.now.tables.now) }
-    requires reloc { k < length (relocs_of (files_of scene.now.tables.now) section) }
+    requires same { files_of code.now.tables.now ≡ files_of scene.now.tables.now }
     requires from { from < length scene.now.members.now }
-    requires hints { hints.now ≡ spec.hint_offsets (relocs_of (files_of scene.now.tables.now) section) }
-    ensures { OnOk result (calls.new.items ≡ calls.old.items ++ spec.call_at (files_of scene.now.tables.now) (binding_view scene.now.binding.now) (merged_views scene.now.pools.now) scene.now.leaders.now scene.now.members.now from section k) }
+    requires section { code.now.section < section_total (files_of code.now.tables.now) }
+    requires hints { hints.now ≡ spec.hint_offsets code.now.relocs.now }
+    ensures { OnOk result (calls.new.items ≡ calls.old.items ++ spec.call_at (files_of code.now.tables.now) (binding_view scene.now.binding.now) (merged_views scene.now.pools.now) scene.now.leaders.now scene.now.members.now from code.now.section k) }
 {
-    if !is_candidate(scene.tables, hints, section, k) {
+    if !is_candidate(code, hints, k) {
         return Ok(());
     }
-    let call = call_of(scene.tables, from, section, k);
-    let target = target_of(scene.tables, scene.binding, scene.pools, section, k);
+    let call = call_of(code, from, k);
+    let target = target_at(code, scene.binding, scene.pools, k);
     push_target(calls, scene, call, target)
+}
+
+/// What a relocation of a section stands for.
+fn target_at(code: &Code, binding: &Binding, pools: &Pools, k: usize) -> Target
+    ensures { result ≡ target_at (files_of code.now.tables.now) (binding_view binding.now) (merged_views pools.now) code.now.section k }
+{
+    pools.piece_target(target_in(code.tables, binding, code.number, &reloc_at(code, k)))
 }
 
 /// Whether a relocation of a section is a call that may be relaxed for what stands at its place.
 #[tactic(auto, unfolding(crate::specs::CallSizes::is_candidate))]
-fn is_candidate(tables: &Tables, hints: &[u64], section: SecNo, k: usize) -> bool
-    requires section { section < section_total (files_of tables.now) }
-    requires reloc { k < length (relocs_of (files_of tables.now) section) }
-    requires hints { hints.now ≡ spec.hint_offsets (relocs_of (files_of tables.now) section) }
-    ensures { result ≡ spec.is_candidate (files_of tables.now) section k }
+fn is_candidate(code: &Code, hints: &[u64], k: usize) -> bool
+    requires section { code.now.section < section_total (files_of code.now.tables.now) }
+    requires hints { hints.now ≡ spec.hint_offsets code.now.relocs.now }
+    ensures { result ≡ spec.is_candidate (files_of code.now.tables.now) code.now.section k }
 {
-    let reloc = reloc_at(tables, section, k);
-    let at = place_at(tables, section, reloc.offset);
-    is_plain(&reloc)
-        && (has_words(bytes_of(tables, section), at)
-            && hinted(tables, hints, section, reloc.offset))
+    let reloc = reloc_at(code, k);
+    let at = place_at(code, reloc.offset);
+    is_plain(&reloc) && (has_words(bytes_of(code), at) && hinted(code, hints, reloc.offset))
 }
 
 /// Whether the linker may relax what stands at an offset of a section.
-fn hinted(tables: &Tables, hints: &[u64], section: SecNo, offset: u64) -> bool
-    requires section { section < section_total (files_of tables.now) }
-    requires hints { hints.now ≡ spec.hint_offsets (relocs_of (files_of tables.now) section) }
-    ensures { result ≡ spec.has_hint (relocs_of (files_of tables.now) section) offset }
+fn hinted(code: &Code, hints: &[u64], offset: u64) -> bool
+    requires section { code.now.section < section_total (files_of code.now.tables.now) }
+    requires hints { hints.now ≡ spec.hint_offsets code.now.relocs.now }
+    ensures { result ≡ spec.has_hint (relocs_of (files_of code.now.tables.now) code.now.section) offset }
 {
     has_hint(hints, offset)
 }
 
 /// A relocation of a section, in stable order of offset.
-fn reloc_at(tables: &Tables, section: SecNo, k: usize) -> Reloc
-    requires section { section < section_total (files_of tables.now) }
-    requires reloc { k < length (relocs_of (files_of tables.now) section) }
-    ensures { result ≡ spec.reloc_of (files_of tables.now) section k }
+fn reloc_at(code: &Code, k: usize) -> Reloc
+    ensures { result ≡ spec.reloc_of (files_of code.now.tables.now) code.now.section k }
 {
-    let place = tables.place_of(section);
-    match tables.relocs(place.file, place.index).get(k) {
+    match code.relocs.get(k) {
         Some(reloc) => *reloc,
         None => Reloc {
             offset: 0,
@@ -310,49 +332,42 @@ fn reloc_at(tables: &Tables, section: SecNo, k: usize) -> Reloc
 }
 
 /// Where an offset of a section stands in its file.
-fn place_at(tables: &Tables, section: SecNo, offset: u64) -> u128
-    requires { section < section_total (files_of tables.now) }
-    ensures value { result ≡ spec.bytes_from (files_of tables.now) section + offset }
+fn place_at(code: &Code, offset: u64) -> u128
+    ensures value { result ≡ spec.bytes_from (files_of code.now.tables.now) code.now.section + offset }
     ensures few { result < 2 ^ 100 }
 {
-    let place = tables.place_of(section);
-    let from = tables.file(place.file).section(place.index as usize).offset;
-    from as u128 + offset as u128
+    code.start as u128 + offset as u128
 }
 
 /// The bytes of a section's file.
-fn bytes_of<'a>(tables: &Tables<'a>, section: SecNo) -> &'a [u8]
-    requires { section < section_total (files_of tables.now) }
-    ensures { result.now ≡ (spec.file_of (files_of tables.now) section).bytes }
+fn bytes_of<'a>(code: &Code<'_, 'a>) -> &'a [u8]
+    ensures { result.now ≡ (spec.file_of (files_of code.now.tables.now) code.now.section).bytes }
 {
-    tables.file(tables.place_of(section).file).bytes()
+    code.file.bytes()
 }
 
 /// A relocation of a section as a call, before its target is known.
-fn call_of(tables: &Tables, from: usize, section: SecNo, k: usize) -> Call
-    requires section { section < section_total (files_of tables.now) }
-    requires reloc { k < length (relocs_of (files_of tables.now) section) }
-    ensures { result ≡ spec.call_of from (spec.reloc_of (files_of tables.now) section k) k (spec.least_of (spec.file_of (files_of tables.now) section) (spec.bytes_at (files_of tables.now) section k)) }
+fn call_of(code: &Code, from: usize, k: usize) -> Call
+    ensures { result ≡ spec.call_of from (spec.reloc_of (files_of code.now.tables.now) code.now.section k) k (spec.least_of (spec.file_of (files_of code.now.tables.now) code.now.section) (spec.bytes_at (files_of code.now.tables.now) code.now.section k)) }
 {
-    let reloc = reloc_at(tables, section, k);
-    let at = place_at(tables, section, reloc.offset);
+    let reloc = reloc_at(code, k);
+    let at = place_at(code, reloc.offset);
     Call {
         from,
         offset: reloc.offset,
         reloc: k,
         to: 0,
         target: 0,
-        least: least_in(tables, section, at),
+        least: least_in(code, at),
     }
 }
 
 /// The least size that a call at a place of a section's file may have.
-fn least_in(tables: &Tables, section: SecNo, at: u128) -> u64
-    requires section { section < section_total (files_of tables.now) }
-    requires at { at < 2 ^ 100 }
-    ensures { result ≡ spec.least_of (spec.file_of (files_of tables.now) section) at }
+fn least_in(code: &Code, at: u128) -> u64
+    requires { at < 2 ^ 100 }
+    ensures { result ≡ spec.least_of (spec.file_of (files_of code.now.tables.now) code.now.section) at }
 {
-    least_of(tables.file(tables.place_of(section).file), at)
+    least_of(code.file, at)
 }
 
 /// The calls of a section, in order of offset.
@@ -369,10 +384,18 @@ fn calls_in(
 {
     let mut calls = Vec::new(alloc);
     let place = scene.tables.place_of(section);
-    let relocs = scene.tables.relocs(place.file, place.index);
-    let hints = hints_of(alloc, relocs)?;
-    for k in 0..relocs.len() {
-        push_call(&mut calls, scene, hints.as_slice(), from, section, k)?;
+    let file = scene.tables.file(place.file);
+    let code = Code {
+        tables: scene.tables,
+        section,
+        number: place.file,
+        file,
+        relocs: file.relocs(place.index as usize),
+        start: file.section(place.index as usize).offset,
+    };
+    let hints = hints_of(alloc, code.relocs)?;
+    for k in 0..code.relocs.len() {
+        push_call(&mut calls, scene, &code, hints.as_slice(), from, k)?;
     }
     Ok(calls)
 }
