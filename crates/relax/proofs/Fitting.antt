@@ -3,7 +3,7 @@
 use Rattle.std.proofs.Common.{◌≡◌, ℕ, ◌+◌, ◌<◌, ◌≤◌, ◌⊎◌, ◌&&◌, ◌||◌, ◌==◌, Bool, true, false, if◌then◌else◌, List, [], ◌∷◌, length, get_or, refl, sym, ap, ◌∙◌, subst, arith, inl, inr, nat_lt}
 use Rattle.std.specs.Prelude.{is_some, unsigned_abs}
 use Rattle.std.specs.List.{All, AllPairs, filter, range_with_len}
-use Rattle.std.proofs.lemmas.Bool.{and_parts, cases_lt, eqb-true, lt-ltb, ltb-true, or_cases}
+use Rattle.std.proofs.lemmas.Bool.{and_parts, cases_lt, eqb-true, false≢true, lt-ltb, ltb-true, or_cases}
 use Rattle.std.proofs.lemmas.List.{get_or_default, get_or_past, get_or-map, length-map}
 use Rattle.std.proofs.lemmas.List.Elements.{All-filter, All-map, All-nil, filter_passes}
 use Rattle.std.proofs.lemmas.List.FromFn.{get_or-range_with_len, length-range_with_len}
@@ -27,7 +27,7 @@ use Rattle.link_sections.specs.Calls.{IsOwnCall, is_call}
 use Rattle.link_sections.specs.Cuts.{AreApart, Cut}
 use Rattle.link_sections.specs.InputSections.{common_in, input_at, input_of, room_input, section_input}
 use Rattle.relax.specs.CallSizes.{cut_of, cuts_by, is_cut}
-use Rattle.relax.specs.Placing.{IsOneSize}
+use Rattle.relax.specs.Placing.{IsOneSize, added}
 use Rattle.relax.specs.Sizes.{FitSections, has_nops}
 
 -- the end of a place
@@ -126,6 +126,25 @@ call_width r is =
 pub call_plain : (r : Reloc) → is_call r.kind ≡ true → is_alignment r ≡ false
 unfolding is_alignment
 call_plain r is = (call_kind r.kind is).plain
+
+-- what stands after a cut may move
+cut_moves : (size : ℕ) (r : Reloc) → is_cut size r ≡ true → moves_bytes r.kind ≡ true
+unfolding is_cut has_nops
+cut_moves size r is = elim (or_cases (is_alignment r && nat_lt 0 (place_width r)) (is_call r.kind && nat_lt size 8) is) [
+  | inl nops ↦ alignment_moves r (and_parts (is_alignment r) (nat_lt 0 (place_width r)) nops).0
+  | inr call ↦ (call_kind r.kind (and_parts (is_call r.kind) (nat_lt size 8) call).0).moves
+]
+
+pub stays : (size : ℕ) (r : Reloc) → moves_bytes r.kind ≡ false → is_cut size r ≡ false
+stays size r still = go (is_cut size r) refl
+  where
+    go : (b : Bool) → is_cut size r ≡ b → b ≡ false
+    go true is = absurd (false≢true (sym still ∙ cut_moves size r is))
+    go false is = refl
+
+pub adds_none : (size : ℕ) (r : Reloc) → moves_bytes r.kind ≡ false → added size r ≡ []
+unfolding added
+adds_none size r still = ap (λ b. if b then cut_of size r ∷ [] else []) (stays size r still)
 
 -- what a relocation that is a cut has
 pub record IsMoving (r : Reloc) (c : Cut) : Type 0 where

@@ -8,6 +8,7 @@ ghost use Rattle.relax.specs.Placing.{ArePlaced, added};
 
 use link_sections::Cut;
 use lk_base::abi::{R_RISCV_CALL, R_RISCV_CALL_PLT};
+use lk_base::relocations::moves_bytes;
 use lk_tables::{Reloc, is_alignment, place_width};
 use std::alloc::AllocError;
 
@@ -37,6 +38,9 @@ pub fn push_cut(
 fn is_cut(reloc: &Reloc, size: u64) -> bool
     ensures { result ≡ spec.is_cut size reloc.now }
 {
+    if !moves_bytes(reloc.kind) {
+        return false;
+    }
     (is_alignment(reloc) && 0 < place_width(reloc))
         || ((reloc.kind == R_RISCV_CALL || reloc.kind == R_RISCV_CALL_PLT) && size < 8)
 }

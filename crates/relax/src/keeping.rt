@@ -11,7 +11,7 @@ ghost use Rattle.link_sections.specs.PoolViews.{pools_view};
 ghost use Rattle.link_sections.specs.SizesView.{sizes_of};
 ghost use Rattle.relax.specs.CallSizes as spec;
 ghost use Rattle.relax.specs.Points.{AreSoundRows, mark_at};
-ghost use Rattle.relax.specs.Placing.{IsKnown, IsOneSize};
+ghost use Rattle.relax.specs.Placing.{IsKnown, IsOneSize, added};
 ghost use Rattle.relax.specs.Scenes.{cuts_in, rows_in};
 ghost use Rattle.relax.specs.Sizes.{FitSections};
 
@@ -24,7 +24,8 @@ use crate::unrelaxed::{may_relax, unrelaxed_sizes};
 use flat_rows::Rows;
 use link_sections::{Cut, Pool, Pools, Sizes};
 use lk_base::SecNo;
-use lk_tables::{Binding, Tables};
+use lk_base::relocations::moves_bytes;
+use lk_tables::{Binding, Reloc, Tables};
 use std::alloc::{AllocError, Global};
 
 /// By section number, where each section loses bytes, in order of offset: each alignment with all its bytes, since no place is known yet, and
@@ -162,10 +163,32 @@ fn section_cuts(
     let relocs = scene.tables.relocs(place.file, place.index);
     let member = place_of(scene, section);
     for k in 0..relocs.len() {
-        let size = size_in(calls, marks, sizes, scene.members, member, k);
-        lost = push_cut(&mut cuts, lost, &relocs[k], size)?;
+        let reloc = &relocs[k];
+        let size = held_size(calls, marks, sizes, scene.members, member, reloc, k);
+        lost = push_cut(&mut cuts, lost, reloc, size)?;
     }
     Ok(cuts)
+}
+
+/// The size of the call that a relocation of a member is; any size if it is neither a call nor an alignment.
+fn held_size(
+    calls: &Rows<Call>,
+    marks: &[Mark],
+    sizes: &[u64],
+    members: &[Member],
+    member: usize,
+    reloc: &Reloc,
+    k: usize,
+) -> u64
+    requires sound { AreSoundRows members.now calls.now }
+    requires marks { marks.now ≡ map (mark_at members.now calls.now) (range_with_len 0 (length members.now)) }
+    requires count { length sizes.now ≡ length (spec.all_calls calls.now) }
+    ensures { added result reloc.now ≡ added (spec.size_in calls.now sizes.now member k) reloc.now }
+{
+    if !moves_bytes(reloc.kind) {
+        return 8;
+    }
+    size_in(calls, marks, sizes, members, member, k)
 }
 
 /// The size of the call at a relocation of a member; eight if there is none.
