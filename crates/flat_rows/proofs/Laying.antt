@@ -70,6 +70,16 @@ laid_push rows row firsts room firsts' items items' n laid room_is firsts_are n_
     (record { firsts_are = refl; items_are = sym (append-nil row) })
     (firsts_are ∙ ap (λ l. l ++ n ∷ []) room_is ∙ ap (λ k. firsts ++ k ∷ []) long) items_are
 
+-- the first row with items
+after_none : {X : Type 0} (items row : List X) → length items ≡ 0 → row ≡ items ++ row
+after_none [] row none = refl
+after_none (x ∷ items) row none = absurd (omega (arith, none))
+
+pub none_before : {X : Type 0} (rows seen : List (List X)) (firsts firsts' : List ℕ) (items items' row : List X) (n : ℕ) →
+    AreLaid rows firsts items → AreLaid seen firsts' items' → rows ≡ seen → n ≡ length items → n ≡ 0 → row ≡ items' ++ row
+none_before rows seen firsts firsts' items items' row n laid laid' same count none =
+    after_none items' row (omega (arith, count, none, ap length laid.items_are, ap length laid'.items_are, ap (λ l. length (joined l)) same))
+
 -- the ends of a buffer's rows, moved by the items before them
 ends_below : {X : Type 0} (base m a : ℕ) (rows : List (List X)) → base + (a + length (joined rows)) < m → All (λ end. base + end < m) (ends a rows)
 ends_below base m a [] low = λ k d lt. absurd (omega (arith, lt))

@@ -47,6 +47,30 @@ impl<T: Copy + Drop> Rows<T> {
         Ok(())
     }
 
+    /// Adds a row after the last one, and takes its items over: where there are no others, and no more room was reserved, they are not
+    /// copied. Out of memory leaves the rows as they were.
+    pub fn push_vec(&mut self, row: Vec<T>) -> Result<(), AllocError>
+        ensures ok { OnOk result (self.new ≡ self.old ++ row.items ∷ []) }
+        ensures err { OnErr result (self.new ≡ self.old) }
+    {
+        if self.items.len() != 0 || row.capacity() < self.items.capacity() {
+            return self.push(row.as_slice());
+        }
+        let end = row.len();
+        self.firsts.reserve(1)?;
+        self.items = row;
+        self.firsts.push(end)?;
+        Ok(())
+    }
+
+    /// Makes room for so many items more. The rows stay as they are.
+    pub fn reserve(&mut self, additional: usize) -> Result<(), AllocError>
+        ensures { self.new ≡ self.old }
+    {
+        self.items.reserve(additional)?;
+        Ok(())
+    }
+
     /// Adds all rows of another after the last one, in order. Out of memory leaves the rows as they were.
     pub fn append(&mut self, other: &Rows<T>) -> Result<(), AllocError>
         ensures ok { OnOk result (self.new ≡ self.old ++ other.now) }

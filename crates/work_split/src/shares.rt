@@ -1,6 +1,6 @@
 //! What the tasks of all pieces give becomes one list.
 
-ghost use Rattle.std.specs.Prelude.{◌≡◌, ◌<◌, ◌≤◌, ℕ, length, vec_len, IfOk};
+ghost use Rattle.std.specs.Prelude.{◌≡◌, ◌<◌, ◌≤◌, ◌++◌, ℕ, length, vec_len, IfOk};
 ghost use Rattle.work_split.specs.Shares.{AreGivenBy, IsJoined, IsJoinedFrom, joined};
 ghost use Rattle.work_split.specs.Tasks.{IsAt};
 
@@ -19,14 +19,40 @@ pub fn join<T: Drop>(
 ) -> Result<Vec<T>, LinkStop>
     ensures { IsJoined (joined shares.items) result }
 {
+    let room = room_for(shares.as_slice());
     let mut whole = Vec::new(alloc);
     for share in shares {
-        let mut list = match share {
+        let list = match share {
             Ok(list) => list,
             Err(stop) => return Err(stop),
         };
-        whole.append(&mut list)?;
+        whole = put_after(whole, list, room)?;
     }
+    Ok(whole)
+}
+
+/// How many elements the workers gave.
+fn room_for<T>(shares: &[Result<Vec<T>, LinkStop>]) -> usize {
+    let mut room: usize = 0;
+    for share in shares {
+        if let Ok(list) = share {
+            room = room.saturating_add(list.len());
+        }
+    }
+    room
+}
+
+/// A list after another. The first one with elements is made longer, to `room` elements, and not copied.
+fn put_after<T: Drop>(whole: Vec<T>, list: Vec<T>, room: usize) -> Result<Vec<T>, AllocError>
+    ensures { IfOk result (λ all. all.items ≡ whole.items ++ list.items) }
+{
+    let mut list = list;
+    if whole.len() == 0 {
+        list.reserve(room.saturating_sub(list.len()))?;
+        return Ok(list);
+    }
+    let mut whole = whole;
+    whole.append(&mut list)?;
     Ok(whole)
 }
 

@@ -11,7 +11,7 @@ loop-share-preserved g c =
       tt,
       tt,
       taken_more c.loop-share.yielded _ _ c.args.shares.items c.in-Some.share before.2 c.in-Some.ensures.steps.0,
-      joined_more c.loop-share.yielded c.loop-share.whole.items c.append.new.self.items c.in-Some.share c.in-Ok.list before.3 c.in-Ok.is c.in_ok-append.ensures.items,
+      joined_more c.loop-share.yielded c.loop-share.whole.items c.in_ok-whole.whole.items c.in-Some.share c.in-Ok.list before.3 c.in-Ok.is c.in_ok-whole.ensures,
     )
 
 pub returns-in-Err : goal.returns-in-Err
