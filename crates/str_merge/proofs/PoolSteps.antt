@@ -17,7 +17,7 @@ use Rattle.link_sections.specs.Merging.{pool_number, pool_of, pool_pieces, pool_
 use Rattle.link_sections.specs.PoolViews.{piece_text, pool_view, pool_views}
 use Rattle.link_sections.specs.Pools.{AreInOrder, ArePiles, IsPile, pool_bytes}
 use Rattle.str_merge.specs.declared.filling.Filled.{Filled}
-use Rattle.str_merge.specs.declared.pooling.Pooled.{Pooled}
+use Rattle.str_merge.specs.declared.placing.Placed.{Placed}
 use Rattle.str_merge.specs.declared.pooling.Work.{Work}
 use Rattle.str_merge.specs.Filling.{AddsPool, AreAnswered, IsAnswered, IsFilledTo}
 use Rattle.str_merge.specs.Pooling.{IsPooled, pool_align}
@@ -49,18 +49,18 @@ piles_push pools rows pool row same piled own = λ i d lt. elim (cases_lt i (len
 ]
 
 -- the record of a pool
-view_is : (files : List File) (kept : List Bool) (pool first : ℕ) (p : Pooled) → IsPooled files kept pool p → first ≡ (pool_site files kept pool).section →
-    pool_view files (record { first = first; size = p.placed.size }) p.placed.pieces.items ≡ pool_of files kept pool
+view_is : (files : List File) (kept : List Bool) (pool first : ℕ) (p : Placed) → IsPooled files kept pool p → first ≡ (pool_site files kept pool).section →
+    pool_view files (record { first = first; size = p.size }) p.pieces.items ≡ pool_of files kept pool
 unfolding pool_of
 view_is files kept pool first p is start =
-    let pieces = map (piece_text files) p.placed.pieces.items in
-    let positions = map (λ (piece : Piece). piece.position) p.placed.pieces.items in
+    let pieces = map (piece_text files) p.pieces.items in
+    let positions = map (λ (piece : Piece). piece.position) p.pieces.items in
     let known = pool_pieces files kept pool in
     let own = (pool_site files kept pool).section in
     let align = pool_align files kept pool in
-    ap (λ x. record { first = x; pieces = pieces; positions = positions; size = p.placed.size }) start
-    ∙ ap (λ x. record { first = own; pieces = x; positions = positions; size = p.placed.size }) is.pieces_are
-    ∙ ap (λ x. record { first = own; pieces = known; positions = x; size = p.placed.size }) is.positions_are
+    ap (λ x. record { first = x; pieces = pieces; positions = positions; size = p.size }) start
+    ∙ ap (λ x. record { first = own; pieces = x; positions = positions; size = p.size }) is.pieces_are
+    ∙ ap (λ x. record { first = own; pieces = known; positions = x; size = p.size }) is.positions_are
     ∙ ap (λ x. record { first = own; pieces = known; positions = positions_from align 0 known; size = x }) is.size_is
 
 -- a place that passes is among those that are left
@@ -89,18 +89,22 @@ member_has files kept pool i lt own =
     filter_has (λ i. pool_number files kept (nth_site files kept i) == pool) (range_with_len 0 n) i i
     (omega (arith, length-range_with_len 0 n)) (omega arith) (eq-eqb (pool_number files kept (nth_site files kept i)) pool own)
 
-pub filled_next : (w : Work) (pool first : ℕ) (p : Pooled) (old mid new : Filled) → IsWork w → IsFilledTo w pool old →
+pub filled_next : (w : Work) (pool first : ℕ) (p : Placed) (old mid new : Filled) → IsWork w → IsFilledTo w pool old →
     IsPooled (files_of w.tables.now) w.kept.now pool p → first ≡ (pool_site (files_of w.tables.now) w.kept.now pool).section →
-    AddsPool first p.placed old mid → AreAnswered w (members_at (files_of w.tables.now) w.kept.now pool) mid new → IsFilledTo w (pool + 1) new
-filled_next w pool first p old mid new is held pooled start adds answered =
+    AreAnswered w (members_at (files_of w.tables.now) w.kept.now pool) old mid → AddsPool first p mid new → IsFilledTo w (pool + 1) new
+filled_next w pool first p old mid new is held pooled start answered adds =
     let files = files_of w.tables.now in
     let kept = w.kept.now in
-    let here : Pool = record { first = first; size = p.placed.size } in
-    let pieces = p.placed.pieces.items in
-    let pools : new.pools.items ≡ old.pools.items ++ here ∷ [] = answered.pools ∙ adds.pools in
-    let rows : new.rows.pieces ≡ old.rows.pieces ++ pieces ∷ [] = answered.pieces ∙ adds.pieces in
+    let here : Pool = record { first = first; size = p.size } in
+    let pieces = p.pieces.items in
+    let pools : new.pools.items ≡ old.pools.items ++ here ∷ [] = adds.pools ∙ ap (λ l. l ++ here ∷ []) answered.pools in
+    let rows : new.rows.pieces ≡ old.rows.pieces ++ pieces ∷ [] = adds.pieces ∙ ap (λ l. l ++ pieces ∷ []) answered.pieces in
     let Q : List (List Part) → Type 0 = All AreInOrder in
-    let small = adds.small in
+    let moved : (i : ℕ) → IsAnswered w mid.rows.parts mid.answers.items i → IsAnswered w new.rows.parts new.answers.items i =
+    λ i known.
+    let R : List (List Part) → Type 0 = λ l. IsAnswered w l new.answers.items i in
+    let S : List HeldMerged → Type 0 = λ l. IsAnswered w mid.rows.parts l i in
+    subst R (sym adds.parts) (subst S (sym adds.answers) known) in
     record {
       pools_are = map_step (pool_of files kept) pool (pool_views files old.pools.items old.rows.pieces) (pool_views files new.pools.items new.rows.pieces) held.pools_are
           (ap (λ l. pool_views files l new.rows.pieces) pools ∙ ap (pool_views files (old.pools.items ++ here ∷ [])) rows
@@ -111,19 +115,16 @@ filled_next w pool first p old mid new is held pooled start adds answered =
           let P : List Pool → Type 0 = λ l. ArePiles l new.rows.pieces in
           let R : List (List Piece) → Type 0 = λ l. ArePiles (old.pools.items ++ here ∷ []) l in
           subst P (sym pools) (subst R (sym rows) (piles_push old.pools.items old.rows.pieces here pieces held.paired held.piled (pooled.piled here refl)));
-      bytes_are = ap pool_bytes pools ∙ sum_by_push (λ (x : Pool). x.size) old.pools.items here ∙ ap (λ n. n + p.placed.size) held.bytes_are ∙ sym adds.bytes ∙ sym answered.bytes;
-      small = omega (arith, small, answered.bytes);
-      ordered = answered.ordered (subst Q (sym adds.parts) held.ordered);
-      count = answered.count ∙ ap length adds.answers ∙ held.count;
+      bytes_are = ap pool_bytes pools ∙ sum_by_push (λ (x : Pool). x.size) old.pools.items here ∙ ap (λ n. n + p.size) (held.bytes_are ∙ sym answered.bytes) ∙ sym adds.bytes;
+      small = adds.small;
+      ordered = subst Q (sym adds.parts) (answered.ordered held.ordered);
+      count = ap length adds.answers ∙ answered.count ∙ held.count;
       answered = λ i lt less. elim (cases_lt (pool_number files kept (nth_site files kept i)) pool) [
-        | inl before ↦
-            let R : List (List Part) → Type 0 = λ l. IsAnswered w l mid.answers.items i in
-            let S : List HeldMerged → Type 0 = λ l. IsAnswered w old.rows.parts l i in
-            answered.keeps i (subst R (sym adds.parts) (subst S (sym adds.answers) (held.answered i lt before)))
+        | inl before ↦ moved i (answered.keeps i (held.answered i lt before))
         | inr at ↦
             let own : pool_number files kept (nth_site files kept i) ≡ pool = omega arith in
             let has = member_has files kept pool i (omega (arith, count_sites w is)) own in
             let T : ℕ → Type 0 = λ k. IsAnswered w new.rows.parts new.answers.items k in
-            subst T has.2 (answered.adds has.0 0 has.1)
+            subst T has.2 (moved (get_or (members_at files kept pool) has.0 0) (answered.adds has.0 0 has.1))
       ];
     }

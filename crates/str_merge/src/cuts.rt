@@ -22,6 +22,9 @@ use std::ops::Range;
 use std::thread::Threads;
 use work_split::{Gate, over_shares, pieces_by_weight};
 
+/// Room is made for strings of so many bytes: for shorter ones the list grows. Memory that no string takes is not touched.
+const USUAL: usize = 16;
+
 /// The pieces of each of these sections, as spans of its file.
 pub fn cut_sites<R: Threads + Sync, G: Gate>(
     rt: &R,
@@ -173,7 +176,7 @@ fn byte_strings(alloc: Global, bytes: &[u8], whole: &Span) -> Result<Vec<Span>, 
     ensures file { IfOk result (λ list. All (IsOfFile whole.now.file) list.items) }
 {
     let contents = text_of(bytes, whole);
-    let mut list = Vec::with_capacity(alloc, memchr_iter(0, contents).count())?;
+    let mut list = Vec::with_capacity(alloc, contents.len() / USUAL)?;
     let mut found = memchr_iter(0, contents);
     let mut start = 0;
     'places: while let Some(at) = found.next() {

@@ -1,6 +1,6 @@
 //! Distinct elements by first appearance.
 
-ghost use Rattle.std.specs.Prelude.{◌≡◌, ◌==◌, ◌<◌, ◌≤◌, ◌^◌, ◌++◌, ◌∷◌, [], length, slice_index, if◌then◌else◌, IfOk, OnOk};
+ghost use Rattle.std.specs.Prelude.{◌≡◌, ◌==◌, ◌+◌, ◌<◌, ◌≤◌, ◌^◌, ◌++◌, ◌∷◌, [], length, slice_index, if◌then◌else◌, IfOk, OnOk};
 ghost use Rattle.str_merge.specs.Orders.{IsFirstOf, firsts, owns, rank, ranks};
 
 use std::alloc::{AllocError, Global};
@@ -15,20 +15,43 @@ pub struct Order {
 }
 
 /// The distinct elements of a list, if for each element the index of the first equal one is known.
-#[tactic(auto, unfolding(crate::specs::Orders::firsts, crate::specs::Orders::ranks))]
 pub fn order_of(alloc: Global, numbers: &[u32]) -> Result<Order, AllocError>
     requires { IsFirstOf numbers.now }
     ensures firsts { IfOk result (λ order. order.firsts.items ≡ firsts numbers.now) }
     ensures ranks { IfOk result (λ order. order.ranks.items ≡ ranks numbers.now) }
 {
-    let mut firsts = Vec::new(alloc);
-    let mut ranks = Vec::with_capacity(alloc, numbers.len())?;
+    let firsts = firsts_of(alloc, numbers)?;
+    let ranks = ranks_of(alloc, numbers)?;
+    Ok(Order { firsts, ranks })
+}
+
+/// The index of each element with which no earlier one is the same, in order.
+#[tactic(auto, unfolding(crate::specs::Orders::firsts))]
+pub fn firsts_of(alloc: Global, numbers: &[u32]) -> Result<Vec<u32>, AllocError>
+    requires { length numbers.now < 2 ^ 31 }
+    ensures { IfOk result (λ list. list.items ≡ firsts numbers.now) }
+{
+    let mut firsts = Vec::with_capacity(alloc, numbers.len())?;
     for i in 0..numbers.len() {
-        let rank = rank_of(ranks.as_slice(), firsts.len(), numbers[i], i);
-        ranks.push(rank)?;
         push_own(&mut firsts, numbers[i], i)?;
     }
-    Ok(Order { firsts, ranks })
+    Ok(firsts)
+}
+
+/// For each element the place of its first equal among these.
+#[tactic(auto, unfolding(crate::specs::Orders::ranks))]
+pub fn ranks_of(alloc: Global, numbers: &[u32]) -> Result<Vec<u32>, AllocError>
+    requires { IsFirstOf numbers.now }
+    ensures { IfOk result (λ list. list.items ≡ ranks numbers.now) }
+{
+    let mut ranks = Vec::with_capacity(alloc, numbers.len())?;
+    let mut count: usize = 0;
+    for i in 0..numbers.len() {
+        let rank = rank_of(ranks.as_slice(), count, numbers[i], i);
+        ranks.push(rank)?;
+        count = count_own(count, numbers[i], i);
+    }
+    Ok(ranks)
 }
 
 /// The place of element `i`, if the first equal one has this number: that of the earlier one, or after all before.
@@ -53,4 +76,15 @@ fn push_own(firsts: &mut Vec<u32>, first: u32, i: usize) -> Result<(), AllocErro
         firsts.push(first)?;
     }
     Ok(())
+}
+
+/// The count with an element more, which counts if the first equal one is itself.
+fn count_own(count: usize, first: u32, i: usize) -> usize
+    requires { count < 2 ^ 32 }
+    ensures { result ≡ (if first == i then count + 1 else count) }
+{
+    if first as usize == i {
+        return count + 1;
+    }
+    count
 }

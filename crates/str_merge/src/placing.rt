@@ -3,11 +3,13 @@
 ghost use Rattle.std.specs.Prelude.{◌≡◌, ◌+◌, ◌<◌, ◌≤◌, ◌^◌, All, length, map, IfOk};
 ghost use Rattle.lk_base.specs.Arithmetic.{up};
 ghost use Rattle.link_sections.specs.Merging.{end_from, positions_from};
+ghost use Rattle.str_merge.specs.Orders.{firsts};
 ghost use Rattle.str_merge.specs.Placing.{IsPlaced, chosen, fitted};
 ghost use Rattle.str_merge.specs.Sites.{gathered, span_lists};
 ghost use Rattle.str_merge.specs.Texts.{lent_texts};
 
 use crate::gathering::{START, span_at};
+use crate::orders::firsts_of;
 use link_sections::Piece;
 use lk_base::up;
 use lk_tables::Span;
@@ -25,8 +27,29 @@ pub struct Placed {
     pub size: u64,
 }
 
+/// The distinct ones of the pieces of some sections, one after the other, each at a multiple of the alignment, if for each piece the index
+/// of the first equal one is known.
+pub fn place_distinct(
+    alloc: Global,
+    cuts: &[Vec<Span>],
+    members: &[u32],
+    texts: &[&[u8]],
+    numbers: &[u32],
+    align: u64,
+) -> Result<Placed, AllocError>
+    requires align { 1 ≤ align }
+    requires members { All (λ m. m < length cuts.now) members.now }
+    requires few { length numbers.now < 2 ^ 31 }
+    requires within { All (λ i. i < length texts.now) (firsts numbers.now) }
+    ensures { IfOk result (IsPlaced (gathered (span_lists cuts.now) members.now) (lent_texts texts.now) (firsts numbers.now) align) }
+{
+    let firsts = firsts_of(alloc, numbers)?;
+    let placed = place_pieces(alloc, cuts, members, texts, firsts.as_slice(), align)?;
+    Ok(placed)
+}
+
 /// The pieces of these indexes among those of some sections, one after the other, each at a multiple of the alignment.
-pub fn place_pieces(
+fn place_pieces(
     alloc: Global,
     cuts: &[Vec<Span>],
     members: &[u32],

@@ -3,13 +3,11 @@
 ghost use Rattle.std.specs.Prelude.{◌≡◌, ◌<◌, ◌≤◌, length, IfOk};
 ghost use Rattle.lk_tables.specs.TablesView.{files_of};
 ghost use Rattle.link_sections.specs.Merging.{pool_site, site_key};
-ghost use Rattle.str_merge.specs.Pooling.{IsPooled};
+ghost use Rattle.str_merge.specs.Pooling.{IsNumbered};
 ghost use Rattle.str_merge.specs.Works.{IsWork, members_at};
 
 use crate::gathering::{count_of, texts_of};
 use crate::keys::PoolKey;
-use crate::orders::order_of;
-use crate::placing::{Placed, place_pieces};
 use crate::sites::Site;
 use lk_tables::{Span, Tables};
 use name_numbers::number_texts;
@@ -40,13 +38,11 @@ pub struct Work<'t, 'a> {
 
 /// The pieces of the sections of a pool.
 #[derive(Drop)]
-pub struct Pooled<'a> {
+pub struct Numbered<'a> {
     /// One section after the other.
     pub texts: Vec<&'a [u8]>,
-    /// The number of each in the pool.
-    pub ranks: Vec<u32>,
-    /// The distinct ones.
-    pub placed: Placed,
+    /// For each the index of the first that is equal to it.
+    pub numbers: Vec<u32>,
 }
 
 /// The pieces of the sections of a pool, of which `members` are the places in the list.
@@ -58,13 +54,12 @@ pub fn pool_texts<'a, R: Threads + Sync, G: Gate>(
     members: &[u32],
     workers: u32,
     gate: &G,
-) -> Result<Pooled<'a>, AllocError>
+) -> Result<Numbered<'a>, AllocError>
     requires work { IsWork work.now }
-    requires pool { pool < length work.now.firsts.now }
     requires members { members.now ≡ members_at (files_of work.now.tables.now) work.now.kept.now pool }
     requires some { 1 ≤ workers }
     requires most { workers ≤ 64 }
-    ensures { IfOk result (IsPooled (files_of work.now.tables.now) work.now.kept.now pool) }
+    ensures { IfOk result (IsNumbered (files_of work.now.tables.now) work.now.kept.now pool) }
 {
     let count = count_of(work.cuts, members)?;
     let texts = texts_of(
@@ -81,24 +76,11 @@ pub fn pool_texts<'a, R: Threads + Sync, G: Gate>(
         return Err(AllocError);
     }
     let numbers = number_texts(rt, alloc, texts.as_slice(), workers)?;
-    let order = order_of(alloc, numbers.as_slice())?;
-    let placed = place_pieces(
-        alloc,
-        work.cuts,
-        members,
-        texts.as_slice(),
-        order.firsts.as_slice(),
-        align_of(work, pool),
-    )?;
-    Ok(Pooled {
-        texts,
-        ranks: order.ranks,
-        placed,
-    })
+    Ok(Numbered { texts, numbers })
 }
 
 /// The alignment of a pool.
-fn align_of(work: &Work, pool: usize) -> u64
+pub fn align_of(work: &Work, pool: usize) -> u64
     requires work { IsWork work.now }
     requires pool { pool < length work.now.firsts.now }
     ensures value { result ≡ (site_key (files_of work.now.tables.now) (pool_site (files_of work.now.tables.now) work.now.kept.now pool)).align }

@@ -17,7 +17,7 @@ returns g c =
     let low : at < length w.sites.now = let within = c.requires.work.firsts_within pool 0 c.requires.pool in omega (arith, within, count_sites w c.requires.work) in
     let members : c.as_slice-members.result.now ≡ members_at files kept pool =
     c.as_slice-members.ensures.value ∙ c.requires.work.members_are pool _ c.requires.pool in
-    let P : List ℕ → Type 0 = λ l. AreAnswered w l c.push_pool.new.filled c.push_parts.new.filled in
-    filled_next w pool _ c.in_ok-pooled.pooled c.args.filled.now c.push_pool.new.filled c.push_parts.new.filled c.requires.work c.requires.filled c.in_ok-pooled.ensures
+    let P : List ℕ → Type 0 = λ l. AreAnswered w l c.args.filled c.in_ok-placed.answered in
+    filled_next w pool _ c.in_ok-placed.placed c.args.filled c.in_ok-placed.answered c.in_ok-filled.filled c.requires.work c.requires.filled c.in_ok-placed.ensures.placed
     (ap (λ (s : Site). s.section) (site_of w at c.requires.work low ∙ first_is w pool c.requires.work c.requires.pool))
-    c.in_ok-push_pool.ensures (subst P members c.in_ok-push_parts.ensures)
+    (subst P members c.in_ok-placed.ensures.answered) c.in_ok-filled.ensures

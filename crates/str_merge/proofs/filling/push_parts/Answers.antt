@@ -21,7 +21,7 @@ loop-n-init c =
     record {
       answered = answered_none w c.args.filled.now;
       most = omega arith;
-      rest = c.requires.pooled.texts_are ∙ sym (member_texts files kept c.args.pool)
+      rest = c.requires.ranked.texts_are ∙ sym (member_texts files kept c.args.pool)
           ∙ ap (flat_map (λ i. site_pieces files (nth_site files kept i))) (sym c.requires.members);
     }
 
@@ -33,12 +33,12 @@ bounds-work-site c =
     let low = here.0 in
     omega (arith, low, cut_count w c.requires.work)
 
-pub part-texts-requires-clause-within : goal.part-texts-requires-clause-within
-part-texts-requires-clause-within c =
+pub part-own-requires-clause-within : goal.part-own-requires-clause-within
+part-own-requires-clause-within c =
     let w = c.args.work.now in
     let files = files_of w.tables.now in
     let kept = w.kept.now in
-    let texts = lent_texts c.args.pooled.now.texts.items in
+    let texts = lent_texts c.args.texts.now in
     let P : ℕ → List (List ℕ) = λ i. site_pieces files (nth_site files kept i) in
     let n = c.loop-n.n in
     let m = get_or c.args.members.now n 0 in
@@ -47,14 +47,14 @@ part-texts-requires-clause-within c =
     let next = texts_next texts c.loop-n.at c.len.result (P m) (flat_map P (drop (n + 1) c.args.members.now)) c.loop-n.invariant.most
     (c.loop-n.invariant.rest ∙ rest_of P c.args.members.now n (omega arith)) len in
     let most = next.0 in
-    omega (arith, most, length_texts c.args.pooled.now.texts.items, ap length c.as_slice.ensures.value)
+    omega (arith, most, length_texts c.args.texts.now)
 
-pub part-ranks-requires-clause-within : goal.part-ranks-requires-clause-within
-part-ranks-requires-clause-within c =
+pub part-numbers-requires-clause-within : goal.part-numbers-requires-clause-within
+part-numbers-requires-clause-within c =
     let w = c.args.work.now in
     let files = files_of w.tables.now in
     let kept = w.kept.now in
-    let texts = lent_texts c.args.pooled.now.texts.items in
+    let texts = lent_texts c.args.texts.now in
     let P : ℕ → List (List ℕ) = λ i. site_pieces files (nth_site files kept i) in
     let n = c.loop-n.n in
     let m = get_or c.args.members.now n 0 in
@@ -63,8 +63,8 @@ part-ranks-requires-clause-within c =
     let next = texts_next texts c.loop-n.at c.len.result (P m) (flat_map P (drop (n + 1) c.args.members.now)) c.loop-n.invariant.most
     (c.loop-n.invariant.rest ∙ rest_of P c.args.members.now n (omega arith)) len in
     let most = next.0 in
-    let count = ap length c.requires.pooled.ranks_are ∙ length-map texts (piece_number (pool_pieces files kept c.args.pool)) in
-    omega (arith, most, count, ap length c.as_slice-in-loop-n.ensures.value)
+    let count = ap length c.requires.ranked.ranks_are ∙ length-map texts (piece_number (pool_pieces files kept c.args.pool)) in
+    omega (arith, most, count)
 
 pub answer-requires-clause-site : goal.answer-requires-clause-site
 answer-requires-clause-site c =
@@ -80,7 +80,7 @@ loop-n-preserved c =
     let kept = w.kept.now in
     let pool = c.args.pool in
     let known = piece_number (pool_pieces files kept pool) in
-    let texts = lent_texts c.args.pooled.now.texts.items in
+    let texts = lent_texts c.args.texts.now in
     let P : ℕ → List (List ℕ) = λ i. site_pieces files (nth_site files kept i) in
     let n = c.loop-n.n in
     let at = c.loop-n.at in
@@ -91,15 +91,14 @@ loop-n-preserved c =
     let len : c.len.result ≡ length (P m) = c.len.ensures ∙ ap vec_len (sym c.index-work-site.is) ∙ c.index-work-site.result.ok.0 ∙ cut_len w m c.index-work-site.result c.requires.work here.0 c.index-work-site.is in
     let next = texts_next texts at c.len.result (P m) (flat_map P (drop (n + 1) c.args.members.now)) c.loop-n.invariant.most
     (c.loop-n.invariant.rest ∙ rest_of P c.args.members.now n (omega arith)) len in
-    let own : lent_texts c.part-texts.result.now ≡ P m =
-    ap lent_texts c.part-texts.ensures ∙ ap (λ (l : List (Bor (List ℕ))). lent_texts (take (end - at) (drop at l))) c.as_slice.ensures.value
-    ∙ part_of_map (λ (t : Bor (List ℕ)). t.now) c.args.pooled.now.texts.items (end - at) at ∙ next.2 in
-    let numbers : c.part-ranks.result.now ≡ map known (P m) =
-    c.part-ranks.ensures ∙ ap (λ (l : List ℕ). take (end - at) (drop at l)) (c.as_slice-in-loop-n.ensures.value ∙ c.requires.pooled.ranks_are)
+    let own : lent_texts c.part-own.result.now ≡ P m =
+    ap lent_texts c.part-own.ensures ∙ part_of_map (λ (t : Bor (List ℕ)). t.now) c.args.texts.now (end - at) at ∙ next.2 in
+    let numbers : c.part-numbers.result.now ≡ map known (P m) =
+    c.part-numbers.ensures ∙ ap (λ (l : List ℕ). take (end - at) (drop at l)) c.requires.ranked.ranks_are
     ∙ sym (part_of_map known texts (end - at) at) ∙ ap (map known) next.2 in
     let adds : AddsParts m pool (P m) (map known (P m)) c.loop-n.filled c.answer.new.filled =
     subst (λ (l : List ℕ). AddsParts m pool (P m) l c.loop-n.filled c.answer.new.filled) numbers
-    (subst (λ (l : List (List ℕ)). AddsParts m pool l c.part-ranks.result.now c.loop-n.filled c.answer.new.filled) own c.in_ok-answer.ensures) in
+    (subst (λ (l : List (List ℕ)). AddsParts m pool l c.part-numbers.result.now c.loop-n.filled c.answer.new.filled) own c.in_ok-answer.ensures) in
     record {
       answered = answered_next w c.args.members.now n pool (P m) (map known (P m)) c.args.filled.now c.loop-n.filled c.answer.new.filled (omega arith)
           c.loop-n.invariant.answered adds (omega (arith, low, count_sites w c.requires.work, c.requires.count, c.loop-n.invariant.answered.count))
