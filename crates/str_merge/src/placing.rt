@@ -49,7 +49,7 @@ pub fn place_distinct(
 }
 
 /// The pieces of these indexes among those of some sections, one after the other, each at a multiple of the alignment.
-fn place_pieces(
+pub fn place_pieces(
     alloc: Global,
     cuts: &[Vec<Span>],
     members: &[u32],
