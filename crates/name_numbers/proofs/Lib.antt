@@ -7,4 +7,4 @@ pub mod Numbered
 pub mod NameWords
 pub mod LeastClaims
 pub mod TextPlaces
-pub mod TagRuns
+pub mod TagFirsts

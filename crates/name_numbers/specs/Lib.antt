@@ -1,4 +1,4 @@
-pub mod Entries
+pub mod Firsts
 pub mod Keys
 pub mod Marks
 pub mod Spans

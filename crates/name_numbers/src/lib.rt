@@ -5,12 +5,14 @@
 //! by symbol; the first key of a run of equal names has the number of the whole run. Other texts are numbered in the same way.
 #![tactic(auto)]
 
-mod entries;
 mod keys;
 mod numbers;
+mod shards;
+mod slots;
 mod sorting;
 mod spans;
 mod tags;
+mod telling;
 mod texts;
 
 pub use numbers::number_names;

@@ -4,11 +4,12 @@ ghost use Rattle.std.specs.Prelude.{◌≡◌, ◌<◌, ◌^◌, length, IfOk};
 ghost use Rattle.name_numbers.specs.Keys.{key_views};
 ghost use Rattle.name_numbers.specs.Texts.{lent_texts, text_keys, text_numbers};
 
-use crate::entries::{are_told, number_by_tags, sorted_entries};
 use crate::keys::{Key, TaggedName};
 use crate::numbers::mark_keys;
+use crate::shards::number_by_tags;
 use crate::sorting::sort_keys;
 use crate::tags::tag_of;
+use crate::telling::are_told;
 use std::alloc::{AllocError, Global};
 use std::thread::Threads;
 
@@ -23,11 +24,11 @@ pub fn number_texts<R: Threads + Sync>(
     requires { length texts.now < 2 ^ 31 }
     ensures { IfOk result (λ list. list.items ≡ text_numbers (lent_texts texts.now)) }
 {
-    let list = sorted_entries(rt, alloc, texts, workers)?;
-    if !are_told(rt, texts, list.as_slice(), workers) {
+    let numbers = number_by_tags(rt, alloc, texts, workers)?;
+    if !are_told(rt, texts, numbers.as_slice(), workers) {
         return number_by_names(rt, alloc, texts, workers);
     }
-    number_by_tags(alloc, texts, list.as_slice())
+    Ok(numbers)
 }
 
 /// The same where texts that differ have one tag: they are sorted by their bytes, too.

@@ -1,0 +1,6 @@
+use Rattle.std.proofs.Common.{◌≡◌, length}
+use Rattle.name_numbers.specs.Firsts.{AreFirsts}
+use Rattle.name_numbers.proofs.shards.number_by_one.Given as goal
+
+abbrev pub invariant-loop-shard : goal.invariant-loop-shard
+invariant-loop-shard l = (length l.numbers ≡ length l.initial.numbers) × AreFirsts l.tags l.numbers
