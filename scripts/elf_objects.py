@@ -9,10 +9,11 @@ WRITE, ALLOC, EXECINSTR, MERGE, STRINGS, INFO_LINK, LINK_ORDER, IN_GROUP, TLS, R
 LOCAL, GLOBAL, WEAK = 0, 1, 2
 NOTYPE, OBJECT, FUNC, SECTION = 0, 1, 2, 3
 UNDEF, ABS, COMMON = 0, 0xfff1, 0xfff2
-R_64, R_JAL, R_CALL_PLT = 2, 17, 19
+R_64, R_JAL, R_CALL_PLT, R_RELAX = 2, 17, 19, 51
 
 CALL = bytes.fromhex('97000000e7800000')    # auipc ra, 0; jalr ra, 0(ra)
 RETURN = bytes.fromhex('67800000')
+NOP = bytes.fromhex('13000000')
 
 SECTION_HEADER = struct.Struct('<IIQQQQIIQQ')
 SYMBOL = struct.Struct('<IBBHQQ')

@@ -7,6 +7,9 @@ Usage: scripts/speed.py MODE [RVLD] [--runs 5] [--peers lld,mold,ld] [--threads 
   symbols    one object of 100,000 symbols and 300,000 relocations, and one of twice as many
   sections   one object of 30,000 sections, and one of 60,000
   archive    an archive of 10,000 members of which a chain of 5,000 is live, and one of twice as many
+  strings    250,000, 500,000 and 1,000,000 strings in 100 files, of which half repeat
+  string     the same in one file
+  functions  500, 1,000 and 2,000 objects of 30 functions with two calls each
   all        all of these
   plots      all of these at four or five sizes each, with 1 and 4 workers, and with pictures in docs/figures
   draw       measures nothing: makes the pictures anew from the figures that are kept beside them
@@ -23,6 +26,7 @@ import hashlib
 import math
 import multiprocessing
 import os
+import random
 import resource
 import shutil
 import statistics
@@ -34,8 +38,8 @@ import time
 from xml.sax.saxutils import escape
 
 sys.path.insert(0, os.path.dirname(os.path.abspath(__file__)))
-from elf_objects import (ALLOC, CALL, EXECINSTR, FUNC, GLOBAL, INFO_LINK, LOCAL, NOTYPE, PROGBITS, R_64, R_CALL_PLT, RELA, RETURN,
-                         SECTION, STRTAB, SYMTAB, UNDEF, WRITE, Texts, archive, entry, relocatable, simple, symbol)
+from elf_objects import (ALLOC, CALL, EXECINSTR, FUNC, GLOBAL, INFO_LINK, LOCAL, MERGE, NOTYPE, PROGBITS, NOP, R_64, R_CALL_PLT, R_RELAX, RELA, RETURN,
+                         SECTION, STRINGS, STRTAB, SYMTAB, UNDEF, WRITE, Texts, archive, entry, relocatable, simple, symbol)
 
 
 def tree_object(k, count):
@@ -115,6 +119,58 @@ def chain_archive(count):
     return archive(members, index)
 
 
+def string_object(first, strings):
+    """An object of one section of strings; the first object has the entry."""
+    names = Texts()
+    symbols = [bytes(24)] + ([symbol(names.add('_start'), GLOBAL, FUNC, 1, 0, 4)] if first else [])
+    return relocatable([
+        ('.text', PROGBITS, ALLOC | EXECINSTR, RETURN, 0, 0, 4, 0),
+        ('.rodata.str1.1', PROGBITS, ALLOC | MERGE | STRINGS, b''.join(strings), 0, 0, 1, 1),
+        ('.symtab', SYMTAB, 0, b''.join(symbols), 4, 1, 8, 24),
+        ('.strtab', STRTAB, 0, names.bytes(), 0, 0, 1, 0)])
+
+
+def string_files(folder, count, files):
+    """Strings of which each second one was there before, in a random order that is always the same, shared out among files."""
+    order = [k % (count // 2) for k in range(count)]
+    random.Random(count).shuffle(order)
+    place = os.path.join(folder, 'strings-%d-%d' % (count, files))
+    os.makedirs(place, exist_ok=True)
+    share = count // files
+    return [write(os.path.join(place, 's%d.o' % f),
+                  string_object(not f, [b'the string of number %d\0' % k for k in order[f * share:(f + 1) * share]])) for f in range(files)]
+
+
+def call_object(k, count):
+    """30 functions, each in a section of its own, with two calls: one to the next function of the object and one to one of another object."""
+    names = Texts()
+    symbols = [bytes(24)]
+    others = {}
+    rows = []
+    at_symtab = 61
+    for i in range(30):
+        symbols.append(symbol(names.add('f%d_%d' % (k, i)), GLOBAL, FUNC, 2 * i + 1, 0, 336))
+    if not k:
+        symbols.append(symbol(names.add('_start'), GLOBAL, FUNC, 1, 0, 4))
+    for i in range(30):
+        other = 'f%d_%d' % ((k * 31 + i * 7 + 1) % count, (i * 11 + k) % 30)
+        if other not in others:
+            others[other] = len(symbols)
+            symbols.append(symbol(names.add(other), GLOBAL, NOTYPE, UNDEF))
+        calls = b''.join(entry(offset, callee, kind) for offset, callee in ((8, 1 + (i + 1) % 30), (160, others[other])) for kind in (R_CALL_PLT, R_RELAX))
+        rows.append(('.text.f%d' % i, PROGBITS, ALLOC | EXECINSTR, NOP * 2 + CALL + NOP * 36 + CALL + NOP * 41 + RETURN, 0, 0, 4, 0))
+        rows.append(('.rela.text.f%d' % i, RELA, INFO_LINK, calls, at_symtab, 2 * i + 1, 8, 24))
+    rows.append(('.symtab', SYMTAB, 0, b''.join(symbols), at_symtab + 1, 1, 8, 24))
+    rows.append(('.strtab', STRTAB, 0, names.bytes(), 0, 0, 1, 0))
+    return relocatable(rows)
+
+
+def functions(folder, count):
+    place = os.path.join(folder, 'functions-%d' % count)
+    os.makedirs(place, exist_ok=True)
+    return [write(os.path.join(place, 'c%d.o' % k), call_object(k, count)) for k in range(count)]
+
+
 def write(path, contents):
     with open(path, 'wb') as file:
         file.write(contents)
@@ -147,6 +203,11 @@ MODES = {
     'symbols': (wide, 'symbols', (100000, 200000), (25000, 50000, 100000, 200000), 'One object: its symbols, and three times as many relocations'),
     'sections': (sections, 'sections', (30000, 60000), (7500, 15000, 30000, 60000), 'One object of many sections'),
     'archive': (chain, 'members', (10000, 20000), (2500, 5000, 10000, 20000), 'An archive of which a chain of half the members is live'),
+    'strings': (lambda folder, count: string_files(folder, count, 100), 'strings', (250000, 500000, 1000000), (125000, 250000, 500000, 1000000),
+                'Strings in 100 files, of which half repeat'),
+    'string': (lambda folder, count: string_files(folder, count, 1), 'strings', (250000, 500000, 1000000), (125000, 250000, 500000, 1000000),
+               'Strings in one file, of which half repeat'),
+    'functions': (functions, 'objects', (500, 1000, 2000), (250, 500, 1000, 2000), 'Objects of 30 functions with two calls each'),
 }
 
 
@@ -155,7 +216,7 @@ def commands(rvld, peers, threads):
     rows = []
     for n in threads:
         if rvld:
-            rows.append(('rvld', n, [rvld, '-s', '--threads', str(n)]))
+            rows.append(('rvld', n, [rvld, '-s', '--no-relax', '--threads', str(n)]))
         if 'lld' in peers and shutil.which('ld.lld'):
             rows.append(('lld', n, ['ld.lld', '-static', '-s', '--no-relax', '--threads=%d' % n]))
         if 'mold' in peers and shutil.which('mold'):
