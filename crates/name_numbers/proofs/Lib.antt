@@ -8,3 +8,4 @@ pub mod NameWords
 pub mod LeastClaims
 pub mod TextPlaces
 pub mod TagFirsts
+pub mod TagParts

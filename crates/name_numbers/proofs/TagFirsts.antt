@@ -1,18 +1,18 @@
 -- A table of tags: a search for a tag ends at one slot, and what is put there is the first of its tag. The first of a tag whose text it has is
 -- the first of the text.
-use Rattle.std.proofs.Common.{◌≡◌, ◌≢◌, ℕ, ◌+◌, ◌<◌, ◌≤◌, ◌==◌, ◌&&◌, ◌⊎◌, nat_lt, true, false, List, [], ◌∷◌, ◌++◌, length, map, get_or, set, replicate, Contains, refl, sym, ap, ◌∙◌, subst, ⊎_elim, inl, inr, arith}
+use Rattle.std.proofs.Common.{◌≡◌, ◌≢◌, ℕ, ◌+◌, ◌<◌, ◌≤◌, ◌==◌, ◌&&◌, nat_lt, true, false, List, [], ◌∷◌, ◌++◌, length, map, get_or, set, replicate, Contains, refl, sym, ap, ◌∙◌, subst, ⊎_elim, inr, arith}
 use Rattle.std.specs.Prelude.{All}
 use Rattle.std.specs.List.{range_with_len}
 use Rattle.std.specs.Str.{bytes_eq}
 use Rattle.std.proofs.lemmas.Bool.{cases_Bool, cases_eq, cases_lt, cases_order, or_cases, and_parts, eqb-true, ltb-true}
-use Rattle.std.proofs.lemmas.List.{ext_get_or, get_or-map, get_or-replicate, get_or-set_same, get_or-set_other, length-map, length-replicate, length-set}
+use Rattle.std.proofs.lemmas.List.{ext_get_or, get_or-map, get_or-replicate, get_or-set_same, get_or-set_other, length-map, length-set}
 use Rattle.std.proofs.lemmas.List.FromFn.{length-map-range_with_len, get_or-map-range_with_len, length-range_with_len, get_or-range_with_len}
 use Rattle.std.proofs.lemmas.List.Elements.{Contains-push_cases}
 use Rattle.std.proofs.lemmas.List.Sums.{position_or_len_is}
 use Rattle.std.proofs.lemmas.Slice.Eq.{bytes_eq-Decides}
 use Rattle.name_numbers.specs.declared.shards.First.{First}
 use Rattle.name_numbers.specs.declared.slots.Slot.{Slot}
-use Rattle.name_numbers.specs.Firsts.{AreFirsts, AreListed, AreTold, AreWritten, IsFirst, IsHeld, IsListed, IsSlot, IsTable, IsWritten, home_of, is_told, no_index, shard_of, slot_at, spread_tag, spread_tags, tag_at}
+use Rattle.name_numbers.specs.Firsts.{AreFirsts, AreListed, AreTold, IsFirst, IsHeld, IsListed, IsSlot, IsTable, home_of, is_told, no_index, shard_of, slot_at, spread_tag, spread_tags, tag_at}
 use Rattle.name_numbers.specs.Texts.{text_at, text_number, text_numbers}
 
 abbrev tag_in : List Slot → ℕ → ℕ
@@ -41,28 +41,6 @@ one_slot slots tag p q a filled b = ⊎_elim
     other)
     (cases_order p q)
 
-pub no_tags : (tags : List ℕ) (shard : ℕ) (slots : List Slot) → ((p : ℕ) → p < length slots → at_in slots p ≡ no_index) → IsTable tags shard slots 0
-no_tags tags shard slots empty = record {
-  firsts = λ p lt filled. absurd (filled (empty p lt));
-  held = λ i lt is. absurd (omega (arith, lt));
-}
-
-pub empty_slots : (tags : List ℕ) (shard n : ℕ) (slots : List Slot) (slot : Slot) → slot.at ≡ no_index → slots ≡ replicate n slot → IsTable tags shard slots 0
-empty_slots tags shard n slots slot none is =
-    let len : length slots ≡ n = ap length is ∙ length-replicate {A = Slot} n slot in
-    no_tags tags shard slots (λ p lt.
-    ap (λ (l : List Slot). at_in l p) is ∙ ap (λ (s : Slot). s.at) (get_or-replicate n p slot _ (omega (arith, lt, len))) ∙ none)
-
--- a tag of another shard
-pub other_shard : (tags : List ℕ) (shard : ℕ) (slots : List Slot) (i : ℕ) → shard_of (tag_at tags i) ≢ shard → IsTable tags shard slots i → IsTable tags shard slots (i + 1)
-other_shard tags shard slots i other t = record {
-  firsts = t.firsts;
-  held = λ j lt is. ⊎_elim
-      (λ (early : j < i). t.held j early is)
-      (λ (late : i ≤ j). let at : i ≡ j = omega (arith, lt, late) in absurd (other (ap (λ k. shard_of (tag_at tags k)) at ∙ is)))
-      (cases_lt j i);
-}
-
 -- a tag that is there
 pub first_there : (tags : List ℕ) (shard : ℕ) (slots : List Slot) (i p : ℕ) → IsTable tags shard slots i → IsSlot slots (tag_at tags i) p → at_in slots p ≢ no_index → IsFirst tags i (at_in slots p)
 first_there tags shard slots i p t s filled =
@@ -83,13 +61,13 @@ table_there tags shard slots i p t s filled = record {
 }
 
 -- a tag that is not
-pub first_here : (tags : List ℕ) (slots : List Slot) (i p : ℕ) → i < length tags → IsTable tags (shard_of (tag_at tags i)) slots i → IsSlot slots (tag_at tags i) p → at_in slots p ≡ no_index → IsFirst tags i i
-first_here tags slots i p lt t s empty = record {
+pub first_here : (tags : List ℕ) (shard : ℕ) (slots : List Slot) (i p : ℕ) → i < length tags → shard_of (tag_at tags i) ≡ shard → IsTable tags shard slots i → IsSlot slots (tag_at tags i) p → at_in slots p ≡ no_index → IsFirst tags i i
+first_here tags shard slots i p lt own t s empty = record {
   within = lt;
   same = refl;
   least = λ k less e.
       let P : ℕ → Type 0 = IsHeld slots in
-      let h = subst P e (t.held k less (ap shard_of e)) in
+      let h = subst P e (t.held k less (ap shard_of e ∙ own)) in
       h.filled (ap (at_in slots) (one_slot slots (tag_at tags i) h.place p h.slot h.filled s) ∙ empty);
 }
 
@@ -187,37 +165,11 @@ listed_more tags old new i first push lt is before x has =
     (λ (last : one ≡ x). subst Q last own)
     (Contains-push_cases old one x (subst P push has))
 
--- numbers that are written one by one
-pub written_none : (list : List First) (numbers : List ℕ) → AreWritten list numbers numbers
-written_none list numbers i = inl refl
-
-pub written_more : (list : List First) (old numbers : List ℕ) (x : First) → Contains list x → x.at < length numbers → AreWritten list old numbers → AreWritten list old (set numbers x.at x.first)
-written_more list old numbers x has lt before i = ⊎_elim
-    (λ (own : i ≡ x.at).
-    let is : get_or (set numbers x.at x.first) i 0 ≡ x.first = ap (λ k. get_or (set numbers x.at x.first) k 0) own ∙ get_or-set_same numbers x.at x.first 0 lt in
-    inr (x, has, sym own, sym is))
-    (λ (other : i ≢ x.at).
-    let keep : get_or (set numbers x.at x.first) i 0 ≡ get_or numbers i 0 = get_or-set_other numbers x.at i x.first 0 other in
-    let P : ℕ → Type 0 = λ n. (n ≡ get_or old i 0) ⊎ IsWritten list i n in
-    subst P (sym keep) (before i))
-    (cases_eq i x.at)
-
+-- numbers before any is written
 pub firsts_none : (tags numbers : List ℕ) (n : ℕ) → length tags ≤ no_index → n ≡ length tags → numbers ≡ replicate n no_index → AreFirsts tags numbers
 firsts_none tags numbers n few all is i lt less =
     let none : get_or numbers i 0 ≡ no_index = ap (λ l. get_or l i 0) is ∙ get_or-replicate n i no_index 0 (omega (arith, lt, all)) in
     absurd (omega (arith, few, less, none))
-
-pub firsts_written : (tags : List ℕ) (list : List First) (old new : List ℕ) → AreFirsts tags old → AreListed tags list → AreWritten list old new → AreFirsts tags new
-firsts_written tags list old new before listed written i lt less = ⊎_elim
-    (λ (same : get_or new i 0 ≡ get_or old i 0).
-    let P : ℕ → Type 0 = IsFirst tags i in
-    subst P (sym same) (before i lt (omega (arith, less, same))))
-    (λ w.
-    let own = (listed w.0 w.1).first in
-    let P : ℕ → Type 0 = λ k. IsFirst tags k (w.0).first in
-    let Q : ℕ → Type 0 = λ first. IsFirst tags i first in
-    subst Q w.3 (subst P w.2 own))
-    (written i)
 
 -- whether texts are those of their numbers
 pub told_is : (texts : List (List ℕ)) (numbers : List ℕ) (i : ℕ) → i < length texts → is_told texts numbers i ≡ true → (get_or numbers i 0 < length texts) × (text_at texts i ≡ text_at texts (get_or numbers i 0))
@@ -245,7 +197,7 @@ module _ (texts : List (List ℕ)) where
   unfolding spread_tags
   length_tags = length-map-range_with_len (λ i. spread_tag (text_at texts i)) 0 (length texts)
 
-  tag_is : (i : ℕ) → i < length texts → tag_at (spread_tags texts) i ≡ spread_tag (text_at texts i)
+  pub tag_is : (i : ℕ) → i < length texts → tag_at (spread_tags texts) i ≡ spread_tag (text_at texts i)
   unfolding spread_tags
   tag_is i lt = get_or-map-range_with_len (λ j. spread_tag (text_at texts j)) 0 (length texts) i i 0 lt (omega arith)
 

@@ -7,6 +7,7 @@
 
 mod keys;
 mod numbers;
+mod parts;
 mod shards;
 mod slots;
 mod sorting;

@@ -1,18 +1,18 @@
 //! For each text the first that has its tag.
 
-ghost use Rattle.std.specs.Prelude.{◌≡◌, ◌<◌, ◌≤◌, ◌+◌, ◌^◌, ◌==◌, length, true, IfOk, OnOk, Contains};
-ghost use Rattle.name_numbers.specs.Firsts.{AreFirsts, AreListed, AreWritten, IsTable, no_index, reach, spread_tag, spread_tags, tag_at};
-ghost use Rattle.name_numbers.specs.Firsts as spec;
-ghost use Rattle.name_numbers.specs.Texts.{lent_texts, text_at};
+ghost use Rattle.std.specs.Prelude.{◌≡◌, ◌<◌, ◌+◌, ◌^◌, length, true, IfOk, Contains};
+ghost use Rattle.name_numbers.specs.Firsts.{AreFirsts, AreListed, AreListedBy, AreParts, AreWritten, IsTable, piece_from, pieces, reach, shards, spread_tags};
+ghost use Rattle.name_numbers.specs.Texts.{lent_texts};
 
+use crate::parts::{Entry, PIECES, SHARDS, part_of};
 use crate::slots::{NO_INDEX, REACH, Slot, enter};
-use crate::tags::tag_of;
-use rayon::prelude::*;
 use std::alloc::{AllocError, Global};
 use std::thread::{Threads, map_indices};
 
-// So many parts have the tags, by their highest bits. For each part all tags are looked through.
-const SHARDS: usize = 8;
+// So many groups the shards are cut into, each looked through by a thread, and so many shards a group has.
+const GROUPS: usize = 8;
+
+const GROUP: usize = 8;
 
 // So few texts are not worth threads.
 const LEAST: usize = 16_384;
@@ -38,94 +38,101 @@ pub fn number_by_tags<R: Threads + Sync>(
 {
     let mut numbers = vec![in alloc; NO_INDEX; texts.len()]?;
     if workers == 1 || texts.len() < LEAST {
-        let tags = tags_by_one(alloc, texts)?;
-        number_by_one(alloc, tags.as_slice(), numbers.as_mut_slice())?;
+        let parts = parts_by_one(alloc, texts)?;
+        number_by_one(alloc, texts, parts.as_slice(), numbers.as_mut_slice())?;
         return Ok(numbers);
     }
-    let tags = tags_by_all(rt, alloc, texts)?;
-    number_by_all(rt, alloc, tags.as_slice(), numbers.as_mut_slice())?;
+    let parts = parts_by_all(rt, alloc, texts)?;
+    number_by_all(rt, alloc, texts, parts.as_slice(), numbers.as_mut_slice())?;
     Ok(numbers)
 }
 
-/// The tags of texts, by one worker.
-#[tactic(auto, unfolding(crate::specs::Firsts::spread_tags))]
-fn tags_by_one(alloc: Global, texts: &[&[u8]]) -> Result<Vec<u64>, AllocError>
-    ensures { IfOk result (λ list. list.items ≡ spread_tags (lent_texts texts.now)) }
+/// The entries of all pieces, by one worker.
+fn parts_by_one(
+    alloc: Global,
+    texts: &[&[u8]],
+) -> Result<Vec<Result<Vec<Vec<Entry>>, AllocError>>, AllocError>
+    requires { length texts.now < 2 ^ 31 }
+    ensures { IfOk result (λ parts. AreListedBy (spread_tags (lent_texts texts.now)) (length texts.now) pieces parts.items) }
 {
-    let mut list = Vec::with_capacity(alloc, texts.len())?;
-    for i in 0..texts.len() {
-        list.push(tag_at(texts, i))?;
+    let mut parts = Vec::with_capacity(alloc, PIECES)?;
+    for piece in 0..PIECES {
+        parts.push(part_of(alloc, texts, piece))?;
     }
-    Ok(list)
+    Ok(parts)
 }
 
-/// The same by all processors.
-fn tags_by_all<R: Threads + Sync>(
+/// The same, with a thread for each piece.
+fn parts_by_all<R: Threads + Sync>(
     rt: &R,
     alloc: Global,
     texts: &[&[u8]],
-) -> Result<Vec<u64>, AllocError>
-    ensures { IfOk result (λ list. list.items ≡ spread_tags (lent_texts texts.now)) }
+) -> Result<Vec<Result<Vec<Vec<Entry>>, AllocError>>, AllocError>
+    requires { length texts.now < 2 ^ 31 }
+    ensures { IfOk result (λ parts. AreListedBy (spread_tags (lent_texts texts.now)) (length texts.now) pieces parts.items) }
 {
-    (0..texts.len())
-        .into_par_iter()
-        .map(
-            |i: usize| -> u64
-                requires { i < length texts.now }
-                ensures { result ≡ spread_tag (text_at (lent_texts texts.entry.now) i) }
-            { tag_at(texts, i) },
-        )
-        .collect(rt, alloc)
+    let parts = map_indices(
+        rt,
+        alloc,
+        PIECES,
+        &|piece: usize| -> Result<Vec<Vec<Entry>>, AllocError>
+            requires few { length texts.now < 2 ^ 31 }
+            requires piece { piece < pieces }
+            ensures { IfOk result (λ lists. AreParts (spread_tags (lent_texts texts.entry.now)) (piece_from (length texts.entry.now) piece) (piece_from (length texts.entry.now) (piece + 1)) lists.items) }
+        { part_of(alloc, texts, piece) },
+    )?;
+    Ok(parts)
 }
 
-/// The tag of one text, spread over all bits.
-#[tactic(auto, unfolding(crate::specs::Firsts::spread_tag))]
-fn tag_at(texts: &[&[u8]], i: usize) -> u64
-    requires { i < length texts.now }
-    ensures { result ≡ spread_tag (text_at (lent_texts texts.now) i) }
-{
-    tag_of(texts[i]).wrapping_mul(0x9e37_79b9_7f4a_7c15)
-}
-
-/// Writes the first indexes of all shards, one after the other.
-fn number_by_one(alloc: Global, tags: &[u64], numbers: &mut [u32]) -> Result<(), AllocError>
-    requires few { length tags.now < 2 ^ 31 }
-    requires wide { length numbers.old ≡ length tags.now }
-    requires firsts { AreFirsts tags.now numbers.old }
+/// Writes the first indexes of all groups, one after the other.
+fn number_by_one(
+    alloc: Global,
+    texts: &[&[u8]],
+    parts: &[Result<Vec<Vec<Entry>>, AllocError>],
+    numbers: &mut [u32],
+) -> Result<(), AllocError>
+    requires few { length texts.now < 2 ^ 31 }
+    requires parts { AreListedBy (spread_tags (lent_texts texts.now)) (length texts.now) pieces parts.now }
+    requires wide { length numbers.old ≡ length texts.now }
+    requires firsts { AreFirsts (spread_tags (lent_texts texts.now)) numbers.old }
     ensures len { length numbers.new ≡ length numbers.old }
-    ensures firsts { AreFirsts tags.now numbers.new }
+    ensures firsts { AreFirsts (spread_tags (lent_texts texts.now)) numbers.new }
 {
-    for shard in 0..SHARDS {
-        let list = shard_firsts(alloc, tags, shard)?;
+    for group in 0..GROUPS {
+        let list = group_firsts(alloc, texts, parts, group)?;
         write_firsts(numbers, list.as_slice());
     }
     Ok(())
 }
 
-/// The same, with a thread for each shard.
+/// The same, with a thread for each group.
 fn number_by_all<R: Threads + Sync>(
     rt: &R,
     alloc: Global,
-    tags: &[u64],
+    texts: &[&[u8]],
+    parts: &[Result<Vec<Vec<Entry>>, AllocError>],
     numbers: &mut [u32],
 ) -> Result<(), AllocError>
-    requires few { length tags.now < 2 ^ 31 }
-    requires wide { length numbers.old ≡ length tags.now }
-    requires firsts { AreFirsts tags.now numbers.old }
+    requires few { length texts.now < 2 ^ 31 }
+    requires parts { AreListedBy (spread_tags (lent_texts texts.now)) (length texts.now) pieces parts.now }
+    requires wide { length numbers.old ≡ length texts.now }
+    requires firsts { AreFirsts (spread_tags (lent_texts texts.now)) numbers.old }
     ensures len { length numbers.new ≡ length numbers.old }
-    ensures firsts { AreFirsts tags.now numbers.new }
+    ensures firsts { AreFirsts (spread_tags (lent_texts texts.now)) numbers.new }
 {
     let lists = map_indices(
         rt,
         alloc,
-        SHARDS,
-        &|shard: usize| -> Result<Vec<First>, AllocError>
-            requires { length tags.now < 2 ^ 31 }
-            ensures { IfOk result (λ list. AreListed tags.entry.now list.items) }
-        { shard_firsts(alloc, tags, shard) },
+        GROUPS,
+        &|group: usize| -> Result<Vec<First>, AllocError>
+            requires few { length texts.now < 2 ^ 31 }
+            requires parts { AreListedBy (spread_tags (lent_texts texts.now)) (length texts.now) pieces parts.now }
+            requires group { group < 8 }
+            ensures { IfOk result (λ list. AreListed (spread_tags (lent_texts texts.entry.now)) list.items) }
+        { group_firsts(alloc, texts, parts, group) },
     )?;
-    for shard in 0..SHARDS {
-        match &lists[shard] {
+    for group in 0..GROUPS {
+        match &lists[group] {
             Ok(list) => write_firsts(numbers, list.as_slice()),
             Err(_) => return Err(AllocError),
         }
@@ -133,78 +140,133 @@ fn number_by_all<R: Threads + Sync>(
     Ok(())
 }
 
-/// The indexes whose tags are of a shard, each with the first that has its tag, up to one for which there is no slot.
-fn shard_firsts(alloc: Global, tags: &[u64], shard: usize) -> Result<Vec<First>, AllocError>
-    requires few { length tags.now < 2 ^ 31 }
-    ensures { IfOk result (λ list. AreListed tags.now list.items) }
+/// The indexes whose tags are of the shards of a group, each with the first that has its tag, up to one for which there is no slot.
+fn group_firsts(
+    alloc: Global,
+    texts: &[&[u8]],
+    parts: &[Result<Vec<Vec<Entry>>, AllocError>],
+    group: usize,
+) -> Result<Vec<First>, AllocError>
+    requires few { length texts.now < 2 ^ 31 }
+    requires parts { AreListedBy (spread_tags (lent_texts texts.now)) (length texts.now) pieces parts.now }
+    requires group { group < 8 }
+    ensures { IfOk result (λ list. AreListed (spread_tags (lent_texts texts.now)) list.items) }
 {
-    let share = tags.len() / SHARDS;
-    let mut slots = vec![in alloc; Slot {
-        tag: 0,
-        at: NO_INDEX
-    }; share * 2 + 2 * REACH]?;
-    let mut list = Vec::with_capacity(alloc, share)?;
-    list_firsts(slots.as_mut_slice(), &mut list, tags, shard)?;
+    let mut list = Vec::with_capacity(alloc, texts.len() / GROUPS)?;
+    for shard in group * GROUP..group * GROUP + GROUP {
+        if !list_shard(alloc, &mut list, texts, parts, shard)? {
+            return Ok(list);
+        }
+    }
     Ok(list)
 }
 
-/// The same with empty slots.
-fn list_firsts(
-    slots: &mut [Slot],
+/// Lists the indexes whose tags are of a shard. False if there is one for which there is no slot.
+fn list_shard(
+    alloc: Global,
     list: &mut Vec<First>,
-    tags: &[u64],
+    texts: &[&[u8]],
+    parts: &[Result<Vec<Vec<Entry>>, AllocError>],
     shard: usize,
-) -> Result<(), AllocError>
-    requires some { reach < length slots.old }
-    requires few { length tags.now < 2 ^ 31 }
-    requires table { IsTable tags.now shard slots.old 0 }
-    requires listed { AreListed tags.now list.old.items }
-    ensures { IfOk result (λ _. AreListed tags.now list.new.items) }
+) -> Result<bool, AllocError>
+    requires few { length texts.now < 2 ^ 31 }
+    requires parts { AreListedBy (spread_tags (lent_texts texts.now)) (length texts.now) pieces parts.now }
+    requires shard { shard < shards }
+    requires listed { AreListed (spread_tags (lent_texts texts.now)) list.old.items }
+    ensures { IfOk result (λ _. AreListed (spread_tags (lent_texts texts.now)) list.new.items) }
 {
-    for i in 0..tags.len() {
-        if !list_first(slots, list, tags, i, shard)? {
-            return Ok(());
-        }
-    }
-    Ok(())
+    let count = texts.len() / SHARDS * 2 + 2 * REACH;
+    let mut slots = vec![in alloc; Slot {
+        tag: 0,
+        at: NO_INDEX
+    }; count]?;
+    let is_listed = list_parts(slots.as_mut_slice(), list, texts, parts, shard)?;
+    Ok(is_listed)
 }
 
-/// Lists one index, if its tag is of the shard. False if there is no slot for it.
-fn list_first(
+/// The same with empty slots.
+fn list_parts(
     slots: &mut [Slot],
     list: &mut Vec<First>,
-    tags: &[u64],
-    i: usize,
+    texts: &[&[u8]],
+    parts: &[Result<Vec<Vec<Entry>>, AllocError>],
     shard: usize,
 ) -> Result<bool, AllocError>
     requires some { reach < length slots.old }
-    requires within { i < length tags.now }
-    requires few { length tags.now < 2 ^ 31 }
-    requires table { IsTable tags.now shard slots.old i }
-    requires listed { AreListed tags.now list.old.items }
-    ensures len { length slots.new ≡ length slots.old }
-    ensures table { IfOk result (λ is. is ≡ true → IsTable tags.now shard slots.new (i + 1)) }
-    ensures listed { IfOk result (λ _. AreListed tags.now list.new.items) }
+    requires few { length texts.now < 2 ^ 31 }
+    requires parts { AreListedBy (spread_tags (lent_texts texts.now)) (length texts.now) pieces parts.now }
+    requires shard { shard < shards }
+    requires table { IsTable (spread_tags (lent_texts texts.now)) shard slots.old 0 }
+    requires listed { AreListed (spread_tags (lent_texts texts.now)) list.old.items }
+    ensures { IfOk result (λ _. AreListed (spread_tags (lent_texts texts.now)) list.new.items) }
 {
-    if shard_of(tags[i]) != shard {
-        return Ok(true);
+    for piece in 0..PIECES {
+        if !list_part(slots, list, texts, parts, piece, shard)? {
+            return Ok(false);
+        }
     }
-    let first = enter(slots, tags, i);
-    if first == NO_INDEX {
-        return Ok(false);
-    }
-    list.push(First {
-        at: i as u32,
-        first,
-    })?;
     Ok(true)
 }
 
-/// The shard of a tag, by its three highest bits.
-fn shard_of(tag: u64) -> usize
-    ensures { result ≡ spec.shard_of tag }
+/// Lists the indexes of one piece whose tags are of a shard.
+fn list_part(
+    slots: &mut [Slot],
+    list: &mut Vec<First>,
+    texts: &[&[u8]],
+    parts: &[Result<Vec<Vec<Entry>>, AllocError>],
+    piece: usize,
+    shard: usize,
+) -> Result<bool, AllocError>
+    requires some { reach < length slots.old }
+    requires few { length texts.now < 2 ^ 31 }
+    requires parts { AreListedBy (spread_tags (lent_texts texts.now)) (length texts.now) pieces parts.now }
+    requires piece { piece < pieces }
+    requires shard { shard < shards }
+    requires table { IsTable (spread_tags (lent_texts texts.now)) shard slots.old (piece_from (length texts.now) piece) }
+    requires listed { AreListed (spread_tags (lent_texts texts.now)) list.old.items }
+    ensures len { length slots.new ≡ length slots.old }
+    ensures table { IfOk result (λ is. is ≡ true → IsTable (spread_tags (lent_texts texts.now)) shard slots.new (piece_from (length texts.now) (piece + 1))) }
+    ensures listed { IfOk result (λ _. AreListed (spread_tags (lent_texts texts.now)) list.new.items) }
 {
-    (tag / 0x2000_0000_0000_0000) as usize
+    let lists = match &parts[piece] {
+        Ok(lists) => lists,
+        Err(_) => return Err(AllocError),
+    };
+    list_entries(slots, list, texts, lists.as_slice(), piece, shard)
+}
+
+/// The same, where the lists of the piece are given.
+fn list_entries(
+    slots: &mut [Slot],
+    list: &mut Vec<First>,
+    texts: &[&[u8]],
+    lists: &[Vec<Entry>],
+    piece: usize,
+    shard: usize,
+) -> Result<bool, AllocError>
+    requires some { reach < length slots.old }
+    requires few { length texts.now < 2 ^ 31 }
+    requires lists { AreParts (spread_tags (lent_texts texts.now)) (piece_from (length texts.now) piece) (piece_from (length texts.now) (piece + 1)) lists.now }
+    requires shard { shard < shards }
+    requires table { IsTable (spread_tags (lent_texts texts.now)) shard slots.old (piece_from (length texts.now) piece) }
+    requires listed { AreListed (spread_tags (lent_texts texts.now)) list.old.items }
+    ensures len { length slots.new ≡ length slots.old }
+    ensures table { IfOk result (λ is. is ≡ true → IsTable (spread_tags (lent_texts texts.now)) shard slots.new (piece_from (length texts.now) (piece + 1))) }
+    ensures listed { IfOk result (λ _. AreListed (spread_tags (lent_texts texts.now)) list.new.items) }
+{
+    let entries = lists[shard].as_slice();
+    for k in 0..entries.len() {
+        let entry = entries[k];
+        let first = enter(slots, texts, entry);
+        if first == NO_INDEX {
+            return Ok(false);
+        }
+        list.push(First {
+            at: entry.at,
+            first,
+        })?;
+    }
+    Ok(true)
 }
 
 /// Writes the first index of each index in a list.

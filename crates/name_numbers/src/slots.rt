@@ -1,8 +1,11 @@
 //! A table of tags, each with the first index that has it.
 
-ghost use Rattle.std.specs.Prelude.{◌≡◌, ◌≢◌, ◌<◌, ◌≤◌, ◌+◌, ◌-◌, ◌^◌, ◌⊎◌, length, IfSome};
-ghost use Rattle.name_numbers.specs.Firsts.{IsFirst, IsSlot, IsTable, no_index, reach, shard_of, tag_at};
+ghost use Rattle.std.specs.Prelude.{◌≡◌, ◌≢◌, ◌<◌, ◌≤◌, ◌+◌, ◌-◌, ◌^◌, length, IfSome};
+ghost use Rattle.name_numbers.specs.Firsts.{IsEntry, IsFirst, IsSlot, IsTable, no_index, reach, shard_of, spread_tags};
 ghost use Rattle.name_numbers.specs.Firsts as spec;
+ghost use Rattle.name_numbers.specs.Texts.{lent_texts};
+
+use crate::parts::Entry;
 
 /// No text has this index.
 pub const NO_INDEX: u32 = 0xffff_ffff;
@@ -17,27 +20,28 @@ pub struct Slot {
     pub at: u32,
 }
 
-/// Puts the tag of an index into the table of its shard, if it is not there, and says the first index that has it; none if there is no slot
-/// for it.
-pub fn enter(slots: &mut [Slot], tags: &[u64], i: usize) -> u32
+/// Puts an entry's tag into the table of its shard, if it is not there, and says the first index that has it; none if there is no slot for it.
+pub fn enter(slots: &mut [Slot], texts: &[&[u8]], entry: Entry) -> u32
     requires some { reach < length slots.old }
-    requires within { i < length tags.now }
-    requires few { length tags.now < 2 ^ 31 }
-    requires table { IsTable tags.now (shard_of (tag_at tags.now i)) slots.old i }
+    requires few { length texts.now < 2 ^ 31 }
+    requires entry { IsEntry (spread_tags (lent_texts texts.now)) entry }
+    requires table { IsTable (spread_tags (lent_texts texts.now)) (shard_of entry.tag) slots.old entry.at }
     ensures len { length slots.new ≡ length slots.old }
-    ensures first { result ≢ no_index → IsFirst tags.now i result }
-    ensures table { result ≢ no_index → IsTable tags.now (shard_of (tag_at tags.now i)) slots.new (i + 1) }
+    ensures first { result ≢ no_index → IsFirst (spread_tags (lent_texts texts.now)) entry.at result }
+    ensures table { result ≢ no_index → IsTable (spread_tags (lent_texts texts.now)) (shard_of entry.tag) slots.new (entry.at + 1) }
 {
-    let tag = tags[i];
-    let Some(p) = slot_of(slots, tag) else {
+    let Some(p) = slot_of(slots, entry.tag) else {
         return NO_INDEX;
     };
     let at = slots[p].at;
     if at != NO_INDEX {
         return at;
     }
-    slots[p] = Slot { tag, at: i as u32 };
-    i as u32
+    slots[p] = Slot {
+        tag: entry.tag,
+        at: entry.at,
+    };
+    entry.at
 }
 
 /// The slot in which a search for a tag ends: its own, or an empty one.
@@ -63,6 +67,6 @@ fn home_of(tag: u64, count: usize) -> usize
     ensures within { result + reach ≤ count }
 {
     let last = (count - REACH) as u64;
-    let place = ((tag / 0x2000_0000) % 0x1_0000_0000).wrapping_mul(last) / 0x1_0000_0000;
+    let place = ((tag / 0x0400_0000) % 0x1_0000_0000).wrapping_mul(last) / 0x1_0000_0000;
     place.min(last) as usize
 }

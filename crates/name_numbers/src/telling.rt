@@ -1,6 +1,6 @@
 //! Whether texts that have one number are equal.
 
-ghost use Rattle.std.specs.Prelude.{◌≡◌, ◌<◌, ◌==◌, ◌||◌, ◌&&◌, nat_lt, length, true};
+ghost use Rattle.std.specs.Prelude.{◌≡◌, ◌<◌, ◌==◌, ◌||◌, ◌&&◌, length, true};
 ghost use Rattle.std.specs.Str.{bytes_eq};
 ghost use Rattle.name_numbers.specs.Firsts.{AreTold};
 ghost use Rattle.name_numbers.specs.Firsts as spec;

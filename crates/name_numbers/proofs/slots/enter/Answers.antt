@@ -1,18 +1,51 @@
-use Rattle.std.proofs.Common.{◌<◌, set, arith}
+use Rattle.std.proofs.Common.{◌<◌, ℕ, set, sym, ap, subst, arith}
 use Rattle.name_numbers.specs.declared.slots.Slot.{Slot}
-use Rattle.name_numbers.specs.Firsts.{IsSlot, no_index, shard_of, tag_at}
-use Rattle.name_numbers.proofs.TagFirsts.{first_here, put_is, table_put}
+use Rattle.name_numbers.specs.Firsts.{IsSlot, no_index, shard_of, spread_tags, tag_at}
+use Rattle.name_numbers.specs.Texts.{lent_texts}
+use Rattle.name_numbers.proofs.TagFirsts.{IsPut, first_here, first_there, length_tags, put_is, table_put, table_there}
+use Rattle.name_numbers.proofs.TextPlaces.{length_texts}
 use Rattle.name_numbers.proofs.slots.enter.Goals as goal
+
+pub returns-then-at-clause-first : goal.returns-then-at-clause-first
+returns-then-at-clause-first c some =
+    let tags = spread_tags (lent_texts c.args.texts.now) in
+    let slots = c.args.slots.now in
+    let entry = c.args.entry in
+    let p = c.in-Some.p in
+    let P : ℕ → Type 0 = λ tag. IsSlot slots tag p in
+    let s : IsSlot slots (tag_at tags entry.at) p = subst P c.requires.entry.tagged c.in-Some.ensures in
+    first_there tags (shard_of entry.tag) slots entry.at p c.requires.table s some
+
+pub returns-then-at-clause-table : goal.returns-then-at-clause-table
+returns-then-at-clause-table c some =
+    let tags = spread_tags (lent_texts c.args.texts.now) in
+    let slots = c.args.slots.now in
+    let entry = c.args.entry in
+    let p = c.in-Some.p in
+    let P : ℕ → Type 0 = λ tag. IsSlot slots tag p in
+    let s : IsSlot slots (tag_at tags entry.at) p = subst P c.requires.entry.tagged c.in-Some.ensures in
+    table_there tags (shard_of entry.tag) slots entry.at p c.requires.table s some
+
+pub returns-clause-first : goal.returns-clause-first
+returns-clause-first c some =
+    let tags = spread_tags (lent_texts c.args.texts.now) in
+    let slots = c.args.slots.now in
+    let entry = c.args.entry in
+    let p = c.in-Some.p in
+    let P : ℕ → Type 0 = λ tag. IsSlot slots tag p in
+    let s : IsSlot slots (tag_at tags entry.at) p = subst P c.requires.entry.tagged c.in-Some.ensures in
+    first_here tags (shard_of entry.tag) slots entry.at p c.requires.entry.within (ap shard_of (sym c.requires.entry.tagged)) c.requires.table s c.if-at.false
 
 pub returns-clause-table : goal.returns-clause-table
 returns-clause-table c some =
-    let tags = c.args.tags.now in
+    let tags = spread_tags (lent_texts c.args.texts.now) in
     let slots = c.args.slots.now in
-    let i = c.args.i in
-    let tag = tag_at tags i in
+    let entry = c.args.entry in
     let p = c.in-Some.p in
-    let slot : Slot = record { tag = tag; at = i } in
-    let few : i < no_index = let lt = c.requires.within in let less = c.requires.few in omega (arith, lt, less) in
-    let s : IsSlot slots tag p = c.in-Some.ensures in
-    let first = first_here tags slots i p c.requires.within c.requires.table s c.if-at.false in
-    table_put tags (shard_of tag) slots (set slots p slot) i p few first c.requires.table s (put_is slots p slot s.within c.if-at.false)
+    let slot : Slot = record { tag = entry.tag; at = entry.at } in
+    let few : entry.at < no_index = let lt = c.requires.entry.within in let less = c.requires.few in let len = length_tags (lent_texts c.args.texts.now) in omega (arith, lt, less, len, length_texts c.args.texts.now) in
+    let P : ℕ → Type 0 = λ tag. IsSlot slots tag p in
+    let s : IsSlot slots (tag_at tags entry.at) p = subst P c.requires.entry.tagged c.in-Some.ensures in
+    let first = first_here tags (shard_of entry.tag) slots entry.at p c.requires.entry.within (ap shard_of (sym c.requires.entry.tagged)) c.requires.table s c.if-at.false in
+    let Q : ℕ → Type 0 = λ tag. IsPut slots (set slots p slot) p tag entry.at in
+    table_put tags (shard_of entry.tag) slots (set slots p slot) entry.at p few first c.requires.table s (subst Q c.requires.entry.tagged (put_is slots p slot s.within c.if-at.false))
