@@ -24,8 +24,8 @@ pub struct First {
     pub first: u32,
 }
 
-/// For each text the first index that has its tag, or none where tags were made up to crowd a table. One worker does all by itself; more are
-/// as many as the machine has processors.
+/// For each text the first index that has its tag, or none where tags were made up to crowd a table. One worker does all by itself; for more,
+/// threads are started.
 pub fn number_by_tags<R: Threads + Sync>(
     rt: &R,
     alloc: Global,

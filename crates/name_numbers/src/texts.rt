@@ -13,8 +13,7 @@ use crate::telling::are_told;
 use std::alloc::{AllocError, Global};
 use std::thread::Threads;
 
-/// For each text the index of the first that is equal to it. One worker sorts by itself; more are as many as the machine has
-/// processors.
+/// For each text the index of the first that is equal to it. One worker does all by itself; for more, threads are started.
 pub fn number_texts<R: Threads + Sync>(
     rt: &R,
     alloc: Global,
@@ -31,7 +30,7 @@ pub fn number_texts<R: Threads + Sync>(
     Ok(numbers)
 }
 
-/// The same where texts that differ have one tag: they are sorted by their bytes, too.
+/// The same where texts that differ have one tag, or tags crowd a table: they are sorted by their tags and their bytes.
 fn number_by_names<R: Threads + Sync>(
     rt: &R,
     alloc: Global,
