@@ -226,28 +226,3 @@ pub fn header_table(
     push_section_header(&mut out, &strings_section(own, offset, size))?;
     Ok(out)
 }
-
-#[cfg(test)]
-mod tests {
-    use super::*;
-    use lk_base::abi::{SHF_ALLOC, SHF_EXECINSTR, SHT_PROGBITS};
-    use lk_tables::Class;
-    use std::test::Fail;
-
-    #[test]
-    fn names_are_ended_by_zeros(rt: HostRuntime) -> Result<(), Fail> {
-        let text = Output {
-            name: b".text",
-            class: Class::Rx,
-            sh_type: SHT_PROGBITS,
-            flags: SHF_ALLOC + SHF_EXECINSTR,
-            address: 0x11000,
-            size: 8,
-            align: 4,
-            count: 1,
-        };
-        let names = name_bytes(rt.alloc(), &[text], &None)?;
-        assert_eq!(rt; names.as_slice(), b"\0.text\0.shstrtab\0".as_slice());
-        Ok(())
-    }
-}

@@ -87,38 +87,3 @@ fn index_of(place: TablePlace) -> u16
         TablePlace::Output(number) => number,
     }
 }
-
-#[cfg(test)]
-mod tests {
-    use super::*;
-    use lk_base::abi::{STB_GLOBAL, STB_WEAK, STT_FUNC, STT_NOTYPE};
-    use std::test::Fail;
-
-    #[test]
-    fn symbols_follow_the_null_symbol(rt: HostRuntime) -> Result<(), Fail> {
-        let end = TableSymbol {
-            name: b"_end",
-            binding: STB_GLOBAL,
-            sort: STT_NOTYPE,
-            value: 0x12345,
-            size: 0,
-            section: TablePlace::Absolute,
-        };
-        let f = TableSymbol {
-            name: b"f",
-            binding: STB_WEAK,
-            sort: STT_FUNC,
-            value: 0x11000,
-            size: 8,
-            section: TablePlace::Output(1),
-        };
-        let tables = tables_of(rt.alloc(), &[end, f])?;
-        assert_eq!(rt; tables.strings.as_slice(), b"\0_end\0f\0".as_slice());
-        let mut expected = vec![in rt.alloc(); 0u8; 24]?;
-        expected.extend_from_slice(b"\x01\0\0\0\x10\0\xf1\xff\x45\x23\x01\0\0\0\0\0")?;
-        expected.extend_from_slice(b"\0\0\0\0\0\0\0\0\x06\0\0\0\x22\0\x01\0")?;
-        expected.extend_from_slice(b"\0\x10\x01\0\0\0\0\0\x08\0\0\0\0\0\0\0")?;
-        assert_eq!(rt; tables.symbols.as_slice(), expected.as_slice());
-        Ok(())
-    }
-}

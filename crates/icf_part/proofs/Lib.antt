@@ -10,7 +10,6 @@ pub mod Sublists
 pub mod NumberedRows
 pub mod Targets
 pub mod Relocs
-pub mod InOrder
 pub mod LeadersOf
 pub mod Loop
 pub mod Measure

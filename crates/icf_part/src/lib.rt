@@ -14,8 +14,6 @@ mod refining;
 mod rounds;
 mod shapes;
 mod stable;
-#[cfg(test)]
-mod tests;
 mod words;
 
 pub use folding::fold;

@@ -35,7 +35,6 @@ pub mod Listed
 pub mod Inside
 pub mod Sounds
 pub mod Seen
-pub mod ViewedItems
 pub mod Segments
 pub mod Apart
 pub mod Aligned

@@ -7,7 +7,8 @@
 //!
 //! `linking` runs the phases: `finding` finds the files in the inputs (`sources`), `heads` and `bodies` read them by all workers,
 //! names are bound, and what goes into the executable is laid out and written. `driving` reads the command, loads, links and
-//! writes, and says how it ended, by the lines of `diagnostics`.
+//! writes, and says how it ended, by the lines of `diagnostics`. The phases up to the layout are public one by one too, for whoever looks at
+//! what they hand on.
 #![tactic(auto)]
 
 mod bodies;
@@ -22,11 +23,13 @@ mod sections;
 mod shown;
 mod sources;
 mod symbol_names;
-#[cfg(test)]
-mod tests;
 
 pub use driving::run;
+pub use finding::find_sources;
 pub use inputs::Inputs;
 pub use link_command::{Command, IcfMode, Wanted};
-pub use linking::{Linked, link};
+pub use linking::{
+    Linked, Options, bind_names, find_kept, find_leaders, lay_out, link, read_files,
+};
+pub use sources::Source;
 pub use work_split::{Gate, OpenGate};

@@ -13,7 +13,5 @@ mod maps;
 mod numbers;
 mod places;
 mod rooms;
-#[cfg(test)]
-mod tests;
 
 pub use maps::map_text;

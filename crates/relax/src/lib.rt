@@ -15,6 +15,3 @@ mod unrelaxed;
 mod watching;
 
 pub use keeping::sizes;
-
-#[cfg(test)]
-mod tests;

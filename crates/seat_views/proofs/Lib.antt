@@ -1,4 +1,3 @@
 pub mod EachViews
 pub mod Places
 pub mod SomeViews
-pub mod TwoViews

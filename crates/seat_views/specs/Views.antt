@@ -8,10 +8,6 @@ module _ {V : Type 0} (live : V → Bool) where
   abbrev pub EachView : (V → Type 0) → List V → Type 0
   EachView Is views = (seat : ℕ) (v : V) → get_elem? views seat ≡ some v → live v ≡ true → Is v
 
-  -- each two live views, of two seats, are so to one another
-  abbrev pub EachTwoViews : (V → V → Type 0) → List V → Type 0
-  EachTwoViews Are views = (seat : ℕ) (v : V) → get_elem? views seat ≡ some v → live v ≡ true → (other : ℕ) (w : V) → ¬ (other ≡ seat) → get_elem? views other ≡ some w → live w ≡ true → Are v w
-
   -- one live view is so
   pub record SomeView (Is : V → Type 0) (views : List V) : Type 0 where
     pub seat : ℕ

@@ -9,8 +9,6 @@ mod keeping;
 mod listing;
 mod root_sections;
 mod rounds;
-#[cfg(test)]
-mod tests;
 mod visits;
 
 pub use keeping::keep;

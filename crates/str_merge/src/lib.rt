@@ -16,8 +16,6 @@ mod pooling;
 mod sections;
 mod sites;
 mod spreading;
-#[cfg(test)]
-mod tests;
 
 pub use counts::{piece_bound, piece_count};
 pub use merging::merge;

@@ -2,7 +2,6 @@ pub mod ByteRooms
 pub mod FoundPlaces
 pub mod LinkerAddresses
 pub mod Near
-pub mod NoFiles
 pub mod NotedSteps
 pub mod PastSymbols
 pub mod PoolPositions

@@ -20,6 +20,3 @@ mod views;
 pub use addresses::find_addresses;
 pub use numbers::{leader_of, number_at, offset_in, start_of};
 pub use views::{entry_address, piece_address, section_address, symbol_address};
-
-#[cfg(test)]
-mod tests;

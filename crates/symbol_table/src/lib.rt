@@ -12,8 +12,6 @@ mod named;
 mod outputs;
 mod sorting;
 mod symbols;
-#[cfg(test)]
-mod tests;
 
 pub use listing::table_symbols;
 pub use outputs::Outputs;

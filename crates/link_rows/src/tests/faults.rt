@@ -1,11 +1,11 @@
 //! What a failed call of the store of files, or of a stream, leaves.
 
 use super::generated::{TWO_ALONE, TWO_MAPPED};
-use super::maps::FIRST_LINES;
-use super::{
-    Call, FIRST_LINK, Left, Link, OpenGate, Outside, SOUND, Stream, WORKERS, run_with, text_of,
-};
-use crate::image_of;
+use super::run_with;
+use elf_bytes::image_of;
+use link_driver::OpenGate;
+use link_examples::lines::FIRST_LINES;
+use link_examples::{Call, FIRST_LINK, Left, Link, Outside, SOUND, Stream, WORKERS, text_of};
 use lk_depot::{FileKind, MemDepot};
 use std::alloc::{AllocError, Global};
 use std::test::Fail;

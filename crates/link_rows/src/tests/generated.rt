@@ -1,9 +1,10 @@
 //! Links of generated objects (`--self-input`), and what is said of them.
 
-use super::images::{FIRST, READ_OF_FOUR, STACK};
-use super::{Call, FIRST_LINK, Left, Link, NO_WORDS, Refusal, SOUND, Store, WORKERS, run_with};
-use crate::{Image, Listed};
+use super::run_with;
+use elf_bytes::{Image, Listed};
 use link_driver::OpenGate;
+use link_examples::images::{FIRST, READ_OF_FOUR, STACK};
+use link_examples::{Call, FIRST_LINK, Left, Link, NO_WORDS, Refusal, SOUND, Store, WORKERS};
 use std::alloc::{AllocError, Global};
 use std::test::Fail;
 use std::thread::Threads;
@@ -246,7 +247,7 @@ fn link_many<R: Threads + Sync>(
     let call = Call {
         words: many.0,
         workers,
-        store: Store::Maps,
+        store: Store::Objects,
         libraries: &[],
         outside: &SOUND,
     };

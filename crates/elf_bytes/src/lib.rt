@@ -1,0 +1,12 @@
+//! The bytes of files, written out from their fields, for worked examples: `object` builds those of an object from its sections and symbols,
+//! `archive` those of an archive from its members, and `image` those of an executable.
+#![tactic(auto)]
+
+mod archive;
+mod image;
+mod numbers;
+mod object;
+
+pub use archive::{ARCHIVE, Archive, Contents, Member, THIN, archive_of};
+pub use image::{Image, Listed, image_of};
+pub use object::{Object, Reloc, Section, SectionLink, Symbol, object_of};

@@ -1,5 +1,0 @@
-use Rattle.icf_part.proofs.InOrder.{AreNumbered}
-use Rattle.icf_part.proofs.tests.a_chain_is_not_folded.Given as goal
-
-abbrev pub invariant-loop-n : goal.invariant-loop-n
-invariant-loop-n g l = AreNumbered l.items.items l.n

@@ -1,0 +1,262 @@
+//! An executable is the same by blocks of any length, written in any order, as by one block.
+
+ghost use Rattle.std.specs.Prelude.{◌≡◌, ◌≤◌};
+ghost use Rattle.elf_out.specs.TablesView.{tables_if, tables_in};
+
+use super::examples::{Example, OF_THREE_BLOCKS, SMALL};
+use super::links::{Asked, PLAIN, inputs_of, run_passes};
+use elf_out::{SymbolTables, block, file_length, headers};
+use link_driver::Options;
+use link_sections::View;
+use lk_base::LinkStop;
+use reloc_apply::{apply, write_block};
+use std::alloc::Global;
+use std::test::Fail;
+use std::thread::Threads;
+
+/// How many bytes the sections of an executable have in the file, and the lengths of blocks, from the first one on and below the second one.
+#[derive(Clone, Copy)]
+pub struct Lengths {
+    pub written: usize,
+    pub from: usize,
+    pub to: usize,
+}
+
+/// The order in which blocks are written.
+#[derive(Clone, Copy)]
+enum Order {
+    Forwards,
+    Backwards,
+    EverySecondFirst,
+}
+
+/// How a block is written: with no test, or with one before it.
+#[derive(Clone, Copy)]
+enum Way {
+    Write,
+    Apply,
+}
+
+const WAYS: [(Order, Way); 6] = [
+    (Order::Forwards, Way::Write),
+    (Order::Backwards, Way::Write),
+    (Order::EverySecondFirst, Way::Write),
+    (Order::Forwards, Way::Apply),
+    (Order::Backwards, Way::Apply),
+    (Order::EverySecondFirst, Way::Apply),
+];
+
+/// The number of the block that comes after `turn` others, of so many.
+fn number_at(order: Order, turn: usize, count: usize) -> usize {
+    let seconds = count / 2;
+    match order {
+        Order::Forwards => turn,
+        Order::Backwards => count.wrapping_sub(turn).wrapping_sub(1),
+        Order::EverySecondFirst if turn < seconds => turn.wrapping_mul(2).wrapping_add(1),
+        Order::EverySecondFirst => turn.wrapping_sub(seconds).wrapping_mul(2),
+    }
+}
+
+/// Writes the block of a number, of blocks of one length.
+fn write_one(
+    out: &mut Vec<u8>,
+    number: usize,
+    len: usize,
+    way: Way,
+    view: &View,
+) -> Result<(), LinkStop> {
+    let from = number.wrapping_mul(len).min(out.len());
+    let to = from + len.min(out.len() - from);
+    match way {
+        Way::Write => write_block(&mut out[from..to], from as u64, view),
+        Way::Apply => apply(&mut out[from..to], from as u64, view)?,
+    }
+    Ok(())
+}
+
+/// The bytes `start` with all blocks of one length written over them; the last one may be empty.
+fn by_blocks(
+    alloc: Global,
+    start: &[u8],
+    len: usize,
+    manner: (Order, Way),
+    view: &View,
+) -> Result<Vec<u8>, LinkStop>
+    requires { 1 ≤ len }
+{
+    let (order, way) = manner;
+    let mut out = Vec::from_slice(alloc, start)?;
+    let count = (out.len() / len).wrapping_add(1);
+    for turn in 0..count {
+        write_one(&mut out, number_at(order, turn, count), len, way, view)?;
+    }
+    Ok(out)
+}
+
+/// Whether blocks of one length give the whole, in each order.
+fn each_way_gives(
+    alloc: Global,
+    start: &[u8],
+    len: usize,
+    view: &View,
+    whole: &[u8],
+) -> Result<bool, LinkStop>
+    requires { 1 ≤ len }
+{
+    for way in WAYS {
+        if by_blocks(alloc, start, len, way, view)?.as_slice() != whole {
+            return Ok(false);
+        }
+    }
+    Ok(true)
+}
+
+/// Bytes of one kind, with all sections written over them as one block.
+fn by_one_block(alloc: Global, byte: u8, len: usize, view: &View) -> Result<Vec<u8>, LinkStop> {
+    let mut out = vec![in alloc; byte; len]?;
+    write_one(&mut out, 0, len, Way::Write, view)?;
+    Ok(out)
+}
+
+/// Whether the bytes that two writings have in common are so many, and those of the executable.
+fn common_are(exe: &[u8], one: &[u8], other: &[u8], written: usize) -> bool {
+    let mut count = 0usize;
+    for ((a, b), byte) in one.iter().zip(other).zip(exe) {
+        if a == b {
+            count = count.wrapping_add(1);
+            if a != byte {
+                return false;
+            }
+        }
+    }
+    count == written
+}
+
+/// Whether the sections are the same by blocks of each length as by one, and those of the executable.
+fn sections_agree(
+    alloc: Global,
+    view: &View,
+    exe: &[u8],
+    lengths: Lengths,
+) -> Result<bool, LinkStop> {
+    let start = vec![in alloc; 0xa5u8; exe.len()]?;
+    let whole = by_one_block(alloc, 0xa5, exe.len(), view)?;
+    let other = by_one_block(alloc, 0x5a, exe.len(), view)?;
+    for len in lengths.from.max(1)..lengths.to {
+        if !each_way_gives(alloc, &start, len, view, &whole)? {
+            return Ok(false);
+        }
+    }
+    Ok(common_are(exe, &whole, &other, lengths.written))
+}
+
+/// Whether a block of the file, or its first bytes, at most so many, are those of the executable.
+fn block_agrees(
+    alloc: Global,
+    view: &View,
+    tables: &Option<SymbolTables>,
+    exe: &[u8],
+    k: u64,
+    most: u64,
+) -> Result<bool, LinkStop>
+    requires { tables_if tables.now ≡ tables_in view.now }
+{
+    let end = file_length(view, tables)?;
+    if k > end / 65536 {
+        return Ok(false);
+    }
+    let from = 65536 * k;
+    let size = most.min(end - from);
+    let mut out = vec![in alloc; 0xa5u8; size as usize]?;
+    block(alloc, view, tables, k, &mut out)?;
+    Ok(exe.iter().skip(from as usize).take(size as usize).eq(&out))
+}
+
+/// Lengths of blocks of the file.
+const LENGTHS: [u64; 6] = [65536, 65535, 4096, 64, 1, 0];
+
+/// Whether a block of the file agrees with the executable by each length.
+fn block_agrees_by_each(
+    alloc: Global,
+    view: &View,
+    tables: &Option<SymbolTables>,
+    exe: &[u8],
+    k: u64,
+) -> Result<bool, LinkStop>
+    requires { tables_if tables.now ≡ tables_in view.now }
+{
+    for most in LENGTHS {
+        if !block_agrees(alloc, view, tables, exe, k, most)? {
+            return Ok(false);
+        }
+    }
+    Ok(true)
+}
+
+/// Whether the file by blocks, its length and its headers are those of the executable.
+fn file_agrees(
+    alloc: Global,
+    view: &View,
+    tables: &Option<SymbolTables>,
+    exe: &[u8],
+) -> Result<bool, LinkStop>
+    requires { tables_if tables.now ≡ tables_in view.now }
+{
+    let start = headers(alloc, view, tables)?;
+    let length = file_length(view, tables)?;
+    for k in 0..=length / 65536 {
+        if !block_agrees_by_each(alloc, view, tables, exe, k)? {
+            return Ok(false);
+        }
+    }
+    Ok(length == exe.len() as u64 && exe.starts_with(&start))
+}
+
+/// Whether an executable is the same by blocks of these lengths.
+pub fn blocks_agree(
+    alloc: Global,
+    view: &View,
+    tables: &Option<SymbolTables>,
+    exe: &[u8],
+    lengths: Option<Lengths>,
+) -> Result<bool, LinkStop>
+    requires { tables_if tables.now ≡ tables_in view.now }
+{
+    let Some(lengths) = lengths else {
+        return Ok(true);
+    };
+    Ok(file_agrees(alloc, view, tables, exe)? && sections_agree(alloc, view, exe, lengths)?)
+}
+
+/// Whether the executable of an example, of which equal code is folded, is.
+fn example_agrees<R: Threads + Sync>(
+    rt: &R,
+    alloc: Global,
+    example: &Example,
+) -> Result<bool, LinkStop> {
+    let inputs = inputs_of(alloc, example.objects)?;
+    let asked = Asked {
+        options: Options {
+            icf: true,
+            ..PLAIN.options
+        },
+        lengths: Some(example.lengths),
+        ..PLAIN
+    };
+    let made = run_passes(rt, alloc, &inputs, &asked)?;
+    Ok(made.written.agrees)
+}
+
+#[test]
+fn blocks_of_any_length_agree(rt: HostRuntime) -> Result<(), Fail> {
+    let agrees = example_agrees(&rt, rt.alloc(), &SMALL);
+    assert!(rt; agrees == Ok(true), "{agrees:?}");
+    Ok(())
+}
+
+#[test]
+fn blocks_of_a_long_file_agree(rt: HostRuntime) -> Result<(), Fail> {
+    let agrees = example_agrees(&rt, rt.alloc(), &OF_THREE_BLOCKS);
+    assert!(rt; agrees == Ok(true), "{agrees:?}");
+    Ok(())
+}

@@ -1,0 +1,116 @@
+//! The pieces of sections that are merged, and where they stand in their pool.
+
+use super::links::{PLAIN, inputs_of, run_passes};
+use super::objects::{CODE, object_with};
+use elf_bytes::Section;
+use link_sections::{Part, Piece, Pool};
+use lk_base::LinkStop;
+use lk_tables::{Heads, Tables};
+use std::alloc::{AllocError, Global};
+use std::test::Fail;
+use std::thread::Threads;
+use str_merge::{merge, piece_count};
+use work_split::OpenGate;
+
+/// Strings of characters of one byte, and after them constants of four.
+const STRINGS: Section = Section {
+    name: b".rodata.str",
+    flags: 0x32,
+    align: 8,
+    entsize: 1,
+    bytes: b"abc\0\0\0\0\0xyz\0",
+    ..CODE
+};
+
+const CONSTANTS: Section = Section {
+    flags: 0x12,
+    entsize: 4,
+    ..STRINGS
+};
+
+/// Strings of characters of two bytes.
+const WIDE: Section = Section {
+    entsize: 2,
+    bytes: b"a\0\0\0\0b\0\0c\0\0\0",
+    ..STRINGS
+};
+
+/// Where each of these parts begins in its section, and how many bytes its piece has.
+fn lengths_of(
+    alloc: Global,
+    parts: &[Part],
+    pieces: &[Piece],
+) -> Result<Vec<(u64, u64)>, AllocError> {
+    let mut list = Vec::new(alloc);
+    for part in parts {
+        if let Some(piece) = pieces.get(part.piece as usize) {
+            list.push((part.start, piece.text.len))?;
+        }
+    }
+    Ok(list)
+}
+
+/// Where each piece of a section begins in it, and how many bytes it has.
+fn lengths<R: Threads + Sync>(
+    rt: &R,
+    alloc: Global,
+    section: Section,
+) -> Result<Vec<(u64, u64)>, LinkStop> {
+    let inputs = inputs_of(alloc, &[object_with(&[section])])?;
+    let made = run_passes(rt, alloc, &inputs, &PLAIN)?;
+    let Some((pool, parts)) = made.pools.parts(1) else {
+        return Ok(Vec::new(alloc));
+    };
+    Ok(lengths_of(alloc, parts, made.pools.pieces(pool))?)
+}
+
+#[test]
+fn pieces_of_sections(rt: HostRuntime) -> Result<(), Fail> {
+    let strings = lengths(&rt, rt.alloc(), STRINGS)?;
+    assert!(rt; strings.as_slice() == [(0, 4), (4, 1), (5, 1), (6, 1), (7, 1), (8, 4)].as_slice());
+    let constants = lengths(&rt, rt.alloc(), CONSTANTS)?;
+    assert!(rt; constants.as_slice() == [(0, 4), (4, 4), (8, 4)].as_slice());
+    let wide = lengths(&rt, rt.alloc(), WIDE)?;
+    assert!(rt; wide.as_slice() == [(0, 4), (4, 4), (8, 4)].as_slice());
+    Ok(())
+}
+
+// The distinct ones of `abc`, the empty string, the empty string and `xyz`, at multiples of 8. The last one is that of another section.
+#[test]
+fn pieces_of_a_pool(rt: HostRuntime) -> Result<(), Fail> {
+    let sections = [
+        Section {
+            bytes: b"abc\0\0\0",
+            ..STRINGS
+        },
+        Section {
+            bytes: b"xyz\0",
+            ..STRINGS
+        },
+    ];
+    let inputs = inputs_of(rt.alloc(), &[object_with(&sections)])?;
+    let made = run_passes(&rt, rt.alloc(), &inputs, &PLAIN)?;
+    let mut positions = Vec::new(rt.alloc());
+    for piece in made.pools.pieces(0) {
+        positions.push(piece.position)?;
+    }
+    assert!(rt; positions.as_slice() == [0, 8, 16].as_slice());
+    let pool = Pool { first: 1, size: 20 };
+    assert_eq!(rt; made.pools.pools(), &[pool][..]);
+    Ok(())
+}
+
+// A file that takes no part has nothing to merge.
+#[test]
+fn no_files_no_pools(rt: HostRuntime) -> Result<(), Fail> {
+    let alloc = rt.alloc();
+    let mut heads = Heads::empty(alloc);
+    heads.add(b"archive", None, true)?;
+    let mut objects = Vec::new(alloc);
+    objects.push(None)?;
+    let tables = Tables::of(alloc, heads, objects)?;
+    let pools = merge(&rt, alloc, &tables, &[], 2, &OpenGate)?;
+    assert!(rt; pools.pools().is_empty());
+    assert_eq!(rt; piece_count(&tables), 0);
+    Ok(())
+}

@@ -1,8 +1,0 @@
-use Rattle.std.proofs.Common.{ℕ, ◌<◌, get_or}
-use Rattle.layout.specs.declared.items.Item.{Item as HeldItem}
-use Rattle.layout.specs.Items.{IsSized}
-use Rattle.layout.specs.ItemViews.{item_view}
-use Rattle.layout.proofs.order.tests.are_sized.Given as goal
-
-abbrev pub invariant-loop-item : goal.invariant-loop-item
-invariant-loop-item l = (k : ℕ) (d : HeldItem) → k < l.item-index → IsSized (item_view (get_or l.items k d))
