@@ -13,8 +13,27 @@ use crate::telling::are_told;
 use std::alloc::{AllocError, Global};
 use std::thread::Threads;
 
+/// So few texts are sorted: the tables of all shards would take longer to make.
+const FEW: usize = 2048;
+
 /// For each text the index of the first that is equal to it. One worker does all by itself; for more, threads are started.
 pub fn number_texts<R: Threads + Sync>(
+    rt: &R,
+    alloc: Global,
+    texts: &[&[u8]],
+    workers: u32,
+) -> Result<Vec<u32>, AllocError>
+    requires { length texts.now < 2 ^ 31 }
+    ensures { IfOk result (λ list. list.items ≡ text_numbers (lent_texts texts.now)) }
+{
+    if texts.len() < FEW {
+        return number_by_names(rt, alloc, texts, workers);
+    }
+    number_many(rt, alloc, texts, workers)
+}
+
+/// The same by tables of their tags.
+fn number_many<R: Threads + Sync>(
     rt: &R,
     alloc: Global,
     texts: &[&[u8]],
@@ -30,7 +49,7 @@ pub fn number_texts<R: Threads + Sync>(
     Ok(numbers)
 }
 
-/// The same where texts that differ have one tag, or tags crowd a table: they are sorted by their tags and their bytes.
+/// The same by a sort by their tags and their bytes: of few texts, and where texts that differ have one tag, or tags crowd a table.
 fn number_by_names<R: Threads + Sync>(
     rt: &R,
     alloc: Global,

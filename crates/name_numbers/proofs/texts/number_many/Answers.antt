@@ -3,7 +3,7 @@ use Rattle.name_numbers.specs.Firsts.{AreTold}
 use Rattle.name_numbers.specs.Texts.{lent_texts}
 use Rattle.name_numbers.proofs.TagFirsts.{texts_by_tags}
 use Rattle.name_numbers.proofs.TextPlaces.{length_texts}
-use Rattle.name_numbers.proofs.texts.number_texts.Goals as goal
+use Rattle.name_numbers.proofs.texts.number_many.Goals as goal
 
 pub returns : goal.returns
 returns g c =
