@@ -18,4 +18,7 @@ mod telling;
 mod texts;
 
 pub use numbers::number_names;
+pub use shards::number_tags;
+pub use tags::spread_tag_of;
+pub use telling::are_told;
 pub use texts::number_texts;

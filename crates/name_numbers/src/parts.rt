@@ -1,35 +1,33 @@
-//! Texts by the shards of their tags.
+//! Indexes by the shards of their tags.
 
 ghost use Rattle.std.specs.Prelude.{◌≡◌, ◌<◌, ◌≤◌, ◌+◌, ◌^◌, length, IfOk};
-ghost use Rattle.name_numbers.specs.Firsts.{AreParts, pieces, shards, spread_tag, spread_tags};
+ghost use Rattle.name_numbers.specs.Firsts.{AreParts, pieces, shards};
 ghost use Rattle.name_numbers.specs.Firsts as spec;
-ghost use Rattle.name_numbers.specs.Texts.{lent_texts, text_at};
 
-use crate::tags::tag_of;
 use std::alloc::{AllocError, Global};
 
-/// So many pieces the texts are cut into, each listed by a thread.
+/// So many pieces the tags are cut into, each listed by a thread.
 pub const PIECES: usize = 8;
 
 /// So many shards the tags have, by their six highest bits: the table of a shard of a million tags is small enough for a processor's own cache.
 pub const SHARDS: usize = 64;
 
-/// The tag of a text and its index.
+/// A tag and its index.
 #[derive(Clone, Copy, Drop)]
 pub struct Entry {
     pub tag: u64,
     pub at: u32,
 }
 
-/// The entries of a piece of the texts, by shard.
-pub fn part_of(alloc: Global, texts: &[&[u8]], piece: usize) -> Result<Vec<Vec<Entry>>, AllocError>
-    requires few { length texts.now < 2 ^ 31 }
+/// The entries of a piece of the tags, by shard.
+pub fn part_of(alloc: Global, tags: &[u64], piece: usize) -> Result<Vec<Vec<Entry>>, AllocError>
+    requires few { length tags.now < 2 ^ 31 }
     requires piece { piece < pieces }
-    ensures { IfOk result (λ lists. AreParts (spread_tags (lent_texts texts.now)) (spec.piece_from (length texts.now) piece) (spec.piece_from (length texts.now) (piece + 1)) lists.items) }
+    ensures { IfOk result (λ lists. AreParts tags.now (spec.piece_from (length tags.now) piece) (spec.piece_from (length tags.now) (piece + 1)) lists.items) }
 {
-    let from = piece_from(texts.len(), piece);
-    let to = piece_from(texts.len(), piece + 1);
-    list_entries(alloc, texts, from, to)
+    let from = piece_from(tags.len(), piece);
+    let to = piece_from(tags.len(), piece + 1);
+    list_entries(alloc, tags, from, to)
 }
 
 /// Where a piece begins.
@@ -41,21 +39,21 @@ fn piece_from(count: usize, piece: usize) -> usize
     piece.saturating_mul(count / PIECES + 1).min(count)
 }
 
-/// The entries of the texts from one to another, by shard.
+/// The entries of the tags from one index to another, by shard.
 fn list_entries(
     alloc: Global,
-    texts: &[&[u8]],
+    tags: &[u64],
     from: usize,
     to: usize,
 ) -> Result<Vec<Vec<Entry>>, AllocError>
-    requires few { length texts.now < 2 ^ 31 }
+    requires few { length tags.now < 2 ^ 31 }
     requires ordered { from ≤ to }
-    requires within { to ≤ length texts.now }
-    ensures { IfOk result (λ lists. AreParts (spread_tags (lent_texts texts.now)) from to lists.items) }
+    requires within { to ≤ length tags.now }
+    ensures { IfOk result (λ lists. AreParts tags.now from to lists.items) }
 {
     let mut lists = empty_lists(alloc, (to - from) / SHARDS)?;
     for i in from..to {
-        let tag = tag_at(texts, i);
+        let tag = tags[i];
         lists[shard_of(tag)].push(Entry { tag, at: i as u32 })?;
     }
     Ok(lists)
@@ -70,15 +68,6 @@ fn empty_lists(alloc: Global, room: usize) -> Result<Vec<Vec<Entry>>, AllocError
         lists.push(Vec::with_capacity(alloc, room.saturating_add(room / 8))?)?;
     }
     Ok(lists)
-}
-
-/// The tag of one text, spread over all bits.
-#[tactic(auto, unfolding(crate::specs::Firsts::spread_tag))]
-fn tag_at(texts: &[&[u8]], i: usize) -> u64
-    requires { i < length texts.now }
-    ensures { result ≡ spread_tag (text_at (lent_texts texts.now) i) }
-{
-    tag_of(texts[i]).wrapping_mul(0x9e37_79b9_7f4a_7c15)
 }
 
 /// The shard of a tag.

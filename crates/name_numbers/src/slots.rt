@@ -1,9 +1,8 @@
 //! A table of tags, each with the first index that has it.
 
 ghost use Rattle.std.specs.Prelude.{◌≡◌, ◌≢◌, ◌<◌, ◌≤◌, ◌+◌, ◌-◌, ◌^◌, length, IfSome};
-ghost use Rattle.name_numbers.specs.Firsts.{IsEntry, IsFirst, IsSlot, IsTable, no_index, reach, shard_of, spread_tags};
+ghost use Rattle.name_numbers.specs.Firsts.{IsEntry, IsFirst, IsSlot, IsTable, no_index, reach, shard_of};
 ghost use Rattle.name_numbers.specs.Firsts as spec;
-ghost use Rattle.name_numbers.specs.Texts.{lent_texts};
 
 use crate::parts::Entry;
 
@@ -21,14 +20,14 @@ pub struct Slot {
 }
 
 /// Puts an entry's tag into the table of its shard, if it is not there, and says the first index that has it; none if there is no slot for it.
-pub fn enter(slots: &mut [Slot], texts: &[&[u8]], entry: Entry) -> u32
+pub fn enter(slots: &mut [Slot], tags: &[u64], entry: Entry) -> u32
     requires some { reach < length slots.old }
-    requires few { length texts.now < 2 ^ 31 }
-    requires entry { IsEntry (spread_tags (lent_texts texts.now)) entry }
-    requires table { IsTable (spread_tags (lent_texts texts.now)) (shard_of entry.tag) slots.old entry.at }
+    requires few { length tags.now < 2 ^ 31 }
+    requires entry { IsEntry tags.now entry }
+    requires table { IsTable tags.now (shard_of entry.tag) slots.old entry.at }
     ensures len { length slots.new ≡ length slots.old }
-    ensures first { result ≢ no_index → IsFirst (spread_tags (lent_texts texts.now)) entry.at result }
-    ensures table { result ≢ no_index → IsTable (spread_tags (lent_texts texts.now)) (shard_of entry.tag) slots.new (entry.at + 1) }
+    ensures first { result ≢ no_index → IsFirst tags.now entry.at result }
+    ensures table { result ≢ no_index → IsTable tags.now (shard_of entry.tag) slots.new (entry.at + 1) }
 {
     let Some(p) = slot_of(slots, entry.tag) else {
         return NO_INDEX;

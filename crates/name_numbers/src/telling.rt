@@ -11,7 +11,7 @@ use std::thread::Threads;
 
 /// Whether each text is equal to that of its number. One worker compares by itself; more are as many as the machine has processors.
 pub fn are_told<R: Threads + Sync>(rt: &R, texts: &[&[u8]], numbers: &[u32], workers: u32) -> bool
-    requires { length numbers.now ≡ length texts.now }
+    requires wide { length numbers.now ≡ length texts.now }
     ensures { result ≡ true → AreTold (lent_texts texts.now) numbers.now }
 {
     if workers == 1 {

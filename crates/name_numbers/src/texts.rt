@@ -6,7 +6,7 @@ ghost use Rattle.name_numbers.specs.Texts.{lent_texts, text_keys, text_numbers};
 
 use crate::keys::{Key, TaggedName};
 use crate::numbers::mark_keys;
-use crate::shards::number_by_tags;
+use crate::shards::{number_tags, tags_of};
 use crate::sorting::sort_keys;
 use crate::tags::tag_of;
 use crate::telling::are_told;
@@ -42,7 +42,8 @@ fn number_many<R: Threads + Sync>(
     requires { length texts.now < 2 ^ 31 }
     ensures { IfOk result (λ list. list.items ≡ text_numbers (lent_texts texts.now)) }
 {
-    let numbers = number_by_tags(rt, alloc, texts, workers)?;
+    let tags = tags_of(rt, alloc, texts, workers)?;
+    let numbers = number_tags(rt, alloc, tags.as_slice(), workers)?;
     if !are_told(rt, texts, numbers.as_slice(), workers) {
         return number_by_names(rt, alloc, texts, workers);
     }

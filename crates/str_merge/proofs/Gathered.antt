@@ -1,20 +1,22 @@
 -- The pieces of several sections, one section after the other.
-use Rattle.std.proofs.Common.{◌≡◌, ℕ, suc, ◌+◌, ◌-◌, ◌<◌, ◌≤◌, List, [], ◌∷◌, ◌++◌, length, map, get_or, drop, sym, ap, ◌∙◌, arith}
+use Rattle.std.proofs.Common.{◌≡◌, ℕ, suc, ◌+◌, ◌-◌, ◌<◌, ◌≤◌, List, [], ◌∷◌, ◌++◌, length, map, get_or, drop, refl, sym, ap, ◌∙◌, arith}
 use Rattle.std.specs.List.{range_with_len}
 use Rattle.std.specs.Borrow.{Bor}
 use Rattle.std.proofs.Math.Seq.{drop-append_seam, drop-cons}
 use Rattle.std.proofs.lemmas.List.{drop-drop, get_or-drop, get_or_append_left, get_or_default, length-append, map-append}
+use Rattle.std.proofs.lemmas.Simd.{map-map}
 use Rattle.std.proofs.lemmas.List.FromFn.{map-range_with_len_more}
 use Rattle.lk_base.proofs.Ranges.{range_parts}
 use Rattle.lk_tables.specs.declared.spans.Span.{Span}
 use Rattle.lk_tables.specs.Files.{File}
 use Rattle.lk_tables.specs.Names.{no_name}
+use Rattle.name_numbers.specs.Firsts.{spread_tag, spread_tags}
 use Rattle.work_split.proofs.RunsBeside.{GoesBeside}
 use Rattle.str_merge.specs.declared.gathering.Place.{Place}
-use Rattle.str_merge.specs.Gathering.{AreTexts, IsFound, IsPlace}
+use Rattle.str_merge.specs.Gathering.{AreTags, IsFound, IsPlace}
 use Rattle.str_merge.specs.Sites.{gathered, span_text, span_texts}
 use Rattle.str_merge.specs.Texts.{lent_texts}
-use Rattle.str_merge.proofs.ListSteps.{by_index, drop_past}
+use Rattle.str_merge.proofs.ListSteps.{by_index, drop_past, view_step}
 
 -- the list at a place, and those after it
 gathered_at : {X : Type 0} (lists : List (List X)) (places : List ℕ) (n : ℕ) → n < length places →
@@ -77,31 +79,42 @@ two_runs f a m b low high =
     ∙ ap (λ k. map f (range_with_len a (m - a)) ++ map f (range_with_len k (b - m))) from
 
 module _ (files : List File) (spans : List Span) where
-  -- the texts of a share, as it begins and one more
-  pub texts_first : (a : ℕ) → AreTexts files spans a a []
-  texts_first a = run_first (λ i. span_text files (get_or spans i no_name)) a
+  -- the tags of a share, as it begins and one more
+  pub tags_first : (a : ℕ) → AreTags files spans a a []
+  tags_first a = run_first (λ i. spread_tag (span_text files (get_or spans i no_name))) a
 
-  pub texts_more : (a i : ℕ) (old new : List (Bor (List ℕ))) (t : Bor (List ℕ)) → a ≤ i → AreTexts files spans a i old → new ≡ old ++ t ∷ [] →
-      t.now ≡ span_text files (get_or spans i no_name) → AreTexts files spans a (i + 1) new
-  texts_more a i old new t le held is own =
-      let f : ℕ → List ℕ = λ i. span_text files (get_or spans i no_name) in
-      ap lent_texts is ∙ map-append (λ (t : Bor (List ℕ)). t.now) old (t ∷ []) ∙ ap (λ l. l ++ t.now ∷ []) held
-      ∙ ap (λ y. map f (range_with_len a (i - a)) ++ y ∷ []) own ∙ sym (run_more f a i le)
+  pub tags_more : (a i : ℕ) (old new : List ℕ) (t : ℕ) → a ≤ i → AreTags files spans a i old → new ≡ old ++ t ∷ [] →
+      t ≡ spread_tag (span_text files (get_or spans i no_name)) → AreTags files spans a (i + 1) new
+  tags_more a i old new t le held is own =
+      let f : ℕ → ℕ = λ i. spread_tag (span_text files (get_or spans i no_name)) in
+      is ∙ ap (λ l. l ++ t ∷ []) held ∙ ap (λ y. map f (range_with_len a (i - a)) ++ y ∷ []) own ∙ sym (run_more f a i le)
 
   -- two shares side by side
-  pub texts_beside : GoesBeside {X = Bor (List ℕ)} (AreTexts files spans)
-  texts_beside =
-      let f : ℕ → List ℕ = λ i. span_text files (get_or spans i no_name) in
+  pub tags_beside : GoesBeside {X = ℕ} (AreTags files spans)
+  tags_beside =
+      let f : ℕ → ℕ = λ i. spread_tag (span_text files (get_or spans i no_name)) in
       record {
-        none = texts_first;
+        none = tags_first;
         both = λ a m b xs ys low high one two.
-            map-append (λ (t : Bor (List ℕ)). t.now) xs ys ∙ ap (λ l. l ++ lent_texts ys) one ∙ ap (λ l. map f (range_with_len a (m - a)) ++ l) two
-            ∙ sym (two_runs f a m b low high);
+            ap (λ l. l ++ ys) one ∙ ap (λ l. map f (range_with_len a (m - a)) ++ l) two ∙ sym (two_runs f a m b low high);
       }
 
   -- all of them
-  pub texts_all : (n : ℕ) (texts : List (Bor (List ℕ))) → n ≡ length spans → AreTexts files spans 0 n texts → lent_texts texts ≡ span_texts files spans
-  texts_all n texts count held =
-      let f : ℕ → List ℕ = λ i. span_text files (get_or spans i no_name) in
+  pub tags_all : (n : ℕ) (tags : List ℕ) → n ≡ length spans → AreTags files spans 0 n tags → tags ≡ spread_tags (span_texts files spans)
+  unfolding spread_tags
+  tags_all n tags count held =
+      let f : ℕ → ℕ = λ i. spread_tag (span_text files (get_or spans i no_name)) in
+      let texts = span_texts files spans in
       let e : n - 0 ≡ n = omega arith in
-      held ∙ ap (λ k. map f (range_with_len 0 k)) e ∙ by_index (span_text files) spans no_name n count
+      held ∙ ap (λ k. map f (range_with_len 0 k)) e ∙ by_index (λ s. spread_tag (span_text files s)) spans no_name n count
+      ∙ sym (map-map spread_tag (span_text files) spans) ∙ sym (by_index spread_tag texts [] (length texts) refl)
+
+  -- texts that are listed, one more, and all
+  pub texts_more : (i : ℕ) (old new : List (Bor (List ℕ))) (t : Bor (List ℕ)) →
+      lent_texts old ≡ map (λ k. span_text files (get_or spans k no_name)) (range_with_len 0 i) → new ≡ old ++ t ∷ [] →
+      t.now ≡ span_text files (get_or spans i no_name) → lent_texts new ≡ map (λ k. span_text files (get_or spans k no_name)) (range_with_len 0 (i + 1))
+  texts_more i old new t held is own = view_step (λ (t : Bor (List ℕ)). t.now) (λ k. span_text files (get_or spans k no_name)) i old new t held is own
+
+  pub texts_all : (n : ℕ) (texts : List (Bor (List ℕ))) → n ≡ length spans →
+      lent_texts texts ≡ map (λ k. span_text files (get_or spans k no_name)) (range_with_len 0 n) → lent_texts texts ≡ span_texts files spans
+  texts_all n texts count held = held ∙ by_index (span_text files) spans no_name n count

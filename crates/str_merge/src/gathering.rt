@@ -3,19 +3,12 @@
 ghost use Rattle.std.specs.Prelude.{◌≡◌, ◌+◌, ◌<◌, ◌≤◌, [], All, length, slice_index_or, IfOk, OnOk};
 ghost use Rattle.lk_tables.specs.Names.{no_name};
 ghost use Rattle.lk_tables.specs.TablesView.{files_of};
-ghost use Rattle.str_merge.specs.Gathering.{AreTexts, IsFound, IsPlace};
+ghost use Rattle.str_merge.specs.Gathering.{IsFound, IsPlace};
 ghost use Rattle.str_merge.specs.Sites.{gathered, span_lists, span_text, span_texts};
 ghost use Rattle.str_merge.specs.Texts.{lent_texts};
 
-use lk_base::LinkStop;
 use lk_tables::{Span, Tables, text_of};
 use std::alloc::{AllocError, Global};
-use std::ops::Range;
-use std::thread::Threads;
-use work_split::{Gate, over_shares, pieces};
-
-/// Fewer pieces are not worth a thread.
-const LEAST: usize = 16_384;
 
 /// Where the pieces of one of several sections begin.
 #[derive(Clone, Copy, Debug)]
@@ -116,46 +109,25 @@ fn find_from(
     Err(AllocError)
 }
 
-/// The bytes of each piece of these sections, which are so many. The workers find those of a share each; one finds a few.
-pub fn texts_of<'a, R: Threads + Sync, G: Gate>(
-    rt: &R,
-    alloc: Global,
+/// The bytes of piece `i`. Pieces that are asked for in order are found without a search.
+pub fn piece_text<'a>(
     tables: &Tables<'a>,
     cuts: &[Vec<Span>],
     members: &[u32],
-    count: usize,
-    workers: u32,
-    gate: &G,
-) -> Result<Vec<&'a [u8]>, AllocError>
+    place: &mut Place,
+    i: usize,
+) -> Result<&'a [u8], AllocError>
     requires members { All (λ m. m < length cuts.now) members.now }
-    requires count { count ≡ length (gathered (span_lists cuts.now) members.now) }
-    requires some { 1 ≤ workers }
-    requires most { workers ≤ 64 }
-    ensures { IfOk result (λ texts. lent_texts texts.items ≡ span_texts (files_of tables.now) (gathered (span_lists cuts.now) members.now)) }
+    requires place { IsPlace (span_lists cuts.now) members.now place.old }
+    ensures text { IfOk result (λ text. text.now ≡ span_text (files_of tables.now) (slice_index_or (gathered (span_lists cuts.now) members.now) i no_name)) }
+    ensures place { OnOk result (IsPlace (span_lists cuts.now) members.now place.new) }
 {
-    if workers == 1 || count < LEAST {
-        return all_texts(alloc, tables, cuts, members, count);
-    }
-    let shares = pieces(alloc, count, workers)?;
-    let texts = over_shares(
-        rt,
-        alloc,
-        gate,
-        shares.as_slice(),
-        |share: Range<usize>| -> Result<Vec<&[u8]>, LinkStop>
-            requires members { All (λ m. m < length cuts.now) members.now }
-            requires ordered { share.start ≤ share.end }
-            ensures { IfOk result (λ texts. AreTexts (files_of tables.entry.now) (gathered (span_lists cuts.entry.now) members.entry.now) share.start share.end texts.items) }
-        { Ok(texts_share(alloc, tables, cuts, members, share)?) },
-    );
-    match texts {
-        Ok(texts) => Ok(texts),
-        Err(_) => Err(AllocError),
-    }
+    let span = span_at(cuts, members, place, i)?;
+    Ok(text_at(tables, &span))
 }
 
-/// The same by one worker.
-fn all_texts<'a>(
+/// The bytes of each piece of these sections, which are so many.
+pub fn texts_of<'a>(
     alloc: Global,
     tables: &Tables<'a>,
     cuts: &[Vec<Span>],
@@ -166,27 +138,11 @@ fn all_texts<'a>(
     requires count { count ≡ length (gathered (span_lists cuts.now) members.now) }
     ensures { IfOk result (λ texts. lent_texts texts.items ≡ span_texts (files_of tables.now) (gathered (span_lists cuts.now) members.now)) }
 {
-    let texts = texts_share(alloc, tables, cuts, members, 0..count)?;
-    Ok(texts)
-}
-
-/// The bytes of the pieces of one share.
-fn texts_share<'a>(
-    alloc: Global,
-    tables: &Tables<'a>,
-    cuts: &[Vec<Span>],
-    members: &[u32],
-    share: Range<usize>,
-) -> Result<Vec<&'a [u8]>, AllocError>
-    requires members { All (λ m. m < length cuts.now) members.now }
-    requires ordered { share.start ≤ share.end }
-    ensures { IfOk result (λ texts. AreTexts (files_of tables.now) (gathered (span_lists cuts.now) members.now) share.start share.end texts.items) }
-{
-    let mut texts = Vec::with_capacity(alloc, share.end - share.start)?;
+    let mut texts = Vec::with_capacity(alloc, count)?;
     let mut place = START;
-    for i in share.start..share.end {
-        let span = span_at(cuts, members, &mut place, i)?;
-        texts.push(text_at(tables, &span))?;
+    for i in 0..count {
+        let text = piece_text(tables, cuts, members, &mut place, i)?;
+        texts.push(text)?;
     }
     Ok(texts)
 }

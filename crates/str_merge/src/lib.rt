@@ -16,6 +16,7 @@ mod pooling;
 mod sections;
 mod sites;
 mod spreading;
+mod tagging;
 
 pub use counts::{piece_bound, piece_count};
 pub use merging::merge;

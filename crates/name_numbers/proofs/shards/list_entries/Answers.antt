@@ -1,16 +1,13 @@
 use Rattle.std.proofs.Common.{◌+◌, ◌<◌, ◌≤◌, ℕ, length, refl, subst, sym, ◌∙◌, arith}
-use Rattle.name_numbers.specs.Firsts.{IsTable, entry_at, piece_from, spread_tags}
-use Rattle.name_numbers.specs.Texts.{lent_texts}
-use Rattle.name_numbers.proofs.TagFirsts.{length_tags, listed_more}
+use Rattle.name_numbers.specs.Firsts.{IsTable, entry_at, piece_from}
+use Rattle.name_numbers.proofs.TagFirsts.{listed_more}
 use Rattle.name_numbers.proofs.TagParts.{part_entry, part_read, piece_within, table_begins, table_next, upto_entry}
-use Rattle.name_numbers.proofs.TextPlaces.{length_texts}
 use Rattle.name_numbers.proofs.shards.list_entries.Goals as goal
 
 pub loop-k-init : goal.loop-k-init
 loop-k-init c =
-    let texts = lent_texts c.args.texts.now in
-    let tags = spread_tags texts in
-    let n = length c.args.texts.now in
+    let tags = c.args.tags.now in
+    let n = length c.args.tags.now in
     let shard = c.args.shard in
     let from = piece_from n c.args.piece in
     let to = piece_from n (c.args.piece + 1) in
@@ -20,9 +17,8 @@ loop-k-init c =
 
 pub enter-first-requires-clause-entry : goal.enter-first-requires-clause-entry
 enter-first-requires-clause-entry c =
-    let texts = lent_texts c.args.texts.now in
-    let tags = spread_tags texts in
-    let n = length c.args.texts.now in
+    let tags = c.args.tags.now in
+    let n = length c.args.tags.now in
     let shard = c.args.shard in
     let from = piece_from n c.args.piece in
     let to = piece_from n (c.args.piece + 1) in
@@ -30,14 +26,13 @@ enter-first-requires-clause-entry c =
     let part = part_read tags from to c.args.lists.now shard c.index-lists-shard.result entries c.requires.lists c.requires.shard c.index-lists-shard.is c.as_slice-entries.ensures.value in
     let k = c.loop-k.k in
     let lt : k < length entries = omega arith in
-    let few : to ≤ length tags = omega (arith, piece_within n (c.args.piece + 1), length_tags texts, length_texts c.args.texts.now) in
+    let few : to ≤ length tags = omega (arith, piece_within n (c.args.piece + 1)) in
     part_entry tags shard from to entries part few k lt
 
 pub enter-first-requires-clause-table : goal.enter-first-requires-clause-table
 enter-first-requires-clause-table c =
-    let texts = lent_texts c.args.texts.now in
-    let tags = spread_tags texts in
-    let n = length c.args.texts.now in
+    let tags = c.args.tags.now in
+    let n = length c.args.tags.now in
     let shard = c.args.shard in
     let from = piece_from n c.args.piece in
     let to = piece_from n (c.args.piece + 1) in
@@ -51,9 +46,8 @@ enter-first-requires-clause-table c =
 
 pub loop-k-preserved : goal.loop-k-preserved
 loop-k-preserved c =
-    let texts = lent_texts c.args.texts.now in
-    let tags = spread_tags texts in
-    let n = length c.args.texts.now in
+    let tags = c.args.tags.now in
+    let n = length c.args.tags.now in
     let shard = c.args.shard in
     let from = piece_from n c.args.piece in
     let to = piece_from n (c.args.piece + 1) in
@@ -61,7 +55,7 @@ loop-k-preserved c =
     let part = part_read tags from to c.args.lists.now shard c.index-lists-shard.result entries c.requires.lists c.requires.shard c.index-lists-shard.is c.as_slice-entries.ensures.value in
     let k = c.loop-k.k in
     let lt : k < length entries = omega arith in
-    let few : to ≤ length tags = omega (arith, piece_within n (c.args.piece + 1), length_tags texts, length_texts c.args.texts.now) in
+    let few : to ≤ length tags = omega (arith, piece_within n (c.args.piece + 1)) in
     let entry = part_entry tags shard from to entries part few k lt in
     let Q : ℕ → Type 0 = λ s. IsTable tags s c.enter-first.new.slots ((entry_at entries k).at + 1) in (
       c.enter-first.ensures.len ∙ c.loop-k.invariant.0,

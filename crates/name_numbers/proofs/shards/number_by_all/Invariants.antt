@@ -1,7 +1,6 @@
 use Rattle.std.proofs.Common.{◌≡◌, length}
-use Rattle.name_numbers.specs.Firsts.{AreFirsts, spread_tags}
-use Rattle.name_numbers.specs.Texts.{lent_texts}
+use Rattle.name_numbers.specs.Firsts.{AreFirsts}
 use Rattle.name_numbers.proofs.shards.number_by_all.Given as goal
 
 abbrev pub invariant-loop-group : goal.invariant-loop-group
-invariant-loop-group g l = (length l.numbers ≡ length l.initial.numbers) × AreFirsts (spread_tags (lent_texts l.texts)) l.numbers
+invariant-loop-group g l = (length l.numbers ≡ length l.initial.numbers) × AreFirsts l.tags l.numbers

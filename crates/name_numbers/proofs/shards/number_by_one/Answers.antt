@@ -1,16 +1,12 @@
 use Rattle.std.proofs.Common.{List, arith, sym, subst}
 use Rattle.name_numbers.specs.declared.shards.First.{First}
-use Rattle.name_numbers.specs.Firsts.{AreListed, spread_tags}
-use Rattle.name_numbers.specs.Texts.{lent_texts}
-use Rattle.name_numbers.proofs.TagFirsts.{length_tags}
-use Rattle.name_numbers.proofs.TextPlaces.{length_texts}
+use Rattle.name_numbers.specs.Firsts.{AreListed}
 use Rattle.name_numbers.proofs.shards.number_by_one.Goals as goal
 
 pub write_firsts-requires : goal.write_firsts-requires
 write_firsts-requires c x has =
-    let texts = lent_texts c.args.texts.now in
-    let P : List First → Type 0 = AreListed (spread_tags texts) in
+    let P : List First → Type 0 = AreListed c.args.tags.now in
     let within = (subst P (sym c.as_slice.ensures.value) c.in_ok-list.ensures x has).within in
     let wide = c.loop-group.invariant.0 in
     let all = c.requires.wide in
-    omega (arith, within, wide, all, length_tags texts, length_texts c.args.texts.now)
+    omega (arith, within, wide, all)

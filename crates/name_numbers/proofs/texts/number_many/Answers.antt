@@ -1,13 +1,29 @@
-use Rattle.std.proofs.Common.{List, ℕ, sym, subst, ◌∙◌}
-use Rattle.name_numbers.specs.Firsts.{AreTold}
+use Rattle.std.proofs.Common.{◌≡◌, List, ℕ, length, ap, subst, ◌∙◌, arith}
+use Rattle.name_numbers.specs.Firsts.{AreFirsts, AreTold, spread_tags}
 use Rattle.name_numbers.specs.Texts.{lent_texts}
-use Rattle.name_numbers.proofs.TagFirsts.{texts_by_tags}
+use Rattle.name_numbers.proofs.TagFirsts.{length_tags, texts_by_tags}
 use Rattle.name_numbers.proofs.TextPlaces.{length_texts}
 use Rattle.name_numbers.proofs.texts.number_many.Goals as goal
+
+pub number_tags-requires-clause-few : goal.number_tags-requires-clause-few
+number_tags-requires-clause-few g c κs within =
+    let texts = lent_texts c.args.texts.now in
+    let count : length c.as_slice.result.now ≡ length c.args.texts.now = ap length (c.as_slice.ensures.value ∙ c.in_ok-tags.ensures) ∙ length_tags texts ∙ length_texts c.args.texts.now in
+    let few = c.requires in
+    omega (arith, few, count)
+
+pub are_told-requires-clause-wide : goal.are_told-requires-clause-wide
+are_told-requires-clause-wide g c κs within =
+    let texts = lent_texts c.args.texts.now in
+    let count : length c.as_slice.result.now ≡ length c.args.texts.now = ap length (c.as_slice.ensures.value ∙ c.in_ok-tags.ensures) ∙ length_tags texts ∙ length_texts c.args.texts.now in
+    ap length c.as_slice-2.ensures.value ∙ c.in_ok-numbers.ensures.len ∙ count
 
 pub returns : goal.returns
 returns g c =
     let texts = lent_texts c.args.texts.now in
+    let tags : c.as_slice.result.now ≡ spread_tags texts = c.as_slice.ensures.value ∙ c.in_ok-tags.ensures in
+    let count : length c.as_slice.result.now ≡ length texts = ap length tags ∙ length_tags texts in
     let P : List ℕ → Type 0 = AreTold texts in
-    texts_by_tags texts c.in_ok-numbers.numbers.items (c.in_ok-numbers.ensures.len ∙ sym (length_texts c.args.texts.now)) c.in_ok-numbers.ensures.firsts
-    (subst P c.as_slice.ensures.value (c.are_told.ensures c.if-not-are_told.false))
+    let Q : List ℕ → Type 0 = λ l. AreFirsts l c.in_ok-numbers.numbers.items in
+    texts_by_tags texts c.in_ok-numbers.numbers.items (c.in_ok-numbers.ensures.len ∙ count) (subst Q tags c.in_ok-numbers.ensures.firsts)
+    (subst P c.as_slice-2.ensures.value (c.are_told.ensures c.if-not-are_told.false))

@@ -1,28 +1,28 @@
-use Rattle.std.proofs.Common.{ℕ, List, subst, sym, arith}
-use Rattle.std.specs.declared.ops.Range.{Range}
+use Rattle.std.proofs.Common.{◌≡◌, ℕ, map, get_or, refl, ap, subst, arith}
+use Rattle.std.specs.List.{range_with_len}
+use Rattle.lk_tables.specs.Names.{no_name}
 use Rattle.lk_tables.specs.TablesView.{files_of}
-use Rattle.work_split.specs.Pieces.{Tiles}
-use Rattle.work_split.proofs.RunsBeside.{joined_beside}
-use Rattle.work_split.proofs.Tiling.{tiles_within}
-use Rattle.str_merge.specs.Gathering.{AreTexts}
-use Rattle.str_merge.specs.Sites.{gathered, span_lists}
-use Rattle.str_merge.proofs.Gathered.{texts_all, texts_beside}
+use Rattle.str_merge.specs.Sites.{gathered, span_lists, span_text}
+use Rattle.str_merge.specs.Texts.{lent_texts}
+use Rattle.str_merge.proofs.Gathered.{texts_all, texts_more}
 use Rattle.str_merge.proofs.gathering.texts_of.Goals as goal
 
-pub over_shares-texts-requires-clause-accepts : goal.over_shares-texts-requires-clause-accepts
-over_shares-texts-requires-clause-accepts g c κs within = λ w p lt at.
-    let Tile : List (Range ℕ) → Type 0 = λ l. Tiles 0 c.args.count l in
-    let tiles : Tile c.as_slice.result.now = subst Tile (sym c.as_slice.ensures.value) c.in_ok-shares.ensures.tiles in
-    let own = tiles_within 0 c.args.count c.as_slice.result.now w p tiles lt at in
-    let some = own.some in
-    (c.requires.members, omega (arith, some))
+pub loop-i-preserved : goal.loop-i-preserved
+loop-i-preserved c =
+    let spans = gathered (span_lists c.args.cuts.now) c.args.members.now in
+    record {
+      place = c.in_ok-text.ensures.place;
+      texts = texts_more (files_of c.args.tables.now) spans c.loop-i.i c.loop-i.texts.items c.push.new.self.items c.in_ok-text.text c.loop-i.invariant.texts
+          c.in_ok-push.ensures.items c.in_ok-text.ensures.text;
+    }
 
-pub returns-in-Ok : goal.returns-in-Ok
-returns-in-Ok g c =
+pub loop-i-init : goal.loop-i-init
+loop-i-init c = record { place = refl; texts = ap lent_texts c.in_ok-texts.ensures.items }
+
+pub returns : goal.returns
+returns c =
     let files = files_of c.args.tables.now in
     let spans = gathered (span_lists c.args.cuts.now) c.args.members.now in
-    let n = c.args.count in
-    let Tile : List (Range ℕ) → Type 0 = λ l. Tiles 0 n l in
-    let tiles : Tile c.as_slice.result.now = subst Tile (sym c.as_slice.ensures.value) c.in_ok-shares.ensures.tiles in
-    texts_all files spans n c.in-Ok.texts.items c.requires.count
-    (joined_beside (AreTexts files spans) (texts_beside files spans) _ n c.as_slice.result.now c.over_shares-texts.result c.in-Ok.texts c.over_shares-texts.ensures (λ p s h. h.1) tiles c.in-Ok.is)
+    let all : c.loop-i.i ≡ c.args.count = omega arith in
+    let P : ℕ → Type 0 = λ n. lent_texts c.loop-i.texts.items ≡ map (λ k. span_text files (get_or spans k no_name)) (range_with_len 0 n) in
+    texts_all files spans c.args.count c.loop-i.texts.items c.requires.count (subst P all c.loop-i.invariant.texts)
