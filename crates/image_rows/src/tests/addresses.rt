@@ -85,7 +85,7 @@ fn places_of(alloc: Global) -> Result<Vec<OutputPlace<'static>>, AllocError>
 /// A layout of them.
 #[tactic(auto, unfolding(link_sections::specs::LaidOut::layout_view))]
 fn made_layout(alloc: Global) -> Result<Layout<'static>, AllocError>
-    ensures sound { IfOk result (λ layout. (b : Bindings) → IsSound [] b [] (with_contents (layout_view layout) no_pools [])) }
+    ensures { IfOk result (λ layout. (b : Bindings) → IsSound [] b [] (with_contents (layout_view layout) no_pools [])) }
 {
     Ok(Layout {
         outputs: Vec::new(alloc),

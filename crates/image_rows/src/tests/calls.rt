@@ -3,6 +3,7 @@
 use super::links::{PLAIN, inputs_of, run_passes};
 use super::objects::{BY_FIRST, CODE, LABEL, START};
 use elf_bytes::{Object, Reloc, Section, Symbol};
+use link_driver::Inputs;
 use link_sections::Cut;
 use lk_base::LinkStop;
 use lk_base::abi::{R_RISCV_CALL_PLT, R_RISCV_RELAX};
@@ -89,6 +90,32 @@ fn kept_at(cuts: &[Cut], at: u64) -> u64 {
     }
 }
 
+/// A section of these bytes.
+fn code_of<'x>(bytes: &'x [u8], relocs: &'x [Reloc]) -> Section<'x> {
+    Section {
+        bytes,
+        relocs,
+        ..CODE
+    }
+}
+
+/// The inputs of a link of one object.
+fn inputs_with(
+    alloc: Global,
+    flags: u64,
+    sections: &[Section],
+    symbols: &[Symbol],
+) -> Result<Inputs, AllocError> {
+    inputs_of(
+        alloc,
+        &[Object {
+            flags,
+            sections,
+            symbols,
+        }],
+    )
+}
+
 /// The sizes of the calls of a section, of an object with these flags.
 fn sizes<R: Threads + Sync>(
     rt: &R,
@@ -99,17 +126,12 @@ fn sizes<R: Threads + Sync>(
     let bytes = bytes_of(alloc, code)?;
     let relocs = relocs_of(alloc, code.calls)?;
     let symbols = symbols_of(alloc, code.calls)?;
-    let sections = [Section {
-        bytes: bytes.as_slice(),
-        relocs: relocs.as_slice(),
-        ..CODE
-    }];
-    let object = Object {
+    let inputs = inputs_with(
+        alloc,
         flags,
-        sections: &sections,
-        symbols: symbols.as_slice(),
-    };
-    let inputs = inputs_of(alloc, &[object])?;
+        &[code_of(bytes.as_slice(), relocs.as_slice())],
+        symbols.as_slice(),
+    )?;
     let made = run_passes(rt, alloc, &inputs, &PLAIN)?;
     let cuts = made.layout.sizes.cuts(1);
     let mut sizes = Vec::new(alloc);

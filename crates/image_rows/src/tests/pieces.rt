@@ -50,13 +50,13 @@ fn lengths_of(
     Ok(list)
 }
 
-/// Where each piece of a section begins in it, and how many bytes it has.
+/// Where each piece of the first of these sections begins in it, and how many bytes it has.
 fn lengths<R: Threads + Sync>(
     rt: &R,
     alloc: Global,
-    section: Section,
+    sections: &[Section],
 ) -> Result<Vec<(u64, u64)>, LinkStop> {
-    let inputs = inputs_of(alloc, &[object_with(&[section])])?;
+    let inputs = inputs_of(alloc, &[object_with(sections)])?;
     let made = run_passes(rt, alloc, &inputs, &PLAIN)?;
     let Some((pool, parts)) = made.pools.parts(1) else {
         return Ok(Vec::new(alloc));
@@ -66,11 +66,11 @@ fn lengths<R: Threads + Sync>(
 
 #[test]
 fn pieces_of_sections(rt: HostRuntime) -> Result<(), Fail> {
-    let strings = lengths(&rt, rt.alloc(), STRINGS)?;
+    let strings = lengths(&rt, rt.alloc(), &[STRINGS])?;
     assert!(rt; strings.as_slice() == [(0, 4), (4, 1), (5, 1), (6, 1), (7, 1), (8, 4)].as_slice());
-    let constants = lengths(&rt, rt.alloc(), CONSTANTS)?;
+    let constants = lengths(&rt, rt.alloc(), &[CONSTANTS])?;
     assert!(rt; constants.as_slice() == [(0, 4), (4, 4), (8, 4)].as_slice());
-    let wide = lengths(&rt, rt.alloc(), WIDE)?;
+    let wide = lengths(&rt, rt.alloc(), &[WIDE])?;
     assert!(rt; wide.as_slice() == [(0, 4), (4, 4), (8, 4)].as_slice());
     Ok(())
 }

@@ -16,7 +16,7 @@ find_addresses-requires-clause-sound g c = λ κs within.
     let b = binding_view c.no_names-binding.result in
     let laid = layout_view c.in_ok-layout.layout in
     let table = entries_of c.empty-got.result in
-    let bare : IsSound [] b [] (with_contents laid no_pools []) = c.in_ok-layout.ensures.sound b in
+    let bare : IsSound [] b [] (with_contents laid no_pools []) = c.in_ok-layout.ensures b in
     let tabled : IsSound [] b [] (with_contents laid no_pools table) = subst (λ (es : List GotEntry). IsSound [] b [] (with_contents laid no_pools es)) (sym c.empty-got.ensures) bare in
     let pooled : IsSound [] b [] (with_contents laid (pools_view files c.none-pools.result) table) =
     subst (λ (pools : PoolsView). IsSound [] b [] (with_contents laid pools table)) (sym (none_pooled files c.none-pools.result c.none-pools.ensures.pools c.none-pools.ensures.merged)) tabled in

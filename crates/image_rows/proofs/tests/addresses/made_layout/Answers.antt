@@ -4,9 +4,9 @@ use Rattle.link_sections.specs.LaidOut.{layout_view, output_view, with_contents}
 use Rattle.image_rows.proofs.NoFiles.{bare_sound}
 use Rattle.image_rows.proofs.tests.addresses.made_layout.Goals as goal
 
-pub returns-clause-sound : goal.returns-clause-sound
+pub returns : goal.returns
 unfolding layout_view with_contents
-returns-clause-sound c = λ b.
+returns c = λ b.
     bare_sound b _ (record {
       outputs = ap (map output_view) c.new.ensures.items;
       members = c.new-2.ensures.items;
