@@ -13,10 +13,10 @@ use crate::telling::are_told;
 use std::alloc::{AllocError, Global};
 use std::thread::Threads;
 
-/// So few texts are sorted: the tables of all shards would take longer to make.
+/// So few texts are sorted by one worker: the tables of all shards would take longer to make, and threads longer to start.
 const FEW: usize = 2048;
 
-/// For each text the index of the first that is equal to it. One worker does all by itself; for more, threads are started.
+/// For each text the index of the first that is equal to it. One worker does all by itself; for more, threads are started if there are many texts.
 pub fn number_texts<R: Threads + Sync>(
     rt: &R,
     alloc: Global,
@@ -27,7 +27,7 @@ pub fn number_texts<R: Threads + Sync>(
     ensures { IfOk result (λ list. list.items ≡ text_numbers (lent_texts texts.now)) }
 {
     if texts.len() < FEW {
-        return number_by_names(rt, alloc, texts, workers);
+        return number_by_names(rt, alloc, texts, 1);
     }
     number_many(rt, alloc, texts, workers)
 }
