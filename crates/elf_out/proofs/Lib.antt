@@ -1,10 +1,13 @@
 pub mod Appends
+pub mod EndPieces
 pub mod EndSteps
 pub mod EntryBytes
 pub mod FlagSteps
 pub mod Framing
 pub mod Laying
+pub mod MemberPieces
 pub mod NameSteps
+pub mod OneByOne
 pub mod Outputs
 pub mod Runs
 pub mod Starting

@@ -31,15 +31,15 @@ half_long : (n : ℕ) → length (half n) ≡ 2
 unfolding half
 half_long n = refl
 
-word_long : (n : ℕ) → length (word n) ≡ 4
+pub word_long : (n : ℕ) → length (word n) ≡ 4
 unfolding word
 word_long n = refl
 
-long_long : (n : ℕ) → length (long n) ≡ 8
+pub long_long : (n : ℕ) → length (long n) ≡ 8
 unfolding long
 long_long n = refl
 
-and_long : (a b : List ℕ) (m n : ℕ) → length a ≡ m → length b ≡ n → length (a ++ b) ≡ m + n
+pub and_long : (a b : List ℕ) (m n : ℕ) → length a ≡ m → length b ≡ n → length (a ++ b) ≡ m + n
 and_long a b m n ea eb = length-append a b ∙ ap (λ k. k + length b) ea ∙ ap (λ k. m + k) eb
 
 identification_long : length identification ≡ 16

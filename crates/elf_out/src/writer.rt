@@ -1,17 +1,18 @@
 //! The executable as one file, written by many workers.
 
-ghost use Rattle.std.specs.Prelude.{◌≡◌, ◌+◌, ◌*◌, ◌≤◌, ◌<◌, ◌^◌, length, IfOk};
+ghost use Rattle.std.specs.Prelude.{◌≡◌, ◌+◌, ◌*◌, ◌≤◌, ◌<◌, ◌^◌, length, replicate, IfOk};
 ghost use Rattle.lk_base.specs.Firsts.{Goes};
 ghost use Rattle.link_sections.specs.Views.{binding_in, files_in, laid_in, leaders_in};
+ghost use Rattle.elf_out.specs.Ends.{AreEnds};
 ghost use Rattle.elf_out.specs.Executable as spec;
 ghost use Rattle.elf_out.specs.Frames.{IsFrame};
-ghost use Rattle.elf_out.specs.Standing.{SectionsStand};
-ghost use Rattle.elf_out.specs.TablesView.{tables_if};
+ghost use Rattle.elf_out.specs.Standing.{HasHeaderRoom, HeadersStand, PiecesStand, SectionsStand};
+ghost use Rattle.elf_out.specs.TablesView.{tables_if, tables_in};
 ghost use Rattle.reloc_apply.specs.Image.{ShowsFrom};
 ghost use Rattle.reloc_apply.specs.Relocated.{relocation_defects};
 
 use crate::blocks::BLOCK;
-use crate::ends::ends_of;
+use crate::ends::{Ends, ends_of};
 use crate::frames::{Frame, frame_in, lay_ends, lay_headers};
 use crate::symbols::{SymbolTables, symtab};
 use link_sections::View;
@@ -19,12 +20,15 @@ use lk_base::{LinkStop, up};
 use reloc_apply::{check_relocations, write_block};
 use std::alloc::{AllocError, Global};
 use std::thread;
-use std::thread::Threads;
+use std::thread::{Threads, join_mut};
 use work_split::Gate;
 
+/// A file of fewer bytes is not worth a thread.
+const LEAST: u64 = 0x10_0000;
+
 /// The executable of a link, or the first relocation, in order of file, section and offset, that can't be done. All relocations are
-/// tested before a byte is written. So many workers test them and write the file, each a run of its blocks. The bytes of each section
-/// stand whole in the file.
+/// tested before a byte of it is written. So many workers test them and write the file, each a run of its blocks. Each piece of which the file
+/// is made stands whole in it, and so do the bytes of each section.
 pub fn write_executable<R: Threads + Sync, G: Gate>(
     rt: &R,
     alloc: Global,
@@ -37,29 +41,78 @@ pub fn write_executable<R: Threads + Sync, G: Gate>(
     ensures written { IfOk result (λ v. v.items ≡ spec.executable (files_in view.now) (binding_in view.now) view.now.kept.now view.now.strip (leaders_in view.now) (laid_in view.now)) }
     ensures goes { Goes result (relocation_defects (files_in view.now) (binding_in view.now) (leaders_in view.now) (laid_in view.now)) }
     ensures stands { IfOk result (λ v. SectionsStand (files_in view.now) (binding_in view.now) (leaders_in view.now) (laid_in view.now) v.items) }
+    ensures pieces { IfOk result (λ v. PiecesStand (files_in view.now) (binding_in view.now) (leaders_in view.now) (laid_in view.now) (tables_in view.now) v.items) }
+    ensures headers { IfOk result (λ v. HasHeaderRoom view.now.layout.now.bounds → HeadersStand (files_in view.now) (binding_in view.now) (leaders_in view.now) (laid_in view.now) (tables_in view.now) v.items) }
 {
-    check_relocations(rt, alloc, view, workers, gate)?;
     let tables = symtab(rt, alloc, view, workers, gate)?;
-    let file = whole_file(rt, alloc, view, &tables, workers, gate)?;
+    let ends = ends_of(view, &tables)?;
+    let zeros = test_beside(rt, alloc, view, &ends, workers, gate)?;
+    let file = whole_file(rt, alloc, view, &tables, &ends, zeros, workers, gate)?;
     Ok(file)
 }
 
-/// The bytes of the executable with these tables, whether its relocations can be done or not.
+/// A file of zeros that ends where this one does, if all relocations can be done. Memory that is fresh takes long to write to, so where the file
+/// is long and there is more than one worker, another thread makes it while the relocations are tested.
+fn test_beside<R: Threads + Sync, G: Gate>(
+    rt: &R,
+    alloc: Global,
+    view: &View,
+    ends: &Ends,
+    workers: u32,
+    gate: &G,
+) -> Result<Vec<u8>, LinkStop>
+    requires some { 1 ≤ workers }
+    requires most { workers ≤ 64 }
+    ensures zeros { IfOk result (λ v. v.items ≡ replicate ends.now.end 0) }
+    ensures goes { Goes result (relocation_defects (files_in view.now) (binding_in view.now) (leaders_in view.now) (laid_in view.now)) }
+{
+    if workers == 1 || ends.end < LEAST {
+        check_relocations(rt, alloc, view, workers, gate)?;
+        let zeros = zeros_to(alloc, ends)?;
+        return Ok(zeros);
+    }
+    let (zeros, tested) = join_mut(
+        rt,
+        &mut || -> Result<Vec<u8>, AllocError>
+            ensures { IfOk result (λ v. v.items ≡ replicate ends.entry.now.end 0) }
+        { zeros_to(alloc, ends) },
+        &mut || -> Result<(), LinkStop>
+            requires { (1 ≤ workers) × (workers ≤ 64) }
+            ensures { Goes result (relocation_defects (files_in view.entry.now) (binding_in view.entry.now) (leaders_in view.entry.now) (laid_in view.entry.now)) }
+        { check_relocations(rt, alloc, view, workers, gate) },
+    );
+    tested?;
+    let zeros = zeros?;
+    Ok(zeros)
+}
+
+/// Zeros from the start of the file to its end.
+fn zeros_to(alloc: Global, ends: &Ends) -> Result<Vec<u8>, AllocError>
+    ensures { IfOk result (λ v. v.items ≡ replicate ends.now.end 0) }
+{
+    let zeros = vec![in alloc; 0u8; ends.end as usize]?;
+    Ok(zeros)
+}
+
+/// The bytes of the executable with these tables, whether its relocations can be done or not, in place of so many zeros.
 #[tactic(auto, unfolding(crate::specs::Executable::file_with))]
 fn whole_file<R: Threads + Sync, G: Gate>(
     rt: &R,
     alloc: Global,
     view: &View,
     tables: &Option<SymbolTables>,
+    ends: &Ends,
+    zeros: Vec<u8>,
     workers: u32,
     gate: &G,
 ) -> Result<Vec<u8>, AllocError>
     requires some { 1 ≤ workers }
+    requires ends { AreEnds (laid_in view.now) (tables_if tables.now) ends.now }
+    requires zeros { zeros.items ≡ replicate ends.now.end 0 }
     ensures { IfOk result (λ v. v.items ≡ spec.file_with (files_in view.now) (binding_in view.now) (leaders_in view.now) (laid_in view.now) (tables_if tables.now)) }
 {
-    let ends = ends_of(view, tables)?;
-    let frame = frame_in(alloc, view, tables, &ends, 0, ends.end)?;
-    let mut out = vec![in alloc; 0u8; ends.end as usize]?;
+    let frame = frame_in(alloc, view, tables, ends, 0, ends.end)?;
+    let mut out = zeros;
     fill(rt, &mut out, view, tables, &frame, workers, gate);
     Ok(out)
 }

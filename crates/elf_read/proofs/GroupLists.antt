@@ -14,10 +14,10 @@ use Rattle.lk_tables.specs.Checks.{passes}
 use Rattle.lk_tables.specs.FileHeader.{section_count}
 use Rattle.lk_tables.specs.Groups.{is_group, members_of, has_member, is_taken_before}
 use Rattle.lk_tables.specs.Heads.{all_section_checks}
-use Rattle.lk_tables.specs.Objects.{group_of, groups_before}
+use Rattle.lk_tables.specs.Objects.{group_of}
 use Rattle.lk_tables.specs.Sections.{section_of}
 use Rattle.lk_tables.proofs.BodyFacts.{section_inside}
-use Rattle.elf_read.specs.Groups.{taken_before, with_marked}
+use Rattle.elf_read.specs.Groups.{groups_before, taken_before, with_marked}
 use Rattle.elf_read.proofs.RelocLists.{map_same, or_false}
 
 -- one section more

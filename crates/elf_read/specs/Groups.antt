@@ -1,8 +1,13 @@
 -- What was read of the groups below a section.
 use Rattle.std.specs.Prelude.{ℕ, Bool, true, List, [], ◌∷◌, map, set}
-use Rattle.std.specs.List.{range_with_len}
+use Rattle.std.specs.List.{filter, range_with_len}
 use Rattle.lk_tables.specs.FileHeader.{section_count}
-use Rattle.lk_tables.specs.Groups.{is_taken_before}
+use Rattle.lk_tables.specs.Groups.{is_group, is_taken_before}
+use Rattle.lk_tables.specs.Objects.{GroupView, group_of}
+
+-- the groups among the sections below i, in order
+abbrev pub groups_before : List ℕ → ℕ → List GroupView
+groups_before b i = map (group_of b) (filter (is_group b) (range_with_len 0 i))
 
 -- of each section, whether a group before section i has it
 abbrev pub taken_before : List ℕ → ℕ → List Bool

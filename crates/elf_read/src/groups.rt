@@ -6,11 +6,11 @@ ghost use Rattle.lk_base.specs.declared.abi.TheConstants.{WORD_SIZE};
 ghost use Rattle.lk_tables.specs.Checks.{Follows};
 ghost use Rattle.lk_tables.specs.FileHeader.{section_count};
 ghost use Rattle.lk_tables.specs.Groups as read;
-ghost use Rattle.lk_tables.specs.Objects.{group_view, group_of, groups_before};
+ghost use Rattle.lk_tables.specs.Objects.{group_view, group_of};
 ghost use Rattle.lk_tables.specs.Sections.{section_of};
 ghost use Rattle.lk_tables.specs.declared.heads.Place.TheVariants.{Within};
 ghost use Rattle.lk_tables.specs.Symbols.{symbol_of};
-ghost use Rattle.elf_read.specs.Groups.{taken_before, with_marked};
+ghost use Rattle.elf_read.specs.Groups.{groups_before, taken_before, with_marked};
 
 use crate::header::flaw;
 use crate::names::span;

@@ -4,8 +4,8 @@ ghost use Rattle.std.specs.Prelude.{◌≡◌, ◌+◌, ◌<◌, length, map, On
 ghost use Rattle.lk_tables.specs.Bodies as read;
 ghost use Rattle.lk_tables.specs.Checks.{Follows};
 ghost use Rattle.lk_tables.specs.FileHeader.{section_count};
-ghost use Rattle.lk_tables.specs.Objects.{group_view, groups_before};
-ghost use Rattle.elf_read.specs.Groups.{taken_before};
+ghost use Rattle.lk_tables.specs.Objects.{group_view};
+ghost use Rattle.elf_read.specs.Groups.{groups_before, taken_before};
 ghost use Rattle.elf_read.specs.RelaSections.{marks_before, lists_before};
 
 use crate::groups::read_group;

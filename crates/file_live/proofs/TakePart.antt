@@ -1,6 +1,6 @@
 -- The files that the search marks are those that take part.
-use Rattle.std.proofs.Common.{◌≡◌, ℕ, ◌^◌, ◌<◌, ◌≤◌, not, Bool, true, false, List, [], length, get_or, All, Contains, sym, ◌∙◌, subst, ⊎_elim, arith}
-use Rattle.std.proofs.lemmas.List.{get_or_past}
+use Rattle.std.proofs.Common.{◌≡◌, ℕ, ◌^◌, ◌<◌, ◌≤◌, not, Bool, true, false, List, [], length, get_or, replicate, All, Contains, sym, ◌∙◌, subst, ⊎_elim, arith}
+use Rattle.std.proofs.lemmas.List.{get_or_past, get_or-replicate, length-replicate}
 use Rattle.std.proofs.lemmas.List.Elements.{All-contains, All-from_get_or, Contains-get_or}
 use Rattle.std.proofs.lemmas.Bool.{cases_lt, not-true, not_from_false}
 use Rattle.lk_tables.specs.Files.{File, file_at, symbol_total}
@@ -65,3 +65,23 @@ live_marked files seen r = record {
 
 pub live_is : (files : List File) (seen : List Bool) → length files < 2 ^ 24 → symbol_total files < 2 ^ 31 → IsLive files seen → seen ≡ live_of files
 live_is files seen few small is = live_once files seen (live_of files) is (live_of_least files (pull_within files few small))
+
+-- where no file is a member, all take part
+within_replicate : (n f : ℕ) → get_or (replicate n true) f false ≡ true → f < n
+within_replicate n f is = ⊎_elim
+    (λ (lt : f < n). lt)
+    (λ (past : n ≤ f).
+    let none : get_or (replicate n true) f false ≡ false = get_or_past (replicate n true) f false (omega (arith, past, length-replicate n true)) in
+    absurd cc)
+    (cases_lt f n)
+
+pub all_commands : (files : List File) → length files < 2 ^ 24 → symbol_total files < 2 ^ 31 → ((f : ℕ) → f < length files → (file_at files f).member ≡ false)
+    → IsLive files (replicate (length files) true)
+all_commands files few small own = record {
+  wide = length-replicate (length files) true;
+  closed = record {
+    commands = λ f lt is. get_or-replicate (length files) f true false lt;
+    pulled = λ f g is pulled. get_or-replicate (length files) g true false (pull_within files few small f g pulled);
+  };
+  least = λ s closed g is. let lt = within_replicate (length files) g is in closed.commands g lt (own g lt);
+}

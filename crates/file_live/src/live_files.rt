@@ -1,8 +1,8 @@
 //! The files that take part in a link.
 
-ghost use Rattle.std.specs.Prelude.{◌≡◌, ◌<◌, ◌≤◌, ◌^◌, length, IfOk};
+ghost use Rattle.std.specs.Prelude.{◌≡◌, ℕ, ◌<◌, ◌≤◌, ◌^◌, false, length, IfOk};
 ghost use Rattle.lk_tables.specs.FileView.{file_views};
-ghost use Rattle.lk_tables.specs.Files.{symbol_total};
+ghost use Rattle.lk_tables.specs.Files.{file_at, symbol_total};
 ghost use Rattle.lk_tables.specs.NameNumbers.{NumbersNames, heads_alone};
 ghost use Rattle.lk_tables.specs.TablesView.{heads_of};
 ghost use Rattle.file_live.specs.Live.{live_of, IsLive};
@@ -55,8 +55,35 @@ fn live_by<R: Threads + Sync, G: Gate>(
     ensures live { IfOk result (λ list. list.items ≡ live_of (file_views files.now)) }
     ensures least { IfOk result (λ list. IsLive (file_views files.now) list.items) }
 {
+    if !has_member(files) {
+        return all_live(alloc, files);
+    }
     let words = names.numbers.len() as u32;
     let claims = claims_of(alloc, files, names)?;
     let row = least_offers(rt, alloc, gate, workers, words, claims.as_slice())?;
     reach(alloc, files, names, row.as_slice())
+}
+
+/// Whether a file is a member of an archive.
+fn has_member(files: &[File]) -> bool
+    ensures { result ≡ false → (f : ℕ) → f < length files.now → (file_at (file_views files.now) f).member ≡ false }
+{
+    for f in 0..files.len() {
+        if files[f].is_member() {
+            return true;
+        }
+    }
+    false
+}
+
+/// All files, each of which is an object of the command.
+fn all_live(alloc: Global, files: &[File]) -> Result<Vec<bool>, AllocError>
+    requires files { length files.now < 2 ^ 24 }
+    requires symbols { symbol_total (file_views files.now) < 2 ^ 31 }
+    requires own { (f : ℕ) → f < length files.now → (file_at (file_views files.now) f).member ≡ false }
+    ensures live { IfOk result (λ list. list.items ≡ live_of (file_views files.now)) }
+    ensures least { IfOk result (λ list. IsLive (file_views files.now) list.items) }
+{
+    let all = vec![in alloc; true; files.len()]?;
+    Ok(all)
 }

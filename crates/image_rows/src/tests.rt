@@ -12,3 +12,4 @@ mod links;
 mod listed;
 mod objects;
 mod pieces;
+mod shortened;

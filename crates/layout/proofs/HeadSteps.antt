@@ -15,9 +15,8 @@ use Rattle.layout.specs.declared.order.Head.{Head}
 use Rattle.layout.specs.declared.order.Row.{Row}
 use Rattle.layout.specs.Items.{Item}
 use Rattle.layout.specs.ItemViews.{item_view, items_view}
-use Rattle.layout.specs.Heads.{AreHeads, AreNoted, ArePushed, AreRows, ByName, IsHeads, IsNoted, IsPushed, seen}
+use Rattle.layout.specs.Heads.{AreRows, ByName, IsHeads, IsNoted, IsPushed, head_in, seen}
 use Rattle.layout.specs.Order.{Orders, head_after, head_from, head_of, is_of, key_of, no_head, order_of, orders_of, own_row, row_in, rows_from, rows_of, with_item}
-use Rattle.layout.specs.declared.order.Heads.{Heads}
 use Rattle.lk_base.specs.Order.{stable_order}
 use Rattle.lk_tables.specs.declared.classes.Class.TheVariants.{R, Rx, TlsBits, TlsNobits, RwBits, RwNobits}
 use Rattle.std.proofs.lemmas.List.{append-nil, drop_all}
@@ -38,6 +37,26 @@ noted class f g number item name own head value here own_is head_is value_is is 
     ∙ ap (λ o. if bytes_eq o name then Some (with_item (f name) number item) else f name) own_is
     ∙ ap (λ b. if b && bytes_eq (output_name item.name) name then Some (with_item (f name) number item) else f name) (sym here)
 
+same_by : (b : Bool) (f : List ℕ → Option Head) (own name : List ℕ) (number : ℕ) (item : Item) → bytes_eq own name ≡ b → Some (with_item (f own) number item) ≡ f own
+    → f name ≡ (if b then Some (with_item (f name) number item) else f name)
+same_by true f own name number item e stays =
+    let there : own ≡ name = (bytes_eq-Decides own name).0 e in
+    sym (ap f there) ∙ sym stays ∙ ap (λ n. Some (with_item (f n) number item)) there
+same_by false f own name number item e stays = refl
+
+-- one that leaves what is known of it changes none
+pub noted_same : (class : Class) (f : List ℕ → Option Head) (number : ℕ) (item : Item) (name own : List ℕ) → is_of class item ≡ true → own ≡ output_name item.name
+    → Some (with_item (f own) number item) ≡ f own → f name ≡ head_after class name (f name) number item
+unfolding head_after
+noted_same class f number item name own here own_is stays =
+    same_by (bytes_eq own name) f own name number item refl stays
+    ∙ ap (λ o. if bytes_eq o name then Some (with_item (f name) number item) else f name) own_is
+    ∙ ap (λ b. if b && bytes_eq (output_name item.name) name then Some (with_item (f name) number item) else f name) (sym here)
+
+-- what is then known of its own
+pub noted_own : (f g : List ℕ → Option Head) (own : List ℕ) (value : Head) → g own ≡ update bytes_eq f own (Some value) own → Some value ≡ g own
+noted_own f g own value is = sym (is ∙ ap (λ b. cond b (Some value) (f own)) ((bytes_eq-Decides own own).1 refl))
+
 -- an item of another class changes none
 pub passed : (class : Class) (head : Option Head) (number : ℕ) (item : Item) (name : List ℕ) → is_of class item ≡ false → head ≡ head_after class name head number item
 unfolding head_after
@@ -50,126 +69,57 @@ own_same : (class : Class) (f g : List ℕ → Head) (number : ℕ) (item : Item
 unfolding own_row
 own_same class f g number item e = ap (λ h. if is_of class item then row_in class h number item ∷ [] else []) e
 
-drop_next : {X : Type 0} (xs : List X) (i : ℕ) (d : X) → i < length xs → drop i xs ≡ get_or xs i d ∷ drop (i + 1) xs
+pub drop_next : {X : Type 0} (xs : List X) (i : ℕ) (d : X) → i < length xs → drop i xs ≡ get_or xs i d ∷ drop (i + 1) xs
 drop_next xs i d lt = let e : suc i ≡ i + 1 = omega arith in drop-cons xs i d lt ∙ ap (λ k. get_or xs i d ∷ drop k xs) e
 
-pub row_step : (class : Class) (seen heads : List ℕ → Option Head) (i : ℕ) (items : List HeldItem) (d : HeldItem) (old new whole : List Row)
-    → i < length items
-    → new ≡ old ++ own_row class (λ name. unwrap_or (seen name) no_head) i (item_view (get_or items i d))
-    → ((name : List ℕ) → seen name ≡ heads name)
-    → old ++ rows_from class (λ name. unwrap_or (heads name) no_head) i (items_view (drop i items)) ≡ whole
-    → new ++ rows_from class (λ name. unwrap_or (heads name) no_head) (i + 1) (items_view (drop (i + 1) items)) ≡ whole
-row_step class seen heads i items d old new whole lt is same held =
-    let item : HeldItem = get_or items i d in
-    let next : drop i items ≡ item ∷ drop (i + 1) items = drop_next items i d lt in
-    let f : List ℕ → Head = λ name. unwrap_or (seen name) no_head in
-    let g : List ℕ → Head = λ name. unwrap_or (heads name) no_head in
-    let rest : List Row = rows_from class g (i + 1) (items_view (drop (i + 1) items)) in
-    ap (λ l. l ++ rest) (is ∙ ap (λ l. old ++ l) (own_same class f g i (item_view item) (ap (λ h. unwrap_or h no_head) (same (output_name (item_view item).name)))))
-    ∙ append_assoc old (own_row class g i (item_view item)) rest
-    ∙ ap (λ l. old ++ rows_from class g i (items_view l)) (sym next) ∙ held
+pub row_step : (class : Class) (heads : List ℕ → Head) (i : ℕ) (items : List HeldItem) (d : HeldItem) (old new whole : List Row) → i < length items
+    → new ≡ old ++ own_row class heads i (item_view (get_or items i d)) → old ++ rows_from class heads i (items_view (drop i items)) ≡ whole
+    → new ++ rows_from class heads (i + 1) (items_view (drop (i + 1) items)) ≡ whole
+row_step class heads i items d old new whole lt is held =
+    let item : Item = item_view (get_or items i d) in
+    let rest : List Row = rows_from class heads (i + 1) (items_view (drop (i + 1) items)) in
+    ap (λ l. l ++ rest) is
+    ∙ append_assoc old (own_row class heads i item) rest
+    ∙ ap (λ l. old ++ rows_from class heads i (items_view l)) (sym (drop_next items i d lt)) ∙ held
 
--- all classes at once: what is known so far leads to what is known in the end
-abbrev IsLeft : Class → (i : ℕ) → List HeldItem → ByName → Type 0
+-- what is known so far leads to what is known in the end
+abbrev pub IsLeft : Class → (i : ℕ) → List HeldItem → ByName → Type 0
 IsLeft class i items heads = (name : List ℕ) → head_from class name (seen heads name) i (items_view (drop i items)) ≡ head_from class name None 0 (items_view items)
 
-pub record AreLeft (i : ℕ) (items : List HeldItem) (heads : Heads) : Type 0 where
-  pub r : IsLeft R i items heads.r
-  pub rx : IsLeft Rx i items heads.rx
-  pub tls_bits : IsLeft TlsBits i items heads.tls_bits
-  pub tls_nobits : IsLeft TlsNobits i items heads.tls_nobits
-  pub rw_bits : IsLeft RwBits i items heads.rw_bits
-  pub rw_nobits : IsLeft RwNobits i items heads.rw_nobits
-
 -- no output section is known at first
-left_start : (class : Class) (items : List HeldItem) (heads : ByName) → heads.entries ≡ [] → IsLeft class 0 items heads
-left_start class items heads none = λ name.
-    ap (λ es. head_from class name (lookup (is_at (λ k. slice_cmp nat_cmp name k.now)) es) 0 (items_view items)) none
+pub none_seen : (heads : ByName) (name : List ℕ) → heads.entries ≡ [] → seen heads name ≡ None
+none_seen heads name none = ap (lookup (is_at (λ k. slice_cmp nat_cmp name k.now))) none
 
-pub all_start : (items : List HeldItem) (heads : Heads) → heads.r.entries ≡ [] → heads.rx.entries ≡ [] → heads.tls_bits.entries ≡ [] → heads.tls_nobits.entries ≡ [] → heads.rw_bits.entries ≡ [] → heads.rw_nobits.entries ≡ [] → AreLeft 0 items heads
-all_start items heads r rx tls_bits tls_nobits rw_bits rw_nobits = record {
-  r = left_start R items heads.r r;
-  rx = left_start Rx items heads.rx rx;
-  tls_bits = left_start TlsBits items heads.tls_bits tls_bits;
-  tls_nobits = left_start TlsNobits items heads.tls_nobits tls_nobits;
-  rw_bits = left_start RwBits items heads.rw_bits rw_bits;
-  rw_nobits = left_start RwNobits items heads.rw_nobits rw_nobits;
-}
+pub left_start : (class : Class) (items : List HeldItem) (heads : ByName) → heads.entries ≡ [] → IsLeft class 0 items heads
+left_start class items heads none = λ name. ap (λ h. head_from class name h 0 (items_view items)) (none_seen heads name none)
 
-left_next : (class : Class) (i : ℕ) (items : List HeldItem) (d : HeldItem) (old new : ByName) → i < length items → IsNoted class i (item_view (get_or items i d)) old new
+pub left_next : (class : Class) (i : ℕ) (items : List HeldItem) (d : HeldItem) (old new : ByName) → i < length items → IsNoted class i (item_view (get_or items i d)) old new
     → IsLeft class i items old → IsLeft class (i + 1) items new
 left_next class i items d old new lt after held = λ name.
     ap (λ h. head_from class name h (i + 1) (items_view (drop (i + 1) items))) (after name)
     ∙ ap (λ l. head_from class name (seen old name) i (items_view l)) (sym (drop_next items i d lt)) ∙ held name
 
-pub all_next : (i : ℕ) (items : List HeldItem) (d : HeldItem) (old new : Heads) → i < length items → AreNoted i (item_view (get_or items i d)) old new
-    → AreLeft i items old → AreLeft (i + 1) items new
-all_next i items d old new lt after held = record {
-  r = left_next R i items d old.r new.r lt after.r held.r;
-  rx = left_next Rx i items d old.rx new.rx lt after.rx held.rx;
-  tls_bits = left_next TlsBits i items d old.tls_bits new.tls_bits lt after.tls_bits held.tls_bits;
-  tls_nobits = left_next TlsNobits i items d old.tls_nobits new.tls_nobits lt after.tls_nobits held.tls_nobits;
-  rw_bits = left_next RwBits i items d old.rw_bits new.rw_bits lt after.rw_bits held.rw_bits;
-  rw_nobits = left_next RwNobits i items d old.rw_nobits new.rw_nobits lt after.rw_nobits held.rw_nobits;
-}
-
-left_end : (class : Class) (i : ℕ) (items : List HeldItem) (heads : ByName) → length items ≤ i → IsLeft class i items heads → IsHeads class (items_view items) heads
+pub left_end : (class : Class) (i : ℕ) (items : List HeldItem) (heads : ByName) → length items ≤ i → IsLeft class i items heads → IsHeads class (items_view items) heads
 left_end class i items heads end held = λ name.
     let none : drop i items ≡ [] = drop_all i items end in
     ap (λ l. head_from class name (seen heads name) i (items_view l)) (sym none) ∙ held name
 
-pub all_end : (i : ℕ) (items : List HeldItem) (heads : Heads) → length items ≤ i → AreLeft i items heads → AreHeads (items_view items) heads
-all_end i items heads end held = record {
-  r = left_end R i items heads.r end held.r;
-  rx = left_end Rx i items heads.rx end held.rx;
-  tls_bits = left_end TlsBits i items heads.tls_bits end held.tls_bits;
-  tls_nobits = left_end TlsNobits i items heads.tls_nobits end held.tls_nobits;
-  rw_bits = left_end RwBits i items heads.rw_bits end held.rw_bits;
-  rw_nobits = left_end RwNobits i items heads.rw_nobits end held.rw_nobits;
-}
-
 -- the rows so far lead to all rows
-abbrev IsRest : Class → (i : ℕ) → List HeldItem → List Row → Type 0
+abbrev pub IsRest : Class → (i : ℕ) → List HeldItem → List Row → Type 0
 IsRest class i items rows = rows ++ rows_from class (head_of class (items_view items)) i (items_view (drop i items)) ≡ rows_of class (items_view items)
 
-pub record AreRest (i : ℕ) (items : List HeldItem) (rows : Orders) : Type 0 where
-  pub r : IsRest R i items rows.r
-  pub rx : IsRest Rx i items rows.rx
-  pub tls_bits : IsRest TlsBits i items rows.tls_bits
-  pub tls_nobits : IsRest TlsNobits i items rows.tls_nobits
-  pub rw_bits : IsRest RwBits i items rows.rw_bits
-  pub rw_nobits : IsRest RwNobits i items rows.rw_nobits
-
-rest_next : (class : Class) (i : ℕ) (items : List HeldItem) (d : HeldItem) (heads : ByName) (old new : List Row) → i < length items → IsHeads class (items_view items) heads
+pub rest_next : (class : Class) (i : ℕ) (items : List HeldItem) (d : HeldItem) (heads : ByName) (old new : List Row) → i < length items → IsHeads class (items_view items) heads
     → IsPushed class i (item_view (get_or items i d)) heads old new → IsRest class i items old → IsRest class (i + 1) items new
 rest_next class i items d heads old new lt are is held =
-    row_step class (seen heads) (λ name. head_from class name None 0 (items_view items)) i items d old new (rows_of class (items_view items)) lt is are held
+    let item : Item = item_view (get_or items i d) in
+    let same : own_row class (head_in heads) i item ≡ own_row class (head_of class (items_view items)) i item =
+    own_same class (head_in heads) (head_of class (items_view items)) i item (ap (λ h. unwrap_or h no_head) (are (output_name item.name))) in
+    row_step class (head_of class (items_view items)) i items d old new (rows_of class (items_view items)) lt (is ∙ ap (λ l. old ++ l) same) held
 
-pub rows_next : (i : ℕ) (items : List HeldItem) (d : HeldItem) (heads : Heads) (old new : Orders) → i < length items → AreHeads (items_view items) heads
-    → ArePushed i (item_view (get_or items i d)) heads old new → AreRest i items old → AreRest (i + 1) items new
-rows_next i items d heads old new lt are is held = record {
-  r = rest_next R i items d heads.r old.r new.r lt are.r is.r held.r;
-  rx = rest_next Rx i items d heads.rx old.rx new.rx lt are.rx is.rx held.rx;
-  tls_bits = rest_next TlsBits i items d heads.tls_bits old.tls_bits new.tls_bits lt are.tls_bits is.tls_bits held.tls_bits;
-  tls_nobits = rest_next TlsNobits i items d heads.tls_nobits old.tls_nobits new.tls_nobits lt are.tls_nobits is.tls_nobits held.tls_nobits;
-  rw_bits = rest_next RwBits i items d heads.rw_bits old.rw_bits new.rw_bits lt are.rw_bits is.rw_bits held.rw_bits;
-  rw_nobits = rest_next RwNobits i items d heads.rw_nobits old.rw_nobits new.rw_nobits lt are.rw_nobits is.rw_nobits held.rw_nobits;
-}
-
-rest_end : (class : Class) (i : ℕ) (items : List HeldItem) (rows : List Row) → length items ≤ i → IsRest class i items rows → rows ≡ rows_of class (items_view items)
+pub rest_end : (class : Class) (i : ℕ) (items : List HeldItem) (rows : List Row) → length items ≤ i → IsRest class i items rows → rows ≡ rows_of class (items_view items)
 rest_end class i items rows end held =
     let none : drop i items ≡ [] = drop_all i items end in
     sym (append-nil rows) ∙ ap (λ l. rows ++ rows_from class (head_of class (items_view items)) i (items_view l)) (sym none) ∙ held
-
-pub rows_end : (i : ℕ) (items : List HeldItem) (rows : Orders) → length items ≤ i → AreRest i items rows → AreRows (items_view items) rows
-rows_end i items rows end held = record {
-  r = rest_end R i items rows.r end held.r;
-  rx = rest_end Rx i items rows.rx end held.rx;
-  tls_bits = rest_end TlsBits i items rows.tls_bits end held.tls_bits;
-  tls_nobits = rest_end TlsNobits i items rows.tls_nobits end held.tls_nobits;
-  rw_bits = rest_end RwBits i items rows.rw_bits end held.rw_bits;
-  rw_nobits = rest_end RwNobits i items rows.rw_nobits end held.rw_nobits;
-}
 
 -- each class's rows in their order
 sorted_by : (class : Class) (items : List Item) (old new : List Row) → old ≡ rows_of class items → new ≡ stable_order key_of old → new ≡ order_of class items

@@ -5,13 +5,16 @@ pub mod Cursors
 pub mod CutSums
 pub mod CutsPassed
 pub mod FitRows
+pub mod GatherSteps
 pub mod HeadSteps
 pub mod ItemFacts
 pub mod ItemSteps
 pub mod LaidCuts
 pub mod Members
 pub mod NextPool
+pub mod OwnClass
 pub mod PlacedMembers
+pub mod PlainCuts
 pub mod Rising
 pub mod RowsOfCuts
 pub mod Runs

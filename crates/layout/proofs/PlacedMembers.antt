@@ -23,7 +23,7 @@ row_view [] n = refl
 row_view (r ∷ rs) zero = refl
 row_view (r ∷ rs) (suc n) = row_view rs n
 
-no_cuts : AreCuts []
+pub no_cuts : AreCuts []
 no_cuts = record {
   apart = record { kept = All-nil (λ c. c.kept ≤ c.whole); order = λ i d lt. absurd (omega (arith, lt)) };
   placed = All-nil (IsPlacedCut []);

@@ -50,15 +50,22 @@ laying_first files row total rows none =
     let e : total - 0 ≡ total = omega arith in
     rw none (record { passes = ap (λ n. flat_map (row_defects files row) (range_with_len 0 n)) e; views = refl; sound = All-nil AreCuts })
 
-pub laying_next : (files : List File) (row : ℕ → List Cut) (total i : ℕ) (rows rows' : List (List HeldCut)) (laid : List HeldCut) → i < total
-    → Laying files row total i rows → rows' ≡ rows ++ laid ∷ [] → cut_views laid ≡ row i → AreCuts laid → row_defects files row i ≡ []
+pub laying_next : (files : List File) (row : ℕ → List Cut) (total i : ℕ) (rows rows' : List (List HeldCut)) → i < total
+    → Laying files row total i rows → map cut_views rows' ≡ map cut_views rows ++ row i ∷ [] → (All AreCuts rows → All AreCuts rows') → row_defects files row i ≡ []
     → Laying files row total (i + 1) rows'
-laying_next files row total i rows rows' laid lt so_far more views cuts none = record {
+laying_next files row total i rows rows' lt so_far views sound none = record {
   passes = pass_step (row_defects files row) i total _ lt so_far.passes none;
-  views = map_step row i (map cut_views rows) (map cut_views rows') so_far.views
-      (ap (map cut_views) more ∙ map-append cut_views rows (laid ∷ []) ∙ ap (λ x. map cut_views rows ++ x ∷ []) views);
-  sound = rw more (All-append AreCuts rows (laid ∷ []) so_far.sound (All-cons AreCuts laid [] cuts (All-nil AreCuts)));
+  views = map_step row i (map cut_views rows) (map cut_views rows') so_far.views views;
+  sound = sound so_far.sound;
 }
+
+-- one row more
+pub views_more : (rows rows' : List (List HeldCut)) (laid : List HeldCut) (row : List Cut) → rows' ≡ rows ++ laid ∷ [] → cut_views laid ≡ row
+    → map cut_views rows' ≡ map cut_views rows ++ row ∷ []
+views_more rows rows' laid row more views = ap (map cut_views) more ∙ map-append cut_views rows (laid ∷ []) ∙ ap (λ x. map cut_views rows ++ x ∷ []) views
+
+pub sound_more : (rows rows' : List (List HeldCut)) (laid : List HeldCut) → rows' ≡ rows ++ laid ∷ [] → AreCuts laid → All AreCuts rows → All AreCuts rows'
+sound_more rows rows' laid more cuts sound = rw more (All-append AreCuts rows (laid ∷ []) sound (All-cons AreCuts laid [] cuts (All-nil AreCuts)))
 
 pub laying_stops : (files : List File) (row : ℕ → List Cut) (total i : ℕ) (rows : List (List HeldCut)) (stop : LinkStop) → i < total
     → Laying files row total i rows → StopsAt stop (row_defects files row i) → StopsAt stop (cut_defects files (map row (range_with_len 0 total)) total)

@@ -1,13 +1,17 @@
 -- Output sections in maps by their names, one map for each class.
-use Rattle.std.specs.Prelude.{◌≡◌, ℕ, ◌++◌, Option, None, unwrap_or, List}
+use Rattle.std.specs.Prelude.{◌≡◌, ℕ, ◌++◌, Bool, true, false, Option, None, unwrap_or, List, []}
 use Rattle.std.specs.Borrow.{Bor}
 use Rattle.std.specs.BTreeMap.{BTreeMap, get_by}
 use Rattle.std.specs.Cmp.Lexicographic.{slice_cmp}
 use Rattle.std.specs.Ordering.{nat_cmp}
 use Rattle.lk_tables.specs.declared.classes.Class.{Class}
 use Rattle.lk_tables.specs.declared.classes.Class.TheVariants.{R, Rx, TlsBits, TlsNobits, RwBits, RwNobits}
+use Rattle.lk_tables.specs.Classes.{output_rank}
+use Rattle.lk_tables.specs.OutputNames.{output_name, priority_of}
+use Rattle.layout.specs.declared.gathering.ClassHeads.{ClassHeads}
+use Rattle.layout.specs.declared.gathering.Heads.{Heads}
+use Rattle.layout.specs.declared.gathering.Last.{Last}
 use Rattle.layout.specs.declared.order.Head.{Head}
-use Rattle.layout.specs.declared.order.Heads.{Heads}
 use Rattle.layout.specs.declared.order.Row.{Row}
 use Rattle.layout.specs.Items.{Item}
 use Rattle.layout.specs.Order.{Orders, head_after, head_from, no_head, own_row, rows_of}
@@ -26,25 +30,9 @@ head_in heads name = unwrap_or (seen heads name) no_head
 abbrev pub IsHeads : Class → List Item → ByName → Type 0
 IsHeads class items heads = (name : List ℕ) → seen heads name ≡ head_from class name None 0 items
 
-pub record AreHeads (items : List Item) (heads : Heads) : Type 0 where
-  pub r : IsHeads R items heads.r
-  pub rx : IsHeads Rx items heads.rx
-  pub tls_bits : IsHeads TlsBits items heads.tls_bits
-  pub tls_nobits : IsHeads TlsNobits items heads.tls_nobits
-  pub rw_bits : IsHeads RwBits items heads.rw_bits
-  pub rw_nobits : IsHeads RwNobits items heads.rw_nobits
-
 -- and after one more
 abbrev pub IsNoted : Class → (number : ℕ) → Item → (old new : ByName) → Type 0
 IsNoted class number item old new = (name : List ℕ) → seen new name ≡ head_after class name (seen old name) number item
-
-pub record AreNoted (number : ℕ) (item : Item) (old new : Heads) : Type 0 where
-  pub r : IsNoted R number item old.r new.r
-  pub rx : IsNoted Rx number item old.rx new.rx
-  pub tls_bits : IsNoted TlsBits number item old.tls_bits new.tls_bits
-  pub tls_nobits : IsNoted TlsNobits number item old.tls_nobits new.tls_nobits
-  pub rw_bits : IsNoted RwBits number item old.rw_bits new.rw_bits
-  pub rw_nobits : IsNoted RwNobits number item old.rw_nobits new.rw_nobits
 
 -- the rows of each class are those of all items in command order
 pub record AreRows (items : List Item) (rows : Orders) : Type 0 where
@@ -59,10 +47,79 @@ pub record AreRows (items : List Item) (rows : Orders) : Type 0 where
 abbrev pub IsPushed : Class → (number : ℕ) → Item → ByName → (old new : List Row) → Type 0
 IsPushed class number item heads old new = new ≡ old ++ own_row class (head_in heads) number item
 
-pub record ArePushed (number : ℕ) (item : Item) (heads : Heads) (old new : Orders) : Type 0 where
-  pub r : IsPushed R number item heads.r old.r new.r
-  pub rx : IsPushed Rx number item heads.rx old.rx new.rx
-  pub tls_bits : IsPushed TlsBits number item heads.tls_bits old.tls_bits new.tls_bits
-  pub tls_nobits : IsPushed TlsNobits number item heads.tls_nobits old.tls_nobits new.tls_nobits
-  pub rw_bits : IsPushed RwBits number item heads.rw_bits old.rw_bits new.rw_bits
-  pub rw_nobits : IsPushed RwNobits number item heads.rw_nobits old.rw_nobits new.rw_nobits
+-- what is known of the output section to which the item before in a class went, with its rank
+pub record IsLast (class : Class) (heads : ByName) (last : Last) : Type 0 where
+  pub head : last.head ≡ seen heads last.name.now
+  pub rank : last.rank ≡ output_rank class (unwrap_or last.head no_head).sh_type last.name.now
+
+pub record AreLast (heads : Heads) : Type 0 where
+  pub r : IsLast R heads.r.heads heads.r.last
+  pub rx : IsLast Rx heads.rx.heads heads.rx.last
+  pub tls_bits : IsLast TlsBits heads.tls_bits.heads heads.tls_bits.last
+  pub tls_nobits : IsLast TlsNobits heads.tls_nobits.heads heads.tls_nobits.last
+  pub rw_bits : IsLast RwBits heads.rw_bits.heads heads.rw_bits.last
+  pub rw_nobits : IsLast RwNobits heads.rw_nobits.heads heads.rw_nobits.last
+
+-- nothing is known before the first item
+pub record IsNone (class : Class) (known : ClassHeads) : Type 0 where
+  pub empty : known.heads.entries ≡ []
+  pub held : IsLast class known.heads known.last
+
+pub record AreNone (heads : Heads) : Type 0 where
+  pub r : IsNone R heads.r
+  pub rx : IsNone Rx heads.rx
+  pub tls_bits : IsNone TlsBits heads.tls_bits
+  pub tls_nobits : IsNone TlsNobits heads.tls_nobits
+  pub rw_bits : IsNone RwBits heads.rw_bits
+  pub rw_nobits : IsNone RwNobits heads.rw_nobits
+
+-- the row of an item of that output section, as it is known so far
+unfoldable pub last_row : Last → (number : ℕ) → Item → Row
+last_row last number item = record {
+  number = number;
+  content = item.content;
+  group = (unwrap_or last.head no_head).group;
+  rank = last.rank;
+  priority = priority_of item.name;
+  sh_type = item.sh_type;
+  flags = item.flags;
+  size = item.size;
+  align = item.align;
+}
+
+-- the output sections of a class after one more item of it, whose output section is now the last one
+pub record IsIn (class : Class) (number : ℕ) (item : Item) (old new : ClassHeads) : Type 0 where
+  pub noted : IsNoted class number item old.heads new.heads
+  pub held : IsLast class new.heads new.last
+  pub name : new.last.name.now ≡ output_name item.name
+
+-- a class after one more item
+pub record IsTaken (class : Class) (number : ℕ) (item : Item) (old new : ClassHeads) (old_rows new_rows : List Row) : Type 0 where
+  pub noted : IsNoted class number item old.heads new.heads
+  pub held : IsLast class new.heads new.last
+  pub pushed : IsPushed class number item new.heads old_rows new_rows
+
+-- all classes after one more item; the rows that are read only come later
+pub record AreTaken (number : ℕ) (item : Item) (old new : Heads) (old_rows new_rows : Orders) : Type 0 where
+  pub r : IsNoted R number item old.r.heads new.r.heads
+  pub r_last : IsLast R new.r.heads new.r.last
+  pub r_rows : new_rows.r ≡ old_rows.r
+  pub rx : IsTaken Rx number item old.rx new.rx old_rows.rx new_rows.rx
+  pub tls_bits : IsTaken TlsBits number item old.tls_bits new.tls_bits old_rows.tls_bits new_rows.tls_bits
+  pub tls_nobits : IsTaken TlsNobits number item old.tls_nobits new.tls_nobits old_rows.tls_nobits new_rows.tls_nobits
+  pub rw_bits : IsTaken RwBits number item old.rw_bits new.rw_bits old_rows.rw_bits new_rows.rw_bits
+  pub rw_nobits : IsTaken RwNobits number item old.rw_nobits new.rw_nobits old_rows.rw_nobits new_rows.rw_nobits
+
+-- no rows of any class
+abbrev pub no_rows : Orders
+no_rows = record { r = []; rx = []; tls_bits = []; tls_nobits = []; rw_bits = []; rw_nobits = [] }
+
+-- whether two classes are the same
+abbrev pub is_same : Class → Class → Bool
+is_same R R = true
+is_same Rx Rx = true
+is_same TlsBits TlsBits = true
+is_same TlsNobits TlsNobits = true
+is_same RwBits RwBits = true
+is_same RwNobits RwNobits = true
+is_same class other = false

@@ -1,7 +1,7 @@
 //! Where a section loses bytes, once its first address is known (RISC-V ELF psABI, "Linker Relaxation").
 
 ghost use Rattle.std.specs.Prelude.{◌≡◌, ℕ, ◌+◌, ◌-◌, ◌*◌, ◌<◌, ◌≤◌, ◌^◌, ◌++◌, ◌∷◌, [], All, IfOk, OnOk, map, filter, nat_lt, min, if◌then◌else◌};
-ghost use Rattle.std.specs.List.{sum_by};
+ghost use Rattle.std.specs.List.{list_any, sum_by};
 ghost use Rattle.lk_base.specs.declared.abi.TheConstants.{NOBITS_MAX};
 ghost use Rattle.lk_base.specs.Firsts.{Passes};
 ghost use Rattle.link_sections.specs.Cuts.{kept_before, new_offset};
@@ -54,6 +54,13 @@ pub fn lay_cuts(
         lay_cut(start, cut, &mut passed, laid)?;
     }
     Ok(size + (passed.kept + kept_before(&passed.reaching, size)) - passed.whole)
+}
+
+/// Whether one of these cuts is an alignment: what others keep does not depend on where the section starts.
+pub fn has_alignment(cuts: &[Cut]) -> bool
+    ensures { result ≡ list_any (λ (c : _). c.is_align) cuts.now }
+{
+    cuts.iter().any(|cut| cut.is_align)
 }
 
 /// A cut after those before it.

@@ -56,14 +56,21 @@ pub fn items_of<'a>(
     ensures bytes { IfOk result (λ items. sum_by (λ item. item.size) (items_view items.items) < 2 ^ 61 + 2 ^ 40) }
 {
     tables.is_few();
-    let mut items = Vec::new(alloc);
+    let merged = pools.pools();
+    let mut items = Vec::with_capacity(alloc, room_of(leaders, merged))?;
     let mut next = 0;
     for section in 0..tables.section_count() as u32 {
         push_section(&mut items, tables, binding, leaders, section)?;
-        next = push_pool(&mut items, tables, binding, pools.pools(), next, section)?;
+        next = push_pool(&mut items, tables, binding, merged, next, section)?;
     }
     items.push(got_item(got))?;
     Ok(items)
+}
+
+/// How many items there are at most, so that room is made for them at once.
+fn room_of(leaders: &[Option<SecNo>], pools: &[Pool]) -> usize {
+    let own = (0..leaders.len()).filter(|n| leads(leaders, *n)).count();
+    own.saturating_add(pools.len()).saturating_add(1)
 }
 
 /// A section, if it leads itself. One that is merged leads none.

@@ -5,6 +5,7 @@
 
 mod cut_rows;
 mod cutting;
+mod gathering;
 mod items;
 mod order;
 mod places;

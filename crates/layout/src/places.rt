@@ -6,9 +6,9 @@ ghost use Rattle.link_sections.specs.declared.members.Content.TheVariants.{Secti
 ghost use Rattle.link_sections.specs.SizesView.{sizes_of};
 ghost use Rattle.layout.specs.Walk as spec;
 
-use crate::cutting::lay_cuts;
+use crate::cutting::{has_alignment, lay_cuts};
 use crate::order::Row;
-use link_sections::{Content, Cut, Member, Sizes};
+use link_sections::{Content, Cut, Member, Sizes, new_offset};
 use std::alloc::{AllocError, Global};
 
 /// The first addresses of the members of a link.
@@ -85,6 +85,9 @@ fn size_at(
     let own = sizes.cuts(section);
     if own.len() == 0 {
         return Ok(row.size);
+    }
+    if !has_alignment(own) {
+        return Ok(new_offset(sizes, section, row.size));
     }
     let size = lay_cuts(alloc, start, row.size, own, cuts)?;
     Ok(size)

@@ -99,6 +99,8 @@ fn lay_out<'a>(
         tables.section_count(),
         pools.pools().len(),
     )?;
+    // What the walk needed is let go first: the cuts take its room over.
+    drop(items);
     let cuts = lay_rows(alloc, tables, leaders, sizes, &walked.places.starts)?;
     Ok(Layout {
         outputs: walked.outputs,

@@ -152,6 +152,7 @@ fn walk_members(
     ensures sections { OnOk result (length places.new.starts.items ≡ length places.old.starts.items) }
     ensures pools { OnOk result (length places.new.pools.items ≡ length places.old.pools.items) }
 {
+    members.reserve(rows.len())?;
     let mut cursor = start;
     for row in rows {
         let member = place_row(from.alloc, from.sizes, row, up(cursor, row.align), places)?;
@@ -175,8 +176,15 @@ fn walk_empty(start: u64, rows: &[Row], places: &mut Places)
 
 /// An output section from its start to its end.
 #[tactic(auto, unfolding(crate::specs::Walk::section_of))]
-fn describe<'a>(items: &[Item<'a>], class: Class, rows: &[Row], start: u64, end: u64) -> Output<'a>
-    requires aligned { All (λ row. row.align ≤ ALIGN_MAX) rows.now }
+fn describe<'a>(
+    items: &[Item<'a>],
+    class: Class,
+    rows: &[Row],
+    start: u64,
+    end: u64,
+    align: u64,
+) -> Output<'a>
+    requires aligned { align ≡ spec.greatest rows.now }
     requires rising { start ≤ end }
     ensures { output_view result ≡ spec.section_of (items_view items.now) class rows.now start end }
 {
@@ -187,7 +195,7 @@ fn describe<'a>(items: &[Item<'a>], class: Class, rows: &[Row], start: u64, end:
         flags: flags_of(rows),
         address: start,
         size: end - start,
-        align: greatest_alignment(rows),
+        align,
         count: rows.len() as u64,
     }
 }
@@ -211,19 +219,19 @@ fn extent<'a>(
     }
 }
 
-/// The alignment of an output section at its start.
-fn start_alignment(cursor: Cursor, rows: &[Row], empty: bool) -> u64
-    requires ready { All (λ row. row.align ≤ ALIGN_MAX) rows.now }
+/// The alignment of an output section at its start, where `align` is the greatest of its members.
+fn start_alignment(cursor: Cursor, align: u64, empty: bool) -> u64
+    requires some { 1 ≤ align }
+    requires most { align ≤ ALIGN_MAX }
     requires extra { cursor.extra ≤ ALIGN_MAX }
-    ensures value { result ≡ (if empty then spec.greatest rows.now else max cursor.extra (spec.greatest rows.now)) }
+    ensures value { result ≡ (if empty then align else max cursor.extra align) }
     ensures some { 1 ≤ result }
     ensures bound { result ≤ ALIGN_MAX }
 {
-    let greatest = greatest_alignment(rows);
     if empty {
-        return greatest;
+        return align;
     }
-    cursor.extra.max(greatest)
+    cursor.extra.max(align)
 }
 
 /// One output section: gives the cursor after it.
@@ -253,14 +261,15 @@ fn walk_section<'a>(
     ensures pools { OnOk result (length places.new.pools.items ≡ length places.old.pools.items) }
 {
     let empty = is_empty(rows);
-    let start = up(cursor.at, start_alignment(cursor, rows, empty));
+    let align = greatest_alignment(rows);
+    let start = up(cursor.at, start_alignment(cursor, align, empty));
     if empty {
         walk_empty(start, rows, places);
         extents.push(extent(from.items, class, rows, start, start))?;
         return Ok(cursor);
     }
     let end = walk_members(from, start, rows, members, places)?;
-    outputs.push(describe(from.items, class, rows, start, end))?;
+    outputs.push(describe(from.items, class, rows, start, end, align))?;
     extents.push(extent(from.items, class, rows, start, end))?;
     Ok(Cursor { at: end, extra: 1 })
 }

@@ -1,21 +1,19 @@
 -- The phases of a link one after the other.
 use Rattle.std.proofs.Common.{◌≡◌, Bool, List, [], ◌∷◌, ◌++◌, refl, sym, ap, ◌∙◌, subst}
+use Rattle.std.specs.Prelude.{Result, Ok, Err}
 use Rattle.lk_base.specs.declared.defects.Defect.{Defect}
 use Rattle.lk_base.specs.declared.defects.LinkStop.{LinkStop}
 use Rattle.lk_base.specs.declared.defects.LinkStop.TheVariants as stops
 use Rattle.lk_base.specs.declared.limits.Limits.{Limits}
-use Rattle.lk_base.specs.Firsts.{BeginsWith, StopsAt}
+use Rattle.lk_base.specs.Firsts.{BeginsWith, Goes, StopsAt}
 use Rattle.comdat.specs.Discarded.{discarded}
-use Rattle.layout.specs.Layout.{layout_defects}
 use Rattle.link_command.specs.Command.{Asked}
 use Rattle.lk_tables.specs.Binding.{Bindings, first_phase, flag_defects, duplicate_defects}
 use Rattle.lk_tables.specs.BoundNames.{binding_defects, entry_defects}
 use Rattle.lk_tables.specs.Files.{File}
-use Rattle.link_driver.specs.Link.{Wishes, bound_names, defects_in, kept_of, laid_out, last_phases, later_phases, leaders_in, piece_defects, wishes_of}
+use Rattle.link_driver.specs.Link.{bound_names, defects_in, kept_of, last_phases, later_phases, piece_defects, wishes_of}
 use Rattle.link_driver.specs.Defects.{opening_defects, reading_defects}
 use Rattle.link_driver.specs.Sources.{Source, files_in}
-use Rattle.reloc_apply.specs.Relocated.{relocation_defects}
-use Rattle.sec_graph.specs.Undefined.{undefined_defects}
 
 -- phases of which none has a defect are passed
 pub passed : (ps qs : List (List Defect)) → first_phase ps ≡ [] → first_phase (ps ++ qs) ≡ first_phase qs
@@ -45,32 +43,10 @@ pub one_none : (xs : List Defect) → xs ≡ [] → first_phase (xs ∷ []) ≡ 
 one_none [] none = refl
 one_none (x ∷ xs) none = none
 
--- the last three, each in turn
-module _ (limits : Limits) (w : Wishes) (files : List File) (b : Bindings) (kept : List Bool) where
-  pub at_undefined : (d : Defect) → BeginsWith (undefined_defects files b kept) d → BeginsWith (first_phase (last_phases limits w files b kept)) d
-  at_undefined d begins = ended (undefined_defects files b kept ∷ []) _ d (one d (undefined_defects files b kept) begins)
-
-  module _ (defined : undefined_defects files b kept ≡ []) where
-    last_two : first_phase (last_phases limits w files b kept)
-        ≡ first_phase (layout_defects limits files (laid_out w files b kept) ∷ relocation_defects files b (leaders_in w files b kept) (laid_out w files b kept) ∷ [])
-    last_two = passed (undefined_defects files b kept ∷ []) _ (one_none (undefined_defects files b kept) defined)
-
-    pub at_layout : (stop : LinkStop) → StopsAt stop (layout_defects limits files (laid_out w files b kept)) → StopsAt stop (first_phase (last_phases limits w files b kept))
-    at_layout stop at = let P : List Defect → Type 0 = λ ds. StopsAt stop ds in
-        subst P (sym last_two)
-        (stopped (layout_defects limits files (laid_out w files b kept) ∷ []) _ stop (one_stop stop (layout_defects limits files (laid_out w files b kept)) at))
-
-    module _ (laid : layout_defects limits files (laid_out w files b kept) ≡ []) where
-      last_one : first_phase (last_phases limits w files b kept) ≡ first_phase (relocation_defects files b (leaders_in w files b kept) (laid_out w files b kept) ∷ [])
-      last_one = last_two ∙ passed (layout_defects limits files (laid_out w files b kept) ∷ []) _ (one_none (layout_defects limits files (laid_out w files b kept)) laid)
-
-      pub at_relocations : (stop : LinkStop) → StopsAt stop (relocation_defects files b (leaders_in w files b kept) (laid_out w files b kept)) →
-          StopsAt stop (first_phase (last_phases limits w files b kept))
-      at_relocations stop at = let P : List Defect → Type 0 = λ ds. StopsAt stop ds in
-          subst P (sym last_one) (one_stop stop (relocation_defects files b (leaders_in w files b kept) (laid_out w files b kept)) at)
-
-      pub none_last : relocation_defects files b (leaders_in w files b kept) (laid_out w files b kept) ≡ [] → first_phase (last_phases limits w files b kept) ≡ []
-      none_last done = last_one ∙ one_none (relocation_defects files b (leaders_in w files b kept) (laid_out w files b kept)) done
+-- a step after phases that have no defect
+pub goes_next : {X : Type 0} (r : Result X LinkStop) (ps : List (List Defect)) (ds : List Defect) → first_phase ps ≡ [] → Goes r ds → Goes r (first_phase (ps ++ ds ∷ []))
+goes_next (Ok x) ps ds none empty = passed ps (ds ∷ []) none ∙ one_none ds empty
+goes_next (Err stop) ps ds none at = let P : List Defect → Type 0 = λ xs. StopsAt stop xs in subst P (sym (passed ps (ds ∷ []) none)) (one_stop stop ds at)
 
 module _ (limits : Limits) (asked : Asked) (ss : List Source) where
   pub at_reading : (stop : LinkStop) → StopsAt stop (first_phase (reading_defects limits ss ∷ opening_defects limits ss ∷ [])) → StopsAt stop (defects_in limits asked ss)
@@ -113,20 +89,3 @@ module _ (limits : Limits) (asked : Asked) (ss : List Source) where
 
           pub no_defects : first_phase (last_phases limits (wishes_of asked) files b kept) ≡ [] → defects_in limits asked ss ≡ []
           no_defects done = then_left ∙ done
-
--- two phases of which the first has no defect
-pub second_phase : (r o : List Defect) (d : Defect) → r ≡ [] → BeginsWith o d → BeginsWith (first_phase (r ∷ o ∷ [])) d
-second_phase [] o d none begins = one d o begins
-second_phase (x ∷ r) o d none begins = cc
-
-pub second_stop : (r o : List Defect) (stop : LinkStop) → r ≡ [] → StopsAt stop o → StopsAt stop (first_phase (r ∷ o ∷ []))
-second_stop r o (stops.Defect d) none begins = second_phase r o d none begins
-second_stop r o stops.Memory none begins = tt
-
-pub two_phases : (r o : List Defect) → r ≡ [] → o ≡ [] → first_phase (r ∷ o ∷ []) ≡ []
-two_phases [] o none empty = one_none o empty
-two_phases (x ∷ r) o none empty = cc
-
-pub front_stop : (a b : List Defect) (stop : LinkStop) → StopsAt stop a → StopsAt stop (a ++ b)
-front_stop a b (stops.Defect d) begins = (begins.0 ++ b, ap (λ l. l ++ b) begins.1)
-front_stop a b stops.Memory begins = tt

@@ -2,7 +2,6 @@
 use Rattle.std.proofs.Common.{◌≡◌, ℕ, Bool, true, false, List, [], Option, refl, ap, ◌∙◌, subst}
 use Rattle.std.specs.Prelude.{if◌then◌else◌, Result, Ok, Err, IfOk}
 use Rattle.comdat.specs.Discarded.{discarded}
-use Rattle.elf_out.specs.Standing.{SectionsStand}
 use Rattle.link_command.specs.Command.{Asked}
 use Rattle.file_live.specs.Live.{IsLive, live_of}
 use Rattle.link_sections.specs.LaidOut.{LaidOut}
@@ -13,7 +12,7 @@ use Rattle.map_file.specs.MapText.{map_text}
 use Rattle.sym_resolve.specs.Law.{IsLawful}
 use Rattle.link_driver.specs.declared.linking.Linked.{Linked}
 use Rattle.link_driver.specs.Link.{Wishes, bound_names, executable_in, executable_with, kept_in, kept_of, laid_out, leaders_in, map_in, map_with, report_in, report_with, wishes_of}
-use Rattle.link_driver.specs.Phases.{Gives, IsWritten, Makes}
+use Rattle.link_driver.specs.Phases.{Gives, IsWritten, LinkStands, Makes}
 use Rattle.link_driver.specs.Sources.{Source, files_in, heads_in, live_in}
 use Rattle.link_driver.specs.Tables.{IsCollected}
 
@@ -89,19 +88,15 @@ collected_are asked ss files b kept are names stays is =
     let R : List File → Type 0 = λ fs. IsCollected fs (bound_names fs asked.entry) (kept_of asked.gc fs (bound_names fs asked.entry)) in
     subst R are (subst Q names (subst P stays is))
 
--- the sections of these files stand whole
+-- what is made of these files stands whole
 pub stand_so : (asked : Asked) (ss : List Source) (files : List File) (b : Bindings) (kept : List Bool) (exe : List ℕ) → files ≡ files_in ss →
-    b ≡ bound_names files asked.entry → kept ≡ kept_of asked.gc files b → SectionsStand files b (leaders_in (wishes_of asked) files b kept) (laid_out (wishes_of asked) files b kept) exe →
-    SectionsStand (files_in ss) (bound_names (files_in ss) asked.entry) (leaders_in (wishes_of asked) (files_in ss) (bound_names (files_in ss) asked.entry) (kept_in asked ss))
-    (laid_out (wishes_of asked) (files_in ss) (bound_names (files_in ss) asked.entry) (kept_in asked ss)) exe
+    b ≡ bound_names files asked.entry → kept ≡ kept_of asked.gc files b → LinkStands (wishes_of asked) files b kept exe →
+    LinkStands (wishes_of asked) (files_in ss) (bound_names (files_in ss) asked.entry) (kept_in asked ss) exe
 stand_so asked ss files b kept exe are names stays stand =
-    let P : List Bool → Type 0 = λ k. SectionsStand files b (leaders_in (wishes_of asked) files b k) (laid_out (wishes_of asked) files b k) exe in
-    let Q : Bindings → Type 0 = λ n. P' files n in
-    let R : List File → Type 0 = λ fs. P' fs (bound_names fs asked.entry) in
+    let P : List Bool → Type 0 = λ k. LinkStands (wishes_of asked) files b k exe in
+    let Q : Bindings → Type 0 = λ n. LinkStands (wishes_of asked) files n (kept_of asked.gc files n) exe in
+    let R : List File → Type 0 = λ fs. LinkStands (wishes_of asked) fs (bound_names fs asked.entry) (kept_of asked.gc fs (bound_names fs asked.entry)) exe in
     subst R are (subst Q names (subst P stays stand))
-  where
-    P' : List File → Bindings → Type 0
-    P' fs n = SectionsStand fs n (leaders_in (wishes_of asked) fs n (kept_of asked.gc fs n)) (laid_out (wishes_of asked) fs n (kept_of asked.gc fs n)) exe
 
 -- what holds of an answer, and follows from it
 pub on_each : {X E : Type 0} {P Q : X → Type 0} (r : Result X E) → ((x : X) → P x → Q x) → IfOk r P → IfOk r Q

@@ -17,4 +17,5 @@ pub mod PhaseOrder
 pub mod Promising
 pub mod Starting
 pub mod Totals
+pub mod Whole
 pub mod Writing

@@ -5,7 +5,6 @@ use Rattle.call_reach.specs.Reach.{AreAlike, CallsReach}
 use Rattle.call_reach.proofs.Alike.{folded_alike, own_alike}
 use Rattle.comdat.specs.Discarded.{discarded}
 use Rattle.icf_part.specs.Folding.{AreLeaders}
-use Rattle.layout.specs.Layout.{layout_defects}
 use Rattle.link_command.specs.Command.{Asked}
 use Rattle.link_sections.specs.FoldItems.{FoldItem}
 use Rattle.link_sections.specs.LaidOut.{LaidOut}
@@ -16,14 +15,14 @@ use Rattle.lk_base.specs.declared.defects.Defect.{Defect}
 use Rattle.lk_base.specs.declared.defects.LinkStop.{LinkStop}
 use Rattle.lk_base.specs.declared.defects.LinkStop.TheVariants as stops
 use Rattle.lk_base.specs.declared.limits.Limits.{Limits}
-use Rattle.lk_base.specs.Firsts.{StopsAt}
+use Rattle.lk_base.specs.Firsts.{Goes, StopsAt}
 use Rattle.lk_tables.specs.declared.tables.Tables.{Tables}
 use Rattle.lk_tables.specs.Binding.{Bindings, duplicate_defects, first_phase, flag_defects}
 use Rattle.lk_tables.specs.BoundNames.{binding_defects, entry_defects}
 use Rattle.lk_tables.specs.Files.{File}
 use Rattle.lk_tables.specs.TablesView.{files_of}
 use Rattle.sec_graph.specs.Foldable.{items}
-use Rattle.sec_graph.specs.Undefined.{undefined_defects}
+use Rattle.reloc_apply.specs.Relocated.{relocation_defects}
 use Rattle.link_driver.specs.declared.linking.Linked.{Linked}
 use Rattle.link_driver.specs.Defects.{opening_defects, reading_defects}
 use Rattle.link_driver.specs.Link.{Wishes, binding_phases, bound_names, kept_in, kept_of, laid_out, leaders_in, piece_defects, placing_defects, placing_phases, wishes_of}
@@ -58,6 +57,14 @@ reaches_so w files b kept leaders laid lead found reach =
     let Q : LaidOut → Type 0 = λ l. CallsReach files b (leaders_in w files b kept) l in
     subst Q found (subst P lead reach)
 
+pub goes_so : {X : Type 0} (r : Result X LinkStop) (w : Wishes) (files : List File) (b : Bindings) (kept : List Bool) (leaders : List (Option ℕ)) (laid : LaidOut) →
+    leaders ≡ leaders_in w files b kept → laid ≡ laid_out w files b kept → Goes r (relocation_defects files b leaders laid) →
+    Goes r (relocation_defects files b (leaders_in w files b kept) (laid_out w files b kept))
+goes_so r w files b kept leaders laid lead found goes =
+    let P : List (Option ℕ) → Type 0 = λ l. Goes r (relocation_defects files b l laid) in
+    let Q : LaidOut → Type 0 = λ l. Goes r (relocation_defects files b (leaders_in w files b kept) l) in
+    subst Q found (subst P lead goes)
+
 -- and of the files of these sources
 pub reach_in : (asked : Asked) (ss : List Source) (files : List File) (b : Bindings) (kept : List Bool) → files ≡ files_in ss → b ≡ bound_names files asked.entry →
     kept ≡ kept_of asked.gc files b → ShortenedCallsReach (wishes_of asked) files b kept →
@@ -84,24 +91,6 @@ past_all (Err stops.Memory) defects P holds = tt
 pub past_on : (stop : LinkStop) (earlier more : List Defect) (P Q : Type 0) → (more ≡ [] → earlier ≡ []) → (P → Q) → HoldsAtStop stop earlier P → HoldsAtStop stop more Q
 past_on (stops.Defect d) earlier more P Q less step holds = λ none. step (holds (less none))
 past_on stops.Memory earlier more P Q less step holds = tt
-
-pub past_each : (r : Result Linked LinkStop) (earlier more : List Defect) (P : Type 0) → (more ≡ [] → earlier ≡ []) → HoldsPast r earlier P → HoldsPast r more P
-past_each (Ok linked) earlier more P less holds = holds
-past_each (Err stop) earlier more P less holds = past_on stop earlier more P P less (λ p. p) holds
-
--- the only phase with a defect
-one_left : (xs : List Defect) → first_phase (xs ∷ []) ≡ [] → xs ≡ []
-one_left [] none = none
-one_left (x ∷ xs) none = none
-
-module _ (limits : Limits) (w : Wishes) (files : List File) (b : Bindings) (kept : List Bool) where
-  -- past what is undefined
-  pub past_undefined : (r : Result Linked LinkStop) (P : Type 0) → undefined_defects files b kept ≡ [] → HoldsPast r (layout_defects limits files (laid_out w files b kept)) P →
-      HoldsPast r (first_phase (placing_phases limits w files b kept)) P
-  past_undefined r P defined holds =
-      let layout = layout_defects limits files (laid_out w files b kept) in
-      past_each r layout (first_phase (placing_phases limits w files b kept)) P
-      (λ none. one_left layout (sym (passed (undefined_defects files b kept ∷ []) (layout ∷ []) (one_none (undefined_defects files b kept) defined)) ∙ none)) holds
 
 module _ (limits : Limits) (asked : Asked) (ss : List Source) where
   abbrev read_phases : List (List Defect)

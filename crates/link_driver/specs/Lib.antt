@@ -7,6 +7,7 @@ pub mod Given
 pub mod Laws
 pub mod Link
 pub mod Phases
+pub mod Placing
 pub mod Promises
 pub mod Reading
 pub mod Reports

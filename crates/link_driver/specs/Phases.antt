@@ -7,8 +7,8 @@ use Rattle.lk_base.specs.declared.limits.Limits.{Limits}
 use Rattle.lk_tables.specs.Binding.{Bindings}
 use Rattle.lk_tables.specs.Files.{File}
 use Rattle.call_reach.specs.Reach.{CallsReach}
-use Rattle.elf_out.specs.Executable.{executable}
-use Rattle.elf_out.specs.Standing.{SectionsStand}
+use Rattle.elf_out.specs.Executable.{executable, own_tables}
+use Rattle.elf_out.specs.Standing.{AllStand, SectionsStand}
 use Rattle.file_live.specs.Live.{IsLive}
 use Rattle.link_command.specs.Command.{Asked}
 use Rattle.link_sections.specs.LaidOut.{LaidOut}
@@ -52,18 +52,25 @@ abbrev pub HoldsPast : Result Linked LinkStop → (earlier : List Defect) → Ty
 HoldsPast (Ok linked) earlier holds = holds
 HoldsPast (Err stop) earlier holds = HoldsAtStop stop earlier holds
 
+-- all pieces of which an executable is made stand whole in it: headers, sections with their relocations done, pieces of pools, the linker's
+-- table, the symbol table with its names, the names of the sections, the section headers; and so do the bytes of each section, by its number
+pub record StandsWhole (w : Wishes) (files : List File) (b : Bindings) (kept : List Bool) (leaders : List (Option ℕ)) (laid : LaidOut) (exe : List ℕ) : Type 0 where
+  pub pieces : AllStand files b leaders laid (own_tables files b kept w.strip leaders laid) exe
+  pub sections : SectionsStand files b leaders laid exe
+
+abbrev pub LinkStands : Wishes → List File → Bindings → (kept : List Bool) → (exe : List ℕ) → Type 0
+LinkStands w files b kept exe = StandsWhole w files b kept (leaders_in w files b kept) (laid_out w files b kept) exe
+
 -- a link without a defect gives Link. Of Link's own words it is said, as laws: the files that take part are the least set with
 -- the command's objects and all that they pull; each name is bound to the least offer of it, if there is one, and bound COMMON
--- symbols get the greatest room asked for; what garbage collection keeps is the least set with the roots that the rules close; the
--- bytes of each section stand whole in the executable; and each shortened call reaches its target
+-- symbols get the greatest room asked for; what garbage collection keeps is the least set with the roots that the rules close; each
+-- piece of the executable, and each section, stands whole in it; and each shortened call reaches its target
 pub record Links (limits : Limits) (asked : Asked) (names : List (List ℕ)) (ss : List Source) (linked : Linked) : Type 0 where
   pub sound : defects_in limits asked ss ≡ []
   pub taking_part : IsLive (heads_in ss) (live_in ss)
   pub bound : IsLawful (files_in ss) (discarded (files_in ss)) asked.entry (bound_names (files_in ss) asked.entry)
   pub collected : asked.gc ≡ true → IsCollected (files_in ss) (bound_names (files_in ss) asked.entry) (kept_in asked ss)
-  pub stands : SectionsStand (files_in ss) (bound_names (files_in ss) asked.entry)
-      (leaders_in (wishes_of asked) (files_in ss) (bound_names (files_in ss) asked.entry) (kept_in asked ss))
-      (laid_out (wishes_of asked) (files_in ss) (bound_names (files_in ss) asked.entry) (kept_in asked ss)) linked.exe.items
+  pub stands : LinkStands (wishes_of asked) (files_in ss) (bound_names (files_in ss) asked.entry) (kept_in asked ss) linked.exe.items
   pub reach : ShortenedCallsReach (wishes_of asked) (files_in ss) (bound_names (files_in ss) asked.entry) (kept_in asked ss)
   pub gives : Gives asked names ss linked
 

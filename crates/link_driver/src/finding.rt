@@ -129,7 +129,7 @@ fn bytes_at(inputs: &Inputs, input: usize) -> &[u8]
 }
 
 /// The files of a link by number: the inputs in the order of the command, each archive followed by those of its members that
-/// are ELF files.
+/// are ELF files. What is wrong with an input is kept in its source; the only error is out of memory.
 #[tactic(auto, unfolding(crate::specs::Sources::sources))]
 pub fn find_sources<'a>(
     alloc: Global,

@@ -6,7 +6,7 @@
 //! bytes of a file.
 //!
 //! `linking` runs the phases: `finding` finds the files in the inputs (`sources`), `heads` and `bodies` read them by all workers,
-//! names are bound, and what goes into the executable is laid out and written. `driving` reads the command, loads, links and
+//! names are bound, and what goes into the executable is laid out (`placing`) and written. `driving` reads the command, loads, links and
 //! writes, and says how it ended, by the lines of `diagnostics`. The phases up to the layout are public one by one too, for whoever looks at
 //! what they hand on.
 #![tactic(auto)]
@@ -18,6 +18,7 @@ mod finding;
 mod heads;
 mod inputs;
 mod linking;
+mod placing;
 mod reports;
 mod sections;
 mod shown;

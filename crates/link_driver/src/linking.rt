@@ -3,8 +3,8 @@
 ghost use Rattle.std.specs.Prelude.{◌≡◌, ◌<◌, ◌≤◌, ◌^◌, ◌∷◌, [], true, if◌then◌else◌, IfOk};
 ghost use Rattle.call_reach.specs.Reach.{AreAlike, CallsReach};
 ghost use Rattle.comdat.specs.Discarded.{discarded};
-ghost use Rattle.elf_out.specs.Standing.{SectionsStand};
-ghost use Rattle.file_live.specs.Live.{IsLive, live_of};
+ghost use Rattle.elf_out.specs.Standing.{HasHeaderRoom};
+ghost use Rattle.file_live.specs.Live.{IsLive};
 ghost use Rattle.layout.specs.Items.{AreLeaders};
 ghost use Rattle.layout.specs.Layout.{layout_defects};
 ghost use Rattle.link_command.specs.Command.{asks, generated_of};
@@ -13,7 +13,6 @@ ghost use Rattle.link_sections.specs.LaidOut.{layout_view, with_contents};
 ghost use Rattle.link_sections.specs.Merging.{pools_of};
 ghost use Rattle.link_sections.specs.PoolViews.{pools_view};
 ghost use Rattle.link_sections.specs.Sound.{IsSound};
-ghost use Rattle.link_sections.specs.Views.{files_in as view_files, laid_in, leaders_in as leaders_of};
 ghost use Rattle.lk_base.specs.Firsts.{Goes};
 ghost use Rattle.lk_base.specs.Limits.{IsWithinStandard};
 ghost use Rattle.lk_tables.specs.BoundNames.{IsBindingOf};
@@ -23,10 +22,12 @@ ghost use Rattle.lk_tables.specs.BindingView.{binding_view};
 ghost use Rattle.lk_tables.specs.Files.{symbol_total};
 ghost use Rattle.lk_tables.specs.NameNumbers.{NumbersNames, heads_alone};
 ghost use Rattle.lk_tables.specs.TablesView.{files_of, heads_of};
+ghost use Rattle.lk_tables.specs.Uppers.{AreListed, section_uppers};
 ghost use Rattle.link_driver.specs.Contents.{input_contents, input_names, names_of, sources_of};
 ghost use Rattle.link_driver.specs.Defects.{opening_defects, reading_defects};
-ghost use Rattle.link_driver.specs.Link.{bound_names, final_phases, kept_of, laid_out, last_phases, leaders_in, piece_defects, placing_phases, report_by, table_of, wishes_of};
-ghost use Rattle.link_driver.specs.Phases.{AfterLink, HoldsPast, IsWritten, Makes, ShortenedCallsReach};
+ghost use Rattle.link_driver.specs.Link.{bound_names, kept_of, laid_out, last_phases, leaders_in, piece_defects, placing_phases, report_by, table_of, wishes_of};
+ghost use Rattle.link_driver.specs.Phases.{AfterLink, HoldsPast, IsWritten, LinkStands, Makes, ShortenedCallsReach, StandsWhole};
+ghost use Rattle.link_driver.specs.Placing.{laid_by};
 ghost use Rattle.link_driver.specs.Sources.{files_in, heads_in, live_in, shown_files, sources};
 ghost use Rattle.link_driver.specs.Tables.{IsCollected, MayStay, wished};
 ghost use Rattle.map_file.specs.MapView.{map_in};
@@ -37,6 +38,7 @@ use crate::bodies::read_bodies;
 use crate::finding::find_sources;
 use crate::heads::read_heads;
 use crate::inputs::Inputs;
+use crate::placing::{Placement, place_beside};
 use crate::reports::report_if;
 use crate::shown::names_if;
 use crate::sources::Source;
@@ -44,22 +46,20 @@ use call_reach::calls_reach;
 use comdat::discard;
 use elf_out::write_executable;
 use file_live::live;
-use got_tls::entries;
 use icf_part::fold;
 use layout::place;
 use link_command::{Command, IcfMode, Wanted};
 use link_sections::{Got, Layout, Pools, View, all_kept, fold_leaders, own_leaders};
 use lk_base::{Limits, LinkStop, SecNo, check_count};
-use lk_tables::{Binding, Heads, NameNumbers, Tables};
+use lk_tables::{Binding, Heads, NameNumbers, Tables, Uppers};
 use map_file::map_text;
 use name_numbers::number_names;
 use relax::sizes;
-use reloc_apply::find_uppers;
 use sec_gc::{keep, roots};
-use sec_graph::{edges, items, undefined};
+use sec_graph::{edges, items};
 use std::alloc::{AllocError, Global};
 use std::thread::Threads;
-use str_merge::{merge, piece_bound, piece_count};
+use str_merge::{piece_bound, piece_count};
 use sym_resolve::bind;
 use symbol_addresses::find_addresses;
 use work_split::Gate;
@@ -90,27 +90,11 @@ fn number_heads<R: Threads + Sync>(
     Ok(())
 }
 
-/// Which files take part in the link.
-#[tactic(auto, unfolding(crate::specs::Sources::live_in))]
-fn find_live<R: Threads + Sync, G: Gate>(
-    rt: &R,
-    alloc: Global,
-    heads: &Heads,
-    workers: u32,
-    gate: &G,
-) -> Result<Vec<bool>, LinkStop>
-    requires some { 1 ≤ workers }
-    requires most { workers ≤ 64 }
-    requires symbols { symbol_total (heads_of heads.now) < 2 ^ 31 }
-    ensures goes { Goes result [] }
-    ensures live { IfOk result (λ list. list.items ≡ live_of (heads_of heads.now)) }
-    ensures least { IfOk result (λ list. IsLive (heads_of heads.now) list.items) }
-{
-    let list = live(rt, alloc, heads, workers, gate)?;
-    Ok(list)
-}
-
 /// Reads all files: their heads, and then the bodies of those that take part.
+///
+/// Stops at the first file by number, of as many as a link may have, that is an input too long, a broken archive or an object whose head is
+/// broken; else where there are more files, or else more symbols, than a link may have; else at the first file whose body is broken; else where
+/// there are more sections than a link may have. Or it is out of memory.
 pub fn read_files<'a, R: Threads + Sync, G: Gate>(
     rt: &R,
     alloc: Global,
@@ -131,10 +115,7 @@ pub fn read_files<'a, R: Threads + Sync, G: Gate>(
         Err(stop) => return Err(stop),
     };
     number_heads(rt, alloc, &mut heads, workers)?;
-    let live = match find_live(rt, alloc, &heads, workers, gate) {
-        Ok(live) => live,
-        Err(stop) => return Err(stop),
-    };
+    let live = live(rt, alloc, &heads, workers, gate)?;
     read_bodies(
         rt,
         alloc,
@@ -148,6 +129,9 @@ pub fn read_files<'a, R: Threads + Sync, G: Gate>(
 }
 
 /// Binds all names: of the COMDAT groups of one signature one copy counts.
+///
+/// Stops at the first clash of float ABIs; else at the first name that is defined twice; else where the entry is bound to nothing. Or it is out
+/// of memory.
 #[tactic(auto, unfolding(crate::specs::Link::bound_names))]
 pub fn bind_names<R: Threads + Sync, G: Gate>(
     rt: &R,
@@ -175,7 +159,7 @@ pub fn bind_names<R: Threads + Sync, G: Gate>(
     )
 }
 
-/// By section number, which sections are kept: all, or those that the roots lead to.
+/// By section number, which sections are kept: all, or those that the roots lead to. The only error is out of memory.
 #[tactic(auto, unfolding(crate::specs::Link::kept_of))]
 pub fn find_kept<R: Threads + Sync, G: Gate>(
     rt: &R,
@@ -243,7 +227,8 @@ fn options_of(command: &Command) -> Options
     }
 }
 
-/// By section number, which section is written in the place of each: those that are merged stand in pools, and equal code is folded.
+/// By section number, which section is written in the place of each: those that are merged stand in pools, and equal code is
+/// folded. The only error is out of memory.
 #[tactic(auto, unfolding(crate::specs::Link::leaders_in))]
 pub fn find_leaders<R: Threads + Sync, G: Gate>(
     rt: &R,
@@ -276,6 +261,9 @@ pub fn find_leaders<R: Threads + Sync, G: Gate>(
 }
 
 /// Where everything stands, given what is merged, which sections are written and what the linker's table has.
+///
+/// Stops at the first alignment that needs more bytes than it has, by section and offset; else where there are more output sections than a link
+/// may have; else where the image is not below its limit. Or it is out of memory.
 #[tactic(auto, unfolding(crate::specs::Link::laid_out, crate::specs::Link::cuts_in))]
 pub fn lay_out<'a>(
     alloc: Global,
@@ -299,6 +287,7 @@ pub fn lay_out<'a>(
     ensures goes { Goes result (layout_defects limits.now (files_of tables.now) (laid_out (wished options) (files_of tables.now) (binding_view binding.now) kept.now)) }
     ensures laid { IfOk result (λ layout. with_contents (layout_view layout) (pools_view (files_of tables.now) pools.now) (entries_of got.now) ≡ laid_out (wished options) (files_of tables.now) (binding_view binding.now) kept.now) }
     ensures sound { IfOk result (λ layout. IsSound (files_of tables.now) (binding_view binding.now) leaders.now (with_contents (layout_view layout) (pools_view (files_of tables.now) pools.now) (entries_of got.now))) }
+    ensures room { IfOk result (λ layout. HasHeaderRoom layout.bounds) }
     ensures reach { IfOk result (λ layout. CallsReach (files_of tables.now) (binding_view binding.now) leaders.now (with_contents (layout_view layout) (pools_view (files_of tables.now) pools.now) (entries_of got.now))) }
 {
     let on = options.relax;
@@ -333,38 +322,15 @@ fn map_if<R: Threads + Sync, G: Gate>(
     map_text(rt, alloc, view, workers, gate)
 }
 
-/// What is made of a link whose executable is whole: the map and the report, if these are asked for.
-fn make<R: Threads + Sync, G: Gate>(
-    rt: &R,
-    alloc: Global,
-    view: &View,
-    exe: Vec<u8>,
-    options: Options,
-    workers: u32,
-    gate: &G,
-) -> Result<Linked, AllocError>
-    requires some { 1 ≤ workers }
-    requires most { workers ≤ 64 }
-    ensures executable { IfOk result (λ linked. linked.exe.items ≡ exe.items) }
-    ensures map { IfOk result (λ linked. linked.map.items ≡ (if options.map then map_in view.now else [])) }
-    ensures report { IfOk result (λ linked. linked.report.items ≡ report_by options.generated (view_files view.now) view.now.kept.now (leaders_of view.now) (laid_in view.now)) }
-{
-    let map = map_if(rt, alloc, view, options.map, workers, gate)?;
-    let report = report_if(alloc, view, options.generated)?;
-    Ok(Linked { exe, map, report })
-}
-
-/// What a link that has this layout gives.
+/// What a link that is placed so gives: the executable, and the map and the report, if these are asked for.
 fn write<R: Threads + Sync, G: Gate>(
     rt: &R,
     alloc: Global,
     tables: &Tables,
     binding: &Binding,
     kept: &[bool],
-    pools: &Pools,
-    leaders: &[Option<SecNo>],
-    got: &Got,
-    layout: &Layout,
+    placement: &Placement,
+    uppers: &Uppers,
     numbers: &NameNumbers,
     names: &[Vec<u8>],
     options: Options,
@@ -375,25 +341,36 @@ fn write<R: Threads + Sync, G: Gate>(
     requires most { workers ≤ 64 }
     requires bound { IsBindingOf (files_of tables.now) (binding_view binding.now) }
     requires numbers { NumbersNames (heads_alone (files_of tables.now)) numbers.now }
-    requires sound { IsSound (files_of tables.now) (binding_view binding.now) leaders.now (with_contents (layout_view layout.now) (pools_view (files_of tables.now) pools.now) (entries_of got.now)) }
-    ensures goes { Goes result (relocation_defects (files_of tables.now) (binding_view binding.now) leaders.now (with_contents (layout_view layout.now) (pools_view (files_of tables.now) pools.now) (entries_of got.now))) }
-    ensures written { IfOk result (λ linked. IsWritten (wished options) (names_of names.now) (files_of tables.now) (binding_view binding.now) kept.now leaders.now (with_contents (layout_view layout.now) (pools_view (files_of tables.now) pools.now) (entries_of got.now)) linked) }
-    ensures stands { IfOk result (λ linked. SectionsStand (files_of tables.now) (binding_view binding.now) leaders.now (with_contents (layout_view layout.now) (pools_view (files_of tables.now) pools.now) (entries_of got.now)) linked.exe.items) }
+    requires listed { AreListed (section_uppers (files_of tables.now)) uppers.now }
+    requires sound { IsSound (files_of tables.now) (binding_view binding.now) placement.now.leaders.items (laid_by (files_of tables.now) placement.now) }
+    requires room { HasHeaderRoom placement.now.layout.bounds }
+    ensures goes { Goes result (relocation_defects (files_of tables.now) (binding_view binding.now) placement.now.leaders.items (laid_by (files_of tables.now) placement.now)) }
+    ensures written { IfOk result (λ linked. IsWritten (wished options) (names_of names.now) (files_of tables.now) (binding_view binding.now) kept.now placement.now.leaders.items (laid_by (files_of tables.now) placement.now) linked) }
+    ensures stands { IfOk result (λ linked. StandsWhole (wished options) (files_of tables.now) (binding_view binding.now) kept.now placement.now.leaders.items (laid_by (files_of tables.now) placement.now) linked.exe.items) }
 {
+    let leaders = placement.leaders.as_slice();
     let addresses = find_addresses(
-        rt, alloc, tables, binding, pools, leaders, got, layout, workers, gate,
+        rt,
+        alloc,
+        tables,
+        binding,
+        &placement.pools,
+        leaders,
+        &placement.got,
+        &placement.layout,
+        workers,
+        gate,
     )?;
-    let uppers = find_uppers(alloc, tables)?;
     let view = View {
         tables,
         binding,
         kept,
-        pools,
+        pools: &placement.pools,
         leaders,
-        got,
-        layout,
+        got: &placement.got,
+        layout: &placement.layout,
         addresses: &addresses,
-        uppers: &uppers,
+        uppers,
         numbers,
         names,
         strip: options.strip,
@@ -402,13 +379,12 @@ fn write<R: Threads + Sync, G: Gate>(
         Ok(exe) => exe,
         Err(stop) => return Err(stop),
     };
-    let linked = make(rt, alloc, &view, exe, options, workers, gate)?;
-    Ok(linked)
+    let map = map_if(rt, alloc, &view, options.map, workers, gate)?;
+    let report = report_if(alloc, &view, options.generated)?;
+    Ok(Linked { exe, map, report })
 }
 
-/// What files give whose names are bound and numbered, if these sections are kept and referred to by defined symbols alone. Files are shown by
-/// `names`.
-#[tactic(auto, unfolding(crate::specs::Link::executable_with, crate::specs::Link::map_with, crate::specs::Link::report_with))]
+/// What files give whose names are bound and numbered, if these sections are kept. Files are shown by `names`.
 fn link_numbered<R: Threads + Sync, G: Gate>(
     rt: &R,
     alloc: Global,
@@ -428,47 +404,20 @@ fn link_numbered<R: Threads + Sync, G: Gate>(
     requires bound { IsBindingOf (files_of tables.now) (binding_view binding.now) }
     requires numbers { NumbersNames (heads_alone (files_of tables.now)) numbers.now }
     requires stay { MayStay (files_of tables.now) (binding_view binding.now) kept.now }
-    ensures goes { Goes result (first_phase (final_phases limits.now (wished options) (files_of tables.now) (binding_view binding.now) kept.now)) }
+    ensures goes { Goes result (first_phase (last_phases limits.now (wished options) (files_of tables.now) (binding_view binding.now) kept.now)) }
     ensures written { IfOk result (λ linked. Makes (wished options) (names_of names.now) (files_of tables.now) (binding_view binding.now) kept.now linked) }
-    ensures stands { IfOk result (λ linked. SectionsStand (files_of tables.now) (binding_view binding.now) (leaders_in (wished options) (files_of tables.now) (binding_view binding.now) kept.now) (laid_out (wished options) (files_of tables.now) (binding_view binding.now) kept.now) linked.exe.items) }
-    ensures reach { HoldsPast result (layout_defects limits.now (files_of tables.now) (laid_out (wished options) (files_of tables.now) (binding_view binding.now) kept.now)) (ShortenedCallsReach (wished options) (files_of tables.now) (binding_view binding.now) kept.now) }
+    ensures stands { IfOk result (λ linked. LinkStands (wished options) (files_of tables.now) (binding_view binding.now) kept.now linked.exe.items) }
+    ensures reach { HoldsPast result (first_phase (placing_phases limits.now (wished options) (files_of tables.now) (binding_view binding.now) kept.now)) (ShortenedCallsReach (wished options) (files_of tables.now) (binding_view binding.now) kept.now) }
 {
-    // Equal strings and constants stand once from here on.
-    let pools = merge(rt, alloc, tables, kept, workers, gate)?;
-    // Which section is written in the place of each is settled from here on.
-    let leaders = find_leaders(
-        rt, alloc, tables, binding, kept, &pools, options, workers, gate,
-    )?;
-    let got = entries(alloc, tables, numbers, leaders.as_slice())?;
-    // Nothing moves from here on.
-    let layout = match lay_out(
-        alloc,
-        limits,
-        tables,
-        binding,
-        kept,
-        &pools,
-        leaders.as_slice(),
-        &got,
-        options,
+    // What kept sections refer to is defined, and nothing moves, from here on.
+    let (uppers, placement) = match place_beside(
+        rt, alloc, limits, tables, binding, kept, numbers, options, workers, gate,
     ) {
-        Ok(layout) => layout,
+        Ok(both) => both,
         Err(stop) => return Err(stop),
     };
     write(
-        rt,
-        alloc,
-        tables,
-        binding,
-        kept,
-        &pools,
-        leaders.as_slice(),
-        &got,
-        &layout,
-        numbers,
-        names,
-        options,
-        workers,
+        rt, alloc, tables, binding, kept, &placement, &uppers, numbers, names, options, workers,
         gate,
     )
 }
@@ -493,18 +442,15 @@ fn link_kept<R: Threads + Sync, G: Gate>(
     requires stay { MayStay (files_of tables.now) (binding_view binding.now) kept.now }
     ensures goes { Goes result (first_phase (last_phases limits.now (wished options) (files_of tables.now) (binding_view binding.now) kept.now)) }
     ensures written { IfOk result (λ linked. Makes (wished options) (names_of names.now) (files_of tables.now) (binding_view binding.now) kept.now linked) }
-    ensures stands { IfOk result (λ linked. SectionsStand (files_of tables.now) (binding_view binding.now) (leaders_in (wished options) (files_of tables.now) (binding_view binding.now) kept.now) (laid_out (wished options) (files_of tables.now) (binding_view binding.now) kept.now) linked.exe.items) }
+    ensures stands { IfOk result (λ linked. LinkStands (wished options) (files_of tables.now) (binding_view binding.now) kept.now linked.exe.items) }
     ensures reach { HoldsPast result (first_phase (placing_phases limits.now (wished options) (files_of tables.now) (binding_view binding.now) kept.now)) (ShortenedCallsReach (wished options) (files_of tables.now) (binding_view binding.now) kept.now) }
 {
-    tables.is_few();
-    if let Some(defect) = undefined(tables, binding, kept) {
-        return Err(LinkStop::Defect(defect));
-    }
     if let Some(numbers) = tables.names() {
         return link_numbered(
             rt, alloc, limits, tables, binding, kept, numbers, names, options, workers, gate,
         );
     }
+    tables.is_few();
     let numbers = number_names(rt, alloc, tables.files(), workers)?;
     link_numbered(
         rt, alloc, limits, tables, binding, kept, &numbers, names, options, workers, gate,

@@ -13,7 +13,7 @@ pub struct Output<'a> {
     pub class: Class,
     /// Its type: NOBITS in a class without bits, else that of its first member.
     pub sh_type: u32,
-    /// The flags of its members together, of those that an output section keeps.
+    /// The flags of its members together, of those that an output section keeps: WRITE, ALLOC, EXECINSTR and TLS.
     pub flags: u64,
     /// Its first address.
     pub address: u64,

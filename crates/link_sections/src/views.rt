@@ -25,16 +25,23 @@ use lk_tables::{Binding, NameNumbers, Tables, Uppers};
 /// them.
 #[derive(Clone, Copy)]
 pub struct View<'t, 'a> {
+    /// The files, with the bodies of those that take part.
     pub tables: &'t Tables<'a>,
+    /// What each name is bound to, and which sections were discarded with their groups.
     pub binding: &'t Binding,
     /// By section number, whether it is kept.
     pub kept: &'t [bool],
+    /// The pools of merged pieces, and which section is merged into which.
     pub pools: &'t Pools,
-    /// By section number.
+    /// By section number the section that is written in its place; none where it is not kept, or is merged.
     pub leaders: &'t [Option<SecNo>],
+    /// The entries of the linker's global offset table.
     pub got: &'t Got,
+    /// Where everything stands.
     pub layout: &'t Layout<'a>,
+    /// By symbol number, what it stands for: an address or a number.
     pub addresses: &'t Addresses,
+    /// The upper parts of each section, to which its lower parts belong.
     pub uppers: &'t Uppers,
     /// By symbol number, the number of its name.
     pub numbers: &'t NameNumbers,

@@ -5,4 +5,5 @@ pub mod NamedMaps
 pub mod OutputMaps
 pub mod Overlaying
 pub mod Prefixes
+pub mod ShelfLoadSteps
 pub mod ShelfSteps

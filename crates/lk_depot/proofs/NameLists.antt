@@ -34,13 +34,18 @@ are_contents_push (Some m) names contents index bytes within so_far here = recor
       ∙ sym (map-append {A = List ℕ} {B = Option (List ℕ)} Some contents (bytes ∷ []));
 }
 
+-- The name of an element at an index.
+pub named_at : {Y : Type 0} (bytes : Y → List ℕ) (names : List Y) (index : ℕ) (y : Y) (name : List ℕ)
+    → index < length names → y ≡ get_or names index y → name ≡ bytes y → name ≡ name_at (map bytes names) index
+named_at bytes names index y name within here named = named ∙ ap bytes here ∙ sym (get_or-map bytes names index y [] within)
+
 -- One more buffer, loaded under one more name, if both lists are seen through their bytes.
 pub loaded_one_more : {X Y : Type 0} (items : X → List ℕ) (bytes : Y → List ℕ) (files now : Option Files) (names : List Y) (buffers pushed : List X) (index : ℕ) (x : X) (y : Y) (name : List ℕ)
     → index < length names → y ≡ get_or names index y → name ≡ bytes y → now ≡ files → pushed ≡ buffers ++ x ∷ []
     → AreContents files (take index (map bytes names)) (map items buffers) → IfSome now (λ m. get m name ≡ Some (items x))
     → AreContents files (take (index + 1) (map bytes names)) (map items pushed)
 loaded_one_more items bytes files now names buffers pushed index x y name within here named same push so_far found =
-    let at_index : name ≡ name_at (map bytes names) index = named ∙ ap bytes here ∙ sym (get_or-map bytes names index y [] within) in
+    let at_index = named_at bytes names index y name within here named in
     let found_here : IfSome files (λ m. get m (name_at (map bytes names) index) ≡ Some (items x)) =
     subst (λ n. IfSome files (λ m. get m n ≡ Some (items x))) at_index (subst (λ o. IfSome o (λ m. get m name ≡ Some (items x))) same found) in
     let more = are_contents_push files (map bytes names) (map items buffers) index (items x) (rw length-map within) so_far found_here in

@@ -6,5 +6,6 @@ pub mod Output
 pub mod Overlays
 pub mod Shelf
 pub mod ShelfCode
+pub mod ShelfLoads
 pub mod Store
 pub mod Tape

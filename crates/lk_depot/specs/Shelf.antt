@@ -1,5 +1,5 @@
 -- A store of files in memory: what it holds, and what each call does to it.
-use Rattle.std.specs.Prelude.{ℕ, ◌-◌, min, Bool, not, ◌||◌, ◌&&◌, ◌==◌, nat_lt, nat_le, if◌then◌else◌, List, [], ◌∷◌, ◌++◌, length, take, Some, Result, Ok, Err, ok_or}
+use Rattle.std.specs.Prelude.{ℕ, ◌+◌, ◌-◌, ◌^◌, min, max, Bool, not, ◌||◌, ◌&&◌, ◌==◌, nat_lt, nat_le, if◌then◌else◌, List, [], ◌∷◌, ◌++◌, length, take, Some, Result, Ok, Err, ok_or}
 use Rattle.std.specs.FinMap.{get, insert, contains_key, len}
 use Rattle.lk_depot.specs.Faults.{next_count, is_listed}
 use Rattle.lk_depot.specs.Files.{Files, Kinds, content, added}
@@ -50,6 +50,14 @@ after_load shelf name (Ok _) = record shelf { calls = next_count shelf.calls }
 after_load shelf name (Err Absent) = record shelf { calls = next_count shelf.calls }
 after_load shelf name (Err Failed) = record shelf { calls = next_count shelf.calls; faults = next_count shelf.faults; unread = shelf.unread ++ name ∷ [] }
 after_load shelf name (Err Memory) = record shelf { calls = next_count shelf.calls }
+
+-- How many calls there were after so many more: each raises the count by one, which stands still at the last number of a u64.
+abbrev pub calls_after : ℕ → ℕ → ℕ
+calls_after more calls = max calls (min (calls + more) (2 ^ 64 - 1))
+
+-- The shelf after so many loads that each gave a file.
+abbrev pub after_calls : Shelf → ℕ → Shelf
+after_calls shelf more = record shelf { calls = calls_after more shelf.calls }
 
 -- A begin fails exactly if the call is listed, the name is longer than 256 bytes, or two other files are outputs.
 abbrev pub refuses_begin : Shelf → List ℕ → Bool

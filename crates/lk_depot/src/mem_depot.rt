@@ -3,8 +3,10 @@
 
 ghost use Rattle.std.specs.Prelude.{◌≡◌, ◌≢◌, ◌<◌, ◌≤◌, [], map, length, option_copied, string_bytes, IfOk, IfErr, IsErrOf};
 ghost use Rattle.std.specs.FinMap.{get, empty};
+ghost use Rattle.lk_depot.specs.Loading.{AfterLoads};
 ghost use Rattle.lk_depot.specs.Overlays.{files_from, place_of, input_name};
 ghost use Rattle.lk_depot.specs.Shelf.{Shelf, store_of, answer_load, after_load, answer_begin, after_begin, answer_append, after_append};
+ghost use Rattle.lk_depot.specs.ShelfLoads.{LoadsEnd};
 
 use crate::faults::counted;
 use crate::kinds::FileKind;
@@ -205,14 +207,17 @@ impl Depot for MemDepot {
         }
     }
 
-    /// One worker loads the files, one after another.
+    /// One worker loads the files, one after another. The first load that gives no file is the last that is made.
     fn load_files<R: Threads + Sync>(
         &mut self,
         _rt: &R,
         alloc: Global,
         names: &[String],
         _workers: u32,
-    ) -> Result<Vec<Vec<u8>>, LoadAllStop> {
+    ) -> Result<Vec<Vec<u8>>, LoadAllStop>
+        ensures loads { AfterLoads (store_of self.old) (store_of self.new) (map string_bytes names.now) result }
+        ensures ends { LoadsEnd self.old self.new (map string_bytes names.now) result }
+    {
         let mut contents = Vec::new(alloc);
         for (index, name) in names.iter().enumerate() {
             let bytes = match self.load(alloc, name.as_str()) {
@@ -221,7 +226,9 @@ impl Depot for MemDepot {
                 Err(LoadStop::Failed) => return Err(LoadAllStop::Failed { index }),
                 Err(LoadStop::Memory) => return Err(LoadAllStop::Memory),
             };
-            contents.push(bytes).map_err(|_| LoadAllStop::Memory)?;
+            if contents.push(bytes).is_err() {
+                return Err(LoadAllStop::Memory);
+            }
         }
         Ok(contents)
     }

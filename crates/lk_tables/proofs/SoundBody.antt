@@ -2,7 +2,7 @@
 use Rattle.std.proofs.Common.{◌≡◌, ◌≢◌, ℕ, ◌+◌, ◌%◌, ◌<◌, ◌≤◌, zero, suc, Bool, true, false, not, ◌&&◌, ◌||◌, ◌==◌, nat_lt, length, get_or, List, [], ◌∷◌, ◌++◌, map, refl, sym, ap, ◌∙◌, arith, Option, Some, None, subst, inl, inr}
 use Rattle.std.specs.Prelude.{Ok, unwrap_or, if◌then◌else◌, ℤ, pos, negsuc, unsigned_abs, int_lt, bit_and}
 use Rattle.std.specs.Int.{is_power_of_two}
-use Rattle.std.specs.List.{All, AllByRecursion, AllPairs, range_with_len}
+use Rattle.std.specs.List.{All, AllByRecursion, AllPairs, filter, range_with_len}
 use Rattle.std.specs.List.Sorted.{IsNonDecreasingBy}
 use Rattle.std.specs.Ordering.{int_eq}
 use Rattle.std.proofs.lemmas.Bool.{cond_both, cond-true, cond-false, cases_Bool, cases_eq, and_parts, or_parts, eqb-true, ne_eqb, ltb-true, ltb-false}
@@ -22,7 +22,7 @@ use Rattle.lk_tables.specs.Groups.{is_group, group_checks}
 use Rattle.lk_tables.specs.FileHeader.{section_count, ends_past, place_of}
 use Rattle.lk_tables.specs.Heads.{HeadView, HeadOf, head_of}
 use Rattle.lk_tables.specs.Inside.{IsAlignment, IsLinked, IsPadding, IsRelocBefore, IsRelocWithin, IsCommonWithin, IsGroupWithin, IsGroupBefore, IsBodyInside}
-use Rattle.lk_tables.specs.Objects.{ObjectView, BodyOf, object_of, object_checks, parts_of, groups_before, relocs_in, relocs_for}
+use Rattle.lk_tables.specs.Objects.{ObjectView, BodyOf, object_of, object_checks, parts_of, group_of, relocs_in, relocs_for}
 use Rattle.lk_base.specs.Order.{put_in, stable_order}
 use Rattle.lk_tables.specs.Relocations.{end_of, width_of, rela_count, reloc, target_of, target_bytes, is_alignment, is_past_target, is_bad_addend, is_bad_padding, entry_checks, in_order, overlap_checks, entries_checks, relocs_of}
 use Rattle.lk_tables.specs.Sections.{section_of, is_null, is_written, written_at, takes_relocs, is_loaded, loaded_types, contents_of}
@@ -307,7 +307,8 @@ sound_group b i e high group =
     let typed : (section_of b i).sh_type ≡ SHT_GROUP = eqb-true (section_of b i).sh_type SHT_GROUP p.1 in
     group_at b i group (body_at b i e (ltb-true 0 i p.0) high (λ z. absurd (omega (arith, typed)))).2
 
-groups_are : (b : List ℕ) (object : ObjectView) → BodyOf b object → object.groups ≡ groups_before b (section_count b)
+groups_are : (b : List ℕ) (object : ObjectView) → BodyOf b object
+    → object.groups ≡ map (group_of b) (filter (is_group b) (range_with_len 0 (section_count b)))
 unfolding parts_of
 groups_are b object is = ap (λ (o : ObjectView). o.groups) is.parts
 

@@ -17,7 +17,7 @@ use Rattle.lk_tables.specs.FileHeader.{section_count}
 use Rattle.lk_tables.specs.Groups.{is_group, members_of, has_member, is_taken_before, is_bad_member, is_bad_group, is_bad_group_header, is_uneven_group, is_bad_flag, is_unsigned, flag_word, group_checks, name_by, signature_by}
 use Rattle.lk_tables.specs.Heads.{HeadView, HeadOf}
 use Rattle.lk_tables.specs.Inside.{IsNameWithin, IsPlaceWithin, IsHeadInside, IsGroupWithin, IsGroupBefore}
-use Rattle.lk_tables.specs.Objects.{group_of, groups_before}
+use Rattle.lk_tables.specs.Objects.{group_of}
 use Rattle.lk_tables.specs.Sections.{section_of}
 use Rattle.lk_tables.specs.Symbols.{symtab_of, symbol_of, symbol_count, is_section_symbol}
 use Rattle.lk_tables.proofs.BodyFacts.{symbol_at, length_symbols, sections_are, symbols_are}
@@ -152,7 +152,7 @@ pairs_map R f xs all i j d lt high =
     subst (λ y. R y (get_or (map f xs) j d)) (sym first) (subst (R (f (get_or xs i 0))) (sym second) (all i j 0 lt (omega (arith, len))))
 
 pub groups_within : (b : List ℕ) (head : HeadView) (n : ℕ) → HeadOf b head → IsHeadInside b head → n ≤ section_count b →
-    ((i : ℕ) → i < n → is_group b i ≡ true → IsSoundGroup b i) → All (IsGroupWithin b (length head.sections)) (groups_before b n)
+    ((i : ℕ) → i < n → is_group b i ≡ true → IsSoundGroup b i) → All (IsGroupWithin b (length head.sections)) (map (group_of b) (filter (is_group b) (range_with_len 0 n)))
 groups_within b head n is inside le sound =
     let ks = filter (is_group b) (range_with_len 0 n) in
     let low = All-filter (is_group b) (λ k. k < n) (range_with_len 0 n) (below n) in
@@ -160,7 +160,8 @@ groups_within b head n is inside le sound =
     All-map (IsGroupWithin b (length head.sections)) (group_of b) ks (λ k d lt.
     group_within b head (get_or ks k d) is inside (omega (arith, low k d lt)) (group k d lt) (sound (get_or ks k d) (low k d lt) (group k d lt)))
 
-pub groups_apart : (b : List ℕ) (n : ℕ) → ((i : ℕ) → i < n → is_group b i ≡ true → IsSoundGroup b i) → AllPairs IsGroupBefore (groups_before b n)
+pub groups_apart : (b : List ℕ) (n : ℕ) → ((i : ℕ) → i < n → is_group b i ≡ true → IsSoundGroup b i)
+    → AllPairs IsGroupBefore (map (group_of b) (filter (is_group b) (range_with_len 0 n)))
 groups_apart b n sound =
     let ks = filter (is_group b) (range_with_len 0 n) in
     let low = All-filter (is_group b) (λ k. k < n) (range_with_len 0 n) (below n) in

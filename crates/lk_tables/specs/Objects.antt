@@ -43,13 +43,12 @@ relocs_for b k = relocs_in b (rela_of b k)
 abbrev pub group_of : List ℕ → ℕ → GroupView
 group_of b i = record { section = i; signature = signature_of b i; comdat = flag_word b i == GRP_COMDAT; members = members_of b i }
 
--- the groups among the sections below i, in order
-abbrev pub groups_before : List ℕ → ℕ → List GroupView
-groups_before b i = map (group_of b) (filter (is_group b) (range_with_len 0 i))
-
 -- the groups in order of their sections, and the relocations of each section
 unfoldable pub parts_of : List ℕ → ObjectView
-parts_of b = record { groups = groups_before b (section_count b); relocs = map (relocs_for b) (range_with_len 0 (section_count b)) }
+parts_of b = record {
+  groups = map (group_of b) (filter (is_group b) (range_with_len 0 (section_count b)));
+  relocs = map (relocs_for b) (range_with_len 0 (section_count b));
+}
 
 -- the checks of each section in order, then of each symbol
 unfoldable pub object_checks : List ℕ → List Check

@@ -1,6 +1,6 @@
 //! The files of a link gathered, one after the other, when their heads are read.
 
-ghost use Rattle.std.specs.Prelude.{◌≡◌, ◌++◌, ◌∷◌, ◌+◌, ◌<◌, ◌≤◌, ◌^◌, [], length, true, is_some, Ok, Some, None, IfSome, OnOk, OnErr};
+ghost use Rattle.std.specs.Prelude.{◌≡◌, ◌++◌, ◌∷◌, ◌+◌, ◌<◌, ◌≤◌, ◌^◌, [], length, true, false, is_some, Ok, Some, None, IfSome, OnOk, OnErr};
 ghost use Rattle.lk_base.specs.declared.abi.TheConstants.{FILE_MAX};
 ghost use Rattle.lk_tables.specs.Gathering.{added, head_or_none};
 ghost use Rattle.lk_tables.specs.Heads.{head_of, head_view};
@@ -27,7 +27,7 @@ impl<'a> Heads<'a> {
     }
 
     /// Adds the next file. Its bytes are lent; an archive by itself has no head. Names have to be numbered again after it. Where memory
-    /// runs out the files stay as they were.
+    /// runs out the files stay as they were, and so do the numbers of their names.
     pub fn add(
         &mut self,
         bytes: &'a [u8],
@@ -38,9 +38,10 @@ impl<'a> Heads<'a> {
         requires short { length bytes.now ≤ FILE_MAX }
         requires head { IfSome head (λ h. head_of bytes.now ≡ Ok (head_view h)) }
         ensures ok { OnOk result (heads_of self.new ≡ heads_of self.old ++ added bytes.now head member ∷ []) }
+        ensures ok_names { OnOk result (are_numbered self.new ≡ false) }
         ensures err { OnErr result (heads_of self.new ≡ heads_of self.old) }
+        ensures err_names { OnErr result (are_numbered self.new ≡ are_numbered self.old) }
     {
-        self.names = None;
         let head = head_or_none(self.alloc, head);
         self.files.push(File {
             bytes,
@@ -48,6 +49,7 @@ impl<'a> Heads<'a> {
             head,
             object: None,
         })?;
+        self.names = None;
         Ok(())
     }
 

@@ -1,5 +1,5 @@
 -- Keys in order, and the symbols that have them.
-use Rattle.std.proofs.Common.{◌≡◌, ◌≢◌, ℕ, ◌+◌, ◌-◌, ◌<◌, ◌^◌, ◌==◌, ◌&&◌, ◌||◌, not, ⊎_elim, Bool, true, false, List, [], ◌∷◌, ◌++◌, length, map, get_or, Contains, refl, sym, ap, ◌∙◌, subst, arith}
+use Rattle.std.proofs.Common.{◌≡◌, ◌≢◌, ℕ, ◌+◌, ◌-◌, ◌<◌, ◌^◌, ◌==◌, ◌&&◌, ◌||◌, not, ⊎_elim, true, false, List, [], length, map, get_or, Contains, refl, sym, ap, ◌∙◌, subst, arith}
 use Rattle.std.specs.Prelude.{flat_map}
 use Rattle.std.specs.List.{range_with_len}
 use Rattle.std.specs.declared.cmp.Ordering.{Ordering}
@@ -7,10 +7,9 @@ use Rattle.std.specs.declared.cmp.Ordering.TheVariants.{Less, Equal, Greater}
 use Rattle.std.specs.Ordering.{nat_cmp, ordering_then, ordering_reverse, is_lt, is_eq}
 use Rattle.std.specs.Cmp.{IsTotalOrder, nat_cmp_is}
 use Rattle.std.specs.Cmp.Lexicographic.{slice_cmp}
-use Rattle.std.specs.List.Sorted.{IsSorted, IsPermutation}
-use Rattle.std.proofs.lemmas.List.Sorted.{IsPermutation-map}
+use Rattle.std.specs.List.Sorted.{IsSorted}
 use Rattle.std.proofs.lemmas.Cmp.{then_total, on_total, nat_cmp_total, nat_list_cmp_total}
-use Rattle.std.proofs.lemmas.List.{get_or-map, get_or_default, length-map, map_push}
+use Rattle.std.proofs.lemmas.List.{get_or-map, get_or_default, length-map}
 use Rattle.std.proofs.lemmas.List.FromFn.{length-map-range_with_len, get_or-map-range_with_len}
 use Rattle.std.proofs.lemmas.List.Elements.{All-contains, Contains-get_or}
 use Rattle.std.proofs.lemmas.Map.Text.{is_eq-slice_cmp}
@@ -25,13 +24,13 @@ use Rattle.lk_tables.proofs.FirstNumbers.{file_read, first_within}
 use Rattle.lk_tables.specs.Files.{File, file_at, symbol_at, symbol_name, first_symbol, symbol_no, symbol_total}
 use Rattle.lk_tables.specs.Names.{text_of}
 use Rattle.lk_tables.specs.NameNumbers.{is_named}
-use Rattle.name_numbers.specs.declared.keys.Key.{Key}
+use Rattle.name_numbers.specs.declared.sorting.Key.{Key}
 use Rattle.name_numbers.specs.Keys.{KeyView, key_view, key_views, key_of, key_in, keys_in, keys, first_in, first_no, no_key, key_cmp, key_text, text_of_key, place_of_key, AreTagged}
 use Rattle.name_numbers.specs.Marks.{Marks}
 use Rattle.name_numbers.specs.Spans.{symbol_in, first_span, first_or_none}
-use Rattle.name_numbers.specs.Tags.{tag_of}
+use Rattle.name_numbers.specs.Tags.{spread_tag}
 use Rattle.name_numbers.proofs.Runs.{Runs, Marked, marks_all, marks_viewed, runs_by, runs_sorted, Exact, same_number, then_second, first_tie}
-use Rattle.name_numbers.proofs.Walks.{walk_push, walk_skip, all_range, all_if, in_range, in_if}
+use Rattle.name_numbers.proofs.Walks.{all_range, all_if, in_range, in_if}
 
 abbrev pub view_of : (tag : ℕ) (text : List ℕ) (at : ℕ) → KeyView
 view_of tag text at = record { tag = tag; text = text; at = at }
@@ -84,7 +83,7 @@ tag_ties x y e =
     let P : TagText → Type 0 = λ z. tag_cmp x z ≡ Equal in
     subst P e own
 
-abbrev no_view : KeyView
+abbrev pub no_view : KeyView
 no_view = record { tag = 0; text = []; at = 0 }
 
 -- by position, of the keys themselves and of their views
@@ -96,8 +95,8 @@ view_in list k lt =
     let P : KeyView → Type 0 = Contains (key_views list) in
     subst P (view_at list k lt) (Contains-get_or (key_views list) k no_view (omega (arith, length-map list key_view)))
 
-tagged_at : (list : List Key) → AreTagged (key_views list) → (k : ℕ) → k < length list → (get_or list k no_key).name.tag ≡ tag_of (get_or list k no_key).name.text.now
-tagged_at list tagged k lt = All-contains (λ (v : KeyView). v.tag ≡ tag_of v.text) (key_views list) (key_view (get_or list k no_key)) tagged (view_in list k lt)
+tagged_at : (list : List Key) → AreTagged (key_views list) → (k : ℕ) → k < length list → (get_or list k no_key).name.tag ≡ spread_tag (get_or list k no_key).name.text.now
+tagged_at list tagged k lt = All-contains (λ (v : KeyView). v.tag ≡ spread_tag v.text) (key_views list) (key_view (get_or list k no_key)) tagged (view_in list k lt)
 
 abbrev tag_text_of : Key → TagText
 tag_text_of key = tag_text key.name.tag key.name.text.now
@@ -105,9 +104,9 @@ tag_text_of key = tag_text key.name.tag key.name.text.now
 pub keys_run : (list : List Key) → IsSorted key_cmp list → AreTagged (key_views list) → ((v w : KeyView) → Contains (key_views list) v → Contains (key_views list) w → v.at ≡ w.at → v.text ≡ w.text) → Runs (λ j. (get_or list j no_key).name.text.now) (λ j. (get_or list j no_key).at) (length list)
 keys_run list up tagged once =
     let place : Key → ℕ = λ key. key.at in
-    let tag_is : (k : ℕ) → k < length list → (get_or list k no_key).name.tag ≡ tag_of (get_or list k no_key).name.text.now = tagged_at list tagged in
+    let tag_is : (k : ℕ) → k < length list → (get_or list k no_key).name.tag ≡ spread_tag (get_or list k no_key).name.text.now = tagged_at list tagged in
     let same : (i j : ℕ) → i < length list → j < length list → (get_or list i no_key).name.text.now ≡ (get_or list j no_key).name.text.now → tag_text_of (get_or list i no_key) ≡ tag_text_of (get_or list j no_key) = λ i j lt less e.
-    ap (λ t. tag_text t (get_or list i no_key).name.text.now) (tag_is i lt ∙ ap tag_of e ∙ sym (tag_is j less)) ∙ ap (tag_text (get_or list j no_key).name.tag) e in
+    ap (λ t. tag_text t (get_or list i no_key).name.text.now) (tag_is i lt ∙ ap spread_tag e ∙ sym (tag_is j less)) ∙ ap (tag_text (get_or list j no_key).name.tag) e in
     let view : (x : Key) → Contains list x → (k : ℕ) × ((k < length list) × (get_or list k no_key ≡ x)) = λ x has. (has.0, (has.1, get_or_default list has.0 no_key x has.1 ∙ has.2)) in
     runs_by (λ j. tag_text_of (get_or list j no_key)) (λ j. (get_or list j no_key).name.text.now) (λ j. (get_or list j no_key).at) (length list)
     (λ i j lt less e. ap (λ (x : TagText). x.text) e) same
@@ -118,26 +117,6 @@ keys_run list up tagged once =
     let j : ℕ = b.0 in
     let ats : (get_or list i no_key).at ≡ (get_or list j no_key).at = ap place a.1.1 ∙ e ∙ sym (ap place b.1.1) in
     sym (ap tag_text_of a.1.1) ∙ same i j a.1.0 b.1.0 (once (key_view (get_or list i no_key)) (key_view (get_or list j no_key)) (view_in list i a.1.0) (view_in list j b.1.0) ats) ∙ ap tag_text_of b.1.1))
-
--- a loop that lists keys
-pub key_next : (b : List ℕ) (symbols : List Symbol) (start i first : ℕ) (old new : List Key) (key : Key) (base : List KeyView) → (is_named (symbol_in symbols i) ≡ true → first ≡ first_span symbols i) → (is_named (symbol_in symbols i) && first == i) ≡ true
-    → key_view key ≡ key_of (text_of b (symbol_in symbols i).name) (start + i) → new ≡ old ++ key ∷ [] → key_views old ≡ base ++ flat_map (key_in b symbols start) (range_with_len 0 i) → key_views new ≡ base ++ flat_map (key_in b symbols start) (range_with_len 0 (i + 1))
-unfolding key_in
-key_next b symbols start i first old new key base is has made push before =
-    let own = ap (λ q. is_named (symbol_in symbols i) && q == i) (sym (is (and_parts (is_named (symbol_in symbols i)) (first == i) has).0)) ∙ has in
-    walk_push (key_in b symbols start) base (key_views old) (key_views new) (key_view key) i before
-    (ap key_views push ∙ map_push key_view old key)
-    (cond-true _ (key_of (text_of b (symbol_in symbols i).name) (start + i) ∷ []) [] own ∙ ap (λ v. v ∷ []) (sym made))
-
-pub key_skip : (b : List ℕ) (symbols : List Symbol) (start i first : ℕ) (old base : List KeyView) → (is_named (symbol_in symbols i) ≡ true → first ≡ first_span symbols i) → (is_named (symbol_in symbols i) && first == i) ≡ false
-    → old ≡ base ++ flat_map (key_in b symbols start) (range_with_len 0 i) → old ≡ base ++ flat_map (key_in b symbols start) (range_with_len 0 (i + 1))
-unfolding key_in
-key_skip b symbols start i first old base is not_so before =
-    walk_skip (key_in b symbols start) base old i before (cond-false _ (key_of (text_of b (symbol_in symbols i).name) (start + i) ∷ []) [] (no_key_here (is_named (symbol_in symbols i)) first (first_span symbols i) i is not_so))
-  where
-    no_key_here : (named : Bool) (first q i : ℕ) → (named ≡ true → first ≡ q) → (named && first == i) ≡ false → (named && q == i) ≡ false
-    no_key_here true first q i is not_so = ap (λ k. k == i) (sym (is refl)) ∙ not_so
-    no_key_here false first q i is not_so = refl
 
 -- a key of the list, and the key of a symbol
 pub record IsKey (files : List File) (v : KeyView) : Type 0 where
@@ -180,10 +159,6 @@ unfolding first_or_none
 first_read symbols firsts i is lt named =
     ap (λ l. get_or l i 0) is ∙ get_or-map-range_with_len (first_or_none symbols) 0 (length symbols) i i 0 lt (omega arith)
     ∙ cond-true (is_named (symbol_in symbols i)) (first_span symbols i) 0 named
-
-pub key_made : (b : List ℕ) (symbols : List Symbol) (i start tag at : ℕ) (text : List ℕ) → text ≡ text_of b (symbol_in symbols i).name → tag ≡ tag_of text → at ≡ start + i → view_of tag text at ≡ key_of (text_of b (symbol_in symbols i).name) (start + i)
-key_made b symbols i start tag at text is tagged place =
-    ap (λ t. view_of t text at) tagged ∙ ap (λ t. view_of (tag_of t) t at) is ∙ ap (view_of (tag_of (text_of b (symbol_in symbols i).name)) (text_of b (symbol_in symbols i).name)) place
 
 pub first_named : (symbols : List Symbol) (firsts : List ℕ) (start i : ℕ) → firsts ≡ map (first_or_none symbols) (range_with_len 0 (length symbols)) → i < length symbols → is_named (symbol_in symbols i) ≡ true → start + get_or firsts i 0 ≡ first_in symbols start i
 unfolding first_in
@@ -244,14 +219,7 @@ module _ (lent : List LentFile) (starts : List ℕ) (is : starts ≡ map (first_
 pub keys_tagged : (files : List File) → AreTagged (keys files)
 unfolding keys keys_in key_in
 keys_tagged files =
-    let P : KeyView → Type 0 = λ v. v.tag ≡ tag_of v.text in
+    let P : KeyView → Type 0 = λ v. v.tag ≡ spread_tag v.text in
     all_range P (keys_in files) 0 (length files) (λ f low high.
     all_range P (key_in (file_at files f).bytes (file_at files f).head.symbols (first_symbol files f)) 0 (length (file_at files f).head.symbols) (λ i low2 high2.
     all_if P _ (key_of (text_of (file_at files f).bytes (symbol_in (file_at files f).head.symbols i).name) (first_symbol files f + i)) (λ both. refl)))
-
--- the keys that were sorted
-pub keys_moved : (files : List File) (start sorted slice : List Key) → key_views start ≡ keys files → IsPermutation start sorted → slice ≡ sorted → IsPermutation (keys files) (key_views slice)
-keys_moved files start sorted slice is moved read =
-    let P : List KeyView → Type 0 = λ l. IsPermutation l (key_views sorted) in
-    let Q : List KeyView → Type 0 = IsPermutation (keys files) in
-    subst Q (sym (ap key_views read)) (subst P is (IsPermutation-map key_view start sorted moved))

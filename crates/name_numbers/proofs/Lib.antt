@@ -2,7 +2,10 @@ pub mod Walks
 pub mod Runs
 pub mod FirstSpans
 pub mod Keyed
+pub mod Columns
+pub mod JoinedRuns
 pub mod NameOrder
+pub mod Marked
 pub mod Numbered
 pub mod NameWords
 pub mod LeastClaims

@@ -1,5 +1,5 @@
 -- The first of the names that is a text: names stand in order of their symbols' numbers.
-use Rattle.std.proofs.Common.{◌≡◌, ℕ, zero, suc, ◌+◌, ◌<◌, ◌≤◌, Bool, true, false, if◌then◌else◌, List, [], ◌∷◌, ◌++◌, length, All, Contains, refl, sym, ap, ◌∙◌, subst, ⊎_elim, arith}
+use Rattle.std.proofs.Common.{◌≡◌, ℕ, zero, suc, ◌+◌, ◌<◌, ◌≤◌, Bool, true, false, if◌then◌else◌, List, [], ◌∷◌, ◌++◌, length, get_or, All, Contains, refl, sym, ap, ◌∙◌, subst, ⊎_elim, arith}
 use Rattle.std.specs.Prelude.{flat_map, find}
 use Rattle.std.specs.List.{range_with_len}
 use Rattle.std.specs.Str.{bytes_eq}
@@ -12,50 +12,78 @@ use Rattle.lk_tables.proofs.FirstNumbers.{first_more}
 use Rattle.name_numbers.proofs.Walks.{all_range, all_if, in_range, in_if}
 
 -- places rise from `low` on, and stay below `high`
-abbrev Rise : (low high : ℕ) → List Named → Type 0
-Rise low high [] = low ≤ high
-Rise low high (n ∷ ns) = (low ≤ n.at) × Rise (n.at + 1) high ns
+abbrev pub Rise : {X : Type 0} → (X → ℕ) → (low high : ℕ) → List X → Type 0
+Rise place low high [] = low ≤ high
+Rise place low high (x ∷ xs) = (low ≤ place x) × Rise place (place x + 1) high xs
 
-rise_lower : (a low high : ℕ) (ns : List Named) → a ≤ low → Rise low high ns → Rise a high ns
-rise_lower a low high [] le r = omega arith
-rise_lower a low high (n ∷ ns) le r = let first = r.0 in (omega arith, r.1)
+module _ {X : Type 0} (place : X → ℕ) where
+  rise_lower : (a low high : ℕ) (xs : List X) → a ≤ low → Rise place low high xs → Rise place a high xs
+  rise_lower a low high [] le r = omega arith
+  rise_lower a low high (x ∷ xs) le r = let first = r.0 in (omega arith, r.1)
 
-rise_append : (low mid high : ℕ) (xs ys : List Named) → Rise low mid xs → Rise mid high ys → Rise low high (xs ++ ys)
-rise_append low mid high [] ys r s = rise_lower low mid high ys r s
-rise_append low mid high (x ∷ xs) ys r s = (r.0, rise_append (x.at + 1) mid high xs ys r.1 s)
+  rise_append : (low mid high : ℕ) (xs ys : List X) → Rise place low mid xs → Rise place mid high ys → Rise place low high (xs ++ ys)
+  rise_append low mid high [] ys r s = rise_lower low mid high ys r s
+  rise_append low mid high (x ∷ xs) ys r s = (r.0, rise_append (place x + 1) mid high xs ys r.1 s)
 
-rise_range : (g : ℕ → List Named) (b : ℕ → ℕ) (a n : ℕ) → ((j : ℕ) → a ≤ j → j < a + n → Rise (b j) (b (j + 1)) (g j)) → Rise (b a) (b (a + n)) (flat_map g (range_with_len a n))
-rise_range g b a zero each = let e : a ≡ a + 0 = omega arith in let same : b a ≡ b (a + 0) = ap b e in omega arith
-rise_range g b a (suc n) each =
-    let e : a + 1 + n ≡ a + suc n = omega arith in
-    let P : ℕ → Type 0 = λ h. Rise (b (a + 1)) h (flat_map g (range_with_len (a + 1) n)) in
-    rise_append (b a) (b (a + 1)) (b (a + suc n)) (g a) (flat_map g (range_with_len (a + 1) n)) (each a (omega arith) (omega arith))
-    (subst P (ap b e) (rise_range g b (a + 1) n (λ j low high. each j (omega arith) (omega arith))))
+  rise_range : (g : ℕ → List X) (b : ℕ → ℕ) (a n : ℕ) → ((j : ℕ) → a ≤ j → j < a + n → Rise place (b j) (b (j + 1)) (g j)) → Rise place (b a) (b (a + n)) (flat_map g (range_with_len a n))
+  rise_range g b a zero each = let e : a ≡ a + 0 = omega arith in let same : b a ≡ b (a + 0) = ap b e in omega arith
+  rise_range g b a (suc n) each =
+      let e : a + 1 + n ≡ a + suc n = omega arith in
+      let P : ℕ → Type 0 = λ h. Rise place (b (a + 1)) h (flat_map g (range_with_len (a + 1) n)) in
+      rise_append (b a) (b (a + 1)) (b (a + suc n)) (g a) (flat_map g (range_with_len (a + 1) n)) (each a (omega arith) (omega arith))
+      (subst P (ap b e) (rise_range g b (a + 1) n (λ j low high. each j (omega arith) (omega arith))))
 
-rise_if : (b : Bool) (low : ℕ) (n : Named) → n.at ≡ low → Rise low (low + 1) (if b then n ∷ [] else [])
-rise_if true low n is = (omega arith, omega arith)
-rise_if false low n is = omega arith
+  pub rise_if : (b : Bool) (low : ℕ) (x : X) → place x ≡ low → Rise place low (low + 1) (if b then x ∷ [] else [])
+  rise_if true low x is = (omega arith, omega arith)
+  rise_if false low x is = omega arith
+
+  -- one or none for each symbol of the files
+  pub rise_files : (files : List File) (cell : ℕ → ℕ → List X) → ((f i : ℕ) → Rise place (symbol_no files f i) (symbol_no files f i + 1) (cell f i)) →
+      Rise place (first_symbol files 0) (first_symbol files (0 + length files)) (flat_map (λ f. flat_map (cell f) (range_with_len 0 (length (file_at files f).head.symbols))) (range_with_len 0 (length files)))
+  rise_files files cell each =
+      rise_range (λ f. flat_map (cell f) (range_with_len 0 (length (file_at files f).head.symbols))) (first_symbol files) 0 (length files) (λ f low high.
+      let n = length (file_at files f).head.symbols in
+      let row = flat_map (cell f) (range_with_len 0 n) in
+      let own : Rise place (first_symbol files f + 0) (first_symbol files f + (0 + n)) row =
+      rise_range (cell f) (λ i. first_symbol files f + i) 0 n (λ i low2 high2.
+      let e : first_symbol files f + i + 1 ≡ first_symbol files f + (i + 1) = omega arith in
+      let P : ℕ → Type 0 = λ h. Rise place (first_symbol files f + i) h (cell f i) in
+      subst P e (each f i)) in
+      let start : first_symbol files f + 0 ≡ first_symbol files f = omega arith in
+      let end : first_symbol files f + (0 + n) ≡ first_symbol files (f + 1) = omega (arith, first_more files f (omega arith)) in
+      let P : ℕ → Type 0 = λ a. Rise place a (first_symbol files f + (0 + n)) row in
+      let Q : ℕ → Type 0 = λ h. Rise place (first_symbol files f) h row in
+      subst Q end (subst P start own))
+
+  -- how many there are, and each after those before
+  pub rise_count : (low high : ℕ) (xs : List X) → Rise place low high xs → low + length xs ≤ high
+  rise_count low high [] r = omega (arith, r)
+  rise_count low high (x ∷ xs) r = let first = r.0 in omega (arith, first, rise_count (place x + 1) high xs r.1)
+
+  rise_low : (low high : ℕ) (xs : List X) (d : X) (k : ℕ) → Rise place low high xs → k < length xs → low ≤ place (get_or xs k d)
+  rise_low low high [] d k r lt = absurd (omega arith)
+  rise_low low high (x ∷ xs) d zero r lt = let first = r.0 in omega (arith, first)
+  rise_low low high (x ∷ xs) d (suc k) r lt = let first = r.0 in omega (arith, first, rise_low (place x + 1) high xs d k r.1 (omega arith))
+
+  pub rise_at : (low high : ℕ) (xs : List X) (d : X) (j k : ℕ) → Rise place low high xs → j < k → k < length xs → place (get_or xs j d) < place (get_or xs k d)
+  rise_at low high [] d j k r less lt = absurd (omega arith)
+  rise_at low high (x ∷ xs) d j zero r less lt = absurd (omega arith)
+  rise_at low high (x ∷ xs) d zero (suc k) r less lt = omega (arith, rise_low (place x + 1) high xs d k r.1 (omega arith))
+  rise_at low high (x ∷ xs) d (suc j) (suc k) r less lt = rise_at (place x + 1) high xs d j k r.1 (omega arith) (omega arith)
 
 abbrev named : List ℕ → ℕ → Named
 named text at = record { text = text; at = at }
 
-names_rise : (files : List File) → Rise (first_symbol files 0) (first_symbol files (0 + length files)) (names files)
+abbrev place_of_name : Named → ℕ
+place_of_name n = n.at
+
+names_rise : (files : List File) → Rise place_of_name (first_symbol files 0) (first_symbol files (0 + length files)) (names files)
 unfolding names names_in name_at
 names_rise files =
-    rise_range (names_in files) (first_symbol files) 0 (length files) (λ f low high.
-    let n = length (file_at files f).head.symbols in
-    let own : Rise (first_symbol files f + 0) (first_symbol files f + (0 + n)) (names_in files f) =
-    rise_range (name_at files f) (λ i. first_symbol files f + i) 0 n (λ i low2 high2.
-    let e : first_symbol files f + i + 1 ≡ first_symbol files f + (i + 1) = omega arith in
-    let P : ℕ → Type 0 = λ h. Rise (first_symbol files f + i) h (name_at files f i) in
-    subst P e (rise_if (is_named (symbol_at (file_at files f) i)) (first_symbol files f + i) (named (symbol_name (file_at files f) i) (symbol_no files f i)) refl)) in
-    let start : first_symbol files f + 0 ≡ first_symbol files f = omega arith in
-    let end : first_symbol files f + (0 + n) ≡ first_symbol files (f + 1) = omega (arith, first_more files f (omega arith)) in
-    let P : ℕ → Type 0 = λ a. Rise a (first_symbol files f + (0 + n)) (names_in files f) in
-    let Q : ℕ → Type 0 = λ h. Rise (first_symbol files f) h (names_in files f) in
-    subst Q end (subst P start own))
+    rise_files place_of_name files (name_at files) (λ f i.
+    rise_if place_of_name (is_named (symbol_at (file_at files f) i)) (symbol_no files f i) (named (symbol_name (file_at files f) i) (symbol_no files f i)) refl)
 
-later : (low high : ℕ) (ns : List Named) → Rise low high ns → All (λ n. low ≤ n.at) ns
+later : (low high : ℕ) (ns : List Named) → Rise place_of_name low high ns → All (λ n. low ≤ n.at) ns
 later low high [] r = All-nil (λ (n : Named). low ≤ n.at)
 later low high (n ∷ ns) r =
     let first = r.0 in
@@ -70,7 +98,7 @@ pub record IsFirstName (ns : List Named) (text : List ℕ) (number : ℕ) : Type
   pub is : one.at ≡ number
   pub most : (m : Named) → Contains ns m → m.text ≡ text → number ≤ m.at
 
-found_here : (low high : ℕ) (x : Named) (xs : List Named) (text : List ℕ) → Rise low high (x ∷ xs) → x.text ≡ text → IsFirstName (x ∷ xs) text x.at
+found_here : (low high : ℕ) (x : Named) (xs : List Named) (text : List ℕ) → Rise place_of_name low high (x ∷ xs) → x.text ≡ text → IsFirstName (x ∷ xs) text x.at
 found_here low high x xs text r is = record {
   one = x;
   listed = (0, omega arith, refl);
@@ -91,7 +119,7 @@ found_later x xs text number other f = record {
       (Contains-append_cases (x ∷ []) xs m has);
 }
 
-pub first_name : (low high : ℕ) (ns : List Named) (text : List ℕ) → Rise low high ns → (n : Named) → Contains ns n → n.text ≡ text → IsFirstName ns text (number_of ns text)
+pub first_name : (low high : ℕ) (ns : List Named) (text : List ℕ) → Rise place_of_name low high ns → (n : Named) → Contains ns n → n.text ≡ text → IsFirstName ns text (number_of ns text)
 unfolding number_of
 first_name low high [] text r n has same = let lt = has.1 in absurd (omega arith)
 first_name low high (x ∷ xs) text r n has same =

@@ -8,16 +8,18 @@ use Rattle.std.specs.List.{position_or_len}
 use Rattle.std.proofs.lemmas.List.{ext_get_or, get_or-map, get_or_default, length-map, map_push}
 use Rattle.std.proofs.lemmas.List.FromFn.{length-map-range_with_len, get_or-map-range_with_len}
 use Rattle.std.proofs.lemmas.List.Sums.{position_or_len_is, passes_at_first, fails_before_first}
-use Rattle.std.proofs.lemmas.List.Elements.{All-contains_itself, All-weaker}
+use Rattle.std.proofs.lemmas.List.Elements.{All-contains_itself, All-weaker, Contains-get_or}
 use Rattle.std.proofs.lemmas.List.Sorted.{IsPermutation-map}
 use Rattle.std.proofs.lemmas.Bool.{cases_Bool, cases_lt, both_ways}
 use Rattle.std.proofs.lemmas.Slice.Eq.{bytes_eq-Decides}
-use Rattle.name_numbers.specs.declared.keys.Key.{Key}
+use Rattle.name_numbers.specs.declared.sorting.Key.{Key}
+use Rattle.name_numbers.specs.Firsts.{spread_tags}
 use Rattle.name_numbers.specs.Keys.{KeyView, key_of, key_view, key_views, text_of_key, place_of_key, AreTagged}
 use Rattle.name_numbers.specs.Marks.{Marks}
-use Rattle.name_numbers.specs.Tags.{tag_of}
+use Rattle.name_numbers.specs.Tags.{spread_tag}
 use Rattle.name_numbers.specs.Texts.{lent_texts, text_at, text_keys, text_number, text_numbers}
 use Rattle.name_numbers.proofs.Runs.{marks_moved}
+use Rattle.name_numbers.proofs.TagFirsts.{tag_is}
 use Rattle.name_numbers.proofs.Keyed.{view_of}
 use Rattle.name_numbers.proofs.Walks.{walk_map}
 
@@ -28,7 +30,7 @@ key_at texts i = key_of (text_at texts i) i
 pub record IsTextKey (texts : List (List ℕ)) (v : KeyView) : Type 0 where
   pub within : v.at < length texts
   pub text : v.text ≡ text_at texts v.at
-  pub tag : v.tag ≡ tag_of v.text
+  pub tag : v.tag ≡ spread_tag v.text
 
 text_key_of : (texts : List (List ℕ)) (i : ℕ) → i < length texts → IsTextKey texts (key_at texts i)
 text_key_of texts i lt = record { within = lt; text = refl; tag = refl }
@@ -52,7 +54,7 @@ text_key_has texts i lt = (
 
 pub text_keys_tagged : (texts : List (List ℕ)) → AreTagged (text_keys texts)
 text_keys_tagged texts =
-    let P : KeyView → Type 0 = λ v. v.tag ≡ tag_of v.text in
+    let P : KeyView → Type 0 = λ v. v.tag ≡ spread_tag v.text in
     All-weaker (Contains (text_keys texts)) P (λ v has. (text_key_is texts v has).tag) (text_keys texts) (All-contains_itself (text_keys texts))
 
 pub text_keys_once : (texts : List (List ℕ)) (v w : KeyView) → Contains (text_keys texts) v → Contains (text_keys texts) w → v.at ≡ w.at → v.text ≡ w.text
@@ -122,22 +124,48 @@ number_of_text texts text has =
     let there = bytes_eq-Decides (get_or texts at []) text in
     record { within = within; same = there.0 (passes_at_first test texts [] within) }
 
+-- the index that is the number of a text: that of the first one equal to it
+pub record IsFirstText (texts : List (List ℕ)) (k first : ℕ) : Type 0 where
+  pub within : first < length texts
+  pub same : text_at texts first ≡ text_at texts k
+  pub most : (i : ℕ) → i < length texts → text_at texts i ≡ text_at texts k → first ≤ i
+
+pub first_text : (texts : List (List ℕ)) (numbers : List ℕ) (k : ℕ) → numbers ≡ text_numbers texts → k < length texts → IsFirstText texts k (get_or numbers k 0)
+unfolding text_numbers text_number
+first_text texts numbers k is lt =
+    let text = text_at texts k in
+    let test : List ℕ → Bool = λ t. bytes_eq t text in
+    let read : get_or numbers k 0 ≡ text_number texts text = ap (λ l. get_or l k 0) is ∙ get_or-map (text_number texts) texts k [] 0 lt in
+    let n = number_of_text texts text (Contains-get_or texts k [] lt) in
+    let P : ℕ → Type 0 = IsFirstText texts k in
+    subst P (sym read) (record {
+      within = n.within;
+      same = n.same;
+      most = λ i less same. ⊎_elim
+          (λ (early : i < text_number texts text).
+          let d = bytes_eq-Decides (text_at texts i) text in
+          absurd (both_ways (test (text_at texts i)) (fails_before_first test texts i [] early) (d.1 same)))
+          (λ (late : text_number texts text ≤ i). late)
+          (cases_lt i (text_number texts text));
+    })
+
 -- texts of one number are equal
 pub number_tells : (texts : List (List ℕ)) (s t : List ℕ) → Contains texts s → Contains texts t → text_number texts s ≡ text_number texts t → s ≡ t
 number_tells texts s t has also e = sym (number_of_text texts s has).same ∙ ap (text_at texts) e ∙ (number_of_text texts t also).same
 
 -- a loop that lists keys
-text_key_made : (list : List (Bor (List ℕ))) (i tag : ℕ) (blank : Bor (List ℕ)) → i < length list → tag ≡ tag_of (get_or list i blank).now → view_of tag (get_or list i blank).now i ≡ key_at (lent_texts list) i
+text_key_made : (list : List (Bor (List ℕ))) (i tag : ℕ) (blank : Bor (List ℕ)) → i < length list → tag ≡ spread_tag (text_at (lent_texts list) i) → view_of tag (get_or list i blank).now i ≡ key_at (lent_texts list) i
 text_key_made list i tag blank lt is =
     let read : (get_or list i blank).now ≡ text_at (lent_texts list) i = sym (get_or-map (λ (text : Bor (List ℕ)). text.now) list i blank [] lt) in
-    ap (λ t. view_of t (get_or list i blank).now i) is ∙ ap (λ text. view_of (tag_of text) text i) read
+    ap (λ text. view_of tag text i) read ∙ ap (λ t. view_of t (text_at (lent_texts list) i) i) is
 
-pub text_key_next : (list : List (Bor (List ℕ))) (i : ℕ) (blank : Bor (List ℕ)) (key : Key) (old new : List Key) → i < length list → key.name.text ≡ get_or list i blank → key.name.tag ≡ tag_of (get_or list i blank).now → key.at ≡ i
+pub text_key_next : (list : List (Bor (List ℕ))) (tags : List ℕ) (i : ℕ) (blank : Bor (List ℕ)) (key : Key) (old new : List Key) → i < length list → tags ≡ spread_tags (lent_texts list) → key.name.text ≡ get_or list i blank → key.name.tag ≡ get_or tags i 0 → key.at ≡ i
     → new ≡ old ++ key ∷ [] → key_views old ≡ map (key_at (lent_texts list)) (range_with_len 0 i) → key_views new ≡ map (key_at (lent_texts list)) (range_with_len 0 (i + 1))
-text_key_next list i blank key old new lt text tag at push before =
+text_key_next list tags i blank key old new lt are text tag at push before =
+    let spread : key.name.tag ≡ spread_tag (text_at (lent_texts list) i) = tag ∙ ap (λ l. get_or l i 0) are ∙ tag_is (lent_texts list) i (omega (arith, lt, length_texts list)) in
     let one : key_view key ≡ key_at (lent_texts list) i =
     ap (λ (t : Bor (List ℕ)). view_of key.name.tag t.now key.at) text ∙ ap (view_of key.name.tag (get_or list i blank).now) at
-    ∙ text_key_made list i key.name.tag blank lt tag in
+    ∙ text_key_made list i key.name.tag blank lt spread in
     walk_map (key_at (lent_texts list)) [] (key_views old) (key_views new) (key_view key) i before (ap key_views push ∙ map_push key_view old key) one
 
 pub text_keys_all : (list : List (Bor (List ℕ))) (i : ℕ) (keys : List Key) → i ≡ length list → key_views keys ≡ map (key_at (lent_texts list)) (range_with_len 0 i) → key_views keys ≡ text_keys (lent_texts list)

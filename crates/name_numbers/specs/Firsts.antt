@@ -7,13 +7,10 @@ use Rattle.std.specs.declared.alloc.AllocError.{AllocError}
 use Rattle.name_numbers.specs.declared.parts.Entry.{Entry}
 use Rattle.name_numbers.specs.declared.shards.First.{First}
 use Rattle.name_numbers.specs.declared.slots.Slot.{Slot}
-use Rattle.name_numbers.specs.Tags.{tag_of}
 use Rattle.name_numbers.specs.Texts.{text_at}
+pub use Rattle.name_numbers.specs.Tags.{spread_tag}
 
--- a text's tag, spread over all bits: which shard and which slot it has is read off the highest
-unfoldable pub spread_tag : List ℕ → ℕ
-spread_tag text = (tag_of text * 0x9e3779b97f4a7c15) % 2 ^ 64
-
+-- the tags of texts
 unfoldable pub spread_tags : List (List ℕ) → List ℕ
 spread_tags texts = map (λ i. spread_tag (text_at texts i)) (range_with_len 0 (length texts))
 

@@ -8,10 +8,10 @@ use Rattle.lk_tables.specs.declared.heads.Symbol.{Symbol}
 use Rattle.lk_tables.specs.Files.{File, file_at, first_symbol, by_symbol}
 use Rattle.lk_tables.specs.Names.{text_of}
 use Rattle.lk_tables.specs.NameNumbers.{is_named}
-use Rattle.name_numbers.specs.declared.keys.Key.{Key}
-use Rattle.name_numbers.specs.declared.keys.TaggedName.{TaggedName}
+use Rattle.name_numbers.specs.declared.sorting.Key.{Key}
+use Rattle.name_numbers.specs.declared.sorting.TaggedText.{TaggedText}
 use Rattle.name_numbers.specs.Spans.{symbol_in, first_span}
-use Rattle.name_numbers.specs.Tags.{tag_of}
+use Rattle.name_numbers.specs.Tags.{spread_tag}
 
 -- a key as a plain record
 pub record KeyView : Type 0 where
@@ -25,6 +25,9 @@ key_view key = record { tag = key.name.tag; text = key.name.text.now; at = key.a
 abbrev pub key_views : List Key → List KeyView
 key_views list = map key_view list
 
+abbrev pub tag_of_key : KeyView → ℕ
+tag_of_key v = v.tag
+
 abbrev pub text_of_key : KeyView → List ℕ
 text_of_key v = v.text
 
@@ -32,11 +35,11 @@ abbrev pub place_of_key : KeyView → ℕ
 place_of_key v = v.at
 
 abbrev pub AreTagged : List KeyView → Type 0
-AreTagged list = All (λ v. v.tag ≡ tag_of v.text) list
+AreTagged list = All (λ v. v.tag ≡ spread_tag v.text) list
 
 -- the key of symbol i of a file, whose first symbol has the number `start`: if its name counts, and it is the first of its span
 abbrev pub key_of : (text : List ℕ) (at : ℕ) → KeyView
-key_of text at = record { tag = tag_of text; text = text; at = at }
+key_of text at = record { tag = spread_tag text; text = text; at = at }
 
 unfoldable pub key_in : (b : List ℕ) → List Symbol → (start i : ℕ) → List KeyView
 key_in b symbols start i = if is_named (symbol_in symbols i) && first_span symbols i == i
@@ -56,11 +59,14 @@ keys files = flat_map (keys_in files) (range_with_len 0 (length files))
 abbrev pub first_no : List File → (f i : ℕ) → ℕ
 first_no files f i = first_in (file_at files f).head.symbols (first_symbol files f) i
 
+abbrev pub firsts_in : List File → ℕ → List ℕ
+firsts_in files f = map (first_no files f) (range_with_len 0 (length (file_at files f).head.symbols))
+
 unfoldable pub firsts : List File → List ℕ
 firsts files = by_symbol files (first_no files)
 
 -- by the tag, then by the name, then by the place
-abbrev pub name_cmp : TaggedName → TaggedName → Ordering
+abbrev pub name_cmp : TaggedText → TaggedText → Ordering
 name_cmp x y = ordering_then (nat_cmp x.tag y.tag) (slice_cmp nat_cmp x.text.now y.text.now)
 
 abbrev pub key_cmp : Key → Key → Ordering

@@ -1,85 +1,123 @@
-//! The keys of a link: one for each span that is a name.
+//! The keys of files: one for each span that is a name.
 
-ghost use Rattle.std.specs.Prelude.{◌≡◌, ℕ, ◌+◌, ◌++◌, ◌<◌, ◌≤◌, ◌^◌, ◌==◌, ◌&&◌, length, map, slice_index, flat_map, IfOk, OnOk};
+ghost use Rattle.std.specs.Prelude.{◌≡◌, ℕ, ◌+◌, ◌++◌, ◌∷◌, [], ◌<◌, ◌≤◌, ◌^◌, ◌==◌, ◌&&◌, length, map, slice_index, flat_map, IfOk, OnOk};
 ghost use Rattle.std.specs.List.{range_with_len};
 ghost use Rattle.lk_tables.specs.FileView.{file_view, file_views};
 ghost use Rattle.lk_tables.specs.Files.{first_symbol, symbol_total};
 ghost use Rattle.lk_tables.specs.NameNumbers.{is_named};
-ghost use Rattle.name_numbers.specs.Keys.{key_views, key_in, keys, first_in, firsts};
+ghost use Rattle.name_numbers.specs.Columns.{Appends, HasKeys, IsEmpty};
+ghost use Rattle.name_numbers.specs.Keys.{key_in, key_of, first_in};
 ghost use Rattle.name_numbers.specs.Spans.{first_or_none};
 
 use crate::spans::{first_spans, is_named};
-use crate::tags::tag_of;
+use crate::tags::spread_tag_of;
 use lk_tables::{File, Symbol, text_of};
 use std::alloc::{AllocError, Global};
+use std::ops::Range;
 
-/// A name, after its tag: names are in order by their tags, then by their bytes.
-#[derive(Clone, Copy, PartialEq, Eq, PartialOrd, Ord)]
-pub struct TaggedName<'a> {
-    pub tag: u64,
-    pub text: &'a [u8],
+/// The keys of some files, in order of file and symbol. Each step that numbers them reads one of these lists alone.
+#[derive(Drop)]
+pub struct Keys<'a> {
+    /// The tags of the names, spread over all bits.
+    pub tags: Vec<u64>,
+    /// The names.
+    pub texts: Vec<&'a [u8]>,
+    /// The numbers of the first symbols of the names' spans.
+    pub symbols: Vec<u32>,
 }
 
-/// A name, and the number of the first symbol of its span. Keys are in order by their names, then by their symbols.
-#[derive(Clone, Copy, PartialEq, Eq, PartialOrd, Ord)]
-pub struct Key<'a> {
-    pub name: TaggedName<'a>,
-    pub at: u32,
-}
-
-/// The keys of a link, and by its number for each symbol whose name counts the one of its span that has a key.
+/// The keys of some files, and by symbol, for each whose name counts, the number of the first of its span, which has a key.
 #[derive(Drop)]
 pub struct Listed<'a> {
-    pub keys: Vec<Key<'a>>,
+    pub keys: Keys<'a>,
     pub firsts: Vec<u32>,
 }
 
-/// Lists the keys of all files, in order of file and symbol.
-pub fn keys_of<'a>(
+/// Nothing yet, with room for so many keys, and for so many symbols.
+pub fn nothing_listed<'a>(
+    alloc: Global,
+    keys: usize,
+    symbols: usize,
+) -> Result<Listed<'a>, AllocError>
+    ensures { IfOk result IsEmpty }
+{
+    let firsts = Vec::with_capacity(alloc, symbols)?;
+    let tags = Vec::with_capacity(alloc, keys)?;
+    let texts = Vec::with_capacity(alloc, keys)?;
+    let symbols = Vec::with_capacity(alloc, keys)?;
+    let keys = Keys {
+        tags,
+        texts,
+        symbols,
+    };
+    Ok(Listed { keys, firsts })
+}
+
+/// Lists the keys of a run of files.
+pub fn keys_of_run<'a>(
     alloc: Global,
     files: &[File<'a>],
     starts: &[u32],
+    run: Range<usize>,
 ) -> Result<Listed<'a>, AllocError>
     requires starts { starts.now ≡ map (first_symbol (file_views files.now)) (range_with_len 0 (length files.now + 1)) }
     requires symbols { symbol_total (file_views files.now) < 2 ^ 31 }
-    ensures keys { IfOk result (λ listed. key_views listed.keys.items ≡ keys (file_views files.now)) }
-    ensures firsts { IfOk result (λ listed. listed.firsts.items ≡ firsts (file_views files.now)) }
+    requires ordered { run.start ≤ run.end }
+    requires within { run.end ≤ length files.now }
+    ensures { IfOk result (HasKeys (file_views files.now) run.start run.end) }
 {
-    let total = starts[files.len()] as usize;
-    let mut keys = Vec::with_capacity(alloc, total)?;
-    let mut firsts = Vec::with_capacity(alloc, total)?;
-    for f in 0..files.len() {
-        let own = first_spans(alloc, &files[f])?;
-        push_keys(&mut keys, &files[f], starts[f], own.as_slice())?;
-        push_firsts(&mut firsts, &files[f], starts[f], own.as_slice())?;
+    let room = starts[run.end].saturating_sub(starts[run.start]) as usize;
+    let mut listed = nothing_listed(alloc, room, room)?;
+    for f in run.start..run.end {
+        push_file(alloc, &mut listed, &files[f], starts[f])?;
     }
-    Ok(Listed { keys, firsts })
+    Ok(listed)
+}
+
+/// What is listed of one file, whose first symbol has the number `start`.
+fn push_file<'a>(
+    alloc: Global,
+    listed: &mut Listed<'a>,
+    file: &File<'a>,
+    start: u32,
+) -> Result<(), AllocError>
+    requires { start + length (file_view file.now).head.symbols < 2 ^ 31 }
+    ensures keys { OnOk result (Appends (flat_map (key_in (file_view file.now).bytes (file_view file.now).head.symbols start) (range_with_len 0 (length (file_view file.now).head.symbols))) listed.old.keys listed.new.keys) }
+    ensures firsts { OnOk result (listed.new.firsts.items ≡ listed.old.firsts.items ++ map (first_in (file_view file.now).head.symbols start) (range_with_len 0 (length (file_view file.now).head.symbols))) }
+{
+    let firsts = first_spans(alloc, file)?;
+    push_keys(&mut listed.keys, file, start, firsts.as_slice())?;
+    push_firsts(&mut listed.firsts, file, start, firsts.as_slice())?;
+    Ok(())
 }
 
 /// The keys of one file.
 fn push_keys<'a>(
-    keys: &mut Vec<Key<'a>>,
+    keys: &mut Keys<'a>,
     file: &File<'a>,
     start: u32,
     firsts: &[u32],
 ) -> Result<(), AllocError>
     requires few { start + length (file_view file.now).head.symbols < 2 ^ 31 }
     requires firsts { firsts.now ≡ map (first_or_none (file_view file.now).head.symbols) (range_with_len 0 (length (file_view file.now).head.symbols)) }
-    ensures { OnOk result (key_views keys.new.items ≡ key_views keys.old.items ++ flat_map (key_in (file_view file.now).bytes (file_view file.now).head.symbols start) (range_with_len 0 (length (file_view file.now).head.symbols))) }
+    ensures { OnOk result (Appends (flat_map (key_in (file_view file.now).bytes (file_view file.now).head.symbols start) (range_with_len 0 (length (file_view file.now).head.symbols))) keys.old keys.new) }
 {
     for i in 0..file.symbols().len() {
         let symbol = file.symbol(i);
         if has_key(&symbol, firsts[i], i) {
-            let text = text_of(file.bytes(), &symbol.name);
-            keys.push(Key {
-                name: TaggedName {
-                    tag: tag_of(text),
-                    text,
-                },
-                at: start + i as u32,
-            })?;
+            push_key(keys, text_of(file.bytes(), &symbol.name), start + i as u32)?;
         }
     }
+    Ok(())
+}
+
+/// One key more: a name, and the number of the first symbol of its span.
+fn push_key<'a>(keys: &mut Keys<'a>, text: &'a [u8], symbol: u32) -> Result<(), AllocError>
+    ensures { OnOk result (Appends (key_of text.now symbol ∷ []) keys.old keys.new) }
+{
+    keys.tags.push(spread_tag_of(text))?;
+    keys.texts.push(text)?;
+    keys.symbols.push(symbol)?;
     Ok(())
 }
 

@@ -1,12 +1,14 @@
 //! The names of all symbols of a link, numbered once for all passes.
 //!
 //! The number of a name is that of the first symbol that has it. Symbols of a file whose names are the same span of its bytes share one
-//! key, so no bytes of equal spans are read twice. The keys of all files are sorted by a tag that the bytes decide, then by the bytes, then
-//! by symbol; the first key of a run of equal names has the number of the whole run. Other texts are numbered by tables of their tags, and
-//! each is compared with the first of its tag; only where that is not equal are they numbered in the same way.
+//! key, so no bytes of equal spans are read twice. The keys of all files are listed in order of their symbols, by several workers for a run of
+//! files each, with a tag that the bytes decide; and they are numbered as any other texts are: by tables of their tags, after which each is
+//! compared with the first of its tag. Only where that is not equal, and where there are few, are they sorted by tag, bytes and place; the
+//! first of a run of equal texts then has the number of the whole run.
 #![tactic(auto)]
 
 mod keys;
+mod listing;
 mod numbers;
 mod parts;
 mod shards;

@@ -1,23 +1,26 @@
 //! The names of a link by number.
 
-ghost use Rattle.std.specs.Prelude.{◌≡◌, ℕ, ◌<◌, ◌==◌, ◌||◌, ◌-◌, ◌^◌, not, length, map, slice_index, IfOk, Contains};
-ghost use Rattle.std.specs.Str.{bytes_eq};
+ghost use Rattle.std.specs.Prelude.{◌≡◌, ℕ, ◌<◌, ◌^◌, length, map, slice_index, IfOk};
 ghost use Rattle.std.specs.List.{range_with_len};
-ghost use Rattle.std.specs.List.Sorted.{IsSorted};
 ghost use Rattle.lk_tables.specs.FileView.{file_views};
 ghost use Rattle.lk_tables.specs.Files.{symbol_total};
 ghost use Rattle.lk_tables.specs.NameNumbers.{NumbersNames, heads_alone};
-ghost use Rattle.name_numbers.specs.Keys.{KeyView, key_cmp, key_views, text_of_key, place_of_key, key_text, followed, AreTagged};
-ghost use Rattle.name_numbers.specs.Marks.{Marks};
+ghost use Rattle.name_numbers.specs.Keys.{followed};
+ghost use Rattle.name_numbers.specs.Marks.{AreMarked};
 
-use crate::keys::{Key, keys_of};
-use crate::sorting::sort_keys;
+use crate::keys::Keys;
+use crate::listing::keys_of;
+use crate::texts::number_tagged;
 use lk_tables::{File, NameNumbers, first_symbols};
+use rayon::prelude::*;
 use std::alloc::{AllocError, Global};
 use std::thread::Threads;
 
-/// Numbers the names of all files' symbols, whether their files take part in the link or not. One worker sorts by itself; more are as
-/// many as the machine has processors.
+/// The numbers of fewer symbols are not worth threads.
+const LEAST: usize = 262_144;
+
+/// Numbers the names of all files' symbols, whether their files take part in the link or not. One worker does all by itself; for more,
+/// threads are started if there are many names.
 pub fn number_names<R: Threads + Sync>(
     rt: &R,
     alloc: Global,
@@ -28,49 +31,87 @@ pub fn number_names<R: Threads + Sync>(
     ensures { IfOk result (λ n. NumbersNames (heads_alone (file_views files.now)) n) }
 {
     let starts = first_symbols(alloc, files)?;
-    let listed = keys_of(alloc, files, starts.as_slice())?;
-    let mut keys = listed.keys;
+    let listed = keys_of(rt, alloc, files, starts.as_slice(), workers)?;
+    let Keys {
+        tags,
+        texts,
+        symbols,
+    } = listed.keys;
     let mut firsts = listed.firsts;
-    sort_keys(rt, keys.as_mut_slice(), workers);
-    mark_keys(firsts.as_mut_slice(), keys.as_slice());
-    let numbers = follow(alloc, firsts.as_slice())?;
+    let indexes = number_tagged(rt, alloc, texts.as_slice(), tags.as_slice(), workers)?;
+    mark_firsts(
+        firsts.as_mut_slice(),
+        symbols.as_slice(),
+        indexes.as_slice(),
+    );
+    let numbers = follow(rt, alloc, firsts.as_slice(), workers)?;
     Ok(NameNumbers { starts, numbers })
 }
 
-/// Writes to the place of each key that of the first one with the same name. Keys of one name stand side by side.
-pub fn mark_keys(firsts: &mut [u32], keys: &[Key])
-    requires sorted { IsSorted key_cmp keys.now }
-    requires tagged { AreTagged (key_views keys.now) }
-    requires within { (v : KeyView) → Contains (key_views keys.now) v → v.at < length firsts.old }
-    requires once { (v w : KeyView) → Contains (key_views keys.now) v → Contains (key_views keys.now) w → v.at ≡ w.at → v.text ≡ w.text }
-    ensures { Marks text_of_key place_of_key (key_views keys.now) firsts.old firsts.new }
+/// Writes to the symbol of each key that of the first key with the same name, whose index is the number of the name's text.
+fn mark_firsts(firsts: &mut [u32], symbols: &[u32], indexes: &[u32])
+    requires wide { length indexes.now ≡ length symbols.now }
+    requires indexes { (k : ℕ) → k < length symbols.now → slice_index indexes.now k < length symbols.now }
+    requires symbols { (k : ℕ) → k < length symbols.now → slice_index symbols.now k < length firsts.old }
+    requires rise { (j k : ℕ) → j < k → k < length symbols.now → slice_index symbols.now j < slice_index symbols.now k }
+    ensures { AreMarked symbols.now indexes.now (length symbols.now) firsts.old firsts.new }
 {
-    let mut first: u32 = 0;
-    for k in 0..keys.len() {
-        if is_new(keys, k) {
-            first = keys[k].at;
-        }
-        firsts[keys[k].at as usize] = first;
+    for k in 0..symbols.len() {
+        firsts[symbols[k] as usize] = symbols[indexes[k] as usize];
     }
 }
 
-/// Whether a name is not the one before it.
-fn is_new(keys: &[Key], k: usize) -> bool
-    requires { k < length keys.now }
-    ensures { result ≡ (k == 0 || not (bytes_eq (key_text keys.now (k - 1)) (key_text keys.now k))) }
+/// By symbol, the number of its name: what stands at the first of its span.
+fn follow<R: Threads + Sync>(
+    rt: &R,
+    alloc: Global,
+    firsts: &[u32],
+    workers: u32,
+) -> Result<Vec<u32>, AllocError>
+    ensures { IfOk result (λ list. list.items ≡ followed firsts.now) }
 {
-    k == 0 || keys[k - 1].name.text != keys[k].name.text
+    if workers == 1 || firsts.len() < LEAST {
+        return follow_by_one(alloc, firsts);
+    }
+    follow_by_all(rt, alloc, firsts)
 }
 
-/// By symbol, the number of its name: what stands at the first of its span.
-fn follow(alloc: Global, firsts: &[u32]) -> Result<Vec<u32>, AllocError>
+/// The same by one worker.
+fn follow_by_one(alloc: Global, firsts: &[u32]) -> Result<Vec<u32>, AllocError>
     ensures { IfOk result (λ list. list.items ≡ followed firsts.now) }
 {
     let mut list = Vec::with_capacity(alloc, firsts.len())?;
     for s in 0..firsts.len() {
-        list.push(value_at(firsts, firsts[s] as usize))?;
+        list.push(followed_at(firsts, s))?;
     }
     Ok(list)
+}
+
+/// The same by all processors.
+fn follow_by_all<R: Threads + Sync>(
+    rt: &R,
+    alloc: Global,
+    firsts: &[u32],
+) -> Result<Vec<u32>, AllocError>
+    ensures { IfOk result (λ list. list.items ≡ followed firsts.now) }
+{
+    (0..firsts.len())
+        .into_par_iter()
+        .map(
+            |s: usize| -> u32
+                requires { s < length firsts.now }
+                ensures { result ≡ slice_index firsts.entry.now (slice_index firsts.entry.now s) }
+            { followed_at(firsts, s) },
+        )
+        .collect(rt, alloc)
+}
+
+/// The number of one symbol's name.
+fn followed_at(firsts: &[u32], s: usize) -> u32
+    requires { s < length firsts.now }
+    ensures { result ≡ slice_index firsts.now (slice_index firsts.now s) }
+{
+    value_at(firsts, firsts[s] as usize)
 }
 
 /// A number of a list, 0 past its end.

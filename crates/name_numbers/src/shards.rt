@@ -16,8 +16,8 @@ const GROUPS: usize = 8;
 
 const GROUP: usize = 8;
 
-// So few tags are not worth threads.
-const LEAST: usize = 16_384;
+/// Fewer texts are not worth threads.
+pub const LEAST: usize = 16_384;
 
 /// The index of a text, and the first index that has its tag.
 #[derive(Clone, Copy, Drop)]

@@ -6,15 +6,17 @@ ghost use Rattle.name_numbers.specs.Firsts.{AreTold};
 ghost use Rattle.name_numbers.specs.Firsts as spec;
 ghost use Rattle.name_numbers.specs.Texts.{lent_texts, text_at};
 
+use crate::shards::LEAST;
 use rayon::prelude::*;
 use std::thread::Threads;
 
-/// Whether each text is equal to that of its number. One worker compares by itself; more are as many as the machine has processors.
+/// Whether each text is equal to that of its number. One worker compares by itself, and few texts are compared by one; more are as many as
+/// the machine has processors.
 pub fn are_told<R: Threads + Sync>(rt: &R, texts: &[&[u8]], numbers: &[u32], workers: u32) -> bool
     requires wide { length numbers.now ≡ length texts.now }
     ensures { result ≡ true → AreTold (lent_texts texts.now) numbers.now }
 {
-    if workers == 1 {
+    if workers == 1 || texts.len() < LEAST {
         return told_by_one(texts, numbers);
     }
     told_by_all(rt, texts, numbers)

@@ -9,6 +9,7 @@ ghost use Rattle.reloc_apply.specs.PieceView.{piece_of, Ends};
 pub struct Piece<'a> {
     /// File offset of the first byte.
     pub at: u64,
+    /// All its bytes, also those that lie outside of a block.
     pub bytes: &'a [u8],
 }
 

@@ -6,7 +6,7 @@
 
 use link_driver::{OpenGate, run};
 use lk_real::{RealDepot, StdSink};
-use std::alloc::Global;
+use std::alloc::{AllocError, Global};
 use std::fs::File;
 use std::process::ExitCode;
 use std::{env, io};
@@ -33,8 +33,21 @@ fn null_device(rt: &HostRuntime) -> Option<File> {
         .ok()
 }
 
+/// Bytes of the block that `keep_freed_memory` takes. glibc maps blocks of up to 32 MB, its own sizes included, that it may keep from then on.
+const KEPT_BLOCK: usize = (32 << 20) - (64 << 10);
+
+/// Takes a block of memory and gives it back untouched. From then on glibc keeps freed blocks of up to this size for the next ones,
+/// where it would give their pages back to the system and take fresh ones, each of which costs a page fault (`M_MMAP_THRESHOLD` in
+/// `mallopt(3)`). If there is no memory for it nothing changes.
+fn keep_freed_memory(alloc: Global) -> Result<(), AllocError> {
+    let block: Vec<u8> = Vec::with_capacity(alloc, KEPT_BLOCK)?;
+    drop(block);
+    Ok(())
+}
+
 fn main(rt: HostRuntime) -> ExitCode {
     let alloc = rt.alloc();
+    let _ = keep_freed_memory(alloc);
     let _input = null_device(&rt);
     let _output = null_device(&rt);
     let _error = null_device(&rt);

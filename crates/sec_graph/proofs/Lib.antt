@@ -5,5 +5,6 @@ pub mod Joining
 pub mod ListParts
 pub mod NamedLists
 pub mod Runs
+pub mod Standing
 pub mod Unbound
 pub mod Within

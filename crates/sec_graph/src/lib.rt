@@ -2,7 +2,8 @@
 //!
 //! `pairs` lists the sections of a file that go together without a relocation, `named_sections` finds the sections of each name to whose
 //! start or end symbols refer, `ends` joins both with what relocations name, `graph` does so for all files, and `undefined_symbols` finds
-//! what a kept section refers to though nothing defines it. `fold_lists` lists what may be folded, with what its relocations refer to.
+//! what a kept section refers to though nothing defines it; `prevailing` says what names stand for without a look into other files.
+//! `fold_lists` lists what may be folded, with what its relocations refer to.
 #![tactic(auto)]
 
 mod ends;
@@ -11,6 +12,7 @@ mod foldable_names;
 mod graph;
 mod named_sections;
 mod pairs;
+mod prevailing;
 mod undefined_symbols;
 
 pub use fold_lists::items;

@@ -1,25 +1,24 @@
 -- What is merged of each section, one section more.
-use Rattle.std.proofs.Common.{◌≡◌, ℕ, zero, suc, ◌+◌, ◌-◌, ◌<◌, ◌≤◌, ◌==◌, Bool, List, [], ◌∷◌, ◌++◌, length, map, get_or, take, drop, refl, sym, ap, ◌∙◌, subst, arith, inl, inr}
-use Rattle.std.specs.Prelude.{All, flat_map}
-use Rattle.std.specs.Global.{Vec}
-use Rattle.std.proofs.Math.Seq.{drop-append_seam, drop-cons, get_or-append_seam, take-append_seam}
+use Rattle.std.proofs.Common.{◌≡◌, ℕ, zero, suc, ◌+◌, ◌<◌, ◌≤◌, ◌==◌, Bool, List, [], ◌∷◌, ◌++◌, length, map, get_or, set, drop, refl, sym, ap, ◌∙◌, subst, arith, inl, inr}
+use Rattle.std.specs.Prelude.{All}
+use Rattle.std.proofs.Math.Seq.{drop-cons}
 use Rattle.std.proofs.lemmas.Bool.{cases_Bool, eqb-true, eqb-false}
-use Rattle.std.proofs.lemmas.List.{drop-drop, drop-map, get_or-map, get_or_append_left, get_or-set_same, get_or-set_other, length-append, length-drop, length-map, length-set, take-map, take_more}
-use Rattle.std.proofs.lemmas.List.Elements.{All-push, All-weaker}
-use Rattle.lk_tables.specs.declared.spans.Span.{Span}
+use Rattle.std.proofs.lemmas.List.{get_or-append-add, get_or-map, get_or_append_left, get_or-set_same, get_or-set_other, length-append, length-map, length-set}
+use Rattle.std.proofs.lemmas.List.Elements.{All-append, All-cons, All-weaker}
 use Rattle.lk_tables.specs.Files.{File}
 use Rattle.lk_tables.specs.TablesView.{files_of}
 use Rattle.link_sections.specs.declared.pieces.Merged.{Merged as HeldMerged}
 use Rattle.link_sections.specs.declared.pieces.Part.{Part}
-use Rattle.link_sections.specs.Merging.{Site, merged_of, no_site, parts_from, piece_number, pool_number, pool_pieces, site_pieces, sites}
+use Rattle.link_sections.specs.Merging.{Site, merged_of, parts_from, piece_number, pool_number, pool_pieces, site_pieces, sites}
 use Rattle.link_sections.specs.PoolViews.{Merged, merged_view}
 use Rattle.link_sections.specs.Pools.{AreInOrder}
 use Rattle.str_merge.specs.declared.filling.Filled.{Filled}
 use Rattle.str_merge.specs.declared.pooling.Work.{Work}
-use Rattle.str_merge.specs.Filling.{AddsParts, AreAnswered, IsAnswered, no_merged}
+use Rattle.str_merge.specs.Filling.{AddsParts, AreAnswered, IsAnswered, no_merged, with_answers}
 use Rattle.str_merge.specs.Parts.{parts_by}
-use Rattle.str_merge.specs.Sites.{span_text, span_texts}
-use Rattle.str_merge.specs.Works.{IsWork, members_at, nth_site}
+use Rattle.str_merge.specs.Pooling.{own_parts}
+use Rattle.str_merge.specs.Works.{members_at, nth_site}
+use Rattle.str_merge.proofs.ListSteps.{drop_past}
 use Rattle.str_merge.proofs.PoolFacts.{members_own, members_within}
 
 -- pieces with their numbers in the pool
@@ -48,103 +47,53 @@ in_order start (piece ∷ pieces) (n ∷ numbers) = first_or_later start piece p
     first_or_later start piece pieces n numbers later (suc i) (suc j) d le lt = later i j d (omega arith) (omega arith)
 
 -- the answer of one section
-pub step_keeps : (w : Work) (site pool : ℕ) (texts : List (List ℕ)) (numbers : List ℕ) (old new : Filled) → AddsParts site pool texts numbers old new → site < length old.answers.items →
-    merged_of (files_of w.tables.now) w.kept.now (nth_site (files_of w.tables.now) w.kept.now site) ≡ record { pool = pool; parts = parts_by 0 texts numbers } →
-    IsAnswered w new.rows.parts new.answers.items site
-    × ((i : ℕ) → IsAnswered w old.rows.parts old.answers.items i → IsAnswered w new.rows.parts new.answers.items i)
-step_keeps w site pool texts numbers old new adds lt is =
-    let rows = old.rows.parts in
-    let one = parts_by 0 texts numbers in
-    let here : HeldMerged = record { pool = pool; row = length rows } in
-    let more : length new.rows.parts ≡ length rows + 1 = ap length adds.parts ∙ length-append rows (one ∷ []) in
-    let answer : get_or new.answers.items site no_merged ≡ here = ap (λ l. get_or l site no_merged) adds.answers ∙ get_or-set_same old.answers.items site here no_merged lt in
-    let own : IsAnswered w new.rows.parts new.answers.items site = record {
-      row = omega (arith, more, ap (λ (m : HeldMerged). m.row) answer);
-      merged =
-          ap (merged_view new.rows.parts) answer
-          ∙ ap (λ (l : List (List Part)). merged_view l here) adds.parts
-          ∙ ap (λ (l : List Part). record { pool = pool; parts = l }) (get_or-append_seam rows one [] [])
-          ∙ sym is;
-    } in (
+set_keeps : (w : Work) (rows : List (List Part)) (answers : List HeldMerged) (site : ℕ) (here : HeldMerged) → site < length answers → here.row < length rows →
+    merged_view rows here ≡ merged_of (files_of w.tables.now) w.kept.now (nth_site (files_of w.tables.now) w.kept.now site) →
+    IsAnswered w rows (set answers site here) site × ((i : ℕ) → IsAnswered w rows answers i → IsAnswered w rows (set answers site here) i)
+set_keeps w rows answers site here lt low is =
+    let new = set answers site here in
+    let Low : HeldMerged → Type 0 = λ m. m.row < length rows in
+    let answer : get_or new site no_merged ≡ here = get_or-set_same answers site here no_merged lt in
+    let own : IsAnswered w rows new site = record { row = subst Low (sym answer) low; merged = ap (merged_view rows) answer ∙ is } in (
       own,
       λ i held. elim (cases_Bool (i == site)) [
         | inl same ↦
-            let P : ℕ → Type 0 = λ k. IsAnswered w new.rows.parts new.answers.items k in
+            let P : ℕ → Type 0 = λ k. IsAnswered w rows new k in
             subst P (sym (eqb-true i site same)) own
         | inr other ↦
-            let apart = eqb-false i site other in
-            let kept : get_or new.answers.items i no_merged ≡ get_or old.answers.items i no_merged =
-            ap (λ l. get_or l i no_merged) adds.answers ∙ get_or-set_other old.answers.items site i here no_merged apart in
-            let low = held.row in
-            let m = get_or old.answers.items i no_merged in
-            record {
-              row = omega (arith, more, low, ap (λ (m : HeldMerged). m.row) kept);
-              merged =
-                  ap (merged_view new.rows.parts) kept
-                  ∙ ap (λ (l : List (List Part)). merged_view l m) adds.parts
-                  ∙ ap (λ (l : List Part). record { pool = m.pool; parts = l }) (get_or_append_left rows (one ∷ []) [] m.row low)
-                  ∙ held.merged;
-            }
+            let kept : get_or new i no_merged ≡ get_or answers i no_merged = get_or-set_other answers site i here no_merged (eqb-false i site other) in
+            record { row = subst Low (sym kept) held.row; merged = ap (merged_view rows) kept ∙ held.merged }
       ],
     )
 
-pub answered_none : (w : Work) (filled : Filled) → AreAnswered w [] filled filled
-answered_none w filled = record {
-  pools = refl;
-  pieces = refl;
-  bytes = refl;
-  count = refl;
-  ordered = λ all. all;
-  keeps = λ i held. held;
-  adds = λ i d lt. absurd (omega arith);
-}
+-- the row after a row stands for the section after a section
+abbrev AreRows : (w : Work) (rows : List (List Part)) (pool row : ℕ) (members : List ℕ) → Type 0
+AreRows w rows pool row members =
+    (k : ℕ) → k < length members → (row + k < length rows)
+    × (merged_view rows (record { pool = pool; row = row + k }) ≡ merged_of (files_of w.tables.now) w.kept.now (nth_site (files_of w.tables.now) w.kept.now (get_or members k 0)))
 
-pub answered_next : (w : Work) (members : List ℕ) (n pool : ℕ) (texts : List (List ℕ)) (numbers : List ℕ) (old mid new : Filled) → n < length members →
-    AreAnswered w (take n members) old mid → AddsParts (get_or members n 0) pool texts numbers mid new → get_or members n 0 < length mid.answers.items →
-    merged_of (files_of w.tables.now) w.kept.now (nth_site (files_of w.tables.now) w.kept.now (get_or members n 0)) ≡ record { pool = pool; parts = parts_by 0 texts numbers } →
-    AreAnswered w (take (n + 1) members) old new
-answered_next w members n pool texts numbers old mid new less held adds lt is =
-    let site = get_or members n 0 in
-    let step = step_keeps w site pool texts numbers mid new adds lt is in
-    let here : HeldMerged = record { pool = pool; row = length mid.rows.parts } in
-    let New : ℕ → Type 0 = IsAnswered w new.rows.parts new.answers.items in
-    let Old : ℕ → Type 0 = IsAnswered w mid.rows.parts mid.answers.items in
-    let P : List ℕ → Type 0 = All New in
-    let Q : List (List Part) → Type 0 = All AreInOrder in
-    record {
-      pools = adds.pools ∙ held.pools;
-      pieces = adds.pieces ∙ held.pieces;
-      bytes = adds.bytes ∙ held.bytes;
-      count = ap length adds.answers ∙ length-set mid.answers.items site here ∙ held.count;
-      ordered = λ all. subst Q (sym adds.parts) (All-push AreInOrder mid.rows.parts (parts_by 0 texts numbers) (held.ordered all) (in_order 0 texts numbers));
-      keeps = λ i own. step.1 i (held.keeps i own);
-      adds = subst P (sym (take_more members n 0 less)) (All-push New (take n members) site (All-weaker Old New step.1 (take n members) held.adds) step.0);
-    }
-
--- the pieces of one section among those of a pool, one after the other
-pub texts_next : {X : Type 0} (all : List X) (at len : ℕ) (own rest : List X) → at ≤ length all → drop at all ≡ own ++ rest → len ≡ length own →
-    (at + len ≤ length all) × (drop (at + len) all ≡ rest) × (take (at + len - at) (drop at all) ≡ own)
-texts_next all at len own rest most is long =
-    let count : length all - at ≡ length own + length rest = sym (length-drop at all) ∙ ap length is ∙ length-append own rest in
-    let less : at + len - at ≡ length own = omega arith in (
-      omega arith,
-      sym (drop-drop len at all) ∙ ap (drop len) is ∙ ap (λ k. drop k (own ++ rest)) long ∙ drop-append_seam own rest,
-      ap (λ l. take (at + len - at) l) is ∙ ap (λ k. take k (own ++ rest)) less ∙ take-append_seam own rest,
-    )
-
-pub part_of_map : {X Y : Type 0} (f : X → Y) (xs : List X) (n m : ℕ) → map f (take n (drop m xs)) ≡ take n (drop m (map f xs))
-part_of_map f xs n m = sym (take-map f n (drop m xs)) ∙ ap (take n) (sym (drop-map f m xs))
-
-pub cut_len : (w : Work) (i : ℕ) (v : Vec Span) → IsWork w → i < length (sites (files_of w.tables.now) w.kept.now) → v ≡ get_or w.cuts.now i v →
-    length v.items ≡ length (site_pieces (files_of w.tables.now) (nth_site (files_of w.tables.now) w.kept.now i))
-cut_len w i v is lt at =
-    let files = files_of w.tables.now in
-    let all = sites files w.kept.now in
-    let view : Vec Span → List (List ℕ) = λ cut. span_texts files cut.items in
-    let count : length w.cuts.now ≡ length all = sym (length-map w.cuts.now view) ∙ ap length is.cuts_are ∙ length-map all (site_pieces files) in
-    sym (length-map v.items (span_text files))
-    ∙ ap (λ (u : Vec Span). length (view u)) at
-    ∙ ap length (sym (get_or-map view w.cuts.now i v [] (omega arith)) ∙ ap (λ l. get_or l i []) is.cuts_are ∙ get_or-map (site_pieces files) all i no_site [] lt)
+answered_keeps : (w : Work) (rows : List (List Part)) (pool row : ℕ) (members : List ℕ) (answers : List HeldMerged) → All (λ m. m < length answers) members → AreRows w rows pool row members →
+    (length (with_answers answers members pool row) ≡ length answers)
+    × ((i : ℕ) → IsAnswered w rows answers i → IsAnswered w rows (with_answers answers members pool row) i)
+    × All (IsAnswered w rows (with_answers answers members pool row)) members
+answered_keeps w rows pool row [] answers low are = (refl, λ i held. held, λ i d lt. absurd (omega arith))
+answered_keeps w rows pool row (m ∷ members) answers low are =
+    let here : HeldMerged = record { pool = pool; row = row } in
+    let mid = set answers m here in
+    let first = are 0 (omega arith) in
+    let within = first.0 in
+    let at : row + 0 ≡ row = omega arith in
+    let step = set_keeps w rows answers m here (low 0 m (omega arith)) (omega (arith, within)) (ap (λ k. merged_view rows (record { pool = pool; row = k })) (sym at) ∙ first.1) in
+    let long : length mid ≡ length answers = length-set answers m here in
+    let later = answered_keeps w rows pool (row + 1) members mid
+    (λ k d lt. let less = low (suc k) d (omega arith) in omega (arith, less, long))
+    (λ k lt.
+    let next = are (suc k) (omega arith) in
+    let inside = next.0 in
+    let on : (row + 1) + k ≡ row + suc k = omega arith in
+    (omega (arith, inside), ap (λ j. merged_view rows (record { pool = pool; row = j })) on ∙ next.1)) in
+    let Answered : ℕ → Type 0 = IsAnswered w rows (with_answers mid members pool (row + 1)) in
+    (later.0 ∙ long, λ i held. later.1 i (step.1 i held), All-cons Answered m members (later.1 m step.0) later.2)
 
 -- what is merged of a section of a pool
 pub merged_is : (files : List File) (kept : List Bool) (s : Site) (pool : ℕ) → pool_number files kept s ≡ pool →
@@ -154,11 +103,6 @@ merged_is files kept s pool own =
     let Of : ℕ → Merged = λ p. record { pool = p; parts = parts_from (pool_pieces files kept p) 0 (site_pieces files s) } in
     ap Of own ∙ ap (λ (l : List Part). record { pool = pool; parts = l }) (sym (parts_are (pool_pieces files kept pool) 0 (site_pieces files s)))
 
-pub rest_of : {Y : Type 0} (f : ℕ → List Y) (members : List ℕ) (n : ℕ) → n < length members → flat_map f (drop n members) ≡ f (get_or members n 0) ++ flat_map f (drop (n + 1) members)
-rest_of f members n lt =
-    let one : suc n ≡ n + 1 = omega arith in
-    ap (flat_map f) (drop-cons members n 0 lt) ∙ ap (λ k. f (get_or members n 0) ++ flat_map f (drop k members)) one
-
 -- a section of a pool
 pub member_at : (files : List File) (kept : List Bool) (pool : ℕ) (members : List ℕ) (n : ℕ) → members ≡ members_at files kept pool → n < length members →
     (get_or members n 0 < length (sites files kept)) × (pool_number files kept (nth_site files kept (get_or members n 0)) ≡ pool)
@@ -166,3 +110,75 @@ member_at files kept pool members n is lt =
     let less : n < length (members_at files kept pool) = omega (arith, ap length is) in
     let P : List ℕ → Type 0 = λ l. (get_or l n 0 < length (sites files kept)) × (pool_number files kept (nth_site files kept (get_or l n 0)) ≡ pool) in
     subst P (sym is) (members_within files kept pool n 0 less, members_own files kept pool n 0 less)
+
+-- its parts stand in order
+own_ordered : (files : List File) (kept : List Bool) (s : Site) → AreInOrder (merged_of files kept s).parts
+unfolding merged_of
+own_ordered files kept s =
+    let known = pool_pieces files kept (pool_number files kept s) in
+    let pieces = site_pieces files s in
+    subst AreInOrder (parts_are known 0 pieces) (in_order 0 pieces (map (piece_number known) pieces))
+
+own_pool : (files : List File) (kept : List Bool) (s : Site) (pool : ℕ) → pool_number files kept s ≡ pool →
+    record { pool = pool; parts = (merged_of files kept s).parts } ≡ merged_of files kept s
+unfolding merged_of
+own_pool files kept s pool own =
+    let parts = parts_from (pool_pieces files kept (pool_number files kept s)) 0 (site_pieces files s) in
+    let Of : ℕ → Merged = λ p. record { pool = p; parts = parts } in ap Of (sym own)
+
+-- the sections of a pool
+pub parts_answered : (w : Work) (pool : ℕ) (members : List ℕ) (lists : List (List Part)) (old new : Filled) → members ≡ members_at (files_of w.tables.now) w.kept.now pool →
+    All (λ m. m < length old.answers.items) members → lists ≡ map (own_parts (files_of w.tables.now) w.kept.now) members → AddsParts members pool lists old new → AreAnswered w members old new
+parts_answered w pool members lists old new own low are adds =
+    let files = files_of w.tables.now in
+    let kept = w.kept.now in
+    let before = old.rows.parts in
+    let rows = before ++ lists in
+    let give = own_parts files kept in
+    let count : length lists ≡ length members = ap length are ∙ length-map members give in
+    let long : length rows ≡ length before + length lists = length-append before lists in
+    let read : (k : ℕ) (d : List Part) → k < length members → get_or lists k d ≡ give (get_or members k 0) = λ k d lt. ap (λ l. get_or l k d) are ∙ get_or-map give members k 0 d lt in
+    let each : AreRows w rows pool (length before) members = λ k lt. (
+      omega (arith, lt, count, long),
+      ap (λ (l : List Part). record { pool = pool; parts = l }) (get_or-append-add before lists k [] ∙ read k [] lt)
+          ∙ own_pool files kept (nth_site files kept (get_or members k 0)) pool (member_at files kept pool members k own lt).1,
+    ) in
+    let said = with_answers old.answers.items members pool (length before) in
+    let keeps = answered_keeps w rows pool (length before) members old.answers.items low each in
+    let Rows : List (List Part) → Type 0 = All AreInOrder in
+    let moved : (i : ℕ) → IsAnswered w rows said i → IsAnswered w new.rows.parts new.answers.items i = λ i held.
+    let P : List (List Part) → Type 0 = λ l. IsAnswered w l new.answers.items i in
+    let Q : List HeldMerged → Type 0 = λ l. IsAnswered w rows l i in
+    subst P (sym adds.parts) (subst Q (sym adds.answers) held) in
+    record {
+      pools = adds.pools;
+      pieces = adds.pieces;
+      bytes = adds.bytes;
+      count = ap length adds.answers ∙ keeps.0;
+      ordered = λ all. subst Rows (sym adds.parts) (All-append AreInOrder before lists all
+          (λ k d lt. subst AreInOrder (sym (read k d (omega (arith, lt, count)))) (own_ordered files kept (nth_site files kept (get_or members k 0)))));
+      keeps = λ i held. moved i (keeps.1 i (
+          let m = get_or old.answers.items i no_merged in
+          let within = held.row in
+          record {
+            row = omega (arith, within, long);
+            merged = ap (λ (l : List Part). record { pool = m.pool; parts = l }) (get_or_append_left before lists [] m.row within) ∙ held.merged;
+          }));
+      adds = All-weaker (IsAnswered w rows said) (IsAnswered w new.rows.parts new.answers.items) moved members keeps.2;
+    }
+
+-- what is said of the sections one after the other, one more, and all
+pub answers_next : (answers : List HeldMerged) (members : List ℕ) (pool row n : ℕ) (whole : List HeldMerged) → n < length members →
+    with_answers answers (drop n members) pool (row + n) ≡ whole →
+    with_answers (set answers (get_or members n 0) (record { pool = pool; row = row + n })) (drop (n + 1) members) pool (row + (n + 1)) ≡ whole
+answers_next answers members pool row n whole lt held =
+    let new = set answers (get_or members n 0) (record { pool = pool; row = row + n }) in
+    let on : row + (n + 1) ≡ (row + n) + 1 = omega arith in
+    let one : n + 1 ≡ suc n = omega arith in
+    ap (with_answers new (drop (n + 1) members) pool) on
+    ∙ ap (λ k. with_answers new (drop k members) pool ((row + n) + 1)) one
+    ∙ ap (λ l. with_answers answers l pool (row + n)) (sym (drop-cons members n 0 lt)) ∙ held
+
+pub answers_all : (answers : List HeldMerged) (members : List ℕ) (pool row n : ℕ) (whole : List HeldMerged) → length members ≤ n →
+    with_answers answers (drop n members) pool row ≡ whole → answers ≡ whole
+answers_all answers members pool row n whole le held = ap (λ l. with_answers answers l pool row) (sym (drop_past members n le)) ∙ held

@@ -1,22 +1,18 @@
--- The pieces of a section as spans of its file.
-use Rattle.std.proofs.Common.{◌≡◌, ℕ, zero, suc, ◌+◌, ◌-◌, ◌*◌, ◌/◌, ◌<◌, ◌≤◌, Bool, true, false, not, ◌==◌, bit_and, List, [], ◌∷◌, ◌++◌, length, map, take, drop, refl, sym, ap, ◌∙◌, subst, arith, append_assoc, inl, inr}
-use Rattle.std.specs.Prelude.{All, flat_map, if◌then◌else◌}
+-- The pieces of a section, from where they end.
+use Rattle.std.proofs.Common.{◌≡◌, ℕ, zero, suc, ◌+◌, ◌-◌, ◌*◌, ◌/◌, ◌<◌, ◌≤◌, Bool, true, false, List, [], ◌∷◌, ◌++◌, length, map, get_or, take, drop, min, refl, sym, ap, ◌∙◌, arith, append_assoc, inl, inr}
+use Rattle.std.specs.Prelude.{flat_map, if◌then◌else◌}
 use Rattle.std.specs.List.{range_with_len}
 use Rattle.std.proofs.Math.Nat.{div-mul-le_self, div-zero, mul-le-mul_right}
-use Rattle.std.proofs.Math.Seq.{drop-cons, take-add}
-use Rattle.std.proofs.lemmas.Bool.{cases_Bool}
-use Rattle.std.proofs.lemmas.List.{append-nil, drop-drop, drop-take, length-drop, length-take, map-append, take-take}
-use Rattle.std.proofs.lemmas.List.Elements.{All-push}
-use Rattle.std.proofs.lemmas.List.FromFn.{get_or-map-range_with_len, length-map-range_with_len}
-use Rattle.lk_base.specs.declared.abi.TheConstants.{SHF_STRINGS}
-use Rattle.lk_tables.specs.declared.heads.Section.{Section}
-use Rattle.lk_tables.specs.Sections.{contents_of}
-use Rattle.lk_tables.specs.declared.spans.Span.{Span}
-use Rattle.lk_tables.specs.Files.{File, file_at}
-use Rattle.lk_tables.specs.Names.{text_of}
-use Rattle.link_sections.specs.MergeSections.{elements, is_zero_char, section_pieces, strings_from}
-use Rattle.str_merge.specs.Cutting.{IsOfFile, no_defects, texts_in}
-use Rattle.str_merge.specs.Sites.{span_texts}
+use Rattle.std.proofs.Math.ListN.{get_or-map as get_or-map_default}
+use Rattle.std.proofs.Math.Seq.{drop-cons, take-add, take-nil}
+use Rattle.std.proofs.lemmas.Bool.{cases_Bool, cases_lt}
+use Rattle.std.proofs.lemmas.List.{append-nil, drop-drop, get_or_append_left, get_or_push, length-append, length-drop, length-map, take_all}
+use Rattle.std.proofs.lemmas.List.FromFn.{fill_by_all, get_or-map-range_with_len, length-map-range_with_len, map-range_with_len_more}
+use Rattle.std.proofs.lemmas.Simd.{map-map}
+use Rattle.link_sections.specs.MergeSections.{elements, is_zero_char, strings_from}
+use Rattle.str_merge.specs.declared.cuts.Cut.{Cut}
+use Rattle.str_merge.specs.Cutting.{no_defects}
+use Rattle.str_merge.specs.Sites.{CutPiece, cut_text, cut_texts, no_piece, piece_of, pieces_of, start_of, texts_of}
 use Rattle.str_merge.proofs.ListSteps.{drop_past}
 
 -- an element is whole
@@ -25,31 +21,6 @@ element_end n size i lt =
     let most = div-mul-le_self n size in
     let up : (i + 1) * size ≤ n / size * size = mul-le-mul_right size (omega arith) in
     omega (arith, most, up)
-
--- a byte of a span's text stands in the file
-pub room_of : (bytes : List ℕ) (whole : Span) (start : ℕ) → start < length (text_of bytes whole) → whole.from + start < length bytes
-unfolding text_of
-room_of bytes whole start lt =
-    omega (arith, length-take whole.len (drop whole.from bytes), length-drop whole.from bytes)
-
-pub room_most : (bytes : List ℕ) (whole : Span) → 0 < length (text_of bytes whole) → whole.from + length (text_of bytes whole) ≤ length bytes
-unfolding text_of
-room_most bytes whole some = omega (arith, length-take whole.len (drop whole.from bytes), length-drop whole.from bytes)
-
--- a part of a span's text
-pub part_text : (bytes : List ℕ) (whole part : Span) (start n : ℕ) → start + n ≤ length (text_of bytes whole) → part.from ≡ whole.from + start → part.len ≡ n →
-    text_of bytes part ≡ take n (drop start (text_of bytes whole))
-unfolding text_of
-part_text bytes whole part start n le from len =
-    let rest = drop whole.from bytes in
-    let within : start + n ≤ whole.len = omega (arith, length-take whole.len rest) in
-    let split : whole.len ≡ start + (whole.len - start) = omega arith in
-    ap (λ k. take k (drop part.from bytes)) len
-    ∙ ap (λ k. take n (drop k bytes)) from
-    ∙ ap (take n) (sym (drop-drop start whole.from bytes))
-    ∙ sym (take-take n (whole.len - start) (drop start rest) (omega arith))
-    ∙ ap (take n) (sym (drop-take start (whole.len - start) rest))
-    ∙ ap (λ k. take n (drop start (take k rest))) (sym split)
 
 -- element i
 abbrev pub element_of : (size : ℕ) → List ℕ → (i : ℕ) → List ℕ
@@ -143,33 +114,64 @@ strings_all bytes size i start texts le held =
 pub strings_none : (bytes : List ℕ) (size : ℕ) → AreStrings bytes size 0 0 []
 strings_none bytes size = record { order = omega arith; strings = ap (λ l. strings_from l (elements size bytes)) (begun_at bytes (0 * size) (omega arith)) }
 
--- spans of one file
-pub texts_of_file : (files : List File) (f : ℕ) (spans : List Span) → All (IsOfFile f) spans → span_texts files spans ≡ texts_in (file_at files f).bytes spans
-texts_of_file files f [] all = refl
-texts_of_file files f (s ∷ spans) all =
-    ap (λ k. text_of (file_at files k).bytes s ∷ span_texts files spans) (all 0 s (omega arith))
-    ∙ ap (λ l. text_of (file_at files f).bytes s ∷ l) (texts_of_file files f spans (λ i d lt. all (suc i) d (omega arith)))
-
 pub none_in : (a n : ℕ) → flat_map no_defects (range_with_len a n) ≡ []
 none_in a zero = refl
 none_in a (suc n) = none_in (a + 1) n
 
--- a string that is added if a character ends it
-pub ended_texts : (bytes : List ℕ) (whole span : Span) (start end : ℕ) (old new : List Span) (ends : Bool) → start ≤ end → end ≤ length (text_of bytes whole) →
-    span.from ≡ whole.from + start → span.len ≡ end - start → new ≡ old ++ (if ends then span ∷ [] else []) →
-    texts_in bytes new ≡ texts_in bytes old ++ (if ends then begun (text_of bytes whole) start end ∷ [] else [])
-ended_texts bytes whole span start end old new true order within from len is =
-    ap (texts_in bytes) is ∙ map-append (text_of bytes) old (span ∷ [])
-    ∙ ap (λ t. texts_in bytes old ++ t ∷ []) (part_text bytes whole span start (end - start) (omega arith) from len)
-ended_texts bytes whole span start end old new false order within from len is =
-    ap (texts_in bytes) is ∙ map-append (text_of bytes) old []
+-- where the last piece ends
+abbrev pub last_of : (ends : List ℕ) → ℕ
+last_of ends = start_of ends (length ends)
 
-pub ended_files : (file : ℕ) (old new : List Span) (span : Span) (ends : Bool) → span.file ≡ file → new ≡ old ++ (if ends then span ∷ [] else []) →
-    All (IsOfFile file) old → All (IsOfFile file) new
-ended_files file old new span true own is all =
-    let P : List Span → Type 0 = All (IsOfFile file) in subst P (sym is) (All-push (IsOfFile file) old span all own)
-ended_files file old new span false own is all =
-    let P : List Span → Type 0 = All (IsOfFile file) in subst P (sym (is ∙ append-nil old)) all
+-- one end more
+last_push : (ends : List ℕ) (e : ℕ) → last_of (ends ++ e ∷ []) ≡ e
+last_push ends e =
+    let n = length ends in
+    let long : length (ends ++ e ∷ []) ≡ suc n = omega (arith, length-append ends (e ∷ [])) in
+    ap (λ k. get_or (0 ∷ (ends ++ e ∷ [])) k 0) long ∙ get_or_push ends e 0 n refl
+
+text_kept : (bytes ends : List ℕ) (e k : ℕ) → k < length ends → cut_text bytes (ends ++ e ∷ []) k ≡ cut_text bytes ends k
+unfolding cut_text
+text_kept bytes ends e k lt =
+    let start = start_of ends k in
+    ap (λ s. take (get_or (ends ++ e ∷ []) k 0 - s) (drop s bytes)) (get_or_append_left (0 ∷ ends) (e ∷ []) 0 k (omega arith))
+    ∙ ap (λ n. take (n - start) (drop start bytes)) (get_or_append_left ends (e ∷ []) 0 k lt)
+
+text_new : (bytes ends : List ℕ) (e : ℕ) → cut_text bytes (ends ++ e ∷ []) (length ends) ≡ begun bytes (last_of ends) e
+unfolding cut_text
+text_new bytes ends e =
+    let n = length ends in
+    let start = last_of ends in
+    ap (λ s. take (get_or (ends ++ e ∷ []) n 0 - s) (drop s bytes)) (get_or_append_left (0 ∷ ends) (e ∷ []) 0 n (omega arith))
+    ∙ ap (λ m. take (m - start) (drop start bytes)) (get_or_push ends e 0 n refl)
+
+texts_push : (bytes ends : List ℕ) (e : ℕ) → cut_texts bytes (ends ++ e ∷ []) ≡ cut_texts bytes ends ++ begun bytes (last_of ends) e ∷ []
+texts_push bytes ends e =
+    let n = length ends in
+    let new = cut_text bytes (ends ++ e ∷ []) in
+    let old = cut_text bytes ends in
+    let long : length (ends ++ e ∷ []) ≡ n + 1 = length-append ends (e ∷ []) in
+    let same : map new (range_with_len 0 n) ≡ map old (range_with_len 0 n) =
+    fill_by_all old (map new (range_with_len 0 n)) n [] (length-map-range_with_len new 0 n)
+    (λ k lt. get_or-map-range_with_len new 0 n k k [] lt (omega arith) ∙ text_kept bytes ends e k lt) in
+    ap (λ m. map new (range_with_len 0 m)) long ∙ map-range_with_len_more new 0 n n (omega arith)
+    ∙ ap (λ l. l ++ new n ∷ []) same ∙ ap (λ t. map old (range_with_len 0 n) ++ t ∷ []) (text_new bytes ends e)
+
+pub pushed_last : (old new : List ℕ) (e : ℕ) → new ≡ old ++ e ∷ [] → e ≡ last_of new
+pushed_last old new e is = sym (ap last_of is ∙ last_push old e)
+
+pub pushed_texts : (bytes old new : List ℕ) (start e : ℕ) → start ≡ last_of old → new ≡ old ++ e ∷ [] → cut_texts bytes new ≡ cut_texts bytes old ++ begun bytes start e ∷ []
+pushed_texts bytes old new start e at is =
+    ap (cut_texts bytes) is ∙ texts_push bytes old e ∙ ap (λ s. cut_texts bytes old ++ begun bytes s e ∷ []) (sym at)
+
+-- an end more if a character ends a string
+pub ended_last : (old new : List ℕ) (e : ℕ) (ends : Bool) → new ≡ old ++ (if ends then e ∷ [] else []) → last_of new ≡ (if ends then e else last_of old)
+ended_last old new e true is = sym (pushed_last old new e is)
+ended_last old new e false is = ap last_of (is ∙ append-nil old)
+
+pub ended_texts : (bytes old new : List ℕ) (e : ℕ) (ends : Bool) → new ≡ old ++ (if ends then e ∷ [] else []) →
+    cut_texts bytes new ≡ cut_texts bytes old ++ (if ends then begun bytes (last_of old) e ∷ [] else [])
+ended_texts bytes old new e true is = pushed_texts bytes old new (last_of old) e refl is
+ended_texts bytes old new e false is = ap (cut_texts bytes) (is ∙ append-nil old) ∙ sym (append-nil (cut_texts bytes old))
 
 abbrev no_texts : List (List ℕ)
 no_texts = []
@@ -178,9 +180,57 @@ both_none : (b : Bool) → (if b then no_texts else no_texts) ≡ no_texts
 both_none true = refl
 both_none false = refl
 
--- a section of elements without a size has no pieces
-pub no_pieces : (bytes : List ℕ) (s : Section) → s.entsize ≡ 0 → section_pieces bytes s ≡ []
-unfolding section_pieces
-no_pieces bytes s none =
-    let list : elements s.entsize (contents_of bytes s) ≡ [] = ap (λ n. elements n (contents_of bytes s)) none ∙ no_elements (contents_of bytes s) in
-    ap (λ l. if not (bit_and s.flags SHF_STRINGS == 0) then strings_from [] l else l) list ∙ both_none (not (bit_and s.flags SHF_STRINGS == 0))
+-- bytes of elements without a size have no pieces
+pub none_cut : (bytes : List ℕ) (size : ℕ) (b : Bool) → size ≡ 0 → [] ≡ (if b then strings_from [] (elements size bytes) else elements size bytes)
+none_cut bytes size b none =
+    let list : elements size bytes ≡ [] = ap (λ n. elements n bytes) none ∙ no_elements bytes in
+    sym (ap (λ (l : List (List ℕ)). if b then strings_from [] l else l) list ∙ both_none b)
+
+-- the pieces of a section
+pub pieces_count : (c : Cut) → length (pieces_of c) ≡ length c.ends.items
+unfolding pieces_of
+pieces_count c = length-map-range_with_len (piece_of c) 0 (length c.ends.items)
+
+pub piece_read : (c : Cut) (k : ℕ) (d : CutPiece) → k < length c.ends.items → get_or (pieces_of c) k d ≡ piece_of c k
+unfolding pieces_of
+piece_read c k d lt = get_or-map-range_with_len (piece_of c) 0 (length c.ends.items) k k d lt (omega arith)
+
+pub pieces_texts : (c : Cut) → texts_of (pieces_of c) ≡ cut_texts c.bytes.now c.ends.items
+unfolding pieces_of
+pieces_texts c = map-map (λ (p : CutPiece). p.text) (piece_of c) (range_with_len 0 (length c.ends.items))
+
+pub text_read : (c : Cut) (k : ℕ) → k < length c.ends.items → get_or (texts_of (pieces_of c)) k [] ≡ cut_text c.bytes.now c.ends.items k
+text_read c k lt = get_or-map_default (λ (p : CutPiece). p.text) (pieces_of c) k no_piece ∙ ap (λ (p : CutPiece). p.text) (piece_read c k no_piece lt)
+
+pub texts_count : (c : Cut) → length (texts_of (pieces_of c)) ≡ length c.ends.items
+texts_count c = length-map (pieces_of c) (λ (p : CutPiece). p.text) ∙ pieces_count c
+
+-- where a piece begins
+pub start_after : (ends : List ℕ) (k : ℕ) → 0 < k → get_or ends (k - 1) 0 ≡ start_of ends k
+start_after ends zero some = absurd (omega (arith, some))
+start_after ends (suc k) some = let one : suc k - 1 ≡ k = omega arith in ap (λ j. get_or ends j 0) one
+
+-- bytes between two places, of which none is past the end
+clip_past : (bytes : List ℕ) (start end to : ℕ) → to ≡ min end (length bytes) → to < start → take (end - start) (drop start bytes) ≡ []
+clip_past bytes start end to last past = elim (cases_lt (length bytes) end) [
+  | inl beyond ↦ ap (take (end - start)) (drop_past bytes start (omega (arith, past, beyond, last))) ∙ take-nil (end - start)
+  | inr within ↦ let none : end - start ≡ 0 = omega (arith, past, within, last) in ap (λ n. take n (drop start bytes)) none
+]
+
+clip_low : (bytes : List ℕ) (start end to : ℕ) → to ≡ min end (length bytes) → start ≤ to → take (to - start) (drop start bytes) ≡ take (end - start) (drop start bytes)
+clip_low bytes start end to last low = elim (cases_lt (length bytes) end) [
+  | inl beyond ↦
+      take_all (to - start) (drop start bytes) (omega (arith, beyond, last, length-drop start bytes))
+      ∙ sym (take_all (end - start) (drop start bytes) (omega (arith, beyond, length-drop start bytes)))
+  | inr within ↦ let whole : to ≡ end = omega (arith, within, last) in ap (λ n. take (n - start) (drop start bytes)) whole
+]
+
+pub clipped : (bytes : List ℕ) (start end from to : ℕ) → to ≡ min end (length bytes) → from ≡ min start to → take (to - from) (drop from bytes) ≡ take (end - start) (drop start bytes)
+clipped bytes start end from to last first = elim (cases_lt to start) [
+  | inl past ↦
+      let none : to - from ≡ 0 = omega (arith, past, first) in
+      ap (λ n. take n (drop from bytes)) none ∙ sym (clip_past bytes start end to last past)
+  | inr low ↦
+      let here : from ≡ start = omega (arith, low, first) in
+      ap (λ k. take (to - k) (drop k bytes)) here ∙ clip_low bytes start end to last low
+]

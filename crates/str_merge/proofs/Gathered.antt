@@ -1,20 +1,19 @@
 -- The pieces of several sections, one section after the other.
-use Rattle.std.proofs.Common.{◌≡◌, ℕ, suc, ◌+◌, ◌-◌, ◌<◌, ◌≤◌, List, [], ◌∷◌, ◌++◌, length, map, get_or, drop, refl, sym, ap, ◌∙◌, arith}
+use Rattle.std.proofs.Common.{◌≡◌, ℕ, suc, ◌+◌, ◌-◌, ◌<◌, ◌≤◌, List, [], ◌∷◌, ◌++◌, length, map, get_or, drop, refl, sym, ap, ◌∙◌, subst, arith, inl, inr}
+use Rattle.std.specs.Prelude.{All}
 use Rattle.std.specs.List.{range_with_len}
 use Rattle.std.specs.Borrow.{Bor}
 use Rattle.std.proofs.Math.Seq.{drop-append_seam, drop-cons}
-use Rattle.std.proofs.lemmas.List.{drop-drop, get_or-drop, get_or_append_left, get_or_default, length-append, map-append}
+use Rattle.std.proofs.lemmas.Bool.{cases_lt}
+use Rattle.std.proofs.lemmas.List.{drop-drop, get_or-drop, get_or_append_left, get_or_default, get_or_past, length-append, map-append}
 use Rattle.std.proofs.lemmas.Simd.{map-map}
 use Rattle.std.proofs.lemmas.List.FromFn.{map-range_with_len_more}
 use Rattle.lk_base.proofs.Ranges.{range_parts}
-use Rattle.lk_tables.specs.declared.spans.Span.{Span}
-use Rattle.lk_tables.specs.Files.{File}
-use Rattle.lk_tables.specs.Names.{no_name}
 use Rattle.name_numbers.specs.Firsts.{spread_tag, spread_tags}
 use Rattle.work_split.proofs.RunsBeside.{GoesBeside}
 use Rattle.str_merge.specs.declared.gathering.Place.{Place}
 use Rattle.str_merge.specs.Gathering.{AreTags, IsFound, IsPlace}
-use Rattle.str_merge.specs.Sites.{gathered, span_text, span_texts}
+use Rattle.str_merge.specs.Sites.{CutPiece, gathered, no_piece, texts_of}
 use Rattle.str_merge.specs.Texts.{lent_texts}
 use Rattle.str_merge.proofs.ListSteps.{by_index, drop_past, view_step}
 
@@ -78,21 +77,28 @@ two_runs f a m b low high =
     ∙ map-append f (range_with_len a (m - a)) (range_with_len (a + (m - a)) (b - m))
     ∙ ap (λ k. map f (range_with_len a (m - a)) ++ map f (range_with_len k (b - m))) from
 
-module _ (files : List File) (spans : List Span) where
-  -- the tags of a share, as it begins and one more
-  pub tags_first : (a : ℕ) → AreTags files spans a a []
-  tags_first a = run_first (λ i. spread_tag (span_text files (get_or spans i no_name))) a
+-- what holds of each element, and of what stands for others
+pub at_any : {X : Type 0} (P : X → Type 0) (xs : List X) (d : X) → All P xs → P d → (i : ℕ) → P (get_or xs i d)
+at_any P xs d all own i = elim (cases_lt i (length xs)) [
+  | inl low ↦ all i d low
+  | inr past ↦ subst P (sym (get_or_past xs i d past)) own
+]
 
-  pub tags_more : (a i : ℕ) (old new : List ℕ) (t : ℕ) → a ≤ i → AreTags files spans a i old → new ≡ old ++ t ∷ [] →
-      t ≡ spread_tag (span_text files (get_or spans i no_name)) → AreTags files spans a (i + 1) new
+module _ (pieces : List CutPiece) where
+  -- the tags of a share, as it begins and one more
+  pub tags_first : (a : ℕ) → AreTags pieces a a []
+  tags_first a = run_first (λ i. spread_tag (get_or pieces i no_piece).text) a
+
+  pub tags_more : (a i : ℕ) (old new : List ℕ) (t : ℕ) → a ≤ i → AreTags pieces a i old → new ≡ old ++ t ∷ [] →
+      t ≡ spread_tag (get_or pieces i no_piece).text → AreTags pieces a (i + 1) new
   tags_more a i old new t le held is own =
-      let f : ℕ → ℕ = λ i. spread_tag (span_text files (get_or spans i no_name)) in
+      let f : ℕ → ℕ = λ i. spread_tag (get_or pieces i no_piece).text in
       is ∙ ap (λ l. l ++ t ∷ []) held ∙ ap (λ y. map f (range_with_len a (i - a)) ++ y ∷ []) own ∙ sym (run_more f a i le)
 
   -- two shares side by side
-  pub tags_beside : GoesBeside {X = ℕ} (AreTags files spans)
+  pub tags_beside : GoesBeside {X = ℕ} (AreTags pieces)
   tags_beside =
-      let f : ℕ → ℕ = λ i. spread_tag (span_text files (get_or spans i no_name)) in
+      let f : ℕ → ℕ = λ i. spread_tag (get_or pieces i no_piece).text in
       record {
         none = tags_first;
         both = λ a m b xs ys low high one two.
@@ -100,21 +106,21 @@ module _ (files : List File) (spans : List Span) where
       }
 
   -- all of them
-  pub tags_all : (n : ℕ) (tags : List ℕ) → n ≡ length spans → AreTags files spans 0 n tags → tags ≡ spread_tags (span_texts files spans)
+  pub tags_all : (n : ℕ) (tags : List ℕ) → n ≡ length pieces → AreTags pieces 0 n tags → tags ≡ spread_tags (texts_of pieces)
   unfolding spread_tags
   tags_all n tags count held =
-      let f : ℕ → ℕ = λ i. spread_tag (span_text files (get_or spans i no_name)) in
-      let texts = span_texts files spans in
+      let f : ℕ → ℕ = λ i. spread_tag (get_or pieces i no_piece).text in
+      let texts = texts_of pieces in
       let e : n - 0 ≡ n = omega arith in
-      held ∙ ap (λ k. map f (range_with_len 0 k)) e ∙ by_index (λ s. spread_tag (span_text files s)) spans no_name n count
-      ∙ sym (map-map spread_tag (span_text files) spans) ∙ sym (by_index spread_tag texts [] (length texts) refl)
+      held ∙ ap (λ k. map f (range_with_len 0 k)) e ∙ by_index (λ (p : CutPiece). spread_tag p.text) pieces no_piece n count
+      ∙ sym (map-map spread_tag (λ (p : CutPiece). p.text) pieces) ∙ sym (by_index spread_tag texts [] (length texts) refl)
 
   -- texts that are listed, one more, and all
   pub texts_more : (i : ℕ) (old new : List (Bor (List ℕ))) (t : Bor (List ℕ)) →
-      lent_texts old ≡ map (λ k. span_text files (get_or spans k no_name)) (range_with_len 0 i) → new ≡ old ++ t ∷ [] →
-      t.now ≡ span_text files (get_or spans i no_name) → lent_texts new ≡ map (λ k. span_text files (get_or spans k no_name)) (range_with_len 0 (i + 1))
-  texts_more i old new t held is own = view_step (λ (t : Bor (List ℕ)). t.now) (λ k. span_text files (get_or spans k no_name)) i old new t held is own
+      lent_texts old ≡ map (λ k. (get_or pieces k no_piece).text) (range_with_len 0 i) → new ≡ old ++ t ∷ [] →
+      t.now ≡ (get_or pieces i no_piece).text → lent_texts new ≡ map (λ k. (get_or pieces k no_piece).text) (range_with_len 0 (i + 1))
+  texts_more i old new t held is own = view_step (λ (t : Bor (List ℕ)). t.now) (λ k. (get_or pieces k no_piece).text) i old new t held is own
 
-  pub texts_all : (n : ℕ) (texts : List (Bor (List ℕ))) → n ≡ length spans →
-      lent_texts texts ≡ map (λ k. span_text files (get_or spans k no_name)) (range_with_len 0 n) → lent_texts texts ≡ span_texts files spans
-  texts_all n texts count held = held ∙ by_index (span_text files) spans no_name n count
+  pub texts_all : (n : ℕ) (texts : List (Bor (List ℕ))) → n ≡ length pieces →
+      lent_texts texts ≡ map (λ k. (get_or pieces k no_piece).text) (range_with_len 0 n) → lent_texts texts ≡ texts_of pieces
+  texts_all n texts count held = held ∙ by_index (λ (p : CutPiece). p.text) pieces no_piece n count

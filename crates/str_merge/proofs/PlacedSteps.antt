@@ -7,26 +7,26 @@ use Rattle.std.proofs.lemmas.List.Elements.{All-append, All-cons, All-nil}
 use Rattle.std.specs.List.{range_with_len}
 use Rattle.lk_base.specs.Arithmetic.{up}
 use Rattle.lk_base.proofs.Multiples.{up_least}
-use Rattle.lk_tables.specs.declared.spans.Span.{Span}
-use Rattle.lk_tables.specs.Names.{no_name}
 use Rattle.link_sections.specs.declared.pieces.Part.{Part}
 use Rattle.link_sections.specs.declared.pieces.Piece.{Piece}
 use Rattle.link_sections.specs.declared.pools.Pool.{Pool}
 use Rattle.link_sections.specs.Merging.{end_from, positions_from}
 use Rattle.link_sections.specs.Pools.{IsPile}
+use Rattle.str_merge.specs.Gathering.{piece_at}
 use Rattle.str_merge.specs.Parts.{parts_by}
-use Rattle.str_merge.specs.Placing.{chosen, fitted}
+use Rattle.str_merge.specs.Placing.{chosen}
+use Rattle.str_merge.specs.Sites.{CutPiece, texts_of}
 use Rattle.str_merge.proofs.ListSteps.{by_index, drop_past, view_step}
 
 abbrev pub rest_of : (texts : List (List ℕ)) → (firsts : List ℕ) → (n : ℕ) → List (List ℕ)
 rest_of texts firsts n = chosen texts [] (drop n firsts)
 
 -- the first n are placed, up to an end
-pub record AreUpTo (spans : List Span) (texts : List (List ℕ)) (firsts : List ℕ) (align n : ℕ) (pieces : List Piece) (end : ℕ) : Type 0 where
-  pub spans_are : map (λ (p : Piece). p.text) pieces ≡ map (λ i. fitted (get_or spans (get_or firsts i 0) no_name) (get_or texts (get_or firsts i 0) [])) (range_with_len 0 n)
-  pub positions : map (λ (p : Piece). p.position) pieces ++ positions_from align end (rest_of texts firsts n) ≡ positions_from align 0 (chosen texts [] firsts)
-  pub end_is : end_from align end (rest_of texts firsts n) ≡ end_from align 0 (chosen texts [] firsts)
-  pub piled : (pool : Pool) → pool.size ≡ end → IsPile pool pieces
+pub record AreUpTo (pieces : List CutPiece) (firsts : List ℕ) (align n : ℕ) (placed : List Piece) (end : ℕ) : Type 0 where
+  pub spans_are : map (λ (p : Piece). p.text) placed ≡ map (λ i. (piece_at pieces (get_or firsts i 0)).span) (range_with_len 0 n)
+  pub positions : map (λ (p : Piece). p.position) placed ++ positions_from align end (rest_of (texts_of pieces) firsts n) ≡ positions_from align 0 (chosen (texts_of pieces) [] firsts)
+  pub end_is : end_from align end (rest_of (texts_of pieces) firsts n) ≡ end_from align 0 (chosen (texts_of pieces) [] firsts)
+  pub piled : (pool : Pool) → pool.size ≡ end → IsPile pool placed
 
 rest_at : (texts : List (List ℕ)) (firsts : List ℕ) (n : ℕ) → n < length firsts → rest_of texts firsts n ≡ get_or texts (get_or firsts n 0) [] ∷ rest_of texts firsts (n + 1)
 rest_at texts firsts n lt =
@@ -60,28 +60,30 @@ pile_next old new p end next held is from to pool size =
       ];
     })
 
-pub placed_next : (spans : List Span) (texts : List (List ℕ)) (firsts : List ℕ) (align n : ℕ) (old new : List Piece) (end position next : ℕ) (p : Piece) →
-    1 ≤ align → n < length firsts → AreUpTo spans texts firsts align n old end → new ≡ old ++ p ∷ [] →
-    p.text ≡ fitted (get_or spans (get_or firsts n 0) no_name) (get_or texts (get_or firsts n 0) []) → p.position ≡ up end align →
-    next ≡ up end align + length (get_or texts (get_or firsts n 0) []) → AreUpTo spans texts firsts align (n + 1) new next
-placed_next spans texts firsts align n old new end position next p some lt held is text at to =
+pub placed_next : (pieces : List CutPiece) (firsts : List ℕ) (align n : ℕ) (old new : List Piece) (end next : ℕ) (p : Piece) →
+    1 ≤ align → n < length firsts → AreUpTo pieces firsts align n old end → new ≡ old ++ p ∷ [] →
+    p.text ≡ (piece_at pieces (get_or firsts n 0)).span → p.text.len ≡ length (get_or (texts_of pieces) (get_or firsts n 0) []) → p.position ≡ up end align →
+    next ≡ p.position + p.text.len → AreUpTo pieces firsts align (n + 1) new next
+placed_next pieces firsts align n old new end next p some lt held is text long at to =
+    let texts = texts_of pieces in
     let piece = get_or texts (get_or firsts n 0) [] in
     let start = up end align in
     let rest = rest_of texts firsts (n + 1) in
+    let on : next ≡ start + length piece = omega (arith, to, at, long) in
     record {
       spans_are =
-          view_step (λ (p : Piece). p.text) (λ i. fitted (get_or spans (get_or firsts i 0) no_name) (get_or texts (get_or firsts i 0) [])) n old new p held.spans_are is text;
+          view_step (λ (p : Piece). p.text) (λ i. (piece_at pieces (get_or firsts i 0)).span) n old new p held.spans_are is text;
       positions =
           ap (λ l. map (λ (p : Piece). p.position) l ++ positions_from align next rest) is
           ∙ ap (λ l. l ++ positions_from align next rest) (map-append (λ (p : Piece). p.position) old (p ∷ []))
           ∙ append_assoc (map (λ (p : Piece). p.position) old) (p.position ∷ []) (positions_from align next rest)
           ∙ ap (λ k. map (λ (p : Piece). p.position) old ++ (k ∷ positions_from align next rest)) at
-          ∙ ap (λ k. map (λ (p : Piece). p.position) old ++ (start ∷ positions_from align k rest)) to
+          ∙ ap (λ k. map (λ (p : Piece). p.position) old ++ (start ∷ positions_from align k rest)) on
           ∙ ap (λ l. map (λ (p : Piece). p.position) old ++ positions_from align end l) (sym (rest_at texts firsts n lt))
           ∙ held.positions;
       end_is =
-          ap (λ k. end_from align k rest) to ∙ ap (end_from align end) (sym (rest_at texts firsts n lt)) ∙ held.end_is;
-      piled = pile_next old new p end next held.piled is (omega (arith, at, up_least end align some)) (omega (arith, at, to, ap (λ (s : Span). s.len) text));
+          ap (λ k. end_from align k rest) on ∙ ap (end_from align end) (sym (rest_at texts firsts n lt)) ∙ held.end_is;
+      piled = pile_next old new p end next held.piled is (omega (arith, at, up_least end align some)) (sym to);
     }
 
 -- parts one after the other
@@ -114,13 +116,13 @@ parts_all texts numbers n start parts e held =
     sym (append-nil parts) ∙ ap (λ l. parts ++ parts_by start l (drop n numbers)) (sym none) ∙ held.parts_are
 
 -- all are placed
-pub placed_all : (spans : List Span) (texts : List (List ℕ)) (firsts : List ℕ) (align n : ℕ) (pieces : List Piece) (size : ℕ) → n ≡ length firsts →
-    AreUpTo spans texts firsts align n pieces size →
-    (map (λ (p : Piece). p.text) pieces ≡ map (λ i. fitted (get_or spans i no_name) (get_or texts i [])) firsts)
-    × (map (λ (p : Piece). p.position) pieces ≡ positions_from align 0 (chosen texts [] firsts)) × (size ≡ end_from align 0 (chosen texts [] firsts))
-placed_all spans texts firsts align n pieces size e held =
-    let none : rest_of texts firsts n ≡ [] = ap (chosen texts []) (drop_past firsts n (omega arith)) in (
-      held.spans_are ∙ by_index (λ i. fitted (get_or spans i no_name) (get_or texts i [])) firsts 0 n e,
-      sym (append-nil (map (λ (p : Piece). p.position) pieces)) ∙ ap (λ l. map (λ (p : Piece). p.position) pieces ++ positions_from align size l) (sym none) ∙ held.positions,
+pub placed_all : (pieces : List CutPiece) (firsts : List ℕ) (align n : ℕ) (placed : List Piece) (size : ℕ) → n ≡ length firsts →
+    AreUpTo pieces firsts align n placed size →
+    (map (λ (p : Piece). p.text) placed ≡ map (λ i. (piece_at pieces i).span) firsts)
+    × (map (λ (p : Piece). p.position) placed ≡ positions_from align 0 (chosen (texts_of pieces) [] firsts)) × (size ≡ end_from align 0 (chosen (texts_of pieces) [] firsts))
+placed_all pieces firsts align n placed size e held =
+    let none : rest_of (texts_of pieces) firsts n ≡ [] = ap (chosen (texts_of pieces) []) (drop_past firsts n (omega arith)) in (
+      held.spans_are ∙ by_index (λ i. (piece_at pieces i).span) firsts 0 n e,
+      sym (append-nil (map (λ (p : Piece). p.position) placed)) ∙ ap (λ l. map (λ (p : Piece). p.position) placed ++ positions_from align size l) (sym none) ∙ held.positions,
       ap (end_from align size) (sym none) ∙ held.end_is,
     )

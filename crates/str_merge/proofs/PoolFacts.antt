@@ -1,27 +1,28 @@
 -- The pieces of one pool.
-use Rattle.std.proofs.Common.{◌≡◌, ℕ, suc, ◌+◌, ◌<◌, ◌≤◌, ◌==◌, Bool, true, false, List, [], ◌∷◌, ◌++◌, length, map, get_or, take, drop, refl, sym, ap, ◌∙◌, arith, append_assoc}
+use Rattle.std.proofs.Common.{◌≡◌, ℕ, zero, suc, ◌+◌, ◌-◌, ◌<◌, ◌≤◌, ◌==◌, Bool, true, false, List, [], ◌∷◌, ◌++◌, length, map, get_or, take, drop, refl, sym, ap, ◌∙◌, arith, inl, inr}
 use Rattle.std.specs.Prelude.{All, flat_map, if◌then◌else◌}
 use Rattle.std.specs.List.{filter, range_with_len}
-use Rattle.std.specs.Global.{Vec}
 use Rattle.std.specs.Str.{bytes_eq}
 use Rattle.std.proofs.Math.ListN.{get_or-map as get_or-map_default}
-use Rattle.std.proofs.Math.Seq.{drop-cons, drop-nil, take-nil}
-use Rattle.std.proofs.lemmas.Bool.{eqb-true}
-use Rattle.std.proofs.lemmas.List.{append-nil, get_or-map, length-take, map-append, take_min}
-use Rattle.std.proofs.lemmas.List.Elements.{All-filter, filter_passes}
+use Rattle.std.proofs.Math.Seq.{take-nil}
+use Rattle.std.proofs.lemmas.Bool.{cases_lt, eqb-true}
+use Rattle.std.proofs.lemmas.List.{drop-drop, drop-take, get_or-map, length-take, map-append, take_all, take_min, take-take}
+use Rattle.std.proofs.lemmas.List.Elements.{All-append, All-cons, All-filter, All-nil, filter_passes}
 use Rattle.std.proofs.lemmas.List.FromFn.{length-range_with_len, get_or-range_with_len}
 use Rattle.std.proofs.lemmas.Simd.{map-map}
 use Rattle.std.proofs.lemmas.Slice.Eq.{bytes_eq-Decides}
-use Rattle.lk_tables.specs.declared.spans.Span.{Span}
 use Rattle.lk_tables.specs.Files.{File, file_at}
-use Rattle.lk_tables.specs.Names.{no_name, text_of}
+use Rattle.lk_tables.specs.Names.{text_of}
 use Rattle.link_sections.specs.declared.pieces.Piece.{Piece}
 use Rattle.link_sections.specs.MergeSections.{pool_key}
 use Rattle.link_sections.specs.Merging.{Site, no_site, pool_members, pool_number, site_key, site_pieces, sites}
 use Rattle.link_sections.specs.PoolViews.{piece_text}
-use Rattle.str_merge.specs.Placing.{chosen, fitted}
-use Rattle.str_merge.specs.Sites.{cut_views, gathered, span_lists, span_text, span_texts}
+use Rattle.str_merge.specs.declared.cuts.Cut.{Cut}
+use Rattle.str_merge.specs.Gathering.{piece_at}
+use Rattle.str_merge.specs.Placing.{chosen}
+use Rattle.str_merge.specs.Sites.{CutPiece, IsIn, cut_text, cut_views, gathered, no_piece, piece_lists, piece_of, pieces_of, span_text, start_of, texts_of}
 use Rattle.str_merge.specs.Works.{members_at, nth_site}
+use Rattle.str_merge.proofs.Gathered.{at_any}
 use Rattle.str_merge.proofs.ListSteps.{by_index, drop_past}
 use Rattle.str_merge.proofs.Ranking.{IsSame}
 
@@ -32,38 +33,18 @@ bytes_same = record {
   alike = λ x y e z. ap (bytes_eq z) ((bytes_eq-Decides x y).0 e);
 }
 
--- lists one after the other, one more
-pub gather_step : {X : Type 0} (lists : List (List X)) (places : List ℕ) (n : ℕ) (old new whole : List X) → n < length places →
-    old ++ gathered lists (drop n places) ≡ whole → new ≡ old ++ get_or lists (get_or places n 0) [] → new ++ gathered lists (drop (n + 1) places) ≡ whole
-gather_step lists places n old new whole lt held is =
-    let one : suc n ≡ n + 1 = omega arith in
-    ap (λ l. l ++ gathered lists (drop (n + 1) places)) is
-    ∙ append_assoc old (get_or lists (get_or places n 0) []) (gathered lists (drop (n + 1) places))
-    ∙ ap (λ k. old ++ (get_or lists (get_or places n 0) [] ++ gathered lists (drop k places))) (sym one)
-    ∙ ap (λ l. old ++ gathered lists l) (sym (drop-cons places n 0 lt)) ∙ held
+-- the bytes of pieces that are gathered
+pub texts_at : (cuts : List Cut) (i : ℕ) → texts_of (get_or (piece_lists cuts) i []) ≡ get_or (cut_views cuts) i []
+texts_at cuts i =
+    sym (get_or-map_default texts_of (piece_lists cuts) i [])
+    ∙ ap (λ l. get_or l i []) (map-map texts_of pieces_of cuts)
 
-pub gather_end : {X : Type 0} (lists : List (List X)) (places : List ℕ) (n : ℕ) (old whole : List X) → length places ≤ n →
-    old ++ gathered lists (drop n places) ≡ whole → old ≡ whole
-gather_end lists places n old whole le held = sym (append-nil old) ∙ ap (λ l. old ++ gathered lists l) (sym (drop_past places n le)) ∙ held
-
--- the bytes of spans that are gathered
-texts_at : (files : List File) (cuts : List (Vec Span)) (i : ℕ) → span_texts files (get_or (span_lists cuts) i []) ≡ get_or (cut_views files cuts) i []
-texts_at files cuts i =
-    sym (get_or-map_default (span_texts files) (span_lists cuts) i [])
-    ∙ ap (λ l. get_or l i []) (map-map (span_texts files) (λ (cut : Vec Span). cut.items) cuts)
-
-pub gathered_texts : (files : List File) (cuts : List (Vec Span)) (places : List ℕ) → span_texts files (gathered (span_lists cuts) places) ≡ gathered (cut_views files cuts) places
-gathered_texts files cuts [] = refl
-gathered_texts files cuts (i ∷ places) =
-    map-append (span_text files) (get_or (span_lists cuts) i []) (gathered (span_lists cuts) places)
-    ∙ ap (λ l. l ++ span_texts files (gathered (span_lists cuts) places)) (texts_at files cuts i)
-    ∙ ap (λ l. get_or (cut_views files cuts) i [] ++ l) (gathered_texts files cuts places)
-
--- the list at one place
-pub gathered_one : {X : Type 0} (lists : List (List X)) (places : List ℕ) → length places ≡ 1 → gathered lists places ≡ get_or lists (get_or places 0 0) []
-gathered_one lists [] one = absurd (omega (arith, one))
-gathered_one lists (p ∷ []) one = append-nil (get_or lists p [])
-gathered_one lists (p ∷ q ∷ ps) one = absurd (omega (arith, one))
+pub gathered_texts : (cuts : List Cut) (places : List ℕ) → texts_of (gathered (piece_lists cuts) places) ≡ gathered (cut_views cuts) places
+gathered_texts cuts [] = refl
+gathered_texts cuts (i ∷ places) =
+    map-append (λ (p : CutPiece). p.text) (get_or (piece_lists cuts) i []) (gathered (piece_lists cuts) places)
+    ∙ ap (λ l. l ++ texts_of (gathered (piece_lists cuts) places)) (texts_at cuts i)
+    ∙ ap (λ l. get_or (cut_views cuts) i [] ++ l) (gathered_texts cuts places)
 
 -- a filter by index
 filter_map_is : {X Y : Type 0} (t : Y → Bool) (g : X → Y) (xs : List X) → filter t (map g xs) ≡ map g (filter (λ x. t (g x)) xs)
@@ -130,23 +111,90 @@ module _ (files : List File) (kept : List Bool) where
       (λ i d lt. get_or-map (site_pieces files) all (get_or places i d) no_site [] (low i d lt)))
       ∙ pool_texts_are (map (site_pieces files) all) pool refl
 
--- pieces that are chosen by place
-fit_text : (bytes : List ℕ) (s : Span) → text_of bytes (fitted s (text_of bytes s)) ≡ text_of bytes s
-unfolding text_of
-fit_text bytes s =
-    let rest = drop s.from bytes in
-    ap (λ n. take n rest) (length-take s.len rest) ∙ take_min s.len rest
+-- bytes that are read where they stand in their file
+prefix_read : (all own : List ℕ) (n : ℕ) → own ≡ take n all → take (length own) all ≡ own
+prefix_read all own n is =
+    ap (λ l. take (length l) all) is ∙ ap (λ k. take k all) (length-take n all) ∙ take_min n all ∙ sym is
 
-pub fitted_texts : (files : List File) (spans : List Span) (texts : List (List ℕ)) (firsts : List ℕ) → texts ≡ span_texts files spans → All (λ i. i < length spans) firsts →
-    map (span_text files) (map (λ i. fitted (get_or spans i no_name) (get_or texts i [])) firsts) ≡ chosen texts [] firsts
-fitted_texts files spans texts [] are within = refl
-fitted_texts files spans texts (i ∷ firsts) are within =
-    let s = get_or spans i no_name in
-    let own : get_or texts i [] ≡ span_text files s = ap (λ l. get_or l i []) are ∙ get_or-map (span_text files) spans i no_name [] (within 0 i (omega arith)) in
-    ap (λ t. span_text files (fitted s t) ∷ map (span_text files) (map (λ i. fitted (get_or spans i no_name) (get_or texts i [])) firsts))
-    own
-    ∙ ap (λ t. t ∷ map (span_text files) (map (λ i. fitted (get_or spans i no_name) (get_or texts i [])) firsts)) (fit_text (file_at files s.file).bytes s ∙ sym own)
-    ∙ ap (λ l. get_or texts i [] ∷ l) (fitted_texts files spans texts firsts are (λ k d lt. within (suc k) d (omega arith)))
+prefix_of_prefix : (all own : List ℕ) (n w : ℕ) → own ≡ take n (take w all) → take (length own) all ≡ own
+prefix_of_prefix all own n w is = elim (cases_lt w n) [
+  | inl more ↦ prefix_read all own w (is ∙ take_all n (take w all) (omega (arith, more, length-take w all)))
+  | inr less ↦ prefix_read all own n (is ∙ take-take n w all less)
+]
+
+part_read : (bytes : List ℕ) (from len start n : ℕ) → take (length (take n (drop start (take len (drop from bytes))))) (drop (from + start) bytes) ≡ take n (drop start (take len (drop from bytes)))
+part_read bytes from len start n =
+    let rest = drop from bytes in
+    let there = drop start rest in
+    let own = take n (drop start (take len rest)) in
+    let at : drop (from + start) bytes ≡ there = sym (drop-drop start from bytes) in
+    elim (cases_lt len start) [
+      | inl past ↦
+          let none : drop start (take len rest) ≡ [] = drop_past (take len rest) start (omega (arith, past, length-take len rest)) in
+          let empty : own ≡ [] = ap (take n) none ∙ take-nil n in
+          ap (λ l. take (length l) (drop (from + start) bytes)) empty ∙ sym empty
+      | inr low ↦
+          let split : len ≡ start + (len - start) = omega (arith, low) in
+          let cut : drop start (take len rest) ≡ take (len - start) there = ap (λ k. drop start (take k rest)) split ∙ drop-take start (len - start) rest in
+          ap (take (length own)) at ∙ prefix_of_prefix there own n (len - start) (ap (take n) cut)
+    ]
+
+-- what holds of each piece of a section holds of those that are gathered
+range_all : (P : CutPiece → Type 0) (give : ℕ → CutPiece) (a n : ℕ) → ((k : ℕ) → P (give k)) → All P (map give (range_with_len a n))
+range_all P give a zero each = All-nil P
+range_all P give a (suc n) each = All-cons P (give a) (map give (range_with_len (a + 1) n)) (each a) (range_all P give (a + 1) n each)
+
+module _ (P : CutPiece → Type 0) (Q : Cut → Type 0) (each : (c : Cut) (k : ℕ) → Q c → P (piece_of c k)) where
+  cut_all : (c : Cut) → Q c → All P (pieces_of c)
+  unfolding pieces_of
+  cut_all c is = range_all P (piece_of c) 0 (length c.ends.items) (λ k. each c k is)
+
+  list_all : (cuts : List Cut) (i : ℕ) → All Q cuts → All P (get_or (piece_lists cuts) i [])
+  list_all [] i all = All-nil P
+  list_all (c ∷ cuts) zero all = cut_all c (all 0 c (omega arith))
+  list_all (c ∷ cuts) (suc i) all = list_all cuts i (λ k d lt. all (suc k) d (omega arith))
+
+  pub pieces_all : (cuts : List Cut) (places : List ℕ) → All Q cuts → All P (gathered (piece_lists cuts) places)
+  pieces_all cuts [] all = All-nil P
+  pieces_all cuts (i ∷ places) all =
+      All-append P (get_or (piece_lists cuts) i []) (gathered (piece_lists cuts) places) (list_all cuts i all) (pieces_all cuts places all)
+
+-- each piece is what stands in its file
+abbrev pub Stands : List File → CutPiece → Type 0
+Stands files p = span_text files p.span ≡ p.text
+
+piece_stands : (files : List File) (c : Cut) (k : ℕ) → IsIn files c → Stands files (piece_of c k)
+unfolding cut_text text_of
+piece_stands files c k is =
+    let bytes = (file_at files c.whole.file).bytes in
+    let start = start_of c.ends.items k in
+    let n = get_or c.ends.items k 0 - start in
+    ap (λ l. take (length (take n (drop start l))) (drop (c.whole.from + start) bytes)) is
+    ∙ part_read bytes c.whole.from c.whole.len start n ∙ ap (λ l. take n (drop start l)) (sym is)
+
+pub pieces_stand : (files : List File) (cuts : List Cut) (places : List ℕ) → All (IsIn files) cuts → All (Stands files) (gathered (piece_lists cuts) places)
+pieces_stand files cuts places all = pieces_all (Stands files) (IsIn files) (piece_stands files) cuts places all
+
+-- its span is as long as its bytes
+abbrev IsLong : CutPiece → Type 0
+IsLong p = p.span.len ≡ length p.text
+
+pub span_len : (cuts : List Cut) (places : List ℕ) (i : ℕ) →
+    (piece_at (gathered (piece_lists cuts) places) i).span.len ≡ length (get_or (texts_of (gathered (piece_lists cuts) places)) i [])
+span_len cuts places i =
+    let pieces = gathered (piece_lists cuts) places in
+    at_any IsLong pieces no_piece (pieces_all IsLong (λ c. Unit {0}) (λ c k is. refl) cuts places (λ k d lt. tt)) refl i
+    ∙ ap length (sym (get_or-map_default (λ (p : CutPiece). p.text) pieces i no_piece))
+
+-- pieces that are chosen by place
+pub chosen_texts : (files : List File) (pieces : List CutPiece) (firsts : List ℕ) → All (Stands files) pieces → All (λ i. i < length pieces) firsts →
+    map (span_text files) (map (λ i. (piece_at pieces i).span) firsts) ≡ chosen (texts_of pieces) [] firsts
+chosen_texts files pieces [] all within = refl
+chosen_texts files pieces (i ∷ firsts) all within =
+    let own : span_text files (piece_at pieces i).span ≡ get_or (texts_of pieces) i [] =
+    all i no_piece (within 0 i (omega arith)) ∙ sym (get_or-map_default (λ (p : CutPiece). p.text) pieces i no_piece) in
+    ap (λ t. t ∷ map (span_text files) (map (λ i. (piece_at pieces i).span) firsts)) own
+    ∙ ap (λ l. get_or (texts_of pieces) i [] ∷ l) (chosen_texts files pieces firsts all (λ k d lt. within (suc k) d (omega arith)))
 
 pub piece_texts : (files : List File) (pieces : List Piece) → map (piece_text files) pieces ≡ map (span_text files) (map (λ (p : Piece). p.text) pieces)
 piece_texts files pieces = sym (map-map (span_text files) (λ (p : Piece). p.text) pieces)
@@ -154,8 +202,3 @@ piece_texts files pieces = sym (map-map (span_text files) (λ (p : Piece). p.tex
 pub align_some : (files : List File) (s : Site) → 1 ≤ (site_key files s).align
 unfolding pool_key
 align_some files s = omega arith
-
--- nothing stands in an empty file
-pub no_text : (s : Span) → text_of [] s ≡ []
-unfolding text_of
-no_text s = ap (take s.len) (drop-nil s.from) ∙ take-nil s.len

@@ -24,7 +24,7 @@ use Rattle.str_merge.specs.Keys.{HeldKey, eq_keys, key_numbers, key_view, key_vi
 use Rattle.str_merge.specs.Members.{AreMembers, having}
 use Rattle.str_merge.specs.Orders.{IsFirstOf, firsts, ranks}
 use Rattle.str_merge.specs.Placing.{chosen}
-use Rattle.str_merge.specs.Sites.{cut_views, site_views}
+use Rattle.str_merge.specs.Sites.{IsIn, cut_views, site_views}
 use Rattle.str_merge.specs.Spreading.{answer_in, sites_upto, spread}
 use Rattle.str_merge.specs.Works.{IsWork, members_at, nth_site}
 use Rattle.str_merge.proofs.KeyMaps.{eq_keys_is, same_by}
@@ -230,11 +230,11 @@ pools_are_of files kept pools merged n count first second =
 
 -- all that is known before the pools are filled
 pub works : (w : Work) (ns rs : List ℕ) (count : ℕ) → site_views w.sites.now ≡ sites (files_of w.tables.now) w.kept.now →
-    cut_views (files_of w.tables.now) w.cuts.now ≡ map (site_pieces (files_of w.tables.now)) (sites (files_of w.tables.now) w.kept.now) →
+    All (IsIn (files_of w.tables.now)) w.cuts.now → cut_views w.cuts.now ≡ map (site_pieces (files_of w.tables.now)) (sites (files_of w.tables.now) w.kept.now) →
     key_views w.keys.now ≡ map (site_key (files_of w.tables.now)) (sites (files_of w.tables.now) w.kept.now) →
     ns ≡ site_numbers (files_of w.tables.now) w.kept.now → w.firsts.now ≡ firsts ns → rs ≡ ranks ns → AreMembers rs count (length rs) w.members.now →
     count ≡ length w.firsts.now → length (sites (files_of w.tables.now) w.kept.now) < 2 ^ 31 → IsWork w
-works w ns rs count sited cut keyed numbered first ranked members counted few =
+works w ns rs count sited stands cut keyed numbered first ranked members counted few =
     let files = files_of w.tables.now in
     let kept = w.kept.now in
     let all = sites files kept in
@@ -245,6 +245,7 @@ works w ns rs count sited cut keyed numbered first ranked members counted few =
     let most = few_firsts files kept few in
     record {
       sites_are = sited;
+      cuts_in = stands;
       cuts_are = cut;
       keys_are = keyed;
       firsts_within = subst P (sym firsts_are) (site_firsts_within files kept);

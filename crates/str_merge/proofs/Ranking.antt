@@ -56,6 +56,11 @@ position_after {X} p xs y ys fails passes =
 below : (n : ℕ) → All (λ k. k < n) (range_with_len 0 n)
 below n = λ i d lt. let at = get_or-range_with_len 0 n i d (omega (arith, length-range_with_len 0 n)) in omega (arith, length-range_with_len 0 n)
 
+-- first elements are among all
+pub firsts_below : (ns : List ℕ) → All (λ i. i < length ns) (firsts ns)
+unfolding firsts owns
+firsts_below ns = All-filter (is_own ns) (λ i. i < length ns) (range_with_len 0 (length ns)) (below (length ns))
+
 module _ {X : Type 0} (same : X → X → Bool) (d : X) (xs : List X) (is : IsSame same) where
   abbrev pub numbers : List ℕ
   numbers = map (first_same same d xs) xs
@@ -107,11 +112,9 @@ module _ {X : Type 0} (same : X → X → Bool) (d : X) (xs : List X) (is : IsSa
       ap (map (element same d xs)) (sym (owns_are (length xs) (omega arith)) ∙ ap (owns numbers) (sym count))
 
   pub firsts_within : All (λ i. i < length xs) (firsts numbers)
-  unfolding firsts owns
   firsts_within =
-      let count : length numbers ≡ length xs = length-map xs (first_same same d xs) in
-      let P : ℕ → Type 0 = λ n. All (λ i. i < n) (filter (is_own numbers) (range_with_len 0 (length numbers))) in
-      subst P count (All-filter (is_own numbers) (λ i. i < length numbers) (range_with_len 0 (length numbers)) (below (length numbers)))
+      let P : ℕ → Type 0 = λ n. All (λ i. i < n) (firsts numbers) in
+      subst P (length-map xs (first_same same d xs)) (firsts_below numbers)
 
   first_passes : (i : ℕ) → i < length xs → is_first same d xs (first_same same d xs (element same d xs i)) ≡ true
   first_passes i lt =

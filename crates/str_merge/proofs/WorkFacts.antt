@@ -1,15 +1,15 @@
 -- What is known of each section and of each pool before the pools are filled.
-use Rattle.std.proofs.Common.{◌≡◌, ℕ, ◌<◌, length, get_or, sym, ap, ◌∙◌, arith}
+use Rattle.std.proofs.Common.{◌≡◌, ℕ, ◌<◌, List, [], length, get_or, sym, ap, ◌∙◌, subst, arith}
+use Rattle.std.specs.Prelude.{All}
 use Rattle.std.proofs.lemmas.List.{get_or-map, length-map}
-use Rattle.std.specs.Global.{Vec}
-use Rattle.lk_tables.specs.declared.spans.Span.{Span}
 use Rattle.lk_tables.specs.TablesView.{files_of}
 use Rattle.link_sections.specs.Merging.{no_site, pool_site, site_key, site_pieces, sites}
 use Rattle.str_merge.specs.declared.pooling.Work.{Work}
 use Rattle.str_merge.specs.Keys.{key_view}
-use Rattle.str_merge.specs.Sites.{site_view, span_texts}
-use Rattle.str_merge.specs.Works.{IsWork, nth_site}
+use Rattle.str_merge.specs.Sites.{cut_views, site_view}
+use Rattle.str_merge.specs.Works.{IsWork, members_at, nth_site}
 use Rattle.str_merge.proofs.KeyMaps.{no_key}
+use Rattle.str_merge.proofs.PoolFacts.{members_within}
 use Rattle.str_merge.proofs.SiteFacts.{no_held, site_read}
 
 -- the first section of a pool
@@ -39,7 +39,18 @@ count_sites w is = sym (length-map w.sites.now site_view) ∙ ap length is.sites
 pub site_of : (w : Work) (i : ℕ) → IsWork w → i < length w.sites.now → site_view (get_or w.sites.now i no_held) ≡ nth_site (files_of w.tables.now) w.kept.now i
 site_of w i is lt = sym (site_read w.sites.now i lt) ∙ ap (λ l. get_or l i no_site) is.sites_are
 
-pub cut_count : (w : Work) → IsWork w → length w.cuts.now ≡ length (sites (files_of w.tables.now) w.kept.now)
-cut_count w is =
+-- the pieces of the section at a place of the list
+pub pieces_at : (w : Work) (i : ℕ) → IsWork w → i < length (sites (files_of w.tables.now) w.kept.now) →
+    get_or (cut_views w.cuts.now) i [] ≡ site_pieces (files_of w.tables.now) (nth_site (files_of w.tables.now) w.kept.now i)
+pieces_at w i is lt =
     let files = files_of w.tables.now in
-    sym (length-map w.cuts.now (λ (cut : Vec Span). span_texts files cut.items)) ∙ ap length is.cuts_are ∙ length-map (sites files w.kept.now) (site_pieces files)
+    ap (λ l. get_or l i []) is.cuts_are ∙ get_or-map (site_pieces files) (sites files w.kept.now) i no_site [] lt
+
+-- the sections of a pool are among them
+pub members_below : (w : Work) (pool : ℕ) (members : List ℕ) (n : ℕ) → IsWork w → members ≡ members_at (files_of w.tables.now) w.kept.now pool → n ≡ length w.sites.now →
+    All (λ m. m < n) members
+members_below w pool members n is own count =
+    let files = files_of w.tables.now in
+    let P : ℕ → Type 0 = λ k. All (λ m. m < k) members in
+    let Q : List ℕ → Type 0 = All (λ m. m < length (sites files w.kept.now)) in
+    subst P (sym (count ∙ count_sites w is)) (subst Q (sym own) (members_within files w.kept.now pool))

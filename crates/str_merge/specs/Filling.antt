@@ -10,7 +10,6 @@ use Rattle.link_sections.specs.Pools.{AreInOrder, ArePiles, pool_bytes}
 use Rattle.str_merge.specs.declared.filling.Filled.{Filled}
 use Rattle.str_merge.specs.declared.placing.Placed.{Placed}
 use Rattle.str_merge.specs.declared.pooling.Work.{Work}
-use Rattle.str_merge.specs.Parts.{parts_by}
 use Rattle.str_merge.specs.Works.{nth_site}
 
 -- one pool more, of these pieces
@@ -22,12 +21,17 @@ pub record AddsPool (first : ℕ) (placed : Placed) (old new : Filled) : Type 0 
   pub bytes : new.bytes ≡ old.bytes + placed.size
   pub small : new.bytes < 2 ^ 60
 
--- the parts of one section more, which is the one at a place of the list
-pub record AddsParts (site pool : ℕ) (texts : List (List ℕ)) (numbers : List ℕ) (old new : Filled) : Type 0 where
+-- what is merged of sections one after the other: they are of one pool, and the first one's parts are the row of this number
+abbrev pub with_answers : List Merged → (members : List ℕ) → (pool row : ℕ) → List Merged
+with_answers answers [] pool row = answers
+with_answers answers (m ∷ members) pool row = with_answers (slice_set answers m (record { pool = pool; row = row })) members pool (row + 1)
+
+-- the parts of the sections of a pool more
+pub record AddsParts (members : List ℕ) (pool : ℕ) (lists : List (List Part)) (old new : Filled) : Type 0 where
   pub pools : new.pools.items ≡ old.pools.items
   pub pieces : new.rows.pieces ≡ old.rows.pieces
-  pub parts : new.rows.parts ≡ old.rows.parts ++ parts_by 0 texts numbers ∷ []
-  pub answers : new.answers.items ≡ slice_set old.answers.items site (record { pool = pool; row = length old.rows.parts })
+  pub parts : new.rows.parts ≡ old.rows.parts ++ lists
+  pub answers : new.answers.items ≡ with_answers old.answers.items members pool (length old.rows.parts)
   pub bytes : new.bytes ≡ old.bytes
 
 abbrev pub no_merged : Merged

@@ -8,7 +8,7 @@ use Rattle.link_sections.specs.Merging.{Site, no_site, pool_number, pool_sites, 
 use Rattle.str_merge.specs.declared.pooling.Work.{Work}
 use Rattle.str_merge.specs.Keys.{key_views}
 use Rattle.str_merge.specs.Placing.{chosen}
-use Rattle.str_merge.specs.Sites.{cut_views, site_views}
+use Rattle.str_merge.specs.Sites.{IsIn, cut_views, site_views}
 
 module _ (files : List File) (kept : List Bool) where
   abbrev pub nth_site : (i : ℕ) → Site
@@ -20,7 +20,8 @@ module _ (files : List File) (kept : List Bool) where
 
 pub record IsWork (w : Work) : Type 0 where
   pub sites_are : site_views w.sites.now ≡ sites (files_of w.tables.now) w.kept.now
-  pub cuts_are : cut_views (files_of w.tables.now) w.cuts.now ≡ map (site_pieces (files_of w.tables.now)) (sites (files_of w.tables.now) w.kept.now)
+  pub cuts_in : All (IsIn (files_of w.tables.now)) w.cuts.now
+  pub cuts_are : cut_views w.cuts.now ≡ map (site_pieces (files_of w.tables.now)) (sites (files_of w.tables.now) w.kept.now)
   pub keys_are : key_views w.keys.now ≡ map (site_key (files_of w.tables.now)) (sites (files_of w.tables.now) w.kept.now)
   pub firsts_within : All (λ i. i < length (sites (files_of w.tables.now) w.kept.now)) w.firsts.now
   pub firsts_are : chosen (sites (files_of w.tables.now) w.kept.now) no_site w.firsts.now ≡ pool_sites (files_of w.tables.now) w.kept.now

@@ -1,15 +1,13 @@
 //! The pieces of sections that are merged, found by the workers.
 
-ghost use Rattle.std.specs.Prelude.{◌≡◌, ℕ, ◌+◌, ◌-◌, ◌*◌, ◌<◌, ◌≤◌, ◌^◌, ◌++◌, ◌∷◌, [], length, map, take, drop, IfOk, OnOk, if◌then◌else◌, All, true};
-ghost use Rattle.lk_tables.specs.Files.{file_at};
-ghost use Rattle.lk_tables.specs.FileView.{file_view};
-ghost use Rattle.lk_tables.specs.Names as names;
+ghost use Rattle.std.specs.Prelude.{◌≡◌, ◌+◌, ◌-◌, ◌<◌, ◌≤◌, ◌^◌, ◌++◌, ◌∷◌, [], length, map, take, drop, IfOk, OnOk, if◌then◌else◌, All};
 ghost use Rattle.lk_tables.specs.TablesView.{files_of};
+ghost use Rattle.lk_tables.specs.Names as names;
 ghost use Rattle.link_sections.specs.MergeSections as spec;
 ghost use Rattle.link_sections.specs.Merging.{site_pieces};
 ghost use Rattle.work_split.specs.Shares.{IsShare};
-ghost use Rattle.str_merge.specs.Cutting.{IsOfFile, IsCutAt, no_defects, texts_in};
-ghost use Rattle.str_merge.specs.Sites.{cut_views, site_view, site_views, span_texts};
+ghost use Rattle.str_merge.specs.Cutting.{IsCutAt, no_defects};
+ghost use Rattle.str_merge.specs.Sites.{IsIn, cut_texts, cut_views, pieces_of, site_view, site_views, texts_of};
 
 use crate::sections::is_zero_char;
 use crate::sites::Site;
@@ -25,19 +23,34 @@ use work_split::{Gate, over_shares, pieces_by_weight};
 /// Room is made for strings of so many bytes: for shorter ones the list grows. Memory that no string takes is not touched.
 const USUAL: usize = 16;
 
-/// The pieces of each of these sections, as spans of its file.
-pub fn cut_sites<R: Threads + Sync, G: Gate>(
+/// A section of a file has no more bytes, since no file has.
+const END_MAX: usize = 0xffff_ffff;
+
+/// A section that is cut into its pieces, which stand one after the other.
+#[derive(Drop)]
+pub struct Cut<'a> {
+    /// Where it stands in its file.
+    pub whole: Span,
+    /// Its bytes.
+    pub bytes: &'a [u8],
+    /// Where each piece ends, in bytes from the start of the section.
+    pub ends: Vec<u32>,
+}
+
+/// These sections, cut into their pieces.
+pub fn cut_sites<'a, R: Threads + Sync, G: Gate>(
     rt: &R,
     alloc: Global,
-    tables: &Tables,
+    tables: &Tables<'a>,
     sites: &[Site],
     workers: u32,
     gate: &G,
-) -> Result<Vec<Vec<Span>>, AllocError>
+) -> Result<Vec<Cut<'a>>, AllocError>
     requires some { 1 ≤ workers }
     requires most { workers ≤ 64 }
     requires files { All (λ (s : _). s.file < length (files_of tables.now)) sites.now }
-    ensures { IfOk result (λ cuts. cut_views (files_of tables.now) cuts.items ≡ map (site_pieces (files_of tables.now)) (site_views sites.now)) }
+    ensures pieces { IfOk result (λ cuts. cut_views cuts.items ≡ map (site_pieces (files_of tables.now)) (site_views sites.now)) }
+    ensures files { IfOk result (λ cuts. All (IsIn (files_of tables.now)) cuts.items) }
 {
     let weights = weights_of(alloc, tables, sites)?;
     let pieces = pieces_by_weight(alloc, weights.as_slice(), workers)?;
@@ -46,7 +59,7 @@ pub fn cut_sites<R: Threads + Sync, G: Gate>(
         alloc,
         gate,
         pieces.as_slice(),
-        |piece: Range<usize>| -> Result<Vec<Vec<Span>>, LinkStop>
+        |piece: Range<usize>| -> Result<Vec<Cut>, LinkStop>
             requires files { All (λ (s : _). s.file < length (files_of tables.now)) sites.now }
             requires ordered { piece.start ≤ piece.end }
             requires within { piece.end ≤ length sites.now }
@@ -73,13 +86,13 @@ fn weights_of(alloc: Global, tables: &Tables, sites: &[Site]) -> Result<Vec<u64>
     Ok(weights)
 }
 
-/// The pieces of the sections of one share.
-fn cut_share(
+/// The sections of one share, cut.
+fn cut_share<'a>(
     alloc: Global,
-    tables: &Tables,
+    tables: &Tables<'a>,
     sites: &[Site],
     share: Range<usize>,
-) -> Result<Vec<Vec<Span>>, LinkStop>
+) -> Result<Vec<Cut<'a>>, LinkStop>
     requires files { All (λ (s : _). s.file < length (files_of tables.now)) sites.now }
     requires ordered { share.start ≤ share.end }
     requires within { share.end ≤ length sites.now }
@@ -93,133 +106,121 @@ fn cut_share(
     Ok(cuts)
 }
 
-/// The pieces of a section.
-fn cut_site(alloc: Global, tables: &Tables, site: &Site) -> Result<Vec<Span>, AllocError>
+/// A section, cut.
+fn cut_site<'a>(alloc: Global, tables: &Tables<'a>, site: &Site) -> Result<Cut<'a>, AllocError>
     requires { site.now.file < length (files_of tables.now) }
-    ensures { IfOk result (λ cut. span_texts (files_of tables.now) cut.items ≡ site_pieces (files_of tables.now) (site_view site.now)) }
+    ensures pieces { IfOk result (λ cut. texts_of (pieces_of cut) ≡ site_pieces (files_of tables.now) (site_view site.now)) }
+    ensures file { IfOk result (IsIn (files_of tables.now)) }
 {
     let file = tables.file(site.file);
     let section = file.section(site.index as usize);
-    let cut = cut_bytes(alloc, file.bytes(), &section, site.file)?;
+    let cut = cut_section(alloc, file.bytes(), &section, site.file)?;
     Ok(cut)
 }
 
-/// The pieces of a section of a file of these bytes.
+/// A section of a file of these bytes, cut.
 #[tactic(auto, unfolding(link_sections::specs::MergeSections::section_pieces, lk_tables::specs::Names::text_of))]
-pub fn cut_bytes(
+fn cut_section<'a>(
     alloc: Global,
-    bytes: &[u8],
+    bytes: &'a [u8],
     section: &Section,
     file: FileNo,
-) -> Result<Vec<Span>, AllocError>
-    ensures texts { IfOk result (λ cut. texts_in bytes.now cut.items ≡ spec.section_pieces bytes.now section.now) }
-    ensures file { IfOk result (λ cut. All (IsOfFile file) cut.items) }
+) -> Result<Cut<'a>, AllocError>
+    ensures pieces { IfOk result (λ cut. texts_of (pieces_of cut) ≡ spec.section_pieces bytes.now section.now) }
+    ensures bytes { IfOk result (λ cut. cut.bytes.now ≡ names.text_of bytes.now cut.whole) }
+    ensures file { IfOk result (λ cut. cut.whole.file ≡ file) }
 {
     let whole = Span {
         file,
         from: section.offset,
         len: section.size,
     };
-    if section.entsize == 0 {
+    let contents = text_of(bytes, &whole);
+    let are_strings = section.flags & SHF_STRINGS != 0;
+    let ends = ends_of(alloc, contents, are_strings, section.entsize as usize)?;
+    Ok(Cut {
+        whole,
+        bytes: contents,
+        ends,
+    })
+}
+
+/// Where the pieces of a section of these bytes end: strings of characters of a size, or elements of one.
+fn ends_of(
+    alloc: Global,
+    contents: &[u8],
+    are_strings: bool,
+    size: usize,
+) -> Result<Vec<u32>, AllocError>
+    ensures { IfOk result (λ ends. cut_texts contents.now ends.items ≡ (if are_strings then spec.strings_from [] (spec.elements size contents.now) else spec.elements size contents.now)) }
+{
+    if contents.len() > END_MAX {
+        return Err(AllocError);
+    }
+    if size == 0 {
         return Ok(Vec::new(alloc));
     }
-    if section.flags & SHF_STRINGS != 0 {
-        let list = strings(alloc, bytes, &whole, section.entsize as usize)?;
-        return Ok(list);
+    if are_strings {
+        let ends = string_ends(alloc, contents, size)?;
+        return Ok(ends);
     }
-    let list = constants(alloc, bytes, &whole, section.entsize as usize)?;
-    Ok(list)
+    let ends = element_ends(alloc, contents, size)?;
+    Ok(ends)
 }
 
-/// Bytes of a file as elements of a size.
+/// Where elements of a size end.
 #[tactic(auto, unfolding(link_sections::specs::MergeSections::elements))]
-fn constants(
-    alloc: Global,
-    bytes: &[u8],
-    whole: &Span,
-    size: usize,
-) -> Result<Vec<Span>, AllocError>
-    requires { 1 ≤ size }
-    ensures texts { IfOk result (λ list. texts_in bytes.now list.items ≡ spec.elements size (names.text_of bytes.now whole.now)) }
-    ensures file { IfOk result (λ list. All (IsOfFile whole.now.file) list.items) }
+fn element_ends(alloc: Global, contents: &[u8], size: usize) -> Result<Vec<u32>, AllocError>
+    requires some { 1 ≤ size }
+    requires short { length contents.now < 2 ^ 32 }
+    ensures { IfOk result (λ ends. cut_texts contents.now ends.items ≡ spec.elements size contents.now) }
 {
-    let len = text_of(bytes, whole).len();
-    let mut list = Vec::with_capacity(alloc, len / size)?;
-    for i in 0..len / size {
-        list.push(part_of(whole, i * size, i * size + size))?;
+    let count = contents.len() / size;
+    let mut ends = Vec::with_capacity(alloc, count)?;
+    for i in 0..count {
+        ends.push((i * size + size) as u32)?;
     }
-    Ok(list)
+    Ok(ends)
 }
 
-/// Bytes of a file as strings of characters of a size, each with the zero character that ends it.
-fn strings(alloc: Global, bytes: &[u8], whole: &Span, size: usize) -> Result<Vec<Span>, AllocError>
-    requires { 1 ≤ size }
-    ensures texts { IfOk result (λ list. texts_in bytes.now list.items ≡ spec.strings_from [] (spec.elements size (names.text_of bytes.now whole.now))) }
-    ensures file { IfOk result (λ list. All (IsOfFile whole.now.file) list.items) }
+/// Where strings of characters of a size end, each with the zero character that ends it.
+fn string_ends(alloc: Global, contents: &[u8], size: usize) -> Result<Vec<u32>, AllocError>
+    requires some { 1 ≤ size }
+    requires short { length contents.now < 2 ^ 32 }
+    ensures { IfOk result (λ ends. cut_texts contents.now ends.items ≡ spec.strings_from [] (spec.elements size contents.now)) }
 {
     if size == 1 {
-        return byte_strings(alloc, bytes, whole);
+        return byte_string_ends(alloc, contents);
     }
-    let contents = text_of(bytes, whole);
-    let mut list = Vec::new(alloc);
-    let mut start = 0;
+    let mut ends = Vec::new(alloc);
     for i in 0..contents.len() / size {
-        let at = i * size;
-        start = end_string(&mut list, contents, whole, start, at, at + size)?;
+        push_end(&mut ends, contents, i * size, i * size + size)?;
     }
-    Ok(list)
+    Ok(ends)
 }
 
-/// Bytes of a file as strings of bytes, each with the zero that ends it: a vector search finds the zeros.
-fn byte_strings(alloc: Global, bytes: &[u8], whole: &Span) -> Result<Vec<Span>, AllocError>
-    ensures texts { IfOk result (λ list. texts_in bytes.now list.items ≡ spec.strings_from [] (spec.elements 1 (names.text_of bytes.now whole.now))) }
-    ensures file { IfOk result (λ list. All (IsOfFile whole.now.file) list.items) }
+/// Where strings of bytes end, each with the zero that ends it: a vector search finds the zeros.
+fn byte_string_ends(alloc: Global, contents: &[u8]) -> Result<Vec<u32>, AllocError>
+    requires { length contents.now < 2 ^ 32 }
+    ensures { IfOk result (λ ends. cut_texts contents.now ends.items ≡ spec.strings_from [] (spec.elements 1 contents.now)) }
 {
-    let contents = text_of(bytes, whole);
-    let mut list = Vec::with_capacity(alloc, contents.len() / USUAL)?;
+    let mut ends = Vec::with_capacity(alloc, contents.len() / USUAL)?;
     let mut found = memchr_iter(0, contents);
-    let mut start = 0;
     'places: while let Some(at) = found.next() {
-        list.push(part_of(whole, start, at + 1))?;
-        start = at + 1;
+        ends.push((at + 1) as u32)?;
     }
-    Ok(list)
+    Ok(ends)
 }
 
-/// Adds the string from `start` on, if the character at `at` ends it. Gives the start of the next one.
-fn end_string(
-    list: &mut Vec<Span>,
-    contents: &[u8],
-    whole: &Span,
-    start: usize,
-    at: usize,
-    end: usize,
-) -> Result<usize, AllocError>
-    requires order { start ≤ at }
+/// Adds the end of a string if the character at `at` ends it.
+fn push_end(ends: &mut Vec<u32>, contents: &[u8], at: usize, end: usize) -> Result<(), AllocError>
     requires char { at ≤ end }
     requires within { end ≤ length contents.now }
-    requires room { whole.now.from + length contents.now < 2 ^ 64 }
-    ensures next { IfOk result (λ next. next ≡ (if spec.is_zero_char (take (end - at) (drop at contents.now)) then end else start)) }
-    ensures list { OnOk result (list.new.items ≡ list.old.items ++ (if spec.is_zero_char (take (end - at) (drop at contents.now)) then record { file = whole.now.file; from = whole.now.from + start; len = end - start } ∷ [] else [])) }
+    requires short { length contents.now < 2 ^ 32 }
+    ensures { OnOk result (ends.new.items ≡ ends.old.items ++ (if spec.is_zero_char (take (end - at) (drop at contents.now)) then end ∷ [] else [])) }
 {
-    if !is_zero_char(&contents[at..end]) {
-        return Ok(start);
+    if is_zero_char(&contents[at..end]) {
+        ends.push(end as u32)?;
     }
-    list.push(part_of(whole, start, end))?;
-    Ok(end)
-}
-
-/// The bytes from one on and before another of a span.
-fn part_of(whole: &Span, start: usize, end: usize) -> Span
-    requires order { start ≤ end }
-    requires room { whole.now.from + start < 2 ^ 64 }
-    ensures file { result.file ≡ whole.now.file }
-    ensures from { result.from ≡ whole.now.from + start }
-    ensures len { result.len ≡ end - start }
-{
-    Span {
-        file: whole.file,
-        from: whole.from + start as u64,
-        len: (end - start) as u64,
-    }
+    Ok(())
 }

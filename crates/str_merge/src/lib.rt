@@ -2,6 +2,7 @@
 //! merged, their pieces, which the workers find, and the pools in which the distinct ones stand.
 #![tactic(auto)]
 
+mod comparing;
 mod counts;
 mod cuts;
 mod filling;
@@ -15,6 +16,7 @@ mod placing;
 mod pooling;
 mod sections;
 mod sites;
+mod small_pools;
 mod spreading;
 mod tagging;
 

@@ -1,6 +1,6 @@
 //! Distinct elements by first appearance.
 
-ghost use Rattle.std.specs.Prelude.{◌≡◌, ◌==◌, ◌+◌, ◌<◌, ◌≤◌, ◌^◌, ◌++◌, ◌∷◌, [], length, slice_index, if◌then◌else◌, IfOk, OnOk};
+ghost use Rattle.std.specs.Prelude.{◌≡◌, ◌==◌, ◌+◌, ◌<◌, ◌^◌, ◌++◌, ◌∷◌, [], length, slice_index, if◌then◌else◌, IfOk, OnOk};
 ghost use Rattle.str_merge.specs.Orders.{IsFirstOf, firsts, owns, rank, ranks};
 
 use std::alloc::{AllocError, Global};
@@ -38,11 +38,12 @@ pub fn firsts_of(alloc: Global, numbers: &[u32]) -> Result<Vec<u32>, AllocError>
     Ok(firsts)
 }
 
-/// For each element the place of its first equal among these.
+/// For each element the place of its first equal among these, if the numbers are indexes of first elements.
 #[tactic(auto, unfolding(crate::specs::Orders::ranks))]
 pub fn ranks_of(alloc: Global, numbers: &[u32]) -> Result<Vec<u32>, AllocError>
-    requires { IsFirstOf numbers.now }
-    ensures { IfOk result (λ list. list.items ≡ ranks numbers.now) }
+    requires { length numbers.now < 2 ^ 31 }
+    ensures len { IfOk result (λ list. length list.items ≡ length numbers.now) }
+    ensures value { IfOk result (λ list. IsFirstOf numbers.now → list.items ≡ ranks numbers.now) }
 {
     let mut ranks = Vec::with_capacity(alloc, numbers.len())?;
     let mut count: usize = 0;
@@ -56,15 +57,23 @@ pub fn ranks_of(alloc: Global, numbers: &[u32]) -> Result<Vec<u32>, AllocError>
 
 /// The place of element `i`, if the first equal one has this number: that of the earlier one, or after all before.
 fn rank_of(ranks: &[u32], count: usize, first: u32, i: usize) -> u32
-    requires within { first ≤ i }
-    requires known { length ranks.now ≡ i }
-    requires count { count < 2 ^ 32 }
+    requires { count < 2 ^ 32 }
     ensures { result ≡ (if first == i then count else slice_index ranks.now first) }
 {
     if first as usize == i {
         return count as u32;
     }
-    ranks[first as usize]
+    earlier_rank(ranks, first as usize)
+}
+
+/// The place of an element before this one; 0 of any other.
+fn earlier_rank(ranks: &[u32], first: usize) -> u32
+    ensures { result ≡ slice_index ranks.now first }
+{
+    match ranks.get(first) {
+        Some(rank) => *rank,
+        None => 0,
+    }
 }
 
 /// Adds the index of an element if the first equal one is itself.

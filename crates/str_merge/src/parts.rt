@@ -1,26 +1,67 @@
-//! The pieces of a section, by their numbers in its pool.
+//! The pieces of sections, by their numbers in their pool.
 
-ghost use Rattle.std.specs.Prelude.{◌≡◌, ◌+◌, ◌≤◌, length, map, IfOk};
-ghost use Rattle.str_merge.specs.Parts.{parts_by};
-ghost use Rattle.str_merge.specs.Texts.{lent_texts};
+ghost use Rattle.std.specs.Prelude.{◌≡◌, ◌-◌, ◌<◌, ◌≤◌, ◌^◌, All, length, take, drop, IfOk};
+ghost use Rattle.str_merge.specs.Orders.{IsFirstOf, ranks};
+ghost use Rattle.str_merge.specs.Parts.{lists_at, part_lists, parts_by};
+ghost use Rattle.str_merge.specs.Sites.{cut_views, gathered, piece_lists, pieces_of, texts_of};
 
+use crate::cuts::Cut;
+use crate::gathering::{cut_at, text_in};
+use crate::orders::ranks_of;
 use crate::placing::end_of;
+use flat_rows::Rows;
 use link_sections::Part;
 use std::alloc::{AllocError, Global};
 
-/// The parts of a section of these pieces, which have these numbers.
-pub fn parts_of(alloc: Global, texts: &[&[u8]], numbers: &[u32]) -> Result<Vec<Part>, AllocError>
-    requires { length texts.now ≡ length numbers.now }
-    ensures { IfOk result (λ parts. parts.items ≡ parts_by 0 (lent_texts texts.now) numbers.now) }
+/// The parts of each of some sections, if for each of their pieces the index of the first equal one is known.
+pub fn part_rows(
+    alloc: Global,
+    cuts: &[Cut],
+    members: &[u32],
+    numbers: &[u32],
+) -> Result<Rows<Part>, AllocError>
+    requires members { All (λ m. m < length cuts.now) members.now }
+    requires few { length numbers.now < 2 ^ 31 }
+    requires wide { length numbers.now ≡ length (gathered (piece_lists cuts.now) members.now) }
+    ensures { IfOk result (λ rows. IsFirstOf numbers.now → rows ≡ part_lists (lists_at (cut_views cuts.now) members.now) (ranks numbers.now)) }
 {
-    let mut parts = Vec::with_capacity(alloc, texts.len())?;
+    let ranks = ranks_of(alloc, numbers)?;
+    let ranks = ranks.as_slice();
+    let mut rows = Rows::empty(alloc)?;
+    rows.reserve(ranks.len())?;
+    let mut at = 0;
+    for n in 0..members.len() {
+        let cut = cut_at(cuts, members, n);
+        let end = at + cut.ends.len();
+        let parts = parts_of(alloc, cut, part(ranks, at, end))?;
+        rows.push_vec(parts)?;
+        at = end;
+    }
+    Ok(rows)
+}
+
+/// The items from one on and before another.
+fn part<T>(items: &[T], from: usize, to: usize) -> &[T]
+    requires order { from ≤ to }
+    requires within { to ≤ length items.now }
+    ensures { result.now ≡ take (to - from) (drop from items.now) }
+{
+    &items[from..to]
+}
+
+/// The parts of a section whose pieces have these numbers.
+fn parts_of(alloc: Global, cut: &Cut, numbers: &[u32]) -> Result<Vec<Part>, AllocError>
+    requires { length numbers.now ≡ length cut.now.ends.items }
+    ensures { IfOk result (λ parts. parts.items ≡ parts_by 0 (texts_of (pieces_of cut.now)) numbers.now) }
+{
+    let mut parts = Vec::with_capacity(alloc, numbers.len())?;
     let mut start = 0;
-    for i in 0..texts.len() {
+    for i in 0..numbers.len() {
         parts.push(Part {
             start,
             piece: numbers[i],
         })?;
-        start = end_of(start, texts[i].len())?;
+        start = end_of(start, text_in(cut, i).len() as u64)?;
     }
     Ok(parts)
 }

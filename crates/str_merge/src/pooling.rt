@@ -1,19 +1,28 @@
 //! The pieces of one pool.
 
-ghost use Rattle.std.specs.Prelude.{◌≡◌, ◌<◌, ◌≤◌, ◌^◌, All, length, IfOk};
+ghost use Rattle.std.specs.Prelude.{◌≡◌, ◌<◌, ◌≤◌, ◌^◌, All, length, IfOk, IfSome, true};
 ghost use Rattle.lk_tables.specs.TablesView.{files_of};
 ghost use Rattle.link_sections.specs.Merging.{pool_site, site_key};
-ghost use Rattle.str_merge.specs.Pooling.{AreTagged, IsNumbered};
-ghost use Rattle.str_merge.specs.Sites.{gathered, span_lists, span_texts};
-ghost use Rattle.str_merge.specs.Texts.{lent_texts};
+ghost use Rattle.name_numbers.specs.Firsts.{AreTold};
+ghost use Rattle.str_merge.specs.Orders.{IsFirstOf, firsts, ranks};
+ghost use Rattle.str_merge.specs.Parts.{lists_at, part_lists};
+ghost use Rattle.str_merge.specs.Placing.{IsPlaced};
+ghost use Rattle.str_merge.specs.Pooling.{AreTagged, IsMadeOf, IsPoolOf};
+ghost use Rattle.str_merge.specs.Sites.{cut_views, gathered, piece_lists, texts_of};
 ghost use Rattle.str_merge.specs.Works.{IsWork, members_at};
 
+use crate::comparing::are_told;
+use crate::cuts::Cut;
 use crate::gathering::{count_of, texts_of};
 use crate::keys::PoolKey;
+use crate::parts::part_rows;
+use crate::placing::{Placed, place_distinct};
 use crate::sites::Site;
-use crate::tagging::{LEAST, tags_of};
-use lk_tables::{Span, Tables};
-use name_numbers::{are_told, number_tags, number_texts};
+use crate::tagging::tags_of;
+use flat_rows::Rows;
+use link_sections::Part;
+use lk_tables::Tables;
+use name_numbers::{number_tags, number_texts};
 use std::alloc::{AllocError, Global};
 use std::thread::{Threads, join_mut};
 use work_split::Gate;
@@ -29,8 +38,8 @@ pub struct Work<'t, 'a> {
     pub kept: &'t [bool],
     /// The sections that are merged.
     pub sites: &'t [Site],
-    /// Their pieces.
-    pub cuts: &'t [Vec<Span>],
+    /// The same, cut.
+    pub cuts: &'t [Cut<'a>],
     /// The keys of their pools.
     pub keys: &'t [PoolKey<'a>],
     /// By pool its first section, by its place in the list.
@@ -39,125 +48,215 @@ pub struct Work<'t, 'a> {
     pub members: &'t [Vec<u32>],
 }
 
-/// The pieces of the sections of a pool.
-#[derive(Drop)]
-pub struct Numbered<'a> {
-    /// One section after the other.
-    pub texts: Vec<&'a [u8]>,
-    /// For each the index of the first that is equal to it.
-    pub numbers: Vec<u32>,
+/// What becomes of the pieces of a pool.
+#[derive(Debug, Drop)]
+pub struct Pooled {
+    /// The distinct ones, each at its place.
+    pub placed: Placed,
+    /// The parts of its sections, a list for each.
+    pub parts: Rows<Part>,
 }
 
-/// The pieces of the sections of a pool, of which `members` are the places in the list. If there are many, one thread lists their texts while
-/// the others number them by their tags, for which no list of texts is needed; it is once pieces of one tag are compared.
-pub fn pool_texts<'a, R: Threads + Sync, G: Gate>(
+/// What becomes of the pieces of a pool, of whose sections `members` are the places in the list, unless it is known.
+pub fn pool_pieces<R: Threads + Sync, G: Gate>(
     rt: &R,
     alloc: Global,
-    work: &Work<'_, 'a>,
+    work: &Work,
     pool: usize,
     members: &[u32],
+    known: Option<Pooled>,
     workers: u32,
     gate: &G,
-) -> Result<Numbered<'a>, AllocError>
+) -> Result<Pooled, AllocError>
     requires work { IsWork work.now }
+    requires pool { pool < length work.now.firsts.now }
     requires members { members.now ≡ members_at (files_of work.now.tables.now) work.now.kept.now pool }
+    requires known { IfSome known (IsPoolOf work.now pool members.now) }
     requires some { 1 ≤ workers }
     requires most { workers ≤ 64 }
-    ensures { IfOk result (IsNumbered (files_of work.now.tables.now) work.now.kept.now pool) }
+    ensures { IfOk result (IsPoolOf work.now pool members.now) }
 {
-    let tables = work.tables;
-    let cuts = work.cuts;
-    let count = count_of(cuts, members)?;
+    if let Some(pooled) = known {
+        return Ok(pooled);
+    }
+    let count = count_of(work.cuts, members)?;
     if count > PIECE_MAX {
         return Err(AllocError);
     }
-    if workers == 1 || count < LEAST {
-        let texts = texts_of(alloc, tables, cuts, members, count)?;
-        return number_all(rt, alloc, work, pool, members, texts, workers);
+    let numbers = number_tagged(rt, alloc, work.cuts, members, count, workers, gate)?;
+    if workers == 1 {
+        return by_one(rt, alloc, work, pool, members, numbers.as_slice(), gate);
     }
-    let (texts, numbers) = join_mut(
+    by_all(
         rt,
-        &mut || -> Result<Vec<&[u8]>, AllocError>
-            requires { All (λ m. m < length cuts.now) members.now × (count ≡ length (gathered (span_lists cuts.now) members.now)) }
-            ensures { IfOk result (λ texts. lent_texts texts.items ≡ span_texts (files_of tables.entry.now) (gathered (span_lists cuts.entry.now) members.entry.now)) }
-        { texts_of(alloc, tables, cuts, members, count) },
-        &mut || -> Result<Vec<u32>, AllocError>
-            requires { All (λ m. m < length cuts.now) members.now × (count ≡ length (gathered (span_lists cuts.now) members.now)) × (count < 2 ^ 31) × (1 ≤ workers) × (workers ≤ 64) }
-            ensures { IfOk result (λ numbers. AreTagged (span_texts (files_of tables.entry.now) (gathered (span_lists cuts.entry.now) members.entry.now)) numbers.items) }
-        { number_spans(rt, alloc, tables, cuts, members, count, workers, gate) },
+        alloc,
+        work,
+        pool,
+        members,
+        numbers.as_slice(),
+        workers,
+        gate,
+    )
+}
+
+/// What becomes of the pieces of a pool, if for each the first is known that has its tag. While the workers compare them with these, the
+/// distinct ones are placed and the parts listed, as they are if pieces of one tag are equal; else they are numbered once more.
+fn by_all<R: Threads + Sync, G: Gate>(
+    rt: &R,
+    alloc: Global,
+    work: &Work,
+    pool: usize,
+    members: &[u32],
+    numbers: &[u32],
+    workers: u32,
+    gate: &G,
+) -> Result<Pooled, AllocError>
+    requires work { IsWork work.now }
+    requires pool { pool < length work.now.firsts.now }
+    requires members { members.now ≡ members_at (files_of work.now.tables.now) work.now.kept.now pool }
+    requires few { length numbers.now < 2 ^ 31 }
+    requires tagged { AreTagged (texts_of (gathered (piece_lists work.now.cuts.now) members.now)) numbers.now }
+    requires some { 1 ≤ workers }
+    requires most { workers ≤ 64 }
+    ensures { IfOk result (IsPoolOf work.now pool members.now) }
+{
+    let cuts = work.cuts;
+    let align = align_of(work, pool);
+    let (told, pooled) = join_mut(
+        rt,
+        &mut || -> Result<bool, AllocError>
+            requires { All (λ m. m < length cuts.now) members.now × (length numbers.now ≡ length (gathered (piece_lists cuts.now) members.now)) × (1 ≤ workers) × (workers ≤ 64) }
+            ensures { IfOk result (λ told. told ≡ true → AreTold (texts_of (gathered (piece_lists cuts.entry.now) members.entry.now)) numbers.entry.now) }
+        { are_told(rt, alloc, cuts, members, numbers, workers, gate) },
+        &mut || -> Result<Pooled, AllocError>
+            requires { All (λ m. m < length cuts.now) members.now × (1 ≤ align) × (length numbers.now < 2 ^ 31) × (length numbers.now ≡ length (gathered (piece_lists cuts.now) members.now)) }
+            ensures { IfOk result (IsMadeOf cuts.entry.now members.entry.now numbers.entry.now align) }
+        { place_beside(rt, alloc, cuts, members, numbers, align) },
     );
-    let texts = texts?;
-    let numbers = numbers?;
-    number_told(rt, alloc, work, pool, members, texts, numbers, workers)
+    if !told? {
+        return by_texts(rt, alloc, work, pool, members, numbers.len(), workers);
+    }
+    let pooled = pooled?;
+    Ok(pooled)
 }
 
-/// The pieces of the sections of a pool, which are these, if for each the first is known that has its tag.
-fn number_told<'a, R: Threads + Sync>(
+/// The same by one worker, one after the other.
+fn by_one<R: Threads + Sync, G: Gate>(
     rt: &R,
     alloc: Global,
-    work: &Work<'_, 'a>,
+    work: &Work,
     pool: usize,
     members: &[u32],
-    texts: Vec<&'a [u8]>,
-    numbers: Vec<u32>,
-    workers: u32,
-) -> Result<Numbered<'a>, AllocError>
+    numbers: &[u32],
+    gate: &G,
+) -> Result<Pooled, AllocError>
     requires work { IsWork work.now }
+    requires pool { pool < length work.now.firsts.now }
     requires members { members.now ≡ members_at (files_of work.now.tables.now) work.now.kept.now pool }
-    requires texts { lent_texts texts.items ≡ span_texts (files_of work.now.tables.now) (gathered (span_lists work.now.cuts.now) members.now) }
-    requires tagged { AreTagged (span_texts (files_of work.now.tables.now) (gathered (span_lists work.now.cuts.now) members.now)) numbers.items }
-    ensures { IfOk result (IsNumbered (files_of work.now.tables.now) work.now.kept.now pool) }
+    requires few { length numbers.now < 2 ^ 31 }
+    requires tagged { AreTagged (texts_of (gathered (piece_lists work.now.cuts.now) members.now)) numbers.now }
+    ensures { IfOk result (IsPoolOf work.now pool members.now) }
 {
-    if texts.len() > PIECE_MAX {
-        return Err(AllocError);
+    if !are_told(rt, alloc, work.cuts, members, numbers, 1, gate)? {
+        return by_texts(rt, alloc, work, pool, members, numbers.len(), 1);
     }
-    if !are_told(rt, texts.as_slice(), numbers.as_slice(), workers) {
-        return number_all(rt, alloc, work, pool, members, texts, workers);
-    }
-    Ok(Numbered { texts, numbers })
+    let align = align_of(work, pool);
+    let pooled = place(alloc, work.cuts, members, numbers, align)?;
+    Ok(pooled)
 }
 
-/// The pieces of the sections of a pool, which are these.
-fn number_all<'a, R: Threads + Sync>(
+/// What becomes of the pieces of a pool, which are so many, if nothing is known of them: their texts are listed.
+pub fn by_texts<R: Threads + Sync>(
     rt: &R,
     alloc: Global,
-    work: &Work<'_, 'a>,
+    work: &Work,
     pool: usize,
     members: &[u32],
-    texts: Vec<&'a [u8]>,
+    count: usize,
     workers: u32,
-) -> Result<Numbered<'a>, AllocError>
+) -> Result<Pooled, AllocError>
     requires work { IsWork work.now }
+    requires pool { pool < length work.now.firsts.now }
     requires members { members.now ≡ members_at (files_of work.now.tables.now) work.now.kept.now pool }
-    requires texts { lent_texts texts.items ≡ span_texts (files_of work.now.tables.now) (gathered (span_lists work.now.cuts.now) members.now) }
-    ensures { IfOk result (IsNumbered (files_of work.now.tables.now) work.now.kept.now pool) }
+    requires count { count ≡ length (gathered (piece_lists work.now.cuts.now) members.now) }
+    requires few { count < 2 ^ 31 }
+    ensures { IfOk result (IsPoolOf work.now pool members.now) }
 {
-    if texts.len() > PIECE_MAX {
-        return Err(AllocError);
-    }
+    let texts = texts_of(alloc, work.cuts, members, count)?;
     let numbers = number_texts(rt, alloc, texts.as_slice(), workers)?;
-    Ok(Numbered { texts, numbers })
+    let align = align_of(work, pool);
+    let pooled = place(alloc, work.cuts, members, numbers.as_slice(), align)?;
+    Ok(pooled)
 }
 
-/// For each piece of these sections the first that has its tag.
-fn number_spans<R: Threads + Sync, G: Gate>(
+/// The distinct pieces of these sections, placed, and the parts of the sections, if for each piece the index of the first equal one is known.
+fn place(
+    alloc: Global,
+    cuts: &[Cut],
+    members: &[u32],
+    numbers: &[u32],
+    align: u64,
+) -> Result<Pooled, AllocError>
+    requires members { All (λ m. m < length cuts.now) members.now }
+    requires align { 1 ≤ align }
+    requires few { length numbers.now < 2 ^ 31 }
+    requires wide { length numbers.now ≡ length (gathered (piece_lists cuts.now) members.now) }
+    ensures { IfOk result (IsMadeOf cuts.now members.now numbers.now align) }
+{
+    let placed = place_distinct(alloc, cuts, members, numbers, align)?;
+    let parts = part_rows(alloc, cuts, members, numbers)?;
+    Ok(Pooled { placed, parts })
+}
+
+/// The same, with a thread for each of both.
+fn place_beside<R: Threads + Sync>(
     rt: &R,
     alloc: Global,
-    tables: &Tables,
-    cuts: &[Vec<Span>],
+    cuts: &[Cut],
+    members: &[u32],
+    numbers: &[u32],
+    align: u64,
+) -> Result<Pooled, AllocError>
+    requires members { All (λ m. m < length cuts.now) members.now }
+    requires align { 1 ≤ align }
+    requires few { length numbers.now < 2 ^ 31 }
+    requires wide { length numbers.now ≡ length (gathered (piece_lists cuts.now) members.now) }
+    ensures { IfOk result (IsMadeOf cuts.now members.now numbers.now align) }
+{
+    let (placed, parts) = join_mut(
+        rt,
+        &mut || -> Result<Placed, AllocError>
+            requires { (1 ≤ align) × All (λ m. m < length cuts.now) members.now × (length numbers.now < 2 ^ 31) }
+            ensures { IfOk result (IsPlaced (gathered (piece_lists cuts.entry.now) members.entry.now) (firsts numbers.entry.now) align) }
+        { place_distinct(alloc, cuts, members, numbers, align) },
+        &mut || -> Result<Rows<Part>, AllocError>
+            requires { All (λ m. m < length cuts.now) members.now × (length numbers.now < 2 ^ 31) × (length numbers.now ≡ length (gathered (piece_lists cuts.now) members.now)) }
+            ensures { IfOk result (λ rows. IsFirstOf numbers.entry.now → rows ≡ part_lists (lists_at (cut_views cuts.entry.now) members.entry.now) (ranks numbers.entry.now)) }
+        { part_rows(alloc, cuts, members, numbers) },
+    );
+    let placed = placed?;
+    let parts = parts?;
+    Ok(Pooled { placed, parts })
+}
+
+/// For each piece of these sections, which are so many, the first that has its tag.
+fn number_tagged<R: Threads + Sync, G: Gate>(
+    rt: &R,
+    alloc: Global,
+    cuts: &[Cut],
     members: &[u32],
     count: usize,
     workers: u32,
     gate: &G,
 ) -> Result<Vec<u32>, AllocError>
     requires members { All (λ m. m < length cuts.now) members.now }
-    requires count { count ≡ length (gathered (span_lists cuts.now) members.now) }
+    requires count { count ≡ length (gathered (piece_lists cuts.now) members.now) }
     requires few { count < 2 ^ 31 }
     requires some { 1 ≤ workers }
     requires most { workers ≤ 64 }
-    ensures { IfOk result (λ numbers. AreTagged (span_texts (files_of tables.now) (gathered (span_lists cuts.now) members.now)) numbers.items) }
+    ensures { IfOk result (λ numbers. AreTagged (texts_of (gathered (piece_lists cuts.now) members.now)) numbers.items) }
 {
-    let tags = tags_of(rt, alloc, tables, cuts, members, count, workers, gate)?;
+    let tags = tags_of(rt, alloc, cuts, members, count, workers, gate)?;
     let numbers = number_tags(rt, alloc, tags.as_slice(), workers)?;
     Ok(numbers)
 }

@@ -5,4 +5,6 @@ pub mod Near
 pub mod NotedSteps
 pub mod PastSymbols
 pub mod PoolPositions
+pub mod Prevails
 pub mod SectionNames
+pub mod TakenAddresses

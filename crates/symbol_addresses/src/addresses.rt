@@ -12,14 +12,15 @@ ghost use Rattle.link_sections.specs.LaidOut.{layout_view, with_contents};
 ghost use Rattle.link_sections.specs.PoolViews.{pools_view};
 ghost use Rattle.link_sections.specs.Sound.{IsSound};
 ghost use Rattle.symbol_addresses.specs.Links.{link_files};
-ghost use Rattle.symbol_addresses.specs.Sources.{address_in, addresses_of};
+ghost use Rattle.symbol_addresses.specs.Prevailing.{own_address, own_addresses};
 ghost use Rattle.work_split.specs.Pieces.{Tiles};
 ghost use Rattle.work_split.specs.Runs.{IsRun};
 
 use crate::edges::find_fixed;
 use crate::extents::Extents;
 use crate::links::LaidLink;
-use crate::sources::{Sources, symbol_in};
+use crate::prevailing::{own_address, take_addresses};
+use crate::sources::Sources;
 use link_sections::{Addresses, Got, Layout, Pools};
 use lk_base::{FileNo, LinkStop, SecNo};
 use lk_tables::{Binding, Tables};
@@ -31,7 +32,8 @@ use work_split::{Gate, over_shares, pieces_by_weight};
 /// What each symbol stands for once everything has its place: an address or a number. The list has one entry for each symbol of all files,
 /// by symbol number: 0 for those of a file that takes no part, and for one that stands for nothing. A symbol in a section that is merged
 /// has the address of its byte in the pool; one of the linker's own has that of what its name says. The symbols are shared among so many
-/// workers, by files. The only error is out of memory.
+/// workers, by files, each of which reads these alone; then those that are bound to another symbol take its address. The only error is out
+/// of memory.
 pub fn find_addresses<R: Threads + Sync, G: Gate>(
     rt: &R,
     alloc: Global,
@@ -65,12 +67,13 @@ pub fn find_addresses<R: Threads + Sync, G: Gate>(
         fixed: fixed.as_slice(),
         extents: &extents,
     };
-    let symbols = find_symbols(rt, alloc, &sources, workers, gate)?;
+    let mut symbols = find_own(rt, alloc, &sources, workers, gate)?;
+    take_addresses(&link, symbols.as_mut_slice());
     Ok(Addresses { symbols })
 }
 
-/// The addresses of all symbols. The workers each find those of one piece of the files.
-fn find_symbols<R: Threads + Sync, G: Gate>(
+/// The addresses that symbols have without a look at other symbols. The workers each find those of one piece of the files.
+fn find_own<R: Threads + Sync, G: Gate>(
     rt: &R,
     alloc: Global,
     sources: &Sources,
@@ -79,7 +82,7 @@ fn find_symbols<R: Threads + Sync, G: Gate>(
 ) -> Result<Vec<u64>, AllocError>
     requires some { 1 ≤ workers }
     requires most { workers ≤ 64 }
-    ensures { IfOk result (λ found. found.items ≡ addresses_of sources.now.link) }
+    ensures { IfOk result (λ found. found.items ≡ own_addresses sources.now.link) }
 {
     let pieces = pieces_of(alloc, sources.link.tables, workers)?;
     let found = over_shares(
@@ -89,7 +92,7 @@ fn find_symbols<R: Threads + Sync, G: Gate>(
         pieces.as_slice(),
         |piece: Range<usize>| -> Result<Vec<u64>, LinkStop>
             requires piece { piece.end ≤ length (link_files sources.now.link) }
-            ensures { IsRun (symbol_row (link_files sources.entry.now.link) (address_in sources.entry.now.link)) piece result }
+            ensures { IsRun (symbol_row (link_files sources.entry.now.link) (own_address sources.entry.now.link)) piece result }
         { Ok(addresses_in(alloc, sources, piece)?) },
     );
     match found {
@@ -119,24 +122,35 @@ fn addresses_in(
     piece: Range<usize>,
 ) -> Result<Vec<u64>, AllocError>
     requires piece { piece.end ≤ length (link_files sources.now.link) }
-    ensures { IfOk result (λ found. found.items ≡ flat_map (symbol_row (link_files sources.now.link) (address_in sources.now.link)) (range_with_len piece.start (piece.end - piece.start))) }
+    ensures { IfOk result (λ found. found.items ≡ flat_map (symbol_row (link_files sources.now.link) (own_address sources.now.link)) (range_with_len piece.start (piece.end - piece.start))) }
 {
     sources.link.tables.is_few();
-    let mut found = Vec::new(alloc);
+    let mut found = Vec::with_capacity(alloc, symbols_of(sources.link.tables, &piece))?;
     for file in piece.start..piece.end {
         push_addresses(&mut found, sources, file as u32)?;
     }
     Ok(found)
 }
 
+/// How many symbols a run of files has.
+fn symbols_of(tables: &Tables, piece: &Range<usize>) -> usize {
+    let mut count: usize = 0;
+    for file in piece.start..piece.end {
+        if let Some(entry) = tables.files().get(file) {
+            count = count.saturating_add(entry.symbols().len());
+        }
+    }
+    count
+}
+
 /// The addresses of one file's symbols.
 fn push_addresses(found: &mut Vec<u64>, sources: &Sources, file: FileNo) -> Result<(), AllocError>
     requires file { file < length (link_files sources.now.link) }
-    ensures { OnOk result (found.new.items ≡ found.old.items ++ symbol_row (link_files sources.now.link) (address_in sources.now.link) file) }
+    ensures { OnOk result (found.new.items ≡ found.old.items ++ symbol_row (link_files sources.now.link) (own_address sources.now.link) file) }
 {
     sources.link.tables.is_few();
     for symbol in 0..sources.link.tables.file(file).symbols().len() {
-        found.push(symbol_in(sources, file, symbol as u32))?;
+        found.push(own_address(sources, file, symbol as u32))?;
     }
     Ok(())
 }

@@ -7,7 +7,7 @@ use std::alloc::{AllocError, Global};
 use std::ops::Range;
 
 /// Cuts the places below `len` into pieces, one for each worker, or for each place if there are fewer places than
-/// workers.
+/// workers. They are in order, and none is empty. The only error is out of memory.
 pub fn pieces(alloc: Global, len: usize, workers: u32) -> Result<Vec<Range<usize>>, AllocError>
     requires some { 1 ≤ workers }
     requires most { workers ≤ 64 }

@@ -94,7 +94,8 @@ fn shares_of<
     )
 }
 
-/// Runs `task` once for each piece, as [`over_pieces`] does, and joins what the tasks give.
+/// Runs `task` once for each piece, as [`over_pieces`] does, and joins what the tasks give. If a task stopped, the answer is the
+/// first stop in order of the pieces; or out of memory.
 pub fn over_shares<
     R: Threads + Sync,
     G: Gate,

@@ -5,12 +5,14 @@ ghost use Rattle.elf_out.specs.TablesView.{tables_if, tables_in};
 
 use super::examples::{Example, OF_THREE_BLOCKS, SMALL};
 use super::links::{Asked, PLAIN, inputs_of, run_passes};
+use super::shortened::SHORTENED;
+use elf_bytes::{Image, image_of};
 use elf_out::{SymbolTables, block, file_length, headers};
 use link_driver::Options;
 use link_sections::View;
 use lk_base::LinkStop;
 use reloc_apply::{apply, write_block};
-use std::alloc::Global;
+use std::alloc::{AllocError, Global};
 use std::test::Fail;
 use std::thread::Threads;
 
@@ -228,6 +230,14 @@ pub fn blocks_agree(
     Ok(file_agrees(alloc, view, tables, exe)? && sections_agree(alloc, view, exe, lengths)?)
 }
 
+/// Whether an executable is the one that was worked out by hand, where one was.
+fn is_expected(alloc: Global, image: Option<&Image>, exe: &[u8]) -> Result<bool, AllocError> {
+    let Some(image) = image else {
+        return Ok(true);
+    };
+    Ok(image_of(alloc, image)?.as_slice() == exe)
+}
+
 /// Whether the executable of an example, of which equal code is folded, is.
 fn example_agrees<R: Threads + Sync>(
     rt: &R,
@@ -244,12 +254,21 @@ fn example_agrees<R: Threads + Sync>(
         ..PLAIN
     };
     let made = run_passes(rt, alloc, &inputs, &asked)?;
-    Ok(made.written.agrees)
+    let expected = is_expected(alloc, example.image, &made.written.exe)?;
+    Ok(expected && made.written.agrees)
 }
 
 #[test]
 fn blocks_of_any_length_agree(rt: HostRuntime) -> Result<(), Fail> {
     let agrees = example_agrees(&rt, rt.alloc(), &SMALL);
+    assert!(rt; agrees == Ok(true), "{agrees:?}");
+    Ok(())
+}
+
+/// Nops stay, calls become one instruction, a word means a byte of a pool, and a load goes by the linker's table.
+#[test]
+fn blocks_of_shortened_code_agree(rt: HostRuntime) -> Result<(), Fail> {
+    let agrees = example_agrees(&rt, rt.alloc(), &SHORTENED);
     assert!(rt; agrees == Ok(true), "{agrees:?}");
     Ok(())
 }

@@ -2,19 +2,19 @@
 
 use super::blocks::Lengths;
 use super::objects::{BY_FIRST, CODE, LABEL, START, ZEROS};
-use elf_bytes::{Object, Reloc, Section, Symbol};
+use elf_bytes::{Image, Object, Reloc, Section, Symbol};
 
 /// Kinds of relocations: a whole address, a call of two instructions, and a distance in two parts.
-const WHOLE: u64 = 2;
+pub const WHOLE: u64 = 2;
 
 const CALL: u64 = 19;
 
 const UPPER: u64 = 23;
 
-const LOWER: u64 = 24;
+pub const LOWER: u64 = 24;
 
 /// A relocation by symbol 2.
-const TO_SECOND: Reloc = Reloc {
+pub const TO_SECOND: Reloc = Reloc {
     kind: WHOLE,
     symbol: 2,
     ..BY_FIRST
@@ -194,11 +194,12 @@ const LONG: Object = Object {
     symbols: &[LOADED, BEGIN, FAR, ODD],
 };
 
-/// A link: its objects, and by which lengths of blocks its executable is written once more.
+/// A link: its objects, by which lengths of blocks its executable is written once more, and the executable where it was worked out by hand.
 #[derive(Clone, Copy)]
 pub struct Example<'a> {
     pub objects: &'a [Object<'a>],
     pub lengths: Lengths,
+    pub image: Option<&'a Image<'a>>,
 }
 
 /// A small executable by all short blocks.
@@ -209,6 +210,7 @@ pub const SMALL: Example = Example {
         from: 1,
         to: 65,
     },
+    image: None,
 };
 
 /// One of more than two blocks of the writer.
@@ -219,4 +221,5 @@ pub const OF_THREE_BLOCKS: Example = Example {
         from: 4095,
         to: 4098,
     },
+    image: None,
 };

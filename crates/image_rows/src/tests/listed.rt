@@ -1,11 +1,35 @@
 //! What no clause says: that symbols are listed at all, by one worker and by two, that tables and names are written at all, and a map's lines;
 //! and their bytes.
 
-use super::links::{Asked, PLAIN, inputs_of, run_passes};
+use super::links::{Asked, PLAIN, Written, inputs_of, run_passes};
 use super::objects::{CODE, START};
 use elf_bytes::{Object, Section, Symbol};
 use link_driver::Options;
+use lk_base::LinkStop;
+use std::alloc::Global;
 use std::test::Fail;
+use std::thread::Threads;
+
+/// What a link lists.
+#[derive(Clone, Copy)]
+enum Told<'a> {
+    /// A symbol table of these bytes, the null symbol's among them, and its names.
+    Table { symbols: &'a [u8], names: &'a [u8] },
+    /// No symbol table, and at an offset of the executable these bytes.
+    NoTable { offset: usize, bytes: &'a [u8] },
+    /// The values of the symbols in order.
+    Values(&'a [u64]),
+    /// A map.
+    Lines(&'a [u8]),
+}
+
+/// A link, and what it lists.
+#[derive(Clone, Copy)]
+struct Listing<'a> {
+    objects: &'a [Object<'a>],
+    asked: Asked<'a>,
+    told: Told<'a>,
+}
 
 /// A function of eight bytes.
 const FUNCTION: &[Section] = &[Section { zeros: 8, ..CODE }];
@@ -37,42 +61,6 @@ const FROM_F: Asked = Asked {
     entry: "f",
     ..PLAIN
 };
-
-#[test]
-fn symbols_follow_the_null_symbol(rt: HostRuntime) -> Result<(), Fail> {
-    let inputs = inputs_of(rt.alloc(), &[OF_F])?;
-    let made = run_passes(&rt, rt.alloc(), &inputs, &FROM_F)?;
-    let Some(tables) = &made.written.tables else {
-        assert!(rt; false, "no symbol table");
-        return Ok(());
-    };
-    assert_eq!(rt; tables.strings.as_slice(), b"\0_end\0f\0".as_slice());
-    let mut expected = vec![in rt.alloc(); 0u8; 24]?;
-    expected.extend_from_slice(b"\x01\0\0\0\x10\0\xf1\xff\x45\x23\x01\0\0\0\0\0")?;
-    expected.extend_from_slice(b"\0\0\0\0\0\0\0\0\x06\0\0\0\x22\0\x01\0")?;
-    expected.extend_from_slice(b"\0\x10\x01\0\0\0\0\0\x08\0\0\0\0\0\0\0")?;
-    assert_eq!(rt; tables.symbols.as_slice(), expected.as_slice());
-    Ok(())
-}
-
-// They stand after the function, whose eight bytes stand at 0x1000.
-#[test]
-fn names_are_ended_by_zeros(rt: HostRuntime) -> Result<(), Fail> {
-    let inputs = inputs_of(rt.alloc(), &[OF_F])?;
-    let asked = Asked {
-        options: Options {
-            strip: true,
-            ..PLAIN.options
-        },
-        ..FROM_F
-    };
-    let made = run_passes(&rt, rt.alloc(), &inputs, &asked)?;
-    assert!(rt; made.written.tables.is_none());
-    let names = b"\0.text\0.shstrtab\0".as_slice();
-    let exe = &made.written.exe;
-    assert!(rt; exe.iter().skip(0x1008).take(names.len()).eq(names.iter()));
-    Ok(())
-}
 
 /// Symbols that are numbers.
 const NUMBERS: Object = Object {
@@ -129,21 +117,6 @@ const ASKER: Object = Object {
     ],
 };
 
-// Those of `_end`, where no section ends it at the start of the page after the headers, `a_long_name`, `b` and `end`, of which the first counts.
-#[test]
-fn names_stand_in_order_and_once(rt: HostRuntime) -> Result<(), Fail> {
-    let inputs = inputs_of(rt.alloc(), &[NUMBERS, ASKER])?;
-    let asked = Asked {
-        entry: "b",
-        ..PLAIN
-    };
-    let made = run_passes(&rt, rt.alloc(), &inputs, &asked)?;
-    let values = [0x11000, 4, 2, 1].as_slice();
-    assert_eq!(rt; made.written.by_one.as_slice(), values);
-    assert_eq!(rt; made.written.by_two.as_slice(), values);
-    Ok(())
-}
-
 /// A section of 11 million bytes, and a number whose name has characters that are escaped.
 const WIDE: Object = Object {
     flags: 1,
@@ -167,14 +140,98 @@ input 0000000000011000 0000000000abcdef object 1 .text
 symbol 9876543210001004 f%20%25
 ";
 
+/// No symbol table is written.
+const STRIPPED: Options = Options {
+    gc: false,
+    icf: false,
+    relax: true,
+    strip: true,
+    map: false,
+    generated: None,
+};
+
+/// The null symbol, the number and the function.
+const ENTRIES: &[u8] = b"\0\0\0\0\0\0\0\0\0\0\0\0\0\0\0\0\0\0\0\0\0\0\0\0\
+\x01\0\0\0\x10\0\xf1\xff\x45\x23\x01\0\0\0\0\0\0\0\0\0\0\0\0\0\
+\x06\0\0\0\x22\0\x01\0\0\x10\x01\0\0\0\0\0\x08\0\0\0\0\0\0\0";
+
+/// The names of sections stand after the function, whose eight bytes stand at 0x1000. The values are those of `_end`, where no section ends it at
+/// the start of the page after the headers, `a_long_name`, `b` and `end`, of which the first counts.
+const LISTINGS: &[Listing] = &[
+    Listing {
+        objects: &[OF_F],
+        asked: FROM_F,
+        told: Told::Table {
+            symbols: ENTRIES,
+            names: b"\0_end\0f\0",
+        },
+    },
+    Listing {
+        objects: &[OF_F],
+        asked: Asked {
+            options: STRIPPED,
+            ..FROM_F
+        },
+        told: Told::NoTable {
+            offset: 0x1008,
+            bytes: b"\0.text\0.shstrtab\0",
+        },
+    },
+    Listing {
+        objects: &[NUMBERS, ASKER],
+        asked: Asked {
+            entry: "b",
+            ..PLAIN
+        },
+        told: Told::Values(&[0x11000, 4, 2, 1]),
+    },
+    Listing {
+        objects: &[WIDE],
+        asked: Asked {
+            entry: "f %",
+            ..PLAIN
+        },
+        told: Told::Lines(WIDE_MAP),
+    },
+];
+
+/// Whether a symbol table was written, with these bytes and names.
+fn has_table(written: &Written, symbols: &[u8], names: &[u8]) -> bool {
+    match &written.tables {
+        Some(tables) => tables.symbols.as_slice() == symbols && tables.strings.as_slice() == names,
+        None => false,
+    }
+}
+
+/// Whether this is listed.
+fn is_told(written: &Written, told: Told) -> bool {
+    match told {
+        Told::Table { symbols, names } => has_table(written, symbols, names),
+        Told::NoTable { offset, bytes } => {
+            let own = written.exe.iter().skip(offset).take(bytes.len());
+            written.tables.is_none() && own.eq(bytes.iter())
+        }
+        Told::Values(values) => {
+            written.by_one.as_slice() == values && written.by_two.as_slice() == values
+        }
+        Told::Lines(lines) => written.map.as_slice() == lines,
+    }
+}
+
+/// Whether a link lists what it is to list.
+fn lists<R: Threads + Sync>(rt: &R, alloc: Global, listing: &Listing) -> Result<bool, LinkStop> {
+    let inputs = inputs_of(alloc, listing.objects)?;
+    let made = run_passes(rt, alloc, &inputs, &listing.asked)?;
+    Ok(is_told(&made.written, listing.told))
+}
+
 #[test]
-fn lines_are_written(rt: HostRuntime) -> Result<(), Fail> {
-    let inputs = inputs_of(rt.alloc(), &[WIDE])?;
-    let asked = Asked {
-        entry: "f %",
-        ..PLAIN
-    };
-    let made = run_passes(&rt, rt.alloc(), &inputs, &asked)?;
-    assert_eq!(rt; made.written.map.as_slice(), WIDE_MAP);
+fn symbols_names_and_lines_are_written(rt: HostRuntime) -> Result<(), Fail> {
+    for (index, listing) in LISTINGS.iter().enumerate() {
+        assert!(rt;
+            lists(&rt, rt.alloc(), listing) == Ok(true),
+            "example {index}"
+        );
+    }
     Ok(())
 }

@@ -64,14 +64,20 @@ fn lengths<R: Threads + Sync>(
     Ok(lengths_of(alloc, parts, made.pools.pieces(pool))?)
 }
 
+/// Sections, and where each piece of them begins, and how many bytes it has.
+const PIECES: &[(Section, &[(u64, u64)])] = &[
+    (STRINGS, &[(0, 4), (4, 1), (5, 1), (6, 1), (7, 1), (8, 4)]),
+    (CONSTANTS, &[(0, 4), (4, 4), (8, 4)]),
+    (WIDE, &[(0, 4), (4, 4), (8, 4)]),
+];
+
 #[test]
 fn pieces_of_sections(rt: HostRuntime) -> Result<(), Fail> {
-    let strings = lengths(&rt, rt.alloc(), &[STRINGS])?;
-    assert!(rt; strings.as_slice() == [(0, 4), (4, 1), (5, 1), (6, 1), (7, 1), (8, 4)].as_slice());
-    let constants = lengths(&rt, rt.alloc(), &[CONSTANTS])?;
-    assert!(rt; constants.as_slice() == [(0, 4), (4, 4), (8, 4)].as_slice());
-    let wide = lengths(&rt, rt.alloc(), &[WIDE])?;
-    assert!(rt; wide.as_slice() == [(0, 4), (4, 4), (8, 4)].as_slice());
+    for (index, row) in PIECES.iter().enumerate() {
+        let (section, expected) = *row;
+        let found = lengths(&rt, rt.alloc(), &[section])?;
+        assert!(rt; found.as_slice() == expected, "example {index}");
+    }
     Ok(())
 }
 

@@ -1,7 +1,7 @@
 //! An object and an archive that are cut at each length, and an object of which a byte is altered.
 
+use crate::examples::{Files, Left, SOUND, run_over, words_of};
 use link_driver::OpenGate;
-use link_examples::{Files, Left, SOUND, run_over, words_of};
 use link_gen::objects;
 use lk_depot::FileKind;
 use std::alloc::{AllocError, Global};

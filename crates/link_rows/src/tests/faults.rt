@@ -2,10 +2,10 @@
 
 use super::generated::{TWO_ALONE, TWO_MAPPED};
 use super::run_with;
+use crate::examples::lines::FIRST_LINES;
+use crate::examples::{Call, FIRST_LINK, Left, Link, Outside, SOUND, Stream, WORKERS, text_of};
 use elf_bytes::image_of;
 use link_driver::OpenGate;
-use link_examples::lines::FIRST_LINES;
-use link_examples::{Call, FIRST_LINK, Left, Link, Outside, SOUND, Stream, WORKERS, text_of};
 use lk_depot::{FileKind, MemDepot};
 use std::alloc::{AllocError, Global};
 use std::test::Fail;

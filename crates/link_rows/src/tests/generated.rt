@@ -1,10 +1,10 @@
 //! Links of generated objects (`--self-input`), and what is said of them.
 
 use super::run_with;
+use crate::examples::images::{FIRST, READ_OF_FOUR, STACK};
+use crate::examples::{Call, FIRST_LINK, Left, Link, NO_WORDS, Refusal, SOUND, Store, WORKERS};
 use elf_bytes::{Image, Listed};
 use link_driver::OpenGate;
-use link_examples::images::{FIRST, READ_OF_FOUR, STACK};
-use link_examples::{Call, FIRST_LINK, Left, Link, NO_WORDS, Refusal, SOUND, Store, WORKERS};
 use std::alloc::{AllocError, Global};
 use std::test::Fail;
 use std::thread::Threads;

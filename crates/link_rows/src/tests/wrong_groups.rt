@@ -1,9 +1,9 @@
 //! Groups that are wrong. The group is section 2 of each file.
 
+use crate::examples::groups::{GROUP, N_BREAKS, N_IN_3};
+use crate::examples::objects::{A, Input, RETURN, START, WHOLE};
+use crate::examples::{Files, Refusal, Store, push_object};
 use elf_bytes::{Object, Section, SectionLink};
-use link_examples::groups::{GROUP, N_BREAKS, N_IN_3};
-use link_examples::objects::{A, Input, RETURN, START, WHOLE};
-use link_examples::{Files, Refusal, Store, push_object};
 use std::alloc::{AllocError, Global};
 
 /// Entries of 8 bytes.

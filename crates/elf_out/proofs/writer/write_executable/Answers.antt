@@ -1,11 +1,11 @@
-use Rattle.std.proofs.Common.{sym, subst, List, ℕ, ap, ◌∙◌}
+use Rattle.std.proofs.Common.{sym, subst, List, ℕ, ap, ◌∙◌, Option}
 use Rattle.link_sections.specs.Views.{binding_in, files_in, laid_in, leaders_in}
-use Rattle.elf_out.specs.Executable.{executable, file_with, pieces_with}
-use Rattle.elf_out.specs.Frames.{headers_in}
-use Rattle.elf_out.specs.Standing.{SectionsStand}
+use Rattle.elf_out.specs.Executable.{executable, file_with}
+use Rattle.elf_out.specs.Standing.{HasHeaderRoom, HeadersStand, PiecesStand, SectionsStand}
+use Rattle.elf_out.specs.Symbols.{SymbolTables}
 use Rattle.elf_out.specs.TablesView.{tables_if}
-use Rattle.elf_out.proofs.Whole.{sections_stand}
-use Rattle.reloc_apply.proofs.MemberFacts.{sized}
+use Rattle.elf_out.proofs.Outputs.{bounds_are}
+use Rattle.elf_out.proofs.Whole.{headers_stand, pieces_stand, sections_stand}
 use Rattle.elf_out.proofs.writer.write_executable.Goals as goal
 
 pub returns-clause-written : goal.returns-clause-written
@@ -15,10 +15,25 @@ returns-clause-written g c =
     c.in_ok-file.ensures ∙ ap (file_with (files_in v) (binding_in v) (leaders_in v) (laid_in v)) c.in_ok-tables.ensures
 
 pub returns-clause-stands : goal.returns-clause-stands
-unfolding file_with pieces_with
 returns-clause-stands g c =
     let v = c.args.view.now in
     let tables = tables_if c.in_ok-tables.tables in
     let P : List ℕ → Type 0 = λ file. SectionsStand (files_in v) (binding_in v) (leaders_in v) (laid_in v) file in
     subst P (sym c.in_ok-file.ensures)
-    (sections_stand (files_in v) (binding_in v) (leaders_in v) (laid_in v) tables (headers_in v tables) v.sound (λ i d lt n is bits. sized v i d lt n is bits))
+    (sections_stand (files_in v) (binding_in v) (leaders_in v) (laid_in v) tables (file_with (files_in v) (binding_in v) (leaders_in v) (laid_in v) tables) v.sound (pieces_stand v tables))
+
+pub returns-clause-pieces : goal.returns-clause-pieces
+returns-clause-pieces g c =
+    let v = c.args.view.now in
+    let tables = tables_if c.in_ok-tables.tables in
+    let P : List ℕ → Type 0 = λ file. PiecesStand (files_in v) (binding_in v) (leaders_in v) (laid_in v) tables file in
+    let Q : Option SymbolTables → Type 0 = λ t. PiecesStand (files_in v) (binding_in v) (leaders_in v) (laid_in v) t c.in_ok-file.file.items in
+    subst Q c.in_ok-tables.ensures (subst P (sym c.in_ok-file.ensures) (pieces_stand v tables))
+
+pub returns-clause-headers : goal.returns-clause-headers
+returns-clause-headers g c = λ room.
+    let v = c.args.view.now in
+    let tables = tables_if c.in_ok-tables.tables in
+    let P : List ℕ → Type 0 = λ file. HeadersStand (files_in v) (binding_in v) (leaders_in v) (laid_in v) tables file in
+    let Q : Option SymbolTables → Type 0 = λ t. HeadersStand (files_in v) (binding_in v) (leaders_in v) (laid_in v) t c.in_ok-file.file.items in
+    subst Q c.in_ok-tables.ensures (subst P (sym c.in_ok-file.ensures) (headers_stand v tables (subst HasHeaderRoom (sym (bounds_are v)) room)))

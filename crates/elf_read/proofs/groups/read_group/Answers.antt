@@ -6,10 +6,10 @@ use Rattle.lk_base.specs.declared.abi.TheConstants.{SHT_GROUP}
 use Rattle.std.proofs.lemmas.List.FromFn.{length-map-range_with_len}
 use Rattle.lk_tables.specs.FileHeader.{section_count}
 use Rattle.lk_tables.specs.Groups.{is_taken_before, is_bad_member, members_of}
-use Rattle.lk_tables.specs.Objects.{group_view, groups_before}
+use Rattle.lk_tables.specs.Objects.{group_view}
 use Rattle.lk_tables.specs.Sections.{section_of}
 use Rattle.lk_tables.proofs.SoundGroups.{all_none, is_member}
-use Rattle.elf_read.specs.Groups.{with_marked}
+use Rattle.elf_read.specs.Groups.{groups_before, with_marked}
 use Rattle.elf_read.proofs.GroupLists.{group_inside, untyped_group, typed_group, taken_kept, groups_kept, taken_put, groups_put}
 use Rattle.elf_read.proofs.groups.read_group.Goals as goal
 

@@ -2,8 +2,8 @@ use Rattle.std.proofs.Common.{◌≡◌, map}
 use Rattle.lk_tables.specs.Bodies.{body_checks, all_body_checks}
 use Rattle.lk_tables.specs.Checks.{passes, from_on}
 use Rattle.lk_tables.specs.FileHeader.{section_count}
-use Rattle.lk_tables.specs.Objects.{group_view, groups_before}
-use Rattle.elf_read.specs.Groups.{taken_before}
+use Rattle.lk_tables.specs.Objects.{group_view}
+use Rattle.elf_read.specs.Groups.{groups_before, taken_before}
 use Rattle.elf_read.specs.RelaSections.{marks_before, lists_before}
 use Rattle.elf_read.proofs.section_bodies.read_sections.Given as goal
 

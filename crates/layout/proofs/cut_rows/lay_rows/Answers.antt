@@ -1,4 +1,4 @@
-use Rattle.std.proofs.Common.{◌++◌, ◌∷◌, [], ◌∙◌, ap, arith}
+use Rattle.std.proofs.Common.{arith}
 use Rattle.std.proofs.lemmas.Result.{err_from_is_err_and}
 use Rattle.lk_tables.specs.Files.{section_total}
 use Rattle.lk_tables.specs.TablesView.{files_of}
@@ -17,8 +17,8 @@ returns-in_err-lay_row-clause-goes c =
 pub loop-n-preserved : goal.loop-n-preserved
 loop-n-preserved c =
     laying_next (files_of c.args.tables.now) (cuts_of c.args.leaders.now (sizes_of c.args.sizes.now) c.args.starts.now) (section_total (files_of c.args.tables.now)) c.loop-n.n
-    _ _ c.lay_row.new.laid.items (omega (arith, c.loop-n-test.true, c.section_count-n-end.ensures)) c.loop-n.invariant
-    (c.in_ok-push.ensures.ok ∙ ap (λ l. c.loop-n.rows ++ l ∷ []) c.deref.ensures.value) c.in_ok-lay_row.ensures.value c.in_ok-lay_row.ensures.sound c.in_ok-lay_row.ensures.goes
+    _ _ (omega (arith, c.loop-n-test.true, c.section_count-n-end.ensures)) c.loop-n.invariant
+    c.in_ok-lay_row.ensures.views c.in_ok-lay_row.ensures.sound c.in_ok-lay_row.ensures.goes
 
 pub returns-clause-goes : goal.returns-clause-goes
 returns-clause-goes c =

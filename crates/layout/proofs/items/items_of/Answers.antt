@@ -1,4 +1,4 @@
-use Rattle.std.proofs.Common.{arith, refl, ap, sym, ◌<◌, ◌^◌, ◌∙◌, ◌++◌, ◌≡◌, ◌≤◌, ◌∷◌, [], ℕ, length}
+use Rattle.std.proofs.Common.{arith, refl, ap, ◌<◌, ◌^◌, ◌∙◌, ◌++◌, ◌≡◌, ◌≤◌, ◌∷◌, [], ℕ, length}
 use Rattle.std.proofs.lemmas.List.{length-map}
 use Rattle.link_sections.specs.GotEntries.{word_count}
 use Rattle.link_sections.specs.GotView.{entries_of}
@@ -21,14 +21,14 @@ loop-section-preserved c =
     let b = binding_view c.args.binding.now in
     let n = c.loop-section.section in
     record {
-      here = rw c.pools.ensures.value at c.in_ok-next.ensures.next;
+      here = rw c.pools-merged.ensures.value at c.in_ok-next.ensures.next;
       few = c.in_ok-next.ensures.few;
       within = omega arith;
       all = pushed_both (items_at files b c.args.pools.now.pools.items c.args.leaders.now) n (items_view c.loop-section.items.items)
           (items_view c.push_section.new.items.items) (items_view c.push_pool.new.items.items)
           (own_item c.args.leaders.now n (input_at files b n)) (pool_at 0 c.args.pools.now.pools.items n (input_at files b n))
           c.loop-section.invariant.all c.in_ok-push_section.ensures
-          (rw c.pools.ensures.value at c.in_ok-next.ensures.items) refl;
+          (rw c.pools-merged.ensures.value at c.in_ok-next.ensures.items) refl;
     }
 
 pub returns-clause-items : goal.returns-clause-items

@@ -1,4 +1,4 @@
-use Rattle.std.proofs.Common.{◌-◌, ◌^◌, min, nat_lt, [], ◌∷◌, ap, arith}
+use Rattle.std.proofs.Common.{◌-◌, ◌^◌, min, [], ◌∷◌, ap, arith}
 use Rattle.std.specs.Prelude.{if◌then◌else◌}
 use Rattle.std.proofs.lemmas.Bool.{le-ltb}
 use Rattle.lk_base.specs.Defects.{count_defect}

@@ -14,6 +14,7 @@ use Rattle.link_sections.specs.LaidOut.{layout_view}
 use Rattle.link_driver.specs.Tables.{wished}
 use Rattle.link_driver.proofs.Fitting.{firsts_stay, sizes_fit}
 use Rattle.link_driver.proofs.Leading.{defects_are, laid_are}
+use Rattle.link_driver.proofs.Whole.{header_room}
 use Rattle.link_driver.proofs.linking.lay_out.Goals as goal
 
 pub place-requires-clause-pools : goal.place-requires-clause-pools
@@ -63,3 +64,6 @@ calls_reach-requires-clause-pools c =
 pub calls_reach-requires-clause-room : goal.calls_reach-requires-clause-room
 calls_reach-requires-clause-room c =
     ap (layout_defects c.args.limits.now (files_of c.args.tables.now)) c.in-Ok.ensures.found ∙ c.in-Ok.ensures.goes
+
+pub returns-in-Ok-clause-room : goal.returns-in-Ok-clause-room
+returns-in-Ok-clause-room c = header_room c.in-Ok.layout.bounds c.in-Ok.ensures.segments c.in-Ok.ensures.rising

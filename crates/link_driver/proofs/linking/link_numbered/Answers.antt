@@ -1,14 +1,26 @@
-use Rattle.std.proofs.Common.{◌∙◌}
+use Rattle.lk_tables.specs.Binding.{first_phase}
 use Rattle.lk_tables.specs.BindingView.{binding_view}
 use Rattle.lk_tables.specs.TablesView.{files_of}
+use Rattle.reloc_apply.specs.Relocated.{relocation_defects}
 use Rattle.link_driver.specs.Contents.{names_of}
-use Rattle.layout.specs.Layout.{layout_defects}
-use Rattle.link_driver.specs.Link.{laid_out}
+use Rattle.link_driver.specs.Link.{laid_out, leaders_in, placing_phases}
 use Rattle.link_driver.specs.Phases.{ShortenedCallsReach}
 use Rattle.link_driver.specs.Tables.{wished}
+use Rattle.link_driver.proofs.Chain.{goes_next}
 use Rattle.link_driver.proofs.Handing.{made_of, on_each}
-use Rattle.link_driver.proofs.Passing.{not_past, past_all, reaches_so}
+use Rattle.link_driver.proofs.Passing.{goes_so, not_past, past_all, reaches_so}
+use Rattle.link_driver.proofs.Whole.{stands_in}
 use Rattle.link_driver.proofs.linking.link_numbered.Goals as goal
+
+pub returns-clause-goes : goal.returns-clause-goes
+returns-clause-goes g c =
+    let files = files_of c.args.tables.now in
+    let b = binding_view c.args.binding.now in
+    let w = wished c.args.options in
+    let kept = c.args.kept.now in
+    let placed = c.in-Ok.ensures.placed in
+    goes_next c.write.result (placing_phases c.args.limits.now w files b kept) (relocation_defects files b (leaders_in w files b kept) (laid_out w files b kept))
+    c.in-Ok.ensures.goes (goes_so c.write.result w files b kept _ _ placed.leaders placed.laid c.write.ensures.goes)
 
 pub returns-clause-written : goal.returns-clause-written
 returns-clause-written g c =
@@ -16,20 +28,28 @@ returns-clause-written g c =
     let b = binding_view c.args.binding.now in
     on_each c.write.result (λ linked written.
     made_of (wished c.args.options) (names_of c.args.names.now) files b c.args.kept.now _ _ linked
-    (c.as_slice-3.ensures.value ∙ c.in_ok-leaders.ensures.leaders) c.in-Ok.ensures.laid written) c.write.ensures.written
+    c.in-Ok.ensures.placed.leaders c.in-Ok.ensures.placed.laid written) c.write.ensures.written
 
 pub returns-in-Err-clause-reach : goal.returns-in-Err-clause-reach
 returns-in-Err-clause-reach g c =
     let files = files_of c.args.tables.now in
     let b = binding_view c.args.binding.now in
     let w = wished c.args.options in
-    not_past c.in-Err.stop (layout_defects c.args.limits.now files (laid_out w files b c.args.kept.now)) (ShortenedCallsReach w files b c.args.kept.now) c.in-Err.ensures.goes
+    not_past c.in-Err.stop (first_phase (placing_phases c.args.limits.now w files b c.args.kept.now)) (ShortenedCallsReach w files b c.args.kept.now)
+    c.in-Err.ensures.goes
 
 pub returns-clause-reach : goal.returns-clause-reach
 returns-clause-reach g c =
     let files = files_of c.args.tables.now in
     let b = binding_view c.args.binding.now in
     let w = wished c.args.options in
-    past_all c.write.result (layout_defects c.args.limits.now files (laid_out w files b c.args.kept.now)) (ShortenedCallsReach w files b c.args.kept.now)
-    (reaches_so w files b c.args.kept.now c.as_slice-2.result.now _ (c.as_slice-2.ensures.value ∙ c.in_ok-leaders.ensures.leaders) c.in-Ok.ensures.laid
-    c.in-Ok.ensures.reach)
+    let placed = c.in-Ok.ensures.placed in
+    past_all c.write.result (first_phase (placing_phases c.args.limits.now w files b c.args.kept.now)) (ShortenedCallsReach w files b c.args.kept.now)
+    (reaches_so w files b c.args.kept.now _ _ placed.leaders placed.laid placed.reach)
+
+pub returns-clause-stands : goal.returns-clause-stands
+returns-clause-stands g c =
+    let placed = c.in-Ok.ensures.placed in
+    on_each c.write.result (λ linked whole.
+    stands_in (wished c.args.options) (files_of c.args.tables.now) (binding_view c.args.binding.now) c.args.kept.now _ _ linked.exe.items placed.leaders placed.laid whole)
+    c.write.ensures.stands

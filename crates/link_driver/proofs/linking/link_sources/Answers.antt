@@ -9,9 +9,8 @@ use Rattle.lk_tables.specs.BoundNames.{binding_defects}
 use Rattle.lk_tables.specs.BindingView.{binding_view}
 use Rattle.lk_tables.specs.TablesView.{files_of}
 use Rattle.link_driver.specs.Contents.{input_contents, input_names, names_of, sources_of}
-use Rattle.elf_out.specs.Standing.{SectionsStand}
-use Rattle.link_driver.specs.Link.{Wishes, bound_names, defects_in, kept_in, laid_out, last_phases, leaders_in, placing_defects, placing_phases, wishes_of}
-use Rattle.link_driver.specs.Phases.{HoldsAtStop, Makes, ShortenedCallsReach, Stops}
+use Rattle.link_driver.specs.Link.{Wishes, bound_names, defects_in, kept_in, last_phases, placing_defects, placing_phases, wishes_of}
+use Rattle.link_driver.specs.Phases.{HoldsAtStop, LinkStands, Makes, ShortenedCallsReach, Stops}
 use Rattle.link_driver.specs.Sources.{Source, files_in, shown_files}
 use Rattle.lk_tables.specs.Binding.{first_phase}
 use Rattle.link_driver.proofs.Chain.{at_reading, at_binding, at_last, at_pieces, no_defects}
@@ -108,7 +107,7 @@ returns g c =
     let linked = c.in-Ok-link_kept.linked in
     let exe = linked.exe.items in
     let P : Wishes → Type 0 = λ w. first_phase (last_phases c.args.limits.now w files b kept) ≡ [] in
-    let Q : Wishes → Type 0 = λ w. SectionsStand files b (leaders_in w files b kept) (laid_out w files b kept) exe in
+    let Q : Wishes → Type 0 = λ w. LinkStands w files b kept exe in
     let R : Wishes → Type 0 = λ w. Makes w (names_of given) files b kept linked in
     let S : Wishes → Type 0 = λ w. ShortenedCallsReach w files b kept in
     let wanted : Wishes → Type 0 = λ w. w.map ≡ true → names_of given ≡ shown in

@@ -10,13 +10,14 @@ pub overflow_cast-symbol : goal.overflow_cast-symbol
 overflow_cast-symbol c =
     omega (
       arith,
-      ap length c.symbols-symbol-end.ensures,
+      ap length c.symbols-symbols.ensures,
       ap (λ (file : File). length file.head.symbols) c.file.ensures,
       c.is_few.ensures.symbol_count,
-      first_within (files_of c.args.tables.now) c.args.file c.requires,
+      first_within (files_of c.args.test.now.tables.now) c.args.file c.requires,
     )
 
 pub returns : goal.returns
 returns c = λ _.
-    none_of (files_of c.args.tables.now) (binding_view c.args.binding.now) c.args.file
-    (λ i lt. c.loop-symbol.invariant i (omega (arith, lt, ap length c.symbols-symbol-end.ensures, ap (λ (file : File). length file.head.symbols) c.file.ensures)))
+    none_of (files_of c.args.test.now.tables.now) (binding_view c.args.test.now.binding.now) c.args.file
+    (λ i lt. c.loop-symbol.invariant i
+    (omega (arith, lt, c.loop-symbol-test.false, ap length c.symbols-symbols.ensures, ap (λ (file : File). length file.head.symbols) c.file.ensures)))

@@ -5,4 +5,4 @@ use Rattle.lk_tables.specs.Targets.{is_undefined}
 use Rattle.sec_graph.proofs.undefined_symbols.has_undefined.Given as goal
 
 abbrev pub invariant-loop-symbol : goal.invariant-loop-symbol
-invariant-loop-symbol l = (i : ℕ) → i < l.symbol → is_undefined (files_of l.tables) (binding_view l.binding) l.file i ≡ false
+invariant-loop-symbol l = (i : ℕ) → i < l.symbol → is_undefined (files_of l.test.tables.now) (binding_view l.test.binding.now) l.file i ≡ false

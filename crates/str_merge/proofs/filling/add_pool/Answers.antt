@@ -1,11 +1,30 @@
-use Rattle.std.proofs.Common.{◌≡◌, ◌<◌, ℕ, List, length, get_or, ap, subst, ◌∙◌, arith}
+use Rattle.std.proofs.Common.{◌≡◌, ◌<◌, ℕ, List, length, get_or, ap, sym, subst, ◌∙◌, arith}
+use Rattle.std.specs.Prelude.{IfSome}
 use Rattle.lk_tables.specs.TablesView.{files_of}
 use Rattle.link_sections.specs.Merging.{Site}
 use Rattle.str_merge.specs.Filling.{AreAnswered}
+use Rattle.str_merge.specs.Pooling.{IsPoolOf}
 use Rattle.str_merge.specs.Works.{members_at}
+use Rattle.str_merge.proofs.AnswerSteps.{parts_answered}
 use Rattle.str_merge.proofs.PoolSteps.{filled_next}
-use Rattle.str_merge.proofs.WorkFacts.{count_sites, first_is, site_of}
+use Rattle.str_merge.proofs.WorkFacts.{count_sites, first_is, members_below, site_of}
 use Rattle.str_merge.proofs.filling.add_pool.Goals as goal
+
+pub pool_pieces-requires-clause-known : goal.pool_pieces-requires-clause-known
+pool_pieces-requires-clause-known g c κs bound =
+    let w = c.args.work.now in
+    let members : c.as_slice-members.result.now ≡ members_at (files_of w.tables.now) w.kept.now c.args.pool =
+    c.as_slice-members.ensures.value ∙ c.requires.work.members_are c.args.pool _ c.requires.pool in
+    let P : List ℕ → Type 0 = λ l. IfSome c.args.known (IsPoolOf w c.args.pool l) in
+    subst P (sym members) c.requires.known
+
+pub add_parts-requires : goal.add_parts-requires
+add_parts-requires g c =
+    let w = c.args.work.now in
+    let pool = c.args.pool in
+    let members : c.as_slice-members.result.now ≡ members_at (files_of w.tables.now) w.kept.now pool =
+    c.as_slice-members.ensures.value ∙ c.requires.work.members_are pool _ c.requires.pool in
+    record { members = members_below w pool c.as_slice-members.result.now (length c.args.filled.answers.items) c.requires.work members c.requires.filled.count }
 
 pub returns : goal.returns
 returns g c =
@@ -17,7 +36,9 @@ returns g c =
     let low : at < length w.sites.now = let within = c.requires.work.firsts_within pool 0 c.requires.pool in omega (arith, within, count_sites w c.requires.work) in
     let members : c.as_slice-members.result.now ≡ members_at files kept pool =
     c.as_slice-members.ensures.value ∙ c.requires.work.members_are pool _ c.requires.pool in
-    let P : List ℕ → Type 0 = λ l. AreAnswered w l c.args.filled c.in_ok-placed.answered in
-    filled_next w pool _ c.in_ok-placed.placed c.args.filled c.in_ok-placed.answered c.in_ok-filled.filled c.requires.work c.requires.filled c.in_ok-placed.ensures.placed
+    let below = members_below w pool c.as_slice-members.result.now (length c.args.filled.answers.items) c.requires.work members c.requires.filled.count in
+    let P : List ℕ → Type 0 = λ l. AreAnswered w l c.args.filled c.in_ok-answered.answered in
+    filled_next w pool _ c.in_ok-pooled.pooled.placed c.args.filled c.in_ok-answered.answered c.in_ok-filled.filled c.requires.work c.requires.filled c.in_ok-pooled.ensures.placed
     (ap (λ (s : Site). s.section) (site_of w at c.requires.work low ∙ first_is w pool c.requires.work c.requires.pool))
-    (subst P members c.in_ok-placed.ensures.answered) c.in_ok-filled.ensures
+    (subst P members (parts_answered w pool c.as_slice-members.result.now c.in_ok-pooled.pooled.parts c.args.filled c.in_ok-answered.answered members below c.in_ok-pooled.ensures.parts c.in_ok-answered.ensures))
+    c.in_ok-filled.ensures

@@ -1,15 +1,18 @@
-use Rattle.std.proofs.Common.{length, arith}
-use Rattle.str_merge.specs.Sites.{gathered, span_lists}
+use Rattle.std.proofs.Common.{◌+◌, length, ap, sym, ◌∙◌, arith}
+use Rattle.str_merge.specs.Sites.{gathered, piece_lists, pieces_of}
+use Rattle.str_merge.proofs.CutTexts.{pieces_count}
 use Rattle.str_merge.proofs.Gathered.{counted_all, counted_next}
 use Rattle.str_merge.proofs.gathering.count_of.Goals as goal
 
 pub loop-n-preserved : goal.loop-n-preserved
 loop-n-preserved c =
-    let lists = span_lists c.args.cuts.now in
-    counted_next lists c.args.members.now c.loop-n.n (length (gathered lists c.args.members.now)) c.loop-n.count c.in_ok-count.count c.cut_at.result.now
-    (omega arith) c.loop-n.invariant c.cut_at.ensures c.in_ok-count.ensures
+    let lists = piece_lists c.args.cuts.now in
+    let cut = c.cut_at.result.now in
+    counted_next lists c.args.members.now c.loop-n.n (length (gathered lists c.args.members.now)) c.loop-n.count c.in_ok-count.count (pieces_of cut)
+    (omega arith) c.loop-n.invariant c.cut_at.ensures
+    (c.in_ok-count.ensures ∙ ap (λ k. c.loop-n.count + k) (c.len.ensures ∙ cut.ends.ok.0 ∙ sym (pieces_count cut)))
 
 pub returns : goal.returns
 returns c =
-    let lists = span_lists c.args.cuts.now in
+    let lists = piece_lists c.args.cuts.now in
     counted_all lists c.args.members.now c.loop-n.n (length (gathered lists c.args.members.now)) c.loop-n.count (omega arith) c.loop-n.invariant

@@ -1,12 +1,19 @@
-use Rattle.std.proofs.Common.{ap, length, arith}
-use Rattle.lk_tables.specs.Names.{no_name}
-use Rattle.str_merge.specs.Sites.{span_lists}
+use Rattle.std.proofs.Common.{◌-◌, ap, length, sym, ◌∙◌, arith}
+use Rattle.str_merge.specs.Sites.{CutPiece, no_piece, piece_lists, pieces_of}
+use Rattle.str_merge.proofs.CutTexts.{piece_read, pieces_count}
 use Rattle.str_merge.proofs.Gathered.{found_read}
 use Rattle.str_merge.proofs.gathering.span_at.Goals as goal
 
-pub bounds-cut-i : goal.bounds-cut-i
-bounds-cut-i c = let below = c.in_ok-found.ensures.below in omega (arith, below, ap length c.cut_at-cut.ensures)
+pub span_in-requires : goal.span_in-requires
+span_in-requires c =
+    let below = c.in_ok-found.ensures.below in
+    omega (arith, below, ap length c.cut_at.ensures, pieces_count c.cut_at.result.now)
 
 pub returns-clause-span : goal.returns-clause-span
 returns-clause-span c =
-    found_read (span_lists c.args.cuts.now) c.args.members.now c.args.i c.in_ok-found.found c.cut_at-cut.result.now _ no_name c.in_ok-found.ensures c.cut_at-cut.ensures
+    let cut = c.cut_at.result.now in
+    let k = c.args.i - c.in_ok-found.found.before in
+    let below = c.in_ok-found.ensures.below in
+    c.in_ok-span.ensures
+    ∙ ap (λ (p : CutPiece). p.span) (sym (piece_read cut k no_piece (omega (arith, below, ap length c.cut_at.ensures, pieces_count cut)))
+    ∙ found_read (piece_lists c.args.cuts.now) c.args.members.now c.args.i c.in_ok-found.found (pieces_of cut) no_piece no_piece c.in_ok-found.ensures c.cut_at.ensures)

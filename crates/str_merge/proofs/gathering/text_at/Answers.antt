@@ -1,16 +1,19 @@
-use Rattle.std.proofs.Common.{◌≡◌, length, ap, sym, ◌∙◌, arith, ltb-false}
-use Rattle.std.proofs.lemmas.List.{get_or_past, length-map}
-use Rattle.lk_tables.specs.Files.{File, no_file}
-use Rattle.lk_tables.specs.FileView.{file_view}
-use Rattle.lk_tables.specs.Names.{text_of}
-use Rattle.lk_tables.specs.TablesView.{files_of}
-use Rattle.str_merge.proofs.PoolFacts.{no_text}
+use Rattle.std.proofs.Common.{◌-◌, ap, length, sym, ◌∙◌, arith}
+use Rattle.str_merge.specs.Sites.{CutPiece, no_piece, piece_lists, pieces_of}
+use Rattle.str_merge.proofs.CutTexts.{piece_read, pieces_count}
+use Rattle.str_merge.proofs.Gathered.{found_read}
 use Rattle.str_merge.proofs.gathering.text_at.Goals as goal
 
-pub returns-in-None : goal.returns-in-None
-returns-in-None c =
-    let files = files_of c.args.tables.now in
-    let span = c.args.span.now in
-    let count : length c.files.result.now ≡ length files = sym (length-map c.files.result.now file_view) ∙ ap length c.files.ensures in
-    let past = ltb-false span.file (length c.files.result.now) (sym c.in-None.ensures.lookup.0) in
-    sym (ap (λ (file : File). text_of file.bytes span) (get_or_past files span.file no_file (omega (arith, past, count))) ∙ no_text span)
+pub text_in-requires : goal.text_in-requires
+text_in-requires c =
+    let below = c.in_ok-found.ensures.below in
+    omega (arith, below, ap length c.cut_at.ensures, pieces_count c.cut_at.result.now)
+
+pub returns-clause-text : goal.returns-clause-text
+returns-clause-text c =
+    let cut = c.cut_at.result.now in
+    let k = c.args.i - c.in_ok-found.found.before in
+    let below = c.in_ok-found.ensures.below in
+    c.text_in.ensures
+    ∙ ap (λ (p : CutPiece). p.text) (sym (piece_read cut k no_piece (omega (arith, below, ap length c.cut_at.ensures, pieces_count cut)))
+    ∙ found_read (piece_lists c.args.cuts.now) c.args.members.now c.args.i c.in_ok-found.found (pieces_of cut) no_piece no_piece c.in_ok-found.ensures c.cut_at.ensures)

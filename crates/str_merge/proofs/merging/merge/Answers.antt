@@ -4,11 +4,12 @@ use Rattle.std.specs.Global.{Vec}
 use Rattle.std.proofs.lemmas.List.{length-map}
 use Rattle.lk_tables.specs.TablesView.{files_of}
 use Rattle.link_sections.specs.Merging.{site_key, site_pieces, sites}
+use Rattle.str_merge.specs.declared.cuts.Cut.{Cut}
 use Rattle.str_merge.specs.declared.sites.Site.{Site as HeldSite}
 use Rattle.str_merge.specs.Keys.{key_numbers, key_view, key_views}
 use Rattle.str_merge.specs.Members.{AreMembers}
 use Rattle.str_merge.specs.Orders.{IsFirstOf, firsts, ranks}
-use Rattle.str_merge.specs.Sites.{cut_views, site_view, site_views}
+use Rattle.str_merge.specs.Sites.{IsIn, cut_views, site_view, site_views}
 use Rattle.str_merge.proofs.PoolOrder.{keys_numbered, ranks_within, site_numbers, site_numbers_first, count_ranks, works}
 use Rattle.str_merge.proofs.SiteFacts.{held_of_files}
 use Rattle.str_merge.proofs.merging.merge.Goals as goal
@@ -94,10 +95,12 @@ fill-requires-clause-work g c = λ κs bound.
     c.as_slice-4.ensures.value ∙ c.in_ok-numbers.ensures ∙ ap key_numbers c.as_slice-3.ensures.value ∙ keys_numbered files all c.in_ok-keys.keys.items keyed in
     let ranked : c.as_slice-5.result.now ≡ ranks c.as_slice-4.result.now = c.as_slice-5.ensures.value ∙ c.in_ok-order.ensures.ranks in
     let counted : c.len-2.result ≡ length c.as_slice-9.result.now = c.len-2.ensures ∙ c.in_ok-order.order.firsts.ok.0 ∙ ap length (sym c.as_slice-9.ensures.value) in
+    let In : List Cut → Type 0 = All (IsIn files) in
     let P : List (Vec ℕ) → Type 0 = AreMembers c.as_slice-5.result.now c.len-2.result (length c.as_slice-5.result.now) in
     works _ c.as_slice-4.result.now c.as_slice-5.result.now c.len-2.result
     (ap site_views c.as_slice-6.ensures.value ∙ c.in_ok-sites.ensures)
-    (ap (cut_views files) c.as_slice-7.ensures.value ∙ c.in_ok-cuts.ensures
+    (subst In (sym c.as_slice-7.ensures.value) c.in_ok-cuts.ensures.files)
+    (ap cut_views c.as_slice-7.ensures.value ∙ c.in_ok-cuts.ensures.pieces
     ∙ ap (λ (l : List HeldSite). map (site_pieces files) (site_views l)) c.as_slice.ensures.value ∙ ap (map (site_pieces files)) c.in_ok-sites.ensures)
     (ap key_views c.as_slice-8.ensures.value ∙ keyed)
     numbered (c.as_slice-9.ensures.value ∙ c.in_ok-order.ensures.firsts) ranked (subst P (sym c.as_slice-10.ensures.value) c.in_ok-members.ensures) counted few
@@ -115,10 +118,12 @@ finish-requires-clause-work g c =
     c.as_slice-4.ensures.value ∙ c.in_ok-numbers.ensures ∙ ap key_numbers c.as_slice-3.ensures.value ∙ keys_numbered files all c.in_ok-keys.keys.items keyed in
     let ranked : c.as_slice-5.result.now ≡ ranks c.as_slice-4.result.now = c.as_slice-5.ensures.value ∙ c.in_ok-order.ensures.ranks in
     let counted : c.len-2.result ≡ length c.as_slice-9.result.now = c.len-2.ensures ∙ c.in_ok-order.order.firsts.ok.0 ∙ ap length (sym c.as_slice-9.ensures.value) in
+    let In : List Cut → Type 0 = All (IsIn files) in
     let P : List (Vec ℕ) → Type 0 = AreMembers c.as_slice-5.result.now c.len-2.result (length c.as_slice-5.result.now) in
     works _ c.as_slice-4.result.now c.as_slice-5.result.now c.len-2.result
     (ap site_views c.as_slice-6.ensures.value ∙ c.in_ok-sites.ensures)
-    (ap (cut_views files) c.as_slice-7.ensures.value ∙ c.in_ok-cuts.ensures
+    (subst In (sym c.as_slice-7.ensures.value) c.in_ok-cuts.ensures.files)
+    (ap cut_views c.as_slice-7.ensures.value ∙ c.in_ok-cuts.ensures.pieces
     ∙ ap (λ (l : List HeldSite). map (site_pieces files) (site_views l)) c.as_slice.ensures.value ∙ ap (map (site_pieces files)) c.in_ok-sites.ensures)
     (ap key_views c.as_slice-8.ensures.value ∙ keyed)
     numbered (c.as_slice-9.ensures.value ∙ c.in_ok-order.ensures.firsts) ranked (subst P (sym c.as_slice-10.ensures.value) c.in_ok-members.ensures) counted few

@@ -2,7 +2,7 @@ use Rattle.std.proofs.Common.{ap, arith, length}
 use Rattle.lk_tables.specs.Files.{File}
 use Rattle.lk_tables.proofs.FirstNumbers.{first_within}
 use Rattle.symbol_addresses.specs.Links.{link_files}
-use Rattle.symbol_addresses.specs.Sources.{address_in}
+use Rattle.symbol_addresses.specs.Prevailing.{own_address}
 use Rattle.lk_base.proofs.Ranges.{row_step}
 use Rattle.symbol_addresses.proofs.addresses.push_addresses.Goals as goal
 
@@ -18,5 +18,5 @@ overflow_cast-symbol c =
 
 pub loop-symbol-preserved : goal.loop-symbol-preserved
 loop-symbol-preserved c =
-    row_step (address_in c.args.sources.now.link c.args.file) c.loop-symbol.symbol
-    c.args.found.now.items c.loop-symbol.found.items c.push.new.self.items c.symbol_in.result c.loop-symbol.invariant c.in_ok-push.ensures.items c.symbol_in.ensures
+    row_step (own_address c.args.sources.now.link c.args.file) c.loop-symbol.symbol
+    c.args.found.now.items c.loop-symbol.found.items c.push.new.self.items c.own_address.result c.loop-symbol.invariant c.in_ok-push.ensures.items c.own_address.ensures

@@ -1,0 +1,232 @@
+//! The objects of a link whose code loses bytes, and its executable, worked out by hand.
+
+use super::blocks::Lengths;
+use super::examples::{Example, LOWER, TO_SECOND, WHOLE};
+use super::objects::{BY_FIRST, CODE, LABEL, START};
+use elf_bytes::{Image, Listed, Object, Reloc, Section, Symbol};
+
+/// Kinds of relocations: a call of two instructions, the distance to an entry of the linker's table, an alignment, and leave to shorten.
+const CALL_PLT: u64 = 19;
+
+const BY_TABLE: u64 = 20;
+
+const ALIGN: u64 = 43;
+
+const RELAX: u64 = 51;
+
+/// Calls `far`, jumps to it, and loads `odd` by the linker's table, with an alignment at a multiple of 16 between the two parts of the
+/// load.
+const TEXT: Section = Section {
+    align: 8,
+    bytes: b"\x97\0\0\0\xe7\x80\0\0\x17\x03\0\0\x67\0\x03\0\x17\x05\0\0\x13\0\0\0\x13\0\0\0\x13\0\0\0\x01\0\x03\x35\x05\0\x82\x80",
+    relocs: &[
+        Reloc {
+            kind: CALL_PLT,
+            symbol: 4,
+            ..BY_FIRST
+        },
+        Reloc {
+            kind: RELAX,
+            symbol: 0,
+            ..BY_FIRST
+        },
+        Reloc {
+            offset: 8,
+            kind: CALL_PLT,
+            symbol: 4,
+            ..BY_FIRST
+        },
+        Reloc {
+            offset: 8,
+            kind: RELAX,
+            symbol: 0,
+            ..BY_FIRST
+        },
+        Reloc {
+            offset: 16,
+            kind: BY_TABLE,
+            symbol: 5,
+            ..BY_FIRST
+        },
+        Reloc {
+            offset: 20,
+            kind: ALIGN,
+            symbol: 0,
+            addend: 14,
+        },
+        Reloc {
+            offset: 34,
+            kind: LOWER,
+            ..BY_FIRST
+        },
+    ],
+    ..CODE
+};
+
+/// Strings, of which one is empty, and one is in both files.
+const STRINGS: Section = Section {
+    name: b".rodata.str1.1",
+    flags: 0x32,
+    align: 1,
+    entsize: 1,
+    bytes: b"ab\0\0xyz\0",
+    ..CODE
+};
+
+/// The address of the second character of `xyz`, by the start of the strings, at an odd place.
+const DATA: Section = Section {
+    name: b".data",
+    flags: 3,
+    align: 8,
+    bytes: b"a\0\0\0\0\0\0\0\0b",
+    relocs: &[Reloc {
+        offset: 1,
+        addend: 5,
+        ..TO_SECOND
+    }],
+    ..CODE
+};
+
+/// The start of the strings.
+const TEXTS: Symbol = Symbol {
+    name: b"",
+    sort: 3,
+    section: 2,
+    ..LABEL
+};
+
+/// Where the first part of the load stands.
+const LOADED: Symbol = Symbol { value: 16, ..LABEL };
+
+/// All 40 bytes of the code, of which 22 stay.
+const BEGIN: Symbol = Symbol {
+    section: 1,
+    value: 0,
+    size: 40,
+    ..START
+};
+
+/// What another file has.
+const FAR: Symbol = Symbol {
+    name: b"far",
+    section: 0,
+    size: 0,
+    ..BEGIN
+};
+
+/// The last byte of the data.
+const ODD: Symbol = Symbol {
+    name: b"odd",
+    section: 3,
+    value: 9,
+    size: 1,
+    ..BEGIN
+};
+
+const FIRST: Object = Object {
+    flags: 1,
+    sections: &[TEXT, STRINGS, DATA],
+    symbols: &[LOADED, TEXTS, BEGIN, FAR, ODD],
+};
+
+/// What is called, at a multiple of 16; and the addresses of `q` and of the last character of `xyz`.
+const SECOND: Object = Object {
+    flags: 1,
+    sections: &[
+        Section {
+            align: 16,
+            bytes: b"\x01\0\x82\x80",
+            ..CODE
+        },
+        Section {
+            bytes: b"xyz\0q\0",
+            ..STRINGS
+        },
+        Section {
+            align: 32,
+            bytes: b"c\0\0\0\0\0\0\0\0d\0\0\0\0\0\0\0\0e",
+            relocs: &[
+                Reloc {
+                    offset: 1,
+                    kind: WHOLE,
+                    ..BY_FIRST
+                },
+                Reloc {
+                    offset: 10,
+                    addend: 2,
+                    ..TO_SECOND
+                },
+            ],
+            ..DATA
+        },
+    ],
+    symbols: &[
+        Symbol {
+            section: 2,
+            value: 4,
+            ..LABEL
+        },
+        TEXTS,
+        Symbol {
+            section: 1,
+            size: 4,
+            ..FAR
+        },
+    ],
+};
+
+/// The code at 0x11000: `jal` and `c.j` to 0x11020; `auipc` for the entry at 0x12000, which is 0xffa from it; six bytes of nops up to
+/// 0x11010; the load at -6 from 0x12006; and the return.
+const CODE_LEFT: &[u8] =
+    b"\xef\0\0\x02\x31\xa8\x17\x15\0\0\x13\0\0\0\x01\0\x03\x35\xa5\xff\x82\x80";
+
+/// The strings are at 0x10120, the linker's table at 0x12000, and the data of the two files at 0x12020 and 0x12040.
+const IMAGE: Image = Image {
+    entry: 0x11000,
+    flags: 1,
+    segments: &[
+        [1, 4, 0, 0x10000, 0x12a, 0x12a, 0x1000],
+        [1, 5, 0x1000, 0x11000, 0x24, 0x24, 0x1000],
+        [1, 6, 0x2000, 0x12000, 0x53, 0x53, 0x1000],
+        [0x6474_e551, 6, 0, 0, 0, 0, 16],
+    ],
+    contents: &[
+        (0x120, b"ab\0\0xyz\0q\0"),
+        (0x1000, CODE_LEFT),
+        (0x1020, b"\x01\0\x82\x80"),
+        (0x2000, b"\x29\x20\x01\0\0\0\0\0"),
+        (0x2020, b"a\x25\x01\x01\0\0\0\0\0b"),
+        (0x2040, b"c\x28\x01\x01\0\0\0\0\0d\x26\x01\x01\0\0\0\0\0e"),
+    ],
+    listed: Some(Listed {
+        offset: 0x2058,
+        symbols: &[
+            [1, 0x10, 2, 0x11000, 22],
+            [8, 0x10, 2, 0x11020, 4],
+            [12, 0x10, 4, 0x12029, 1],
+        ],
+        strings: b"\0_start\0far\0odd\0",
+        names: b"\0.rodata\0.text\0.got\0.data\0.symtab\0.strtab\0.shstrtab\0",
+    }),
+    table: 0x2100,
+    sections: &[
+        [1, 1, 2, 0x10120, 0x120, 10, 1],
+        [9, 1, 6, 0x11000, 0x1000, 0x24, 16],
+        [15, 1, 3, 0x12000, 0x2000, 8, 8],
+        [20, 1, 3, 0x12020, 0x2020, 0x33, 32],
+        [26, 2, 0, 0, 0x2058, 96, 8],
+        [34, 3, 0, 0, 0x20b8, 16, 1],
+        [42, 3, 0, 0, 0x20c8, 52, 1],
+    ],
+};
+
+/// A small executable whose calls are shortened, whose strings are merged, and that has a table, by all short blocks.
+pub const SHORTENED: Example = Example {
+    objects: &[FIRST, SECOND],
+    lengths: Lengths {
+        written: 10 + 22 + 4 + 8 + 10 + 19,
+        from: 1,
+        to: 65,
+    },
+    image: Some(&IMAGE),
+};

@@ -1,0 +1,172 @@
+//! What is written, and where: equal pieces are merged, equal code is folded, the linker's table is listed, and all of it is laid out. What needs
+//! none of this is done beside it.
+
+ghost use Rattle.std.specs.Prelude.{◌≡◌, ◌≤◌, ◌∷◌, [], IfOk};
+ghost use Rattle.layout.specs.Layout.{layout_defects};
+ghost use Rattle.lk_base.specs.Firsts.{Goes};
+ghost use Rattle.lk_base.specs.Limits.{IsWithinStandard};
+ghost use Rattle.lk_tables.specs.Binding.{first_phase};
+ghost use Rattle.lk_tables.specs.BindingView.{binding_view};
+ghost use Rattle.lk_tables.specs.BoundNames.{IsBindingOf};
+ghost use Rattle.lk_tables.specs.NameNumbers.{NumbersNames, heads_alone};
+ghost use Rattle.lk_tables.specs.TablesView.{files_of};
+ghost use Rattle.lk_tables.specs.Uppers.{AreListed, section_uppers};
+ghost use Rattle.link_driver.specs.Link.{laid_out, placing_phases};
+ghost use Rattle.link_driver.specs.Placing.{IsPlacement};
+ghost use Rattle.link_driver.specs.Tables.{MayStay, wished};
+ghost use Rattle.sec_graph.specs.Undefined.{undefined_defects};
+
+use crate::linking::{Options, find_leaders, lay_out};
+use got_tls::entries;
+use link_sections::{Got, Layout, Pools};
+use lk_base::{Limits, LinkStop, SecNo};
+use lk_tables::{Binding, NameNumbers, Tables, Uppers};
+use reloc_apply::find_uppers;
+use sec_graph::undefined;
+use std::alloc::Global;
+use std::thread::{Threads, join_mut};
+use str_merge::merge;
+use work_split::Gate;
+
+/// What is settled of a link before anything is written.
+#[derive(Drop)]
+pub struct Placement<'a> {
+    /// What is merged.
+    pub pools: Pools,
+    /// By section number, which section is written in the place of each.
+    pub leaders: Vec<Option<SecNo>>,
+    /// The linker's global offset table.
+    pub got: Got,
+    /// Where everything stands.
+    pub layout: Layout<'a>,
+}
+
+/// The upper parts of all sections, once it is known that what kept sections refer to is defined.
+fn find_defined_uppers(
+    alloc: Global,
+    tables: &Tables,
+    binding: &Binding,
+    kept: &[bool],
+) -> Result<Uppers, LinkStop>
+    ensures goes { Goes result (undefined_defects (files_of tables.now) (binding_view binding.now) kept.now) }
+    ensures listed { IfOk result (AreListed (section_uppers (files_of tables.now))) }
+{
+    if let Some(defect) = undefined(tables, binding, kept) {
+        return Err(LinkStop::Defect(defect));
+    }
+    let uppers = find_uppers(alloc, tables)?;
+    Ok(uppers)
+}
+
+/// Which sections and pieces are written, and where they stand.
+fn find_placement<'a, R: Threads + Sync, G: Gate>(
+    rt: &R,
+    alloc: Global,
+    limits: &Limits,
+    tables: &Tables<'a>,
+    binding: &Binding,
+    kept: &[bool],
+    numbers: &NameNumbers,
+    options: Options,
+    workers: u32,
+    gate: &G,
+) -> Result<Placement<'a>, LinkStop>
+    requires limits { IsWithinStandard limits.now }
+    requires some { 1 ≤ workers }
+    requires most { workers ≤ 64 }
+    requires bound { IsBindingOf (files_of tables.now) (binding_view binding.now) }
+    requires numbers { NumbersNames (heads_alone (files_of tables.now)) numbers.now }
+    requires stay { MayStay (files_of tables.now) (binding_view binding.now) kept.now }
+    ensures goes { Goes result (layout_defects limits.now (files_of tables.now) (laid_out (wished options) (files_of tables.now) (binding_view binding.now) kept.now)) }
+    ensures placed { IfOk result (IsPlacement (wished options) (files_of tables.now) (binding_view binding.now) kept.now) }
+{
+    // Equal strings and constants stand once from here on.
+    let pools = merge(rt, alloc, tables, kept, workers, gate)?;
+    // Which section is written in the place of each is settled from here on.
+    let leaders = find_leaders(
+        rt, alloc, tables, binding, kept, &pools, options, workers, gate,
+    )?;
+    let got = entries(alloc, tables, numbers, leaders.as_slice())?;
+    // Nothing moves from here on.
+    let layout = match lay_out(
+        alloc,
+        limits,
+        tables,
+        binding,
+        kept,
+        &pools,
+        leaders.as_slice(),
+        &got,
+        options,
+    ) {
+        Ok(layout) => layout,
+        Err(stop) => return Err(stop),
+    };
+    Ok(Placement {
+        pools,
+        leaders,
+        got,
+        layout,
+    })
+}
+
+/// The upper parts of all sections, and the placement of a link, if what kept sections refer to is defined. With two workers or more, another
+/// thread tests that and lists the upper parts meanwhile, since no placement is needed for it.
+pub fn place_beside<'a, R: Threads + Sync, G: Gate>(
+    rt: &R,
+    alloc: Global,
+    limits: &Limits,
+    tables: &Tables<'a>,
+    binding: &Binding,
+    kept: &[bool],
+    numbers: &NameNumbers,
+    options: Options,
+    workers: u32,
+    gate: &G,
+) -> Result<(Uppers, Placement<'a>), LinkStop>
+    requires limits { IsWithinStandard limits.now }
+    requires some { 1 ≤ workers }
+    requires most { workers ≤ 64 }
+    requires bound { IsBindingOf (files_of tables.now) (binding_view binding.now) }
+    requires numbers { NumbersNames (heads_alone (files_of tables.now)) numbers.now }
+    requires stay { MayStay (files_of tables.now) (binding_view binding.now) kept.now }
+    ensures goes { Goes result (first_phase (placing_phases limits.now (wished options) (files_of tables.now) (binding_view binding.now) kept.now)) }
+    ensures listed { IfOk result (λ both. AreListed (section_uppers (files_of tables.now)) both.0) }
+    ensures placed { IfOk result (λ both. IsPlacement (wished options) (files_of tables.now) (binding_view binding.now) kept.now both.1) }
+{
+    if workers == 1 {
+        let uppers = match find_defined_uppers(alloc, tables, binding, kept) {
+            Ok(uppers) => uppers,
+            Err(stop) => return Err(stop),
+        };
+        return match find_placement(
+            rt, alloc, limits, tables, binding, kept, numbers, options, workers, gate,
+        ) {
+            Ok(placement) => Ok((uppers, placement)),
+            Err(stop) => Err(stop),
+        };
+    }
+    let (uppers, placement) = join_mut(
+        rt,
+        &mut || -> Result<Uppers, LinkStop>
+            ensures { Goes result (undefined_defects (files_of tables.entry.now) (binding_view binding.entry.now) kept.entry.now) × IfOk result (AreListed (section_uppers (files_of tables.entry.now))) }
+        { find_defined_uppers(alloc, tables, binding, kept) },
+        &mut || -> Result<Placement, LinkStop>
+            requires { IsWithinStandard limits.now × (1 ≤ workers) × (workers ≤ 64) × IsBindingOf (files_of tables.now) (binding_view binding.now) × NumbersNames (heads_alone (files_of tables.now)) numbers.now × MayStay (files_of tables.now) (binding_view binding.now) kept.now }
+            ensures { Goes result (layout_defects limits.entry.now (files_of tables.entry.now) (laid_out (wished options) (files_of tables.entry.now) (binding_view binding.entry.now) kept.entry.now)) × IfOk result (IsPlacement (wished options) (files_of tables.entry.now) (binding_view binding.entry.now) kept.entry.now) }
+        {
+            find_placement(
+                rt, alloc, limits, tables, binding, kept, numbers, options, workers, gate,
+            )
+        },
+    );
+    // What is undefined is of the earlier phase.
+    let uppers = match uppers {
+        Ok(uppers) => uppers,
+        Err(stop) => return Err(stop),
+    };
+    match placement {
+        Ok(placement) => Ok((uppers, placement)),
+        Err(stop) => Err(stop),
+    }
+}

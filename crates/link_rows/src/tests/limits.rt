@@ -1,0 +1,404 @@
+//! Links with limits below those of the command.
+
+ghost use Rattle.lk_base.specs.Limits.{IsWithinStandard};
+
+use super::files_of;
+use super::merged::FOUR_ALONE;
+use crate::examples::images::{COMMON_OF_8, FIRST, TWO_FILES};
+use crate::examples::libraries::{Library, ONE_MEMBER};
+use crate::examples::{Store, WORKERS, words_of};
+use elf_bytes::{Image, image_of};
+use link_command::command_of;
+use link_driver::{Inputs, Linked, OpenGate, link};
+use lk_base::kinds::{LIMIT, TOO_BIG};
+use lk_base::{Defect, Limits, LinkStop, NO_FILE};
+use std::alloc::{AllocError, Global};
+use std::test::Fail;
+use std::thread::Threads;
+
+/// A link with limits: its words, its files and archives, the limits, and the defect that it has, or its executable.
+#[derive(Clone, Copy)]
+struct Bounded<'a> {
+    words: &'a [&'a str],
+    store: Store,
+    libraries: &'a [Library<'a>],
+    limits: Limits,
+    defect: Option<Defect>,
+    image: Image<'a>,
+}
+
+/// A number past a limit that is no file's own.
+const PASSED: Defect = Defect {
+    kind: LIMIT,
+    file: NO_FILE,
+    section: 0,
+    place: 0,
+    symbol: 0,
+    other: 0,
+};
+
+/// What two objects, of 576 and 456 bytes, with 3 and 2 symbols and 6 and 5 section headers, just keep.
+const OF_OBJECTS: Limits = Limits {
+    file: 576,
+    files: 2,
+    symbols: 5,
+    sections: 11,
+    pieces: 0,
+    outputs: 1,
+    image: 0x100d,
+};
+
+const TWO_OBJECTS: Bounded = Bounded {
+    words: &["rvld", "-s", "a.o", "h.o"],
+    store: Store::Objects,
+    libraries: &[],
+    limits: OF_OBJECTS,
+    defect: None,
+    image: TWO_FILES,
+};
+
+/// Each limit, kept and passed by one.
+const OBJECTS: &[Bounded] = &[
+    TWO_OBJECTS,
+    Bounded {
+        limits: Limits {
+            file: 575,
+            ..OF_OBJECTS
+        },
+        defect: Some(Defect {
+            file: 0,
+            place: 576,
+            ..PASSED
+        }),
+        ..TWO_OBJECTS
+    },
+    Bounded {
+        limits: Limits {
+            files: 1,
+            ..OF_OBJECTS
+        },
+        defect: Some(Defect { place: 2, ..PASSED }),
+        ..TWO_OBJECTS
+    },
+    Bounded {
+        limits: Limits {
+            symbols: 4,
+            ..OF_OBJECTS
+        },
+        defect: Some(Defect { place: 5, ..PASSED }),
+        ..TWO_OBJECTS
+    },
+    Bounded {
+        limits: Limits {
+            sections: 10,
+            ..OF_OBJECTS
+        },
+        defect: Some(Defect {
+            place: 11,
+            ..PASSED
+        }),
+        ..TWO_OBJECTS
+    },
+    Bounded {
+        limits: Limits {
+            outputs: 0,
+            ..OF_OBJECTS
+        },
+        defect: Some(Defect { place: 1, ..PASSED }),
+        ..TWO_OBJECTS
+    },
+    Bounded {
+        limits: Limits {
+            image: 0x100c,
+            ..OF_OBJECTS
+        },
+        defect: Some(Defect {
+            kind: TOO_BIG,
+            place: 0x100c,
+            ..PASSED
+        }),
+        ..TWO_OBJECTS
+    },
+    Bounded {
+        limits: Limits {
+            files: 1,
+            symbols: 2,
+            ..OF_OBJECTS
+        },
+        defect: Some(Defect { place: 2, ..PASSED }),
+        ..TWO_OBJECTS
+    },
+    Bounded {
+        words: &["rvld", "-s", "a.o", "empty.o"],
+        limits: Limits {
+            files: 1,
+            ..OF_OBJECTS
+        },
+        defect: Some(Defect { place: 2, ..PASSED }),
+        ..TWO_OBJECTS
+    },
+];
+
+/// What three objects with 15 section headers and one COMMON symbol just keep.
+const OF_COMMON: Limits = Limits {
+    files: 3,
+    symbols: 7,
+    sections: 16,
+    outputs: 2,
+    image: 0x2009,
+    ..OF_OBJECTS
+};
+
+const WITH_COMMON: Bounded = Bounded {
+    words: &["rvld", "-s", "a.o", "c8.o", "weak.o"],
+    limits: OF_COMMON,
+    image: COMMON_OF_8,
+    ..TWO_OBJECTS
+};
+
+/// What an object and an archive of 524 bytes just keep: its one member, with 2 symbols and 5 section headers, takes no part.
+const OF_ARCHIVE: Limits = Limits {
+    files: 3,
+    sections: 6,
+    image: 0x1009,
+    ..OF_OBJECTS
+};
+
+const WITH_ARCHIVE: Bounded = Bounded {
+    words: &["rvld", "-s", "a.o", "lib.a"],
+    libraries: &[ONE_MEMBER],
+    limits: OF_ARCHIVE,
+    image: FIRST,
+    ..TWO_OBJECTS
+};
+
+/// COMMON symbols and members count.
+const COUNTED: &[Bounded] = &[
+    WITH_COMMON,
+    Bounded {
+        limits: Limits {
+            sections: 15,
+            ..OF_COMMON
+        },
+        defect: Some(Defect {
+            place: 16,
+            ..PASSED
+        }),
+        ..WITH_COMMON
+    },
+    WITH_ARCHIVE,
+    Bounded {
+        limits: Limits {
+            files: 2,
+            ..OF_ARCHIVE
+        },
+        defect: Some(Defect { place: 3, ..PASSED }),
+        ..WITH_ARCHIVE
+    },
+    Bounded {
+        limits: Limits {
+            symbols: 4,
+            ..OF_ARCHIVE
+        },
+        defect: Some(Defect { place: 5, ..PASSED }),
+        ..WITH_ARCHIVE
+    },
+    Bounded {
+        words: &["rvld", "-s", "h.o", "lib.a"],
+        limits: Limits {
+            file: 523,
+            ..OF_ARCHIVE
+        },
+        defect: Some(Defect {
+            file: 1,
+            place: 524,
+            ..PASSED
+        }),
+        ..WITH_ARCHIVE
+    },
+];
+
+/// What an object with four constants just keeps.
+const OF_PIECES: Limits = Limits {
+    file: 1000,
+    files: 2,
+    symbols: 5,
+    sections: 12,
+    pieces: 4,
+    outputs: 2,
+    image: 0x1005,
+};
+
+const WITH_PIECES: Bounded = Bounded {
+    words: &["rvld", "-s", "four.o"],
+    store: Store::Merged,
+    limits: OF_PIECES,
+    image: FOUR_ALONE,
+    ..TWO_OBJECTS
+};
+
+/// Pieces count in each section that may be merged, equal or not, kept or not.
+const PIECES: &[Bounded] = &[
+    WITH_PIECES,
+    Bounded {
+        limits: Limits {
+            pieces: 3,
+            ..OF_PIECES
+        },
+        defect: Some(Defect { place: 4, ..PASSED }),
+        ..WITH_PIECES
+    },
+    Bounded {
+        words: &["rvld", "-s", "--gc-sections", "four.o"],
+        limits: Limits {
+            pieces: 3,
+            ..OF_PIECES
+        },
+        defect: Some(Defect { place: 4, ..PASSED }),
+        ..WITH_PIECES
+    },
+    Bounded {
+        words: &["rvld", "-s", "four.o", "again.o"],
+        limits: Limits {
+            pieces: 9,
+            ..OF_PIECES
+        },
+        defect: Some(Defect {
+            place: 10,
+            ..PASSED
+        }),
+        ..WITH_PIECES
+    },
+    Bounded {
+        words: &["rvld", "-s", "four.o", "again.o"],
+        limits: Limits {
+            sections: 3,
+            pieces: 9,
+            ..OF_PIECES
+        },
+        defect: Some(Defect {
+            place: 11,
+            ..PASSED
+        }),
+        ..WITH_PIECES
+    },
+];
+
+/// These limits, or the standard ones where those are less.
+fn within_standard(limits: &Limits) -> Limits
+    ensures { IsWithinStandard result }
+{
+    let standard = Limits::standard();
+    Limits {
+        file: limits.file.min(standard.file),
+        files: limits.files.min(standard.files),
+        symbols: limits.symbols.min(standard.symbols),
+        sections: limits.sections.min(standard.sections),
+        pieces: limits.pieces.min(standard.pieces),
+        outputs: limits.outputs.min(standard.outputs),
+        image: limits.image.min(standard.image),
+    }
+}
+
+/// The contents of a file, none where there is no such file.
+fn contents_of<'a>(files: &'a [(String, Vec<u8>)], name: &str) -> &'a [u8] {
+    match files.iter().find(|file| file.0.as_str() == name) {
+        Some(file) => file.1.as_slice(),
+        None => &[],
+    }
+}
+
+/// The contents of a command's inputs.
+fn inputs_of(
+    alloc: Global,
+    names: &[String],
+    files: &[(String, Vec<u8>)],
+) -> Result<Inputs, AllocError> {
+    let mut inputs = Vec::new(alloc);
+    for name in names {
+        let bytes = Vec::from_slice(alloc, contents_of(files, name.as_str()))?;
+        inputs.push((name.clone()?, bytes))?;
+    }
+    Ok(Inputs { files: inputs })
+}
+
+/// Whether a link gave the defect that an example has, or its executable.
+fn is_given(
+    alloc: Global,
+    bounded: &Bounded,
+    answer: &Result<Linked, LinkStop>,
+) -> Result<bool, AllocError> {
+    match answer {
+        Ok(linked) => {
+            let image = image_of(alloc, &bounded.image)?;
+            Ok(bounded.defect.is_none() && linked.exe.as_slice() == image.as_slice())
+        }
+        Err(LinkStop::Defect(defect)) => Ok(bounded.defect == Some(*defect)),
+        Err(LinkStop::Memory) => Ok(false),
+    }
+}
+
+/// Whether an example gives its defect, or its executable.
+fn is_bounded<R: Threads + Sync>(
+    rt: &R,
+    alloc: Global,
+    bounded: &Bounded,
+    workers: &[&str],
+) -> Result<bool, AllocError> {
+    let words = words_of(alloc, bounded.words, workers)?;
+    let Some(command) = command_of(alloc, words.as_slice())? else {
+        return Ok(false);
+    };
+    let files = files_of(alloc, bounded.store, bounded.libraries)?;
+    let inputs = inputs_of(alloc, command.inputs.names(), files.as_slice())?;
+    let limits = within_standard(&bounded.limits);
+    let answer = link(rt, alloc, &command, &inputs, &limits, &OpenGate);
+    is_given(alloc, bounded, &answer)
+}
+
+/// Whether it does with each number of workers.
+fn is_bounded_by_any<R: Threads + Sync>(
+    rt: &R,
+    alloc: Global,
+    bounded: &Bounded,
+) -> Result<bool, AllocError> {
+    for workers in WORKERS {
+        if !is_bounded(rt, alloc, bounded, workers)? {
+            return Ok(false);
+        }
+    }
+    Ok(true)
+}
+
+#[test]
+fn each_limit_is_kept_up_to_its_number(rt: HostRuntime) -> Result<(), Fail> {
+    for (index, bounded) in OBJECTS.iter().enumerate() {
+        assert!(rt;
+            is_bounded_by_any(&rt, rt.alloc(), bounded)?,
+            "example {index}"
+        );
+    }
+    Ok(())
+}
+
+#[test]
+fn common_symbols_and_members_count(rt: HostRuntime) -> Result<(), Fail> {
+    for (index, bounded) in COUNTED.iter().enumerate() {
+        assert!(rt;
+            is_bounded_by_any(&rt, rt.alloc(), bounded)?,
+            "example {index}"
+        );
+    }
+    Ok(())
+}
+
+#[test]
+fn each_piece_counts(rt: HostRuntime) -> Result<(), Fail> {
+    for (index, bounded) in PIECES.iter().enumerate() {
+        assert!(rt;
+            is_bounded_by_any(&rt, rt.alloc(), bounded)?,
+            "example {index}"
+        );
+    }
+    Ok(())
+}

@@ -1,0 +1,7 @@
+use Rattle.str_merge.proofs.pooling.place_beside.Goals as goal
+
+pub join_mut-placed-requires-after_bounds : goal.join_mut-placed-requires-after_bounds
+join_mut-placed-requires-after_bounds g c κs bound = (
+  (c.requires.align, c.requires.members, c.requires.few),
+  (c.requires.members, c.requires.few, c.requires.wide),
+)
