@@ -5,5 +5,6 @@ pub mod Multiples
 pub mod Ranges
 pub mod ShownBytes
 pub mod StableOrder
+mod TableByNumber
 pub mod TableLines
 pub mod StableElements

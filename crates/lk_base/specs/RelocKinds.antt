@@ -1,7 +1,7 @@
 -- The kinds of relocations (RISC-V ELF psABI, "Relocations"): of each its number, the bytes of its place, what is
 -- computed, which values the field takes, and the field.
-use Rattle.std.specs.Prelude.{ℕ, ◌==◌, pos, Bool, true, false, if◌then◌else◌, IsTrue, List, [], ◌∷◌, map}
-use Rattle.std.specs.List.{list_any}
+use Rattle.std.specs.Prelude.{ℕ, ◌≡◌, ◌+◌, ◌==◌, pos, Bool, true, false, if◌then◌else◌, IsTrue, Option, Some, None, List, [], ◌∷◌, map}
+use Rattle.std.specs.List.{list_any, range_with_len}
 use Rattle.lk_base.specs.Formats.{Field, plain, no_bits, upper, upper_and_lower, i_format, s_format, b_format, j_format, cb_format, cj_format, low_six, whole_8, whole_16, whole_32, whole_64, field_of}
 use Rattle.lk_base.specs.Reaches.{Reach, any, from_to, even_from_to, minus, reach_of}
 use Rattle.lk_base.specs.declared.abi.TheConstants.{R_RISCV_NONE, R_RISCV_32, R_RISCV_64, R_RISCV_BRANCH, R_RISCV_JAL, R_RISCV_CALL, R_RISCV_CALL_PLT, R_RISCV_GOT_HI20, R_RISCV_TLS_GOT_HI20, R_RISCV_TLS_GD_HI20, R_RISCV_PCREL_HI20, R_RISCV_PCREL_LO12_I, R_RISCV_PCREL_LO12_S, R_RISCV_HI20, R_RISCV_LO12_I, R_RISCV_LO12_S, R_RISCV_TPREL_HI20, R_RISCV_TPREL_LO12_I, R_RISCV_TPREL_LO12_S, R_RISCV_TPREL_ADD, R_RISCV_ADD8, R_RISCV_ADD16, R_RISCV_ADD32, R_RISCV_ADD64, R_RISCV_SUB8, R_RISCV_SUB16, R_RISCV_SUB32, R_RISCV_SUB64, R_RISCV_ALIGN, R_RISCV_RVC_BRANCH, R_RISCV_RVC_JUMP, R_RISCV_RELAX, R_RISCV_SUB6, R_RISCV_SET6, R_RISCV_SET8, R_RISCV_SET16, R_RISCV_SET32, R_RISCV_32_PCREL}
@@ -142,3 +142,16 @@ linked_kinds = map (λ (l : Line). l.number) lines
 
 unfoldable pub is_linked : ℕ → Bool
 is_linked = is_among linked_kinds
+
+-- a line of a table by number, as the code holds it
+abbrev pub line_view : Option code.Kind → Option Kind
+line_view None = None
+line_view (Some kind) = Some (kind_view kind)
+
+-- the line of a number, if it has one
+abbrev pub line_at : ℕ → Option Kind
+line_at number = if is_linked number then Some (kind_of number) else None
+
+-- a table by number: the line of each number up to the last that has one
+unfoldable pub IsTable : List (Option code.Kind) → Type 0
+IsTable table = map line_view table ≡ map line_at (range_with_len 0 (R_RISCV_32_PCREL + 1))

@@ -1,17 +1,11 @@
 //! The kinds of relocations (RISC-V ELF psABI, "Relocations"): one table.
 
-ghost use Rattle.std.specs.Prelude.{◌≡◌, ◌≤◌, None, is_some, IfSome};
-ghost use Rattle.lk_base.specs.RelocKinds.{goes_by_got, has_value, is_linked, is_lower, is_upper, kind_of, kind_view, moves_bytes, names_a_symbol, unknown};
+ghost use Rattle.std.specs.Prelude.{◌≡◌, ◌≤◌, None, is_some, IfSome, slice_index_or};
+ghost use Rattle.lk_base.specs.RelocKinds.{IsTable, goes_by_got, has_value, is_linked, is_lower, is_upper, kind_of, kind_view, moves_bytes, names_a_symbol, unknown};
 
 use crate::abi::{
-    R_RISCV_32, R_RISCV_32_PCREL, R_RISCV_64, R_RISCV_ADD8, R_RISCV_ADD16, R_RISCV_ADD32,
-    R_RISCV_ADD64, R_RISCV_ALIGN, R_RISCV_BRANCH, R_RISCV_CALL, R_RISCV_CALL_PLT, R_RISCV_GOT_HI20,
-    R_RISCV_HI20, R_RISCV_JAL, R_RISCV_LO12_I, R_RISCV_LO12_S, R_RISCV_NONE, R_RISCV_PCREL_HI20,
-    R_RISCV_PCREL_LO12_I, R_RISCV_PCREL_LO12_S, R_RISCV_RELAX, R_RISCV_RVC_BRANCH,
-    R_RISCV_RVC_JUMP, R_RISCV_SET6, R_RISCV_SET8, R_RISCV_SET16, R_RISCV_SET32, R_RISCV_SUB6,
-    R_RISCV_SUB8, R_RISCV_SUB16, R_RISCV_SUB32, R_RISCV_SUB64, R_RISCV_TLS_GD_HI20,
-    R_RISCV_TLS_GOT_HI20, R_RISCV_TPREL_ADD, R_RISCV_TPREL_HI20, R_RISCV_TPREL_LO12_I,
-    R_RISCV_TPREL_LO12_S,
+    R_RISCV_ALIGN, R_RISCV_CALL, R_RISCV_CALL_PLT, R_RISCV_GOT_HI20, R_RISCV_PCREL_HI20,
+    R_RISCV_TLS_GD_HI20, R_RISCV_TLS_GOT_HI20,
 };
 
 /// What a relocation of a kind computes, as the psABI's table has it: S is its symbol's address, A its addend, P its
@@ -117,6 +111,68 @@ const NO_KIND: Kind = Kind {
     format: Format::Empty,
 };
 
+// The lines by number, 0 first. The kinds that a dynamic linker does, and the numbers that are no kind, have none.
+const LINES: &[Option<Kind>] = &[
+    kind!(0, Nothing, Rule::Any, Empty), // R_RISCV_NONE
+    kind!(4, Address, Rule::FromTo(-2147483648, 4294967295), Word), // R_RISCV_32
+    kind!(8, Address, Rule::Any, Doubleword), // R_RISCV_64
+    None, // R_RISCV_RELATIVE
+    None, // R_RISCV_COPY
+    None, // R_RISCV_JUMP_SLOT
+    None, // R_RISCV_TLS_DTPMOD32
+    None, // R_RISCV_TLS_DTPMOD64
+    None, // R_RISCV_TLS_DTPREL32
+    None, // R_RISCV_TLS_DTPREL64
+    None, // R_RISCV_TLS_TPREL32
+    None, // R_RISCV_TLS_TPREL64
+    None, // R_RISCV_TLSDESC
+    None, // no kind
+    None, // no kind
+    None, // no kind
+    kind!(4, Distance, Rule::EvenFromTo(-4096, 4094), B), // R_RISCV_BRANCH
+    kind!(4, Distance, Rule::EvenFromTo(-1048576, 1048574), J), // R_RISCV_JAL
+    kind!(8, Distance, FAR, Call), // R_RISCV_CALL
+    kind!(8, Distance, FAR, Call), // R_RISCV_CALL_PLT
+    kind!(4, GotDistance, FAR, U), // R_RISCV_GOT_HI20
+    kind!(4, GotDistance, FAR, U), // R_RISCV_TLS_GOT_HI20
+    kind!(4, GotDistance, FAR, U), // R_RISCV_TLS_GD_HI20
+    kind!(4, Distance, FAR, U), // R_RISCV_PCREL_HI20
+    kind!(4, Partner, Rule::Any, I), // R_RISCV_PCREL_LO12_I
+    kind!(4, Partner, Rule::Any, S), // R_RISCV_PCREL_LO12_S
+    kind!(4, Address, FAR, U), // R_RISCV_HI20
+    kind!(4, Address, Rule::Any, I), // R_RISCV_LO12_I
+    kind!(4, Address, Rule::Any, S), // R_RISCV_LO12_S
+    kind!(4, ThreadOffset, FAR, U), // R_RISCV_TPREL_HI20
+    kind!(4, ThreadOffset, Rule::Any, I), // R_RISCV_TPREL_LO12_I
+    kind!(4, ThreadOffset, Rule::Any, S), // R_RISCV_TPREL_LO12_S
+    kind!(0, Nothing, Rule::Any, Empty), // R_RISCV_TPREL_ADD
+    kind!(1, Increase, Rule::Any, Byte), // R_RISCV_ADD8
+    kind!(2, Increase, Rule::Any, Half), // R_RISCV_ADD16
+    kind!(4, Increase, Rule::Any, Word), // R_RISCV_ADD32
+    kind!(8, Increase, Rule::Any, Doubleword), // R_RISCV_ADD64
+    kind!(1, Decrease, Rule::Any, Byte), // R_RISCV_SUB8
+    kind!(2, Decrease, Rule::Any, Half), // R_RISCV_SUB16
+    kind!(4, Decrease, Rule::Any, Word), // R_RISCV_SUB32
+    kind!(8, Decrease, Rule::Any, Doubleword), // R_RISCV_SUB64
+    None, // no kind
+    None, // no kind
+    kind!(0, Padding, Rule::Any, Empty), // R_RISCV_ALIGN
+    kind!(2, Distance, Rule::EvenFromTo(-256, 254), Cb), // R_RISCV_RVC_BRANCH
+    kind!(2, Distance, Rule::EvenFromTo(-2048, 2046), Cj), // R_RISCV_RVC_JUMP
+    None, // no kind
+    None, // no kind
+    None, // no kind
+    None, // no kind
+    None, // no kind
+    kind!(0, Hint, Rule::Any, Empty), // R_RISCV_RELAX
+    kind!(1, Decrease, Rule::Any, LowSix), // R_RISCV_SUB6
+    kind!(1, Address, Rule::Any, LowSix), // R_RISCV_SET6
+    kind!(1, Address, Rule::Any, Byte), // R_RISCV_SET8
+    kind!(2, Address, Rule::Any, Half), // R_RISCV_SET16
+    kind!(4, Address, Rule::Any, Word), // R_RISCV_SET32
+    kind!(4, Distance, Rule::FromTo(-2147483648, 2147483647), Word), // R_RISCV_32_PCREL
+];
+
 /// The kind of a number. If the table has no line for it, nothing is written.
 pub fn kind_of(number: u32) -> Kind
     ensures line { kind_view result ≡ kind_of number }
@@ -129,53 +185,33 @@ pub fn kind_of(number: u32) -> Kind
 }
 
 // The line of a number: every kind that has one is linked.
-#[tactic(auto, unfolding(crate::specs::RelocKinds::kind_of, crate::specs::RelocKinds::is_linked))]
 fn line_of(number: u32) -> Option<Kind>
     ensures line { IfSome result (λ kind. kind_view kind ≡ kind_of number) }
     ensures few { IfSome result (λ kind. kind.width ≤ 8) }
     ensures none { result ≡ None → kind_of number ≡ unknown }
     ensures linked { is_some result ≡ is_linked number }
 {
-    match number {
-        R_RISCV_NONE => kind!(0, Nothing, Rule::Any, Empty),
-        R_RISCV_32 => kind!(4, Address, Rule::FromTo(-2147483648, 4294967295), Word),
-        R_RISCV_64 => kind!(8, Address, Rule::Any, Doubleword),
-        R_RISCV_BRANCH => kind!(4, Distance, Rule::EvenFromTo(-4096, 4094), B),
-        R_RISCV_JAL => kind!(4, Distance, Rule::EvenFromTo(-1048576, 1048574), J),
-        R_RISCV_CALL => kind!(8, Distance, FAR, Call),
-        R_RISCV_CALL_PLT => kind!(8, Distance, FAR, Call),
-        R_RISCV_GOT_HI20 => kind!(4, GotDistance, FAR, U),
-        R_RISCV_TLS_GOT_HI20 => kind!(4, GotDistance, FAR, U),
-        R_RISCV_TLS_GD_HI20 => kind!(4, GotDistance, FAR, U),
-        R_RISCV_PCREL_HI20 => kind!(4, Distance, FAR, U),
-        R_RISCV_PCREL_LO12_I => kind!(4, Partner, Rule::Any, I),
-        R_RISCV_PCREL_LO12_S => kind!(4, Partner, Rule::Any, S),
-        R_RISCV_HI20 => kind!(4, Address, FAR, U),
-        R_RISCV_LO12_I => kind!(4, Address, Rule::Any, I),
-        R_RISCV_LO12_S => kind!(4, Address, Rule::Any, S),
-        R_RISCV_TPREL_HI20 => kind!(4, ThreadOffset, FAR, U),
-        R_RISCV_TPREL_LO12_I => kind!(4, ThreadOffset, Rule::Any, I),
-        R_RISCV_TPREL_LO12_S => kind!(4, ThreadOffset, Rule::Any, S),
-        R_RISCV_TPREL_ADD => kind!(0, Nothing, Rule::Any, Empty),
-        R_RISCV_ADD8 => kind!(1, Increase, Rule::Any, Byte),
-        R_RISCV_ADD16 => kind!(2, Increase, Rule::Any, Half),
-        R_RISCV_ADD32 => kind!(4, Increase, Rule::Any, Word),
-        R_RISCV_ADD64 => kind!(8, Increase, Rule::Any, Doubleword),
-        R_RISCV_SUB8 => kind!(1, Decrease, Rule::Any, Byte),
-        R_RISCV_SUB16 => kind!(2, Decrease, Rule::Any, Half),
-        R_RISCV_SUB32 => kind!(4, Decrease, Rule::Any, Word),
-        R_RISCV_SUB64 => kind!(8, Decrease, Rule::Any, Doubleword),
-        R_RISCV_ALIGN => kind!(0, Padding, Rule::Any, Empty),
-        R_RISCV_RVC_BRANCH => kind!(2, Distance, Rule::EvenFromTo(-256, 254), Cb),
-        R_RISCV_RVC_JUMP => kind!(2, Distance, Rule::EvenFromTo(-2048, 2046), Cj),
-        R_RISCV_RELAX => kind!(0, Hint, Rule::Any, Empty),
-        R_RISCV_SUB6 => kind!(1, Decrease, Rule::Any, LowSix),
-        R_RISCV_SET6 => kind!(1, Address, Rule::Any, LowSix),
-        R_RISCV_SET8 => kind!(1, Address, Rule::Any, Byte),
-        R_RISCV_SET16 => kind!(2, Address, Rule::Any, Half),
-        R_RISCV_SET32 => kind!(4, Address, Rule::Any, Word),
-        R_RISCV_32_PCREL => kind!(4, Distance, Rule::FromTo(-2147483648, 2147483647), Word),
-        _ => None,
+    line_in(LINES, number)
+}
+
+// The line of a number in a table of all lines.
+fn line_in(lines: &[Option<Kind>], number: u32) -> Option<Kind>
+    requires { IsTable lines.now }
+    ensures line { IfSome result (λ kind. kind_view kind ≡ kind_of number) }
+    ensures few { IfSome result (λ kind. kind.width ≤ 8) }
+    ensures none { result ≡ None → kind_of number ≡ unknown }
+    ensures linked { is_some result ≡ is_linked number }
+{
+    row_of(lines, number as usize)
+}
+
+// The row at a place of a table; none past its end.
+fn row_of(lines: &[Option<Kind>], place: usize) -> Option<Kind>
+    ensures { result ≡ slice_index_or lines.now place None }
+{
+    match lines.get(place) {
+        Some(line) => *line,
+        None => None,
     }
 }
 
