@@ -1,4 +1,5 @@
 pub mod ActingKinds
+pub mod AddedUp
 pub mod BytesAfter
 pub mod CallCuts
 pub mod CutViews
@@ -11,8 +12,10 @@ pub mod LittleNumbers
 pub mod LowerValues
 pub mod MemberFacts
 pub mod MemberSteps
+pub mod NumberWalks
 pub mod PieceWalks
 pub mod Placing
+mod PlainSymbols
 pub mod PoolSteps
 pub mod ScanSteps
 pub mod SetPlaces

@@ -1,31 +1,32 @@
 //! Which relocations can't be done: the first that lacks its partner, or whose value its field does not take.
 
-ghost use Rattle.std.specs.Prelude.{◌≡◌, ◌-◌, ◌<◌, ◌≤◌, ◌++◌, [], ◌∷◌, length, flat_map, Some, All, IfOk, OnOk};
+ghost use Rattle.std.specs.Prelude.{◌≡◌, ℕ, ◌+◌, ◌-◌, ◌<◌, ◌≤◌, [], ◌∷◌, true, false, length, map, flat_map, min, slice_index, slice_index_or, Some, All, if◌then◌else◌};
 ghost use Rattle.std.specs.List.{range_with_len};
 ghost use Rattle.lk_base.specs.Firsts.{Goes, IsFirst};
-ghost use Rattle.lk_tables.specs.Files.{by_section, file_at, relocs_at, section_total};
-ghost use Rattle.lk_tables.specs.TablesView.{files_of};
-ghost use Rattle.lk_tables.proofs.ByNumber.{section_row};
+ghost use Rattle.lk_tables.specs.Files.{file_at, is_section_symbol, no_reloc, section_total, symbol_at};
+ghost use Rattle.lk_tables.specs.Sites.{relocs_of};
+ghost use Rattle.link_sections.specs.Leaders.{leads};
 ghost use Rattle.link_sections.specs.Views.{binding_in, files_in, laid_in, leaders_in};
 ghost use Rattle.reloc_apply.specs.Relocated as spec;
 ghost use Rattle.reloc_apply.specs.Sites.{HasSymbol, IsSite};
-ghost use Rattle.work_split.specs.Pieces.{Tiles};
 
 use crate::calls::acting_kind;
+use crate::numbered::{first_numbers, pieces_of, section_of};
+use crate::plain::plain_from;
 use crate::sites::{Site, relocs_at, site_of};
 use crate::values::value_of;
 use link_sections::{View, leads};
 use lk_base::kinds::{NO_PARTNER, ODD, RANGE};
-use lk_base::{Defect, DefectKind, FileNo, LinkStop, Misfit, SecNo, low_bits};
-use lk_tables::{Reloc, SectionPlace, Tables, section_count};
+use lk_base::{Defect, DefectKind, LinkStop, Misfit, SecNo, low_bits};
+use lk_tables::{Reloc, SectionPlace};
 use rv_code::fits;
-use std::alloc::{AllocError, Global};
+use std::alloc::Global;
 use std::ops::Range;
 use std::thread::Threads;
-use work_split::{Gate, over_shares, pieces_by_weight};
+use work_split::{Gate, over_shares};
 
 /// Tests all relocations of the sections that are their own leaders, and reports the first, in order of file, section and offset, that
-/// can't be done; or it is out of memory. The sections are shared among so many workers, by how many relocations they have.
+/// can't be done; or it is out of memory. The relocations are shared among so many workers, about as many to each.
 pub fn check_relocations<R: Threads + Sync, G: Gate>(
     rt: &R,
     alloc: Global,
@@ -37,16 +38,20 @@ pub fn check_relocations<R: Threads + Sync, G: Gate>(
     requires most { workers ≤ 64 }
     ensures { Goes result (spec.relocation_defects (files_in view.now) (binding_in view.now) (leaders_in view.now) (laid_in view.now)) }
 {
-    let pieces = pieces_of(alloc, view.tables, workers)?;
+    let numbers = first_numbers(alloc, view.tables)?;
+    let firsts = numbers.as_slice();
+    let pieces = pieces_of(alloc, firsts, workers)?;
     let checked = over_shares(
         rt,
         alloc,
         gate,
         pieces.as_slice(),
         |piece: Range<usize>| -> Result<Vec<()>, LinkStop>
-            requires { piece.end ≤ section_total (files_in view.now) }
-            ensures { Goes result (flat_map (spec.section_defects (files_in view.entry.now) (binding_in view.entry.now) (leaders_in view.entry.now) (laid_in view.entry.now)) (range_with_len piece.start (piece.end - piece.start))) }
-        { check_sections(alloc, view, piece) },
+            requires order { piece.start ≤ piece.end }
+            requires count { length firsts.now ≡ section_total (files_in view.now) + 1 }
+            requires firsts { (n : ℕ) → n ≤ section_total (files_in view.now) → slice_index firsts.now n ≡ length (flat_map (relocs_of (files_in view.now)) (range_with_len 0 n)) }
+            ensures { Goes result (flat_map (λ i. slice_index_or (flat_map (λ n. map (λ r. if leads (leaders_in view.entry.now) n then spec.reloc_defects (files_in view.entry.now) (binding_in view.entry.now) (leaders_in view.entry.now) (laid_in view.entry.now) n r else []) (relocs_of (files_in view.entry.now) n)) (range_with_len 0 (section_total (files_in view.entry.now)))) i []) (range_with_len piece.start (piece.end - piece.start))) }
+        { check_numbers(alloc, view, firsts, piece) },
     );
     match checked {
         Ok(_) => Ok(()),
@@ -54,90 +59,81 @@ pub fn check_relocations<R: Threads + Sync, G: Gate>(
     }
 }
 
-/// The sections cut into pieces of about as many relocations each, one for each worker.
-fn pieces_of(alloc: Global, tables: &Tables, workers: u32) -> Result<Vec<Range<usize>>, AllocError>
-    requires some { 1 ≤ workers }
-    requires most { workers ≤ 64 }
-    ensures tiles { IfOk result (λ pieces. Tiles 0 (section_total (files_of tables.now)) pieces.items) }
-    ensures most { IfOk result (λ pieces. length pieces.items ≤ 64) }
-{
-    let counts = reloc_counts(alloc, tables)?;
-    pieces_by_weight(alloc, counts.as_slice(), workers)
-}
-
-/// How many relocations each section has, by its number.
-fn reloc_counts(alloc: Global, tables: &Tables) -> Result<Vec<u64>, AllocError>
-    ensures { IfOk result (λ counts. counts.items ≡ by_section (files_of tables.now) (λ f k. length (relocs_at (file_at (files_of tables.now) f) k))) }
-{
-    tables.is_few();
-    let mut counts = Vec::with_capacity(alloc, tables.section_count())?;
-    for file in 0..tables.file_count() as u32 {
-        push_counts(&mut counts, tables, file)?;
-    }
-    Ok(counts)
-}
-
-/// Those of one file.
-fn push_counts(counts: &mut Vec<u64>, tables: &Tables, file: FileNo) -> Result<(), AllocError>
-    requires { file < length (files_of tables.now) }
-    ensures { OnOk result (counts.new.items ≡ counts.old.items ++ section_row (files_of tables.now) (λ f k. length (relocs_at (file_at (files_of tables.now) f) k)) file) }
-{
-    tables.is_few();
-    for section in 0..section_count(tables.file(file)) {
-        counts.push(tables.relocs(file, section as u32).len() as u64)?;
-    }
-    Ok(())
-}
-
-/// The first defect of a run of sections.
-fn check_sections(alloc: Global, view: &View, piece: Range<usize>) -> Result<Vec<()>, LinkStop>
-    requires { piece.end ≤ section_total (files_in view.now) }
-    ensures { Goes result (flat_map (spec.section_defects (files_in view.now) (binding_in view.now) (leaders_in view.now) (laid_in view.now)) (range_with_len piece.start (piece.end - piece.start))) }
+/// The first defect of a run of relocations by their numbers, where each section's relocations begin at a number.
+fn check_numbers(
+    alloc: Global,
+    view: &View,
+    firsts: &[u64],
+    piece: Range<usize>,
+) -> Result<Vec<()>, LinkStop>
+    requires order { piece.start ≤ piece.end }
+    requires count { length firsts.now ≡ section_total (files_in view.now) + 1 }
+    requires firsts { (n : ℕ) → n ≤ section_total (files_in view.now) → slice_index firsts.now n ≡ length (flat_map (relocs_of (files_in view.now)) (range_with_len 0 n)) }
+    ensures { Goes result (flat_map (λ i. slice_index_or (flat_map (λ n. map (λ r. if leads (leaders_in view.now) n then spec.reloc_defects (files_in view.now) (binding_in view.now) (leaders_in view.now) (laid_in view.now) n r else []) (relocs_of (files_in view.now) n)) (range_with_len 0 (section_total (files_in view.now)))) i []) (range_with_len piece.start (piece.end - piece.start))) }
 {
     view.tables.is_few();
-    for section in piece.start..piece.end {
-        if let Some(defect) = check_section(view, section as u32) {
+    let from = piece.start as u64;
+    let to = piece.end as u64;
+    for section in section_of(firsts, from)..view.tables.section_count() {
+        let first = firsts[section];
+        if to <= first {
+            return Ok(Vec::new(alloc));
+        }
+        if let Some(defect) = check_section(
+            view,
+            section as u32,
+            from.saturating_sub(first) as usize,
+            (to - first) as usize,
+        ) {
             return Err(LinkStop::Defect(defect));
         }
     }
     Ok(Vec::new(alloc))
 }
 
-/// The first defect of a section's relocations, if it is its own leader.
-#[tactic(auto, unfolding(crate::specs::Relocated::section_defects))]
-fn check_section(view: &View, section: SecNo) -> Option<Defect>
+/// The first defect of a section's relocations from one on and before another, if it is its own leader.
+fn check_section(view: &View, section: SecNo, from: usize, to: usize) -> Option<Defect>
     requires { section < section_total (files_in view.now) }
-    ensures { IsFirst (spec.section_defects (files_in view.now) (binding_in view.now) (leaders_in view.now) (laid_in view.now) section) result }
+    ensures { IsFirst (flat_map (λ x. if leads (leaders_in view.now) section then spec.reloc_defects (files_in view.now) (binding_in view.now) (leaders_in view.now) (laid_in view.now) section (slice_index_or (relocs_of (files_in view.now) section) x no_reloc) else []) (range_with_len from (min to (length (relocs_of (files_in view.now) section)) - from))) result }
 {
     if !leads(view.leaders, section as usize) {
         return None;
     }
     let site = site_of(view.tables, section);
-    check_relocs(view, site, relocs_at(view.tables, site))
+    let relocs = relocs_at(view.tables, site);
+    check_relocs(view, site, relocs, from, to.min(relocs.len()))
 }
 
-/// The first defect of some relocations of a section.
-fn check_relocs(view: &View, site: Site, relocs: &[Reloc]) -> Option<Defect>
+/// The first defect of the relocations of a section from one on and before another.
+fn check_relocs(view: &View, site: Site, relocs: &[Reloc], from: usize, to: usize) -> Option<Defect>
     requires site { IsSite (files_in view.now) site }
     requires symbols { All (HasSymbol (files_in view.now) site) relocs.now }
-    ensures { IsFirst (flat_map (spec.reloc_defects (files_in view.now) (binding_in view.now) (leaders_in view.now) (laid_in view.now) site.section) relocs.now) result }
+    requires to { to ≤ length relocs.now }
+    ensures { IsFirst (flat_map (λ x. spec.reloc_defects (files_in view.now) (binding_in view.now) (leaders_in view.now) (laid_in view.now) site.section (slice_index_or relocs.now x no_reloc)) (range_with_len from (to - from))) result }
 {
-    for reloc in relocs {
-        if let Some(defect) = check_reloc(view, site, reloc) {
+    let plain = plain_from(view, site, relocs.len());
+    for k in from..to {
+        if let Some(defect) = check_reloc(
+            view,
+            site,
+            &relocs[k],
+            plain <= relocs[k].symbol as usize,
+        ) {
             return Some(defect);
         }
     }
     None
 }
 
-/// The defect of one relocation of a section, if it can't be done.
+/// The defect of one relocation of a section, if it can't be done. If it is known to be `plain`, it names no SECTION symbol.
 #[tactic(auto, unfolding(crate::specs::Relocated::reloc_defects))]
-pub fn check_reloc(view: &View, site: Site, reloc: &Reloc) -> Option<Defect>
+pub fn check_reloc(view: &View, site: Site, reloc: &Reloc, plain: bool) -> Option<Defect>
     requires site { IsSite (files_in view.now) site }
     requires symbol { HasSymbol (files_in view.now) site reloc.now }
+    requires plain { plain ≡ true → is_section_symbol (symbol_at (file_at (files_in view.now) site.place.file) reloc.now.symbol) ≡ false }
     ensures { IsFirst (spec.reloc_defects (files_in view.now) (binding_in view.now) (leaders_in view.now) (laid_in view.now) site.section reloc.now) result }
 {
-    let Ok(value) = value_of(view, site, reloc, 0) else {
+    let Ok(value) = value_of(view, site, reloc, plain, 0) else {
         return Some(reloc_defect(NO_PARTNER, site.place, reloc, 0));
     };
     let Some(v) = value else {

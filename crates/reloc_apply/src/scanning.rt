@@ -1,10 +1,10 @@
 //! Relocations of a section done in order, in a window of eight bytes: what stands at a place is in it once the relocations before are
 //! done, whether a block has all of the place or not. Takes no memory.
 
-ghost use Rattle.std.specs.Prelude.{◌≡◌, ℕ, ◌+◌, ◌^◌, ◌<◌, ◌≤◌, ◌++◌, true, pos, length, take, drop, slice_index_or, is_some, All, IfSome, List};
+ghost use Rattle.std.specs.Prelude.{◌≡◌, ℕ, ◌+◌, ◌^◌, ◌<◌, ◌≤◌, ◌++◌, true, false, pos, length, take, drop, slice_index_or, is_some, All, IfSome, List};
 ghost use Rattle.lk_base.specs.RelocKinds.{HasValue};
 ghost use Rattle.link_sections.specs.Calls.{acting_kind as spec_kind, acting_number, acting_width};
-ghost use Rattle.lk_tables.specs.Files.{no_reloc, section_total};
+ghost use Rattle.lk_tables.specs.Files.{file_at, is_section_symbol, no_reloc, section_total, symbol_at};
 ghost use Rattle.lk_tables.specs.Sites.{relocs_of};
 ghost use Rattle.link_sections.specs.CutsView.{AreCuts, cut_views};
 ghost use Rattle.link_sections.specs.LaidOut.{cuts_at};
@@ -19,6 +19,7 @@ ghost use Rattle.rv_code.specs.Places.{number_of};
 
 use crate::calls::{acting_kind, width_of};
 use crate::image::{Piece, fill_piece};
+use crate::plain::plain_from;
 use crate::sites::{Site, relocs_at, site_of};
 use crate::sources::{Source, source_of};
 use crate::staying::fill_staying;
@@ -63,7 +64,7 @@ fn value_by(view: &View, source: &Source, reloc: usize) -> Option<i128>
     let offset = offset_of(view, source.site.section, own);
     slide(&mut window, at, source.raw, source.cuts, offset);
     let width = width_of(view, source.site.section, own);
-    value_in(view, source.site, own, held_in(&window, width))
+    value_in(view, source.site, own, false, held_in(&window, width))
 }
 
 /// V: the number that so many bytes of a window hold.
@@ -80,13 +81,14 @@ fn held_in(window: &[u8], width: u64) -> u64
 
 /// The value of a relocation whose place holds a number, if it has one.
 #[tactic(auto, unfolding(crate::specs::Values::value_of))]
-fn value_in(view: &View, site: Site, reloc: &Reloc, held: u64) -> Option<i128>
+fn value_in(view: &View, site: Site, reloc: &Reloc, plain: bool, held: u64) -> Option<i128>
     requires site { IsIn view.now site }
     requires symbol { HasSymbolIn view.now site reloc.now }
+    requires plain { plain ≡ true → is_section_symbol (symbol_at (file_at (files_in view.now) site.place.file) reloc.now.symbol) ≡ false }
     ensures value { result ≡ spec.value_of (files_in view.now) (binding_in view.now) (leaders_in view.now) (laid_in view.now) site.section reloc.now (pos held) }
     ensures kind { IfSome result (λ _. HasValue reloc.now.kind) }
 {
-    match value_of(view, site, reloc, held) {
+    match value_of(view, site, reloc, plain, held) {
         Ok(value) => value,
         Err(_) => None,
     }
@@ -219,8 +221,19 @@ fn scan(
 {
     let mut at = offset_of(view, source.site.section, &source.relocs[first]);
     fresh(window, source.raw, source.cuts, at);
+    let plain = plain_from(view, source.site, last - first);
     for k in first..last {
-        at = step(block, from, view, source, window, at, &source.relocs[k]);
+        let reloc = &source.relocs[k];
+        at = step(
+            block,
+            from,
+            view,
+            source,
+            window,
+            at,
+            reloc,
+            plain <= reloc.symbol as usize,
+        );
     }
     at
 }
@@ -234,10 +247,12 @@ fn step(
     window: &mut [u8],
     at: u64,
     reloc: &Reloc,
+    plain: bool,
 ) -> u64
     requires block { from + length block.old < 2 ^ 63 }
     requires source { IsMadeFrom view.now source.now }
     requires symbol { HasSymbolIn view.now source.now.site reloc.now }
+    requires plain { plain ≡ true → is_section_symbol (symbol_at (file_at (files_in view.now) source.now.site.place.file) reloc.now.symbol) ≡ false }
     requires fits { end_by view.now source.now reloc.now ≤ length (first_bytes view.now source.now) }
     requires rises { at ≤ offset_by view.now source.now reloc.now }
     requires window { length window.old ≡ 8 }
@@ -249,7 +264,7 @@ fn step(
     let offset = offset_of(view, source.site.section, reloc);
     slide(window, at, source.raw, source.cuts, offset);
     let kind = acting_kind(view, source.site.section, reloc);
-    put_in(view, source.site, reloc, kind, window);
+    put_in(view, source.site, reloc, plain, kind, window);
     let place = Piece {
         at: source.at + offset,
         bytes: &window[..kind_of(kind).width as usize],
@@ -259,27 +274,45 @@ fn step(
 }
 
 /// Puts the value of a relocation into the window that stands at its place, which a kind fills.
-fn put_in(view: &View, site: Site, reloc: &Reloc, kind: u32, window: &mut [u8])
+fn put_in(view: &View, site: Site, reloc: &Reloc, plain: bool, kind: u32, window: &mut [u8])
     requires site { IsIn view.now site }
     requires symbol { HasSymbolIn view.now site reloc.now }
+    requires plain { plain ≡ true → is_section_symbol (symbol_at (file_at (files_in view.now) site.place.file) reloc.now.symbol) ≡ false }
     requires kind { kind ≡ acting_number (cuts_at (laid_in view.now) site.section) reloc.now }
     requires window { length window.old ≡ 8 }
     ensures { window.new ≡ filled (spec_kind (cuts_at (laid_in view.now) site.section) reloc.now) (spec.value_of (files_in view.now) (binding_in view.now) (leaders_in view.now) (laid_in view.now) site.section reloc.now (pos (number_of (take (acting_width (cuts_at (laid_in view.now) site.section) reloc.now) window.old)))) (take (acting_width (cuts_at (laid_in view.now) site.section) reloc.now) window.old) ++ drop (acting_width (cuts_at (laid_in view.now) site.section) reloc.now) window.old }
 {
     let width = kind_of(kind).width;
     let held = held_in(window, width);
-    fill_place(view, site, reloc, kind, held, &mut window[..width as usize]);
+    fill_place(
+        view,
+        site,
+        reloc,
+        plain,
+        kind,
+        held,
+        &mut window[..width as usize],
+    );
 }
 
 /// Puts the value of a relocation into its place, which holds a number and is filled by a kind.
-fn fill_place(view: &View, site: Site, reloc: &Reloc, kind: u32, held: u64, place: &mut [u8])
+fn fill_place(
+    view: &View,
+    site: Site,
+    reloc: &Reloc,
+    plain: bool,
+    kind: u32,
+    held: u64,
+    place: &mut [u8],
+)
     requires site { IsIn view.now site }
     requires symbol { HasSymbolIn view.now site reloc.now }
+    requires plain { plain ≡ true → is_section_symbol (symbol_at (file_at (files_in view.now) site.place.file) reloc.now.symbol) ≡ false }
     requires kind { kind ≡ acting_number (cuts_at (laid_in view.now) site.section) reloc.now }
     requires width { length place.old ≡ acting_width (cuts_at (laid_in view.now) site.section) reloc.now }
     ensures { place.new ≡ filled (spec_kind (cuts_at (laid_in view.now) site.section) reloc.now) (spec.value_of (files_in view.now) (binding_in view.now) (leaders_in view.now) (laid_in view.now) site.section reloc.now (pos held)) place.old }
 {
-    let Some(v) = value_in(view, site, reloc, held) else {
+    let Some(v) = value_in(view, site, reloc, plain, held) else {
         return;
     };
     patch_bits(kind, place, v);

@@ -47,7 +47,7 @@ fn check_touching(
     if !touches(view, source, reloc, from, len) {
         return None;
     }
-    check_reloc(view, source.site, reloc)
+    check_reloc(view, source.site, reloc, false)
 }
 
 /// Whether the place of a relocation and those bytes have one in common.

@@ -3,6 +3,7 @@
 ghost use Rattle.std.specs.Prelude.{◌≡◌, ℕ, ◌+◌, ◌*◌, ◌^◌, ◌<◌, ◌≤◌, length, ◌==◌, ◌&&◌, not, true, false, Some, ◌≤ℤ◌, ◌+ℤ◌, pos, negsuc, IfOk, IfSome, MatchResult, is_some, find, filter, slice_index_or};
 ghost use Rattle.std.specs.List.Sorted.{IsNonDecreasingBy};
 ghost use Rattle.lk_base.specs.RelocKinds.{HasValue, is_lower, is_upper};
+ghost use Rattle.lk_tables.specs.Files.{file_at, is_section_symbol, symbol_at};
 ghost use Rattle.lk_tables.specs.Sites.{relocs_of};
 ghost use Rattle.link_sections.specs.Addresses as addresses;
 ghost use Rattle.link_sections.specs.Views.{binding_in, files_in, laid_in, leaders_in};
@@ -21,61 +22,68 @@ use symbol_addresses::{offset_in, piece_address, section_address, start_of, symb
 #[derive(Clone, Copy, Debug)]
 pub struct NoPartner;
 
-/// The value of a relocation of a section whose place holds a number.
+/// The value of a relocation of a section whose place holds a number. If it is known to be `plain`, it names no SECTION symbol.
 #[tactic(auto, unfolding(crate::specs::Values::value_of))]
 pub fn value_of(
     view: &View,
     site: Site,
     reloc: &Reloc,
+    plain: bool,
     held: u64,
 ) -> Result<Option<i128>, NoPartner>
     requires site { IsSite (files_in view.now) site }
     requires symbol { HasSymbol (files_in view.now) site reloc.now }
+    requires plain { plain ≡ true → is_section_symbol (symbol_at (file_at (files_in view.now) site.place.file) reloc.now.symbol) ≡ false }
     ensures value { IfOk result (λ v. v ≡ spec.value_of (files_in view.now) (binding_in view.now) (leaders_in view.now) (laid_in view.now) site.section reloc.now (pos held)) }
     ensures kind { IfOk result (λ v. IfSome v (λ x. HasValue reloc.now.kind)) }
     ensures partner { MatchResult result (λ _. (is_lower reloc.now.kind && not (is_some (spec.partner_of (files_in view.now) (binding_in view.now) (leaders_in view.now) (laid_in view.now) site.section reloc.now))) ≡ false)
         (λ _. (is_lower reloc.now.kind && not (is_some (spec.partner_of (files_in view.now) (binding_in view.now) (leaders_in view.now) (laid_in view.now) site.section reloc.now))) ≡ true) }
 {
     if !is_lower(reloc.kind) {
-        return Ok(direct_value(view, site, reloc, held));
+        return Ok(direct_value(view, site, reloc, plain, held));
     }
     let Some(partner) = partner_of(view, site, reloc) else {
         return Err(NoPartner);
     };
-    Ok(direct_value(view, site, &partner, 0))
+    Ok(direct_value(view, site, &partner, false, 0))
 }
 
 /// The value of a relocation that takes it from its own symbol.
 #[tactic(auto, unfolding(crate::specs::Values::direct_value, lk_base::specs::RelocKinds::has_value))]
-fn direct_value(view: &View, site: Site, reloc: &Reloc, held: u64) -> Option<i128>
+fn direct_value(view: &View, site: Site, reloc: &Reloc, plain: bool, held: u64) -> Option<i128>
     requires site { IsSite (files_in view.now) site }
     requires symbol { HasSymbol (files_in view.now) site reloc.now }
+    requires plain { plain ≡ true → is_section_symbol (symbol_at (file_at (files_in view.now) site.place.file) reloc.now.symbol) ≡ false }
     ensures value { result ≡ spec.direct_value (files_in view.now) (binding_in view.now) (leaders_in view.now) (laid_in view.now) site.section reloc.now (pos held) }
     ensures kind { IfSome result (λ _. HasValue reloc.now.kind) }
 {
     match kind_of(reloc.kind).calculation {
-        Calculation::Address => Some(sum_of(view, site, reloc)),
+        Calculation::Address => Some(sum_of(view, site, reloc, plain)),
         Calculation::Distance => {
-            Some(sum_of(view, site, reloc) - place_of(view, site.section, reloc))
+            Some(sum_of(view, site, reloc, plain) - place_of(view, site.section, reloc))
         }
         Calculation::GotDistance => {
             Some(entry_of(view, site, reloc) - place_of(view, site.section, reloc))
         }
         Calculation::ThreadOffset => Some(thread_of(view, site, reloc)),
-        Calculation::Increase => Some(held as i128 + sum_of(view, site, reloc)),
-        Calculation::Decrease => Some(held as i128 - sum_of(view, site, reloc)),
+        Calculation::Increase => Some(held as i128 + sum_of(view, site, reloc, plain)),
+        Calculation::Decrease => Some(held as i128 - sum_of(view, site, reloc, plain)),
         _ => None,
     }
 }
 
 /// S + A: the address of a relocation's symbol, and its addend. A SECTION symbol's addend chooses a byte of its section, which moves
 /// where the section loses bytes or is merged.
-fn sum_of(view: &View, site: Site, reloc: &Reloc) -> i128
-    requires { IsSite (files_in view.now) site }
+fn sum_of(view: &View, site: Site, reloc: &Reloc, plain: bool) -> i128
+    requires site { IsSite (files_in view.now) site }
+    requires plain { plain ≡ true → is_section_symbol (symbol_at (file_at (files_in view.now) site.place.file) reloc.now.symbol) ≡ false }
     ensures value { result ≡ spec.sum_of (files_in view.now) (binding_in view.now) (leaders_in view.now) (laid_in view.now) site.section reloc.now }
     ensures low { negsuc (2 ^ 63) ≤ℤ result }
     ensures high { result ≤ℤ pos (2 ^ 67) }
 {
+    if plain {
+        return plain_sum(view, site, reloc);
+    }
     let symbol = view
         .tables
         .file(site.place.file)
@@ -83,6 +91,17 @@ fn sum_of(view: &View, site: Site, reloc: &Reloc) -> i128
     if is_section_symbol(&symbol) {
         return target_sum(view, site, reloc, target_of(view, site, reloc));
     }
+    plain_sum(view, site, reloc)
+}
+
+/// The same where the symbol is no SECTION symbol. Reads the symbol's address alone, and nothing of the symbol.
+fn plain_sum(view: &View, site: Site, reloc: &Reloc) -> i128
+    requires site { IsSite (files_in view.now) site }
+    requires plain { is_section_symbol (symbol_at (file_at (files_in view.now) site.place.file) reloc.now.symbol) ≡ false }
+    ensures value { result ≡ spec.sum_of (files_in view.now) (binding_in view.now) (leaders_in view.now) (laid_in view.now) site.section reloc.now }
+    ensures low { negsuc (2 ^ 63) ≤ℤ result }
+    ensures high { result ≤ℤ pos (2 ^ 67) }
+{
     symbol_address(view, site.place.file, reloc.symbol) as i128 + reloc.addend as i128
 }
 

@@ -4,7 +4,7 @@ use Rattle.lk_tables.specs.Files.{file_at, relocs_at, section_count}
 use Rattle.lk_tables.specs.TablesView.{files_of}
 use Rattle.lk_tables.proofs.FirstNumbers.{section_within}
 use Rattle.lk_base.proofs.Ranges.{row_step}
-use Rattle.reloc_apply.proofs.checks.push_counts.Goals as goal
+use Rattle.reloc_apply.proofs.numbered.push_counts.Goals as goal
 
 pub overflow_cast-section : goal.overflow_cast-section
 overflow_cast-section c =

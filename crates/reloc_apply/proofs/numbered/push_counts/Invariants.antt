@@ -2,7 +2,7 @@ use Rattle.std.proofs.Common.{◌≡◌, ◌++◌, length, map}
 use Rattle.std.specs.List.{range_with_len}
 use Rattle.lk_tables.specs.Files.{file_at, relocs_at}
 use Rattle.lk_tables.specs.TablesView.{files_of}
-use Rattle.reloc_apply.proofs.checks.push_counts.Given as goal
+use Rattle.reloc_apply.proofs.numbered.push_counts.Given as goal
 
 abbrev pub invariant-loop-section : goal.invariant-loop-section
 invariant-loop-section l =

@@ -2,7 +2,7 @@ use Rattle.std.proofs.Common.{◌∙◌, arith, length}
 use Rattle.lk_tables.specs.Files.{file_at, relocs_at}
 use Rattle.lk_tables.specs.TablesView.{files_of}
 use Rattle.lk_tables.proofs.ByNumber.{section_rows_all, section_rows_step}
-use Rattle.reloc_apply.proofs.checks.reloc_counts.Goals as goal
+use Rattle.reloc_apply.proofs.numbered.reloc_counts.Goals as goal
 
 pub loop-file-preserved : goal.loop-file-preserved
 loop-file-preserved c =
