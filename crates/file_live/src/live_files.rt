@@ -17,7 +17,8 @@ use std::thread::Threads;
 use work_split::Gate;
 
 /// By number, whether a file takes part in the link: the objects of the command do, and each member that a symbol of one that
-/// does asks for. It answers the same whatever the number of workers. Names that have no numbers yet are numbered for this call.
+/// does asks for. It answers the same whatever the number of workers. Where a file is a member, names that have no numbers yet
+/// are numbered for this call.
 pub fn live<R: Threads + Sync, G: Gate>(
     rt: &R,
     alloc: Global,
@@ -31,11 +32,15 @@ pub fn live<R: Threads + Sync, G: Gate>(
     ensures live { IfOk result (λ list. list.items ≡ live_of (heads_of heads.now)) }
     ensures least { IfOk result (λ list. IsLive (heads_of heads.now) list.items) }
 {
-    if let Some(names) = heads.names() {
-        return live_by(rt, alloc, heads.files(), names, workers, gate);
+    let files = heads.files();
+    if !has_member(files) {
+        return all_live(alloc, files);
     }
-    let names = number_names(rt, alloc, heads.files(), workers)?;
-    live_by(rt, alloc, heads.files(), &names, workers, gate)
+    if let Some(names) = heads.names() {
+        return live_by(rt, alloc, files, names, workers, gate);
+    }
+    let names = number_names(rt, alloc, files, workers)?;
+    live_by(rt, alloc, files, &names, workers, gate)
 }
 
 /// The same, by the numbers of the files' names.
@@ -55,9 +60,6 @@ fn live_by<R: Threads + Sync, G: Gate>(
     ensures live { IfOk result (λ list. list.items ≡ live_of (file_views files.now)) }
     ensures least { IfOk result (λ list. IsLive (file_views files.now) list.items) }
 {
-    if !has_member(files) {
-        return all_live(alloc, files);
-    }
     let words = names.numbers.len() as u32;
     let claims = claims_of(alloc, files, names)?;
     let row = least_offers(rt, alloc, gate, workers, words, claims.as_slice())?;

@@ -18,6 +18,7 @@ ghost use Rattle.link_driver.specs.Sources.{files_in, has_body, headed, heads_in
 ghost use Rattle.link_driver.specs.Reading.{IsHeaded};
 
 use crate::heads::stop_for;
+use crate::numbering::read_numbered;
 use crate::sections::count_sections;
 use crate::sources::Source;
 use elf_read::read_body;
@@ -106,7 +107,7 @@ fn weights_of(alloc: Global, sources: &[Source], live: &[bool]) -> Result<Vec<u6
 }
 
 /// Reads the body of each file that takes part.
-fn read_each<R: Threads + Sync, G: Gate>(
+pub fn read_each<R: Threads + Sync, G: Gate>(
     rt: &R,
     alloc: Global,
     sources: &[Source],
@@ -142,14 +143,15 @@ fn read_each<R: Threads + Sync, G: Gate>(
     )
 }
 
-/// Reads the body of each file that takes part, and counts the sections. It answers the same whatever the number of workers.
+/// Reads the body of each file that takes part, and counts the sections; the names of all files have numbers from then on. It answers the same
+/// whatever the number of workers.
 #[tactic(auto, unfolding(crate::specs::Defects::opening_defects))]
 pub fn read_bodies<'a, R: Threads + Sync, G: Gate>(
     rt: &R,
     alloc: Global,
     limits: &Limits,
     sources: &[Source],
-    heads: Heads<'a>,
+    mut heads: Heads<'a>,
     live: &[bool],
     workers: u32,
     gate: &G,
@@ -164,7 +166,7 @@ pub fn read_bodies<'a, R: Threads + Sync, G: Gate>(
     ensures goes { Goes result (opening_defects limits.now (sources_of sources.now)) }
     ensures tables { IfOk result (λ tables. files_of tables ≡ files_in (sources_of sources.now)) }
 {
-    let objects = match read_each(rt, alloc, sources, live, heads.files(), workers, gate) {
+    let objects = match read_numbered(rt, alloc, sources, live, &mut heads, workers, gate) {
         Ok(objects) => objects,
         Err(stop) => return Err(stop),
     };

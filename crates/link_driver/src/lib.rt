@@ -18,6 +18,7 @@ mod finding;
 mod heads;
 mod inputs;
 mod linking;
+mod numbering;
 mod placing;
 mod reports;
 mod sections;

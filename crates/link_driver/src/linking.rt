@@ -19,9 +19,8 @@ ghost use Rattle.lk_tables.specs.BoundNames.{IsBindingOf};
 ghost use Rattle.lk_tables.specs.Binding.{first_phase};
 ghost use Rattle.lk_tables.specs.BoundNames.{binding_defects};
 ghost use Rattle.lk_tables.specs.BindingView.{binding_view};
-ghost use Rattle.lk_tables.specs.Files.{symbol_total};
 ghost use Rattle.lk_tables.specs.NameNumbers.{NumbersNames, heads_alone};
-ghost use Rattle.lk_tables.specs.TablesView.{files_of, heads_of};
+ghost use Rattle.lk_tables.specs.TablesView.{files_of};
 ghost use Rattle.lk_tables.specs.Uppers.{AreListed, section_uppers};
 ghost use Rattle.link_driver.specs.Contents.{input_contents, input_names, names_of, sources_of};
 ghost use Rattle.link_driver.specs.Defects.{opening_defects, reading_defects};
@@ -38,6 +37,7 @@ use crate::bodies::read_bodies;
 use crate::finding::find_sources;
 use crate::heads::read_heads;
 use crate::inputs::Inputs;
+use crate::numbering::number_for_members;
 use crate::placing::{Placement, place_beside};
 use crate::reports::report_if;
 use crate::shown::names_if;
@@ -51,7 +51,7 @@ use layout::place;
 use link_command::{Command, IcfMode, Wanted};
 use link_sections::{Got, Layout, Pools, View, all_kept, fold_leaders, own_leaders};
 use lk_base::{Limits, LinkStop, SecNo, check_count};
-use lk_tables::{Binding, Heads, NameNumbers, Tables, Uppers};
+use lk_tables::{Binding, NameNumbers, Tables, Uppers};
 use map_file::map_text;
 use name_numbers::number_names;
 use relax::sizes;
@@ -73,21 +73,6 @@ pub struct Linked {
     pub map: Vec<u8>,
     /// What is said of the link, nothing if no report is asked for.
     pub report: Vec<u8>,
-}
-
-/// Numbers the names of all files, once for all passes.
-fn number_heads<R: Threads + Sync>(
-    rt: &R,
-    alloc: Global,
-    heads: &mut Heads,
-    workers: u32,
-) -> Result<(), AllocError>
-    requires { symbol_total (heads_of heads.old) < 2 ^ 31 }
-    ensures { heads_of heads.new ≡ heads_of heads.old }
-{
-    let names = number_names(rt, alloc, heads.files(), workers)?;
-    heads.keep_names(names);
-    Ok(())
 }
 
 /// Reads all files: their heads, and then the bodies of those that take part.
@@ -114,7 +99,7 @@ pub fn read_files<'a, R: Threads + Sync, G: Gate>(
         Ok(heads) => heads,
         Err(stop) => return Err(stop),
     };
-    number_heads(rt, alloc, &mut heads, workers)?;
+    number_for_members(rt, alloc, sources, &mut heads, workers)?;
     let live = live(rt, alloc, &heads, workers, gate)?;
     read_bodies(
         rt,

@@ -19,21 +19,21 @@ use Rattle.link_driver.proofs.Opened.{are_bodies, each_few, how_many, how_many_l
 use Rattle.link_driver.proofs.Totals.{both_parts, second_part}
 use Rattle.link_driver.proofs.bodies.read_bodies.Goals as goal
 
-pub read_each-requires-clause-files : goal.read_each-requires-clause-files
+pub read_numbered-requires-clause-files : goal.read_numbered-requires-clause-files
 unfolding heads_in
-read_each-requires-clause-files g c κs within =
+read_numbered-requires-clause-files g c κs within =
     let ss = sources_of c.args.sources.now in
     let n : length c.args.sources.now ≡ length ss = sym (length-map c.args.sources.now source_view) in
-    c.files.ensures ∙ c.requires.heads_are ∙ ap (λ k. map (headed ss) (range_with_len 0 k)) (sym n)
+    c.requires.heads_are ∙ ap (λ k. map (headed ss) (range_with_len 0 k)) (sym n)
 
-pub read_each-requires-clause-live : goal.read_each-requires-clause-live
-read_each-requires-clause-live g c κs within =
+pub read_numbered-requires-clause-live : goal.read_numbered-requires-clause-live
+read_numbered-requires-clause-live g c κs within =
     let ss = sources_of c.args.sources.now in
     let n : length c.args.sources.now ≡ length ss = sym (length-map c.args.sources.now source_view) in
     ap length c.requires.live ∙ how_many_live ss ∙ sym n
 
-pub read_each-requires-clause-few : goal.read_each-requires-clause-few
-read_each-requires-clause-few g c κs within =
+pub read_numbered-requires-clause-few : goal.read_numbered-requires-clause-few
+read_numbered-requires-clause-few g c κs within =
     let ss = sources_of c.args.sources.now in
     let n : length c.args.sources.now ≡ length ss = sym (length-map c.args.sources.now source_view) in
     let few = c.args.heads.few in
@@ -45,10 +45,10 @@ count_sections-count-requires-clause-each g c =
     let n : length c.args.sources.now ≡ length ss = sym (length-map c.args.sources.now source_view) in
     let live = c.args.live.now in
     let To : ℕ → Type 0 = λ k. EachFrom (IsBodyAt ss live) 0 k c.in-Ok.objects.items in
-    let each : To (length ss) = subst To n c.in-Ok.ensures.each in
+    let each : To (length ss) = subst To n c.in-Ok.ensures.share.each in
     let objects : c.as_slice.result.now ≡ c.in-Ok.objects.items = c.as_slice.ensures.value in
-    let files : file_views c.files-2.result.now ≡ heads_in ss = c.files-2.ensures ∙ c.requires.heads_are in
-    omega (arith, ap length objects, ap length files, how_many ss, length-map c.files-2.result.now file_view, each_rises (IsBodyAt ss live) 0 (length ss) c.in-Ok.objects.items each)
+    let files : file_views c.files.result.now ≡ heads_in ss = c.files.ensures ∙ c.read_numbered.ensures.same ∙ c.requires.heads_are in
+    omega (arith, ap length objects, ap length files, how_many ss, length-map c.files.result.now file_view, each_rises (IsBodyAt ss live) 0 (length ss) c.in-Ok.objects.items each)
 
 pub count_sections-count-requires-clause-few : goal.count_sections-count-requires-clause-few
 count_sections-count-requires-clause-few g c = λ f lt.
@@ -56,12 +56,12 @@ count_sections-count-requires-clause-few g c = λ f lt.
     let n : length c.args.sources.now ≡ length ss = sym (length-map c.args.sources.now source_view) in
     let live = c.args.live.now in
     let To : ℕ → Type 0 = λ k. EachFrom (IsBodyAt ss live) 0 k c.in-Ok.objects.items in
-    let each : To (length ss) = subst To n c.in-Ok.ensures.each in
+    let each : To (length ss) = subst To n c.in-Ok.ensures.share.each in
     let objects : c.as_slice.result.now ≡ c.in-Ok.objects.items = c.as_slice.ensures.value in
-    let files : file_views c.files-2.result.now ≡ heads_in ss = c.files-2.ensures ∙ c.requires.heads_are in
-    let P : List (Option Object) → Type 0 = λ l. is_some (slice_index_or l f None) ≡ true → count_of (file_at (file_views c.files-2.result.now) f) < 2 ^ 28 in
+    let files : file_views c.files.result.now ≡ heads_in ss = c.files.ensures ∙ c.read_numbered.ensures.same ∙ c.requires.heads_are in
+    let P : List (Option Object) → Type 0 = λ l. is_some (slice_index_or l f None) ≡ true → count_of (file_at (file_views c.files.result.now) f) < 2 ^ 28 in
     let Q : List File → Type 0 = λ l. is_some (slice_index_or c.in-Ok.objects.items f None) ≡ true → count_of (file_at l f) < 2 ^ 28 in
-    let room : f < length (heads_in ss) = omega (arith, lt, ap length files, length-map c.files-2.result.now file_view) in
+    let room : f < length (heads_in ss) = omega (arith, lt, ap length files, length-map c.files.result.now file_view) in
     subst P (sym objects) (subst Q (sym files) (each_few ss live c.in-Ok.objects.items each f room))
 
 pub returns-in-Err-check_count-clause-goes : goal.returns-in-Err-check_count-clause-goes
@@ -71,12 +71,12 @@ returns-in-Err-check_count-clause-goes g c =
     let n : length c.args.sources.now ≡ length ss = sym (length-map c.args.sources.now source_view) in
     let live = c.args.live.now in
     let To : ℕ → Type 0 = λ k. EachFrom (IsBodyAt ss live) 0 k c.in-Ok.objects.items in
-    let each : To (length ss) = subst To n c.in-Ok.ensures.each in
+    let each : To (length ss) = subst To n c.in-Ok.ensures.share.each in
     let objects : c.as_slice.result.now ≡ c.in-Ok.objects.items = c.as_slice.ensures.value in
-    let files : file_views c.files-2.result.now ≡ heads_in ss = c.files-2.ensures ∙ c.requires.heads_are in
+    let files : file_views c.files.result.now ≡ heads_in ss = c.files.ensures ∙ c.read_numbered.ensures.same ∙ c.requires.heads_are in
     let goes : flat_map (body_defects_at ss (live_in ss)) (range_with_len 0 (length ss)) ≡ [] =
     sym (same_defects ss live (length c.args.sources.now) n c.requires.live)
-    ∙ whole_goes (body_defects_at ss live) (IsBodyAt ss live) (length c.args.sources.now) (Ok c.in-Ok.objects) c.in-Ok.ensures in
+    ∙ whole_goes (body_defects_at ss live) (IsBodyAt ss live) (length c.args.sources.now) (Ok c.in-Ok.objects) c.in-Ok.ensures.share in
     let total : c.count_sections-count.result ≡ section_total (files_in ss) =
     c.count_sections-count.ensures
     ∙ ap (λ (l : List File). section_total (with_objects l c.as_slice.result.now)) files
@@ -91,8 +91,8 @@ of-requires-clause-each g c =
     let n : length c.args.sources.now ≡ length ss = sym (length-map c.args.sources.now source_view) in
     let live = c.args.live.now in
     let To : ℕ → Type 0 = λ k. EachFrom (IsBodyAt ss live) 0 k c.in-Ok.objects.items in
-    let each : To (length ss) = subst To n c.in-Ok.ensures.each in
-    omega (arith, ap length c.requires.heads_are, how_many ss, each_rises (IsBodyAt ss live) 0 (length ss) c.in-Ok.objects.items each)
+    let each : To (length ss) = subst To n c.in-Ok.ensures.share.each in
+    omega (arith, ap length (c.read_numbered.ensures.same ∙ c.requires.heads_are), how_many ss, each_rises (IsBodyAt ss live) 0 (length ss) c.in-Ok.objects.items each)
 
 pub of-requires-clause-bodies : goal.of-requires-clause-bodies
 of-requires-clause-bodies g c =
@@ -100,9 +100,9 @@ of-requires-clause-bodies g c =
     let n : length c.args.sources.now ≡ length ss = sym (length-map c.args.sources.now source_view) in
     let live = c.args.live.now in
     let To : ℕ → Type 0 = λ k. EachFrom (IsBodyAt ss live) 0 k c.in-Ok.objects.items in
-    let each : To (length ss) = subst To n c.in-Ok.ensures.each in
+    let each : To (length ss) = subst To n c.in-Ok.ensures.share.each in
     let P : List File → Type 0 = λ l. AreBodies l c.in-Ok.objects.items in
-    subst P (sym c.requires.heads_are) (are_bodies ss live c.in-Ok.objects.items each)
+    subst P (sym (c.read_numbered.ensures.same ∙ c.requires.heads_are)) (are_bodies ss live c.in-Ok.objects.items each)
 
 pub returns-clause-goes : goal.returns-clause-goes
 unfolding opening_defects
@@ -111,12 +111,12 @@ returns-clause-goes g c =
     let n : length c.args.sources.now ≡ length ss = sym (length-map c.args.sources.now source_view) in
     let live = c.args.live.now in
     let To : ℕ → Type 0 = λ k. EachFrom (IsBodyAt ss live) 0 k c.in-Ok.objects.items in
-    let each : To (length ss) = subst To n c.in-Ok.ensures.each in
+    let each : To (length ss) = subst To n c.in-Ok.ensures.share.each in
     let objects : c.as_slice.result.now ≡ c.in-Ok.objects.items = c.as_slice.ensures.value in
-    let files : file_views c.files-2.result.now ≡ heads_in ss = c.files-2.ensures ∙ c.requires.heads_are in
+    let files : file_views c.files.result.now ≡ heads_in ss = c.files.ensures ∙ c.read_numbered.ensures.same ∙ c.requires.heads_are in
     let goes : flat_map (body_defects_at ss (live_in ss)) (range_with_len 0 (length ss)) ≡ [] =
     sym (same_defects ss live (length c.args.sources.now) n c.requires.live)
-    ∙ whole_goes (body_defects_at ss live) (IsBodyAt ss live) (length c.args.sources.now) (Ok c.in-Ok.objects) c.in-Ok.ensures in
+    ∙ whole_goes (body_defects_at ss live) (IsBodyAt ss live) (length c.args.sources.now) (Ok c.in-Ok.objects) c.in-Ok.ensures.share in
     let total : c.count_sections-count.result ≡ section_total (files_in ss) =
     c.count_sections-count.ensures
     ∙ ap (λ (l : List File). section_total (with_objects l c.as_slice.result.now)) files
@@ -131,6 +131,6 @@ returns-clause-tables g c =
     let n : length c.args.sources.now ≡ length ss = sym (length-map c.args.sources.now source_view) in
     let live = c.args.live.now in
     let To : ℕ → Type 0 = λ k. EachFrom (IsBodyAt ss live) 0 k c.in-Ok.objects.items in
-    let each : To (length ss) = subst To n c.in-Ok.ensures.each in
-    c.in_ok-of.ensures.files ∙ ap (λ (l : List File). with_objects l c.in-Ok.objects.items) c.requires.heads_are
+    let each : To (length ss) = subst To n c.in-Ok.ensures.share.each in
+    c.in_ok-of.ensures.files ∙ ap (λ (l : List File). with_objects l c.in-Ok.objects.items) (c.read_numbered.ensures.same ∙ c.requires.heads_are)
     ∙ with_bodies ss live c.in-Ok.objects.items each c.requires.live
