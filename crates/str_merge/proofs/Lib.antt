@@ -23,3 +23,4 @@ pub mod PoolOrder
 pub mod CountSteps
 pub mod BoundSteps
 pub mod PieceLaws
+pub mod RepeatShares
