@@ -1,8 +1,9 @@
 //! An object and an archive that are cut at each length, and an object of which a byte is altered.
 
-use crate::examples::{Files, Left, SOUND, run_over, words_of};
 use link_driver::OpenGate;
+use link_examples::{Files, SOUND, words_of};
 use link_gen::objects;
+use link_runs::{Left, run_over};
 use lk_depot::FileKind;
 use std::alloc::{AllocError, Global};
 use std::test::Fail;

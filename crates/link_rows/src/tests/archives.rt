@@ -1,16 +1,16 @@
 //! The commands with archives. Each has its own archives at hand, beside all inputs that are objects.
 
-use crate::examples::images::{
+use link_examples::images::{
     ASKED, ASKED_BEFORE, ASKED_BREAK, ASKED_COMMON, ASKED_TWICE, FIRST, WEAK_CALL,
 };
-use crate::examples::libraries::{
+use link_examples::libraries::{
     BSD_FIRST, BSD_LAST, CALLER_ALONE, CHAIN, CHAIN_BEGIN, CHAIN_END, COMMON_FIRST, CUT_DATA,
     CUT_HEADER, CUT_MEMBER, DOUBLE_FIRST, DOUBLE_LAST, EMPTY, FIRST_BREAKS, FIRST_RETURNS, INDEXED,
     LONG_CUT_MEMBER, NO_END, NO_MEMBERS_BYTES, NO_SIZE, NO_SLASH, NO_TABLE, OFFER_OF_WEAK,
     ONE_MEMBER, PACKED_FIRST, PACKED_LAST, SEVEN_MEMBERS, START_ALONE, STRONG_ALONE, WEAK_FIRST,
     WITH_TEXT,
 };
-use crate::examples::{FIRST_LINK, Link, Refusal, Store};
+use link_examples::{FIRST_LINK, Link, Refusal, Store};
 
 /// Forms of archives, and an archive before the object that asks.
 pub const READ: &[Link] = &[

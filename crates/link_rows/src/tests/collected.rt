@@ -1,10 +1,10 @@
 //! What `--gc-sections` keeps and drops.
 
-use crate::examples::images::{
+use link_examples::images::{
     ALL_ORDERED, ARRAYS_ALONE, ASKED_WORD, FIRST, FRAMED, KEPT_NOTE, KEPT_ORDER, KEPT_RING,
     KEPT_TOGETHER, ORDERED, RETURN_ALONE, RETURN_AND_BREAK, RING_ALONE,
 };
-use crate::examples::{FIRST_LINK, Link, Refusal, Store};
+use link_examples::{FIRST_LINK, Link, Refusal, Store};
 
 /// What is kept for itself.
 pub const ROOTS: &[Link] = &[

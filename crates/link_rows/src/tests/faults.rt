@@ -1,11 +1,12 @@
 //! What a failed call of the store of files, or of a stream, leaves.
 
+use super::OwnStores;
 use super::generated::{TWO_ALONE, TWO_MAPPED};
-use super::run_with;
-use crate::examples::lines::FIRST_LINES;
-use crate::examples::{Call, FIRST_LINK, Left, Link, Outside, SOUND, Stream, WORKERS, text_of};
 use elf_bytes::image_of;
 use link_driver::OpenGate;
+use link_examples::lines::FIRST_LINES;
+use link_examples::{Call, FIRST_LINK, Link, Outside, SOUND, Stream, WORKERS, text_of};
+use link_runs::{Left, run_with};
 use lk_depot::{FileKind, MemDepot};
 use std::alloc::{AllocError, Global};
 use std::test::Fail;
@@ -389,7 +390,7 @@ fn is_cut<R: Threads + Sync>(
         libraries: fault.link.libraries,
         outside: &fault.outside,
     };
-    let left = run_with(rt, alloc, &call, &OpenGate)?;
+    let left = run_with(rt, alloc, &OwnStores, &call, &OpenGate)?;
     Ok(
         left.status == fault.status
             && left.depot.calls() == fault.calls

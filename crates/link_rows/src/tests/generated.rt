@@ -1,10 +1,11 @@
 //! Links of generated objects (`--self-input`), and what is said of them.
 
-use super::run_with;
-use crate::examples::images::{FIRST, READ_OF_FOUR, STACK};
-use crate::examples::{Call, FIRST_LINK, Left, Link, NO_WORDS, Refusal, SOUND, Store, WORKERS};
+use super::OwnStores;
 use elf_bytes::{Image, Listed};
 use link_driver::OpenGate;
+use link_examples::images::{FIRST, READ_OF_FOUR, STACK};
+use link_examples::{Call, FIRST_LINK, Link, NO_WORDS, Refusal, SOUND, Store, WORKERS};
+use link_runs::{Left, run_with};
 use std::alloc::{AllocError, Global};
 use std::test::Fail;
 use std::thread::Threads;
@@ -251,7 +252,7 @@ fn link_many<R: Threads + Sync>(
         libraries: &[],
         outside: &SOUND,
     };
-    run_with(rt, alloc, &call, &OpenGate)
+    run_with(rt, alloc, &OwnStores, &call, &OpenGate)
 }
 
 /// The bytes of the executable.

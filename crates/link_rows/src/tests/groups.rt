@@ -1,10 +1,10 @@
 //! Which copy of a COMDAT group stays, and what a link lacks without the others.
 
-use crate::examples::images::{
+use link_examples::images::{
     ASKED, ASKED_BREAK, BOTH_ASKED, BOTH_BEFORE, BOTH_COPIES, RETURN_ALONE, RETURN_AND_BREAK,
     WEAK_WORD,
 };
-use crate::examples::{FIRST_LINK, Link, Refusal, Store};
+use link_examples::{FIRST_LINK, Link, Refusal, Store};
 
 /// The first copy of a group stays.
 pub const COPIES: &[Link] = &[

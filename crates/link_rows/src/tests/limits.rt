@@ -2,14 +2,13 @@
 
 ghost use Rattle.lk_base.specs.Limits.{IsWithinStandard};
 
-use super::files_of;
-use super::merged::FOUR_ALONE;
-use crate::examples::images::{COMMON_OF_8, FIRST, TWO_FILES};
-use crate::examples::libraries::{Library, ONE_MEMBER};
-use crate::examples::{Store, WORKERS, words_of};
+use super::OwnStores;
 use elf_bytes::{Image, image_of};
 use link_command::command_of;
 use link_driver::{Inputs, Linked, OpenGate, link};
+use link_examples::images::{COMMON_OF_8, FIRST, FOUR_ALONE, TWO_FILES};
+use link_examples::libraries::{Library, ONE_MEMBER};
+use link_examples::{Store, WORKERS, files_of, words_of};
 use lk_base::kinds::{LIMIT, TOO_BIG};
 use lk_base::{Defect, Limits, LinkStop, NO_FILE};
 use std::alloc::{AllocError, Global};
@@ -231,7 +230,6 @@ const OF_PIECES: Limits = Limits {
 
 const WITH_PIECES: Bounded = Bounded {
     words: &["rvld", "-s", "four.o"],
-    store: Store::Merged,
     limits: OF_PIECES,
     image: FOUR_ALONE,
     ..TWO_OBJECTS
@@ -349,7 +347,7 @@ fn is_bounded<R: Threads + Sync>(
     let Some(command) = command_of(alloc, words.as_slice())? else {
         return Ok(false);
     };
-    let files = files_of(alloc, bounded.store, bounded.libraries)?;
+    let files = files_of(alloc, &OwnStores, bounded.store, bounded.libraries)?;
     let inputs = inputs_of(alloc, command.inputs.names(), files.as_slice())?;
     let limits = within_standard(&bounded.limits);
     let answer = link(rt, alloc, &command, &inputs, &limits, &OpenGate);

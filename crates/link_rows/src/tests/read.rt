@@ -1,13 +1,11 @@
 //! Commands, archives, groups, what is collected and what is refused.
 
-use super::{
-    archives, collected, generated, groups, is_linked_by_any, is_refused, is_refused_by_any,
-    wrong_groups,
-};
-use crate::examples::images::{
+use super::{OwnStores, archives, collected, generated, groups, wrong_groups};
+use link_examples::images::{
     COMMON_OF_8, COMMON_OF_16, HALVES, THREE_FILES, TWO_FILES, WEAK_CALL, WIDE_COMMON,
 };
-use crate::examples::{FIRST_LINK, Link, NO_WORDS, Refusal, Store};
+use link_examples::{FIRST_LINK, Link, NO_WORDS, Refusal, Store};
+use link_runs::{is_linked_by_any, is_refused, is_refused_by_any};
 use std::test::Fail;
 
 const LINKS: &[Link] = &[
@@ -262,7 +260,10 @@ const REFUSALS: &[Refusal] = &[
 #[test]
 fn each_link_leaves_its_executable(rt: HostRuntime) -> Result<(), Fail> {
     for (index, link) in LINKS.iter().enumerate() {
-        assert!(rt; is_linked_by_any(&rt, rt.alloc(), link)?, "example {index}");
+        assert!(rt;
+            is_linked_by_any(&rt, rt.alloc(), &OwnStores, link)?,
+            "example {index}"
+        );
     }
     Ok(())
 }
@@ -270,7 +271,10 @@ fn each_link_leaves_its_executable(rt: HostRuntime) -> Result<(), Fail> {
 #[test]
 fn archives_are_read_in_each_form(rt: HostRuntime) -> Result<(), Fail> {
     for (index, link) in archives::READ.iter().enumerate() {
-        assert!(rt; is_linked_by_any(&rt, rt.alloc(), link)?, "example {index}");
+        assert!(rt;
+            is_linked_by_any(&rt, rt.alloc(), &OwnStores, link)?,
+            "example {index}"
+        );
     }
     Ok(())
 }
@@ -278,7 +282,10 @@ fn archives_are_read_in_each_form(rt: HostRuntime) -> Result<(), Fail> {
 #[test]
 fn members_that_nothing_pulls_add_nothing(rt: HostRuntime) -> Result<(), Fail> {
     for (index, link) in archives::IDLE.iter().enumerate() {
-        assert!(rt; is_linked_by_any(&rt, rt.alloc(), link)?, "example {index}");
+        assert!(rt;
+            is_linked_by_any(&rt, rt.alloc(), &OwnStores, link)?,
+            "example {index}"
+        );
     }
     Ok(())
 }
@@ -286,7 +293,10 @@ fn members_that_nothing_pulls_add_nothing(rt: HostRuntime) -> Result<(), Fail> {
 #[test]
 fn the_first_offer_is_taken(rt: HostRuntime) -> Result<(), Fail> {
     for (index, link) in archives::CHOSEN.iter().enumerate() {
-        assert!(rt; is_linked_by_any(&rt, rt.alloc(), link)?, "example {index}");
+        assert!(rt;
+            is_linked_by_any(&rt, rt.alloc(), &OwnStores, link)?,
+            "example {index}"
+        );
     }
     Ok(())
 }
@@ -294,14 +304,17 @@ fn the_first_offer_is_taken(rt: HostRuntime) -> Result<(), Fail> {
 #[test]
 fn members_pull_members(rt: HostRuntime) -> Result<(), Fail> {
     for (index, link) in archives::CHAINS.iter().enumerate() {
-        assert!(rt; is_linked_by_any(&rt, rt.alloc(), link)?, "example {index}");
+        assert!(rt;
+            is_linked_by_any(&rt, rt.alloc(), &OwnStores, link)?,
+            "example {index}"
+        );
     }
     Ok(())
 }
 
 #[test]
 fn the_program_has_a_name(rt: HostRuntime) -> Result<(), Fail> {
-    assert!(rt; is_refused(&rt, rt.alloc(), &NO_WORDS, &[])?);
+    assert!(rt; is_refused(&rt, rt.alloc(), &OwnStores, &NO_WORDS, &[])?);
     Ok(())
 }
 
@@ -309,7 +322,7 @@ fn the_program_has_a_name(rt: HostRuntime) -> Result<(), Fail> {
 fn each_wrong_command_is_refused(rt: HostRuntime) -> Result<(), Fail> {
     for (index, refusal) in COMMANDS.iter().enumerate() {
         assert!(rt;
-            is_refused_by_any(&rt, rt.alloc(), refusal)?,
+            is_refused_by_any(&rt, rt.alloc(), &OwnStores, refusal)?,
             "example {index}"
         );
     }
@@ -320,7 +333,7 @@ fn each_wrong_command_is_refused(rt: HostRuntime) -> Result<(), Fail> {
 fn each_refusal_leaves_its_line(rt: HostRuntime) -> Result<(), Fail> {
     for (index, refusal) in REFUSALS.iter().enumerate() {
         assert!(rt;
-            is_refused_by_any(&rt, rt.alloc(), refusal)?,
+            is_refused_by_any(&rt, rt.alloc(), &OwnStores, refusal)?,
             "example {index}"
         );
     }
@@ -331,7 +344,7 @@ fn each_refusal_leaves_its_line(rt: HostRuntime) -> Result<(), Fail> {
 fn each_wrong_member_leaves_its_line(rt: HostRuntime) -> Result<(), Fail> {
     for (index, refusal) in archives::WRONG_MEMBERS.iter().enumerate() {
         assert!(rt;
-            is_refused_by_any(&rt, rt.alloc(), refusal)?,
+            is_refused_by_any(&rt, rt.alloc(), &OwnStores, refusal)?,
             "example {index}"
         );
     }
@@ -342,7 +355,7 @@ fn each_wrong_member_leaves_its_line(rt: HostRuntime) -> Result<(), Fail> {
 fn each_wrong_archive_leaves_its_line(rt: HostRuntime) -> Result<(), Fail> {
     for (index, refusal) in archives::WRONG_ARCHIVES.iter().enumerate() {
         assert!(rt;
-            is_refused_by_any(&rt, rt.alloc(), refusal)?,
+            is_refused_by_any(&rt, rt.alloc(), &OwnStores, refusal)?,
             "example {index}"
         );
     }
@@ -352,7 +365,10 @@ fn each_wrong_archive_leaves_its_line(rt: HostRuntime) -> Result<(), Fail> {
 #[test]
 fn the_first_copy_of_a_group_stays(rt: HostRuntime) -> Result<(), Fail> {
     for (index, link) in groups::COPIES.iter().enumerate() {
-        assert!(rt; is_linked_by_any(&rt, rt.alloc(), link)?, "example {index}");
+        assert!(rt;
+            is_linked_by_any(&rt, rt.alloc(), &OwnStores, link)?,
+            "example {index}"
+        );
     }
     Ok(())
 }
@@ -360,7 +376,10 @@ fn the_first_copy_of_a_group_stays(rt: HostRuntime) -> Result<(), Fail> {
 #[test]
 fn signatures_are_names(rt: HostRuntime) -> Result<(), Fail> {
     for (index, link) in groups::SIGNATURES.iter().enumerate() {
-        assert!(rt; is_linked_by_any(&rt, rt.alloc(), link)?, "example {index}");
+        assert!(rt;
+            is_linked_by_any(&rt, rt.alloc(), &OwnStores, link)?,
+            "example {index}"
+        );
     }
     Ok(())
 }
@@ -368,7 +387,10 @@ fn signatures_are_names(rt: HostRuntime) -> Result<(), Fail> {
 #[test]
 fn what_is_discarded_is_not_asked_for(rt: HostRuntime) -> Result<(), Fail> {
     for (index, link) in groups::UNUSED.iter().enumerate() {
-        assert!(rt; is_linked_by_any(&rt, rt.alloc(), link)?, "example {index}");
+        assert!(rt;
+            is_linked_by_any(&rt, rt.alloc(), &OwnStores, link)?,
+            "example {index}"
+        );
     }
     Ok(())
 }
@@ -377,7 +399,7 @@ fn what_is_discarded_is_not_asked_for(rt: HostRuntime) -> Result<(), Fail> {
 fn what_is_kept_is_defined_once(rt: HostRuntime) -> Result<(), Fail> {
     for (index, refusal) in groups::ABSENT.iter().enumerate() {
         assert!(rt;
-            is_refused_by_any(&rt, rt.alloc(), refusal)?,
+            is_refused_by_any(&rt, rt.alloc(), &OwnStores, refusal)?,
             "example {index}"
         );
     }
@@ -388,7 +410,7 @@ fn what_is_kept_is_defined_once(rt: HostRuntime) -> Result<(), Fail> {
 fn groups_have_one_form(rt: HostRuntime) -> Result<(), Fail> {
     for (index, refusal) in wrong_groups::FORMS.iter().enumerate() {
         assert!(rt;
-            is_refused_by_any(&rt, rt.alloc(), refusal)?,
+            is_refused_by_any(&rt, rt.alloc(), &OwnStores, refusal)?,
             "example {index}"
         );
     }
@@ -399,7 +421,7 @@ fn groups_have_one_form(rt: HostRuntime) -> Result<(), Fail> {
 fn groups_have_members_of_their_own(rt: HostRuntime) -> Result<(), Fail> {
     for (index, refusal) in wrong_groups::MEMBERS.iter().enumerate() {
         assert!(rt;
-            is_refused_by_any(&rt, rt.alloc(), refusal)?,
+            is_refused_by_any(&rt, rt.alloc(), &OwnStores, refusal)?,
             "example {index}"
         );
     }
@@ -409,7 +431,10 @@ fn groups_have_members_of_their_own(rt: HostRuntime) -> Result<(), Fail> {
 #[test]
 fn what_stays_for_itself_is_kept(rt: HostRuntime) -> Result<(), Fail> {
     for (index, link) in collected::ROOTS.iter().enumerate() {
-        assert!(rt; is_linked_by_any(&rt, rt.alloc(), link)?, "example {index}");
+        assert!(rt;
+            is_linked_by_any(&rt, rt.alloc(), &OwnStores, link)?,
+            "example {index}"
+        );
     }
     Ok(())
 }
@@ -417,7 +442,10 @@ fn what_stays_for_itself_is_kept(rt: HostRuntime) -> Result<(), Fail> {
 #[test]
 fn what_belongs_to_the_kept_is_kept(rt: HostRuntime) -> Result<(), Fail> {
     for (index, link) in collected::WITH_OTHERS.iter().enumerate() {
-        assert!(rt; is_linked_by_any(&rt, rt.alloc(), link)?, "example {index}");
+        assert!(rt;
+            is_linked_by_any(&rt, rt.alloc(), &OwnStores, link)?,
+            "example {index}"
+        );
     }
     Ok(())
 }
@@ -425,7 +453,10 @@ fn what_belongs_to_the_kept_is_kept(rt: HostRuntime) -> Result<(), Fail> {
 #[test]
 fn all_else_is_dropped(rt: HostRuntime) -> Result<(), Fail> {
     for (index, link) in collected::DROPPED.iter().enumerate() {
-        assert!(rt; is_linked_by_any(&rt, rt.alloc(), link)?, "example {index}");
+        assert!(rt;
+            is_linked_by_any(&rt, rt.alloc(), &OwnStores, link)?,
+            "example {index}"
+        );
     }
     Ok(())
 }
@@ -434,7 +465,7 @@ fn all_else_is_dropped(rt: HostRuntime) -> Result<(), Fail> {
 fn what_is_kept_has_no_defect(rt: HostRuntime) -> Result<(), Fail> {
     for (index, refusal) in collected::STILL.iter().enumerate() {
         assert!(rt;
-            is_refused_by_any(&rt, rt.alloc(), refusal)?,
+            is_refused_by_any(&rt, rt.alloc(), &OwnStores, refusal)?,
             "example {index}"
         );
     }
@@ -444,7 +475,10 @@ fn what_is_kept_has_no_defect(rt: HostRuntime) -> Result<(), Fail> {
 #[test]
 fn generated_objects_are_linked(rt: HostRuntime) -> Result<(), Fail> {
     for (index, link) in generated::FEW.iter().enumerate() {
-        assert!(rt; is_linked_by_any(&rt, rt.alloc(), link)?, "example {index}");
+        assert!(rt;
+            is_linked_by_any(&rt, rt.alloc(), &OwnStores, link)?,
+            "example {index}"
+        );
     }
     Ok(())
 }
@@ -453,7 +487,7 @@ fn generated_objects_are_linked(rt: HostRuntime) -> Result<(), Fail> {
 fn objects_are_generated_or_loaded(rt: HostRuntime) -> Result<(), Fail> {
     for (index, refusal) in generated::REFUSED.iter().enumerate() {
         assert!(rt;
-            is_refused_by_any(&rt, rt.alloc(), refusal)?,
+            is_refused_by_any(&rt, rt.alloc(), &OwnStores, refusal)?,
             "example {index}"
         );
     }

@@ -1,10 +1,11 @@
 //! Two workers, of which one is held before each of its tasks.
 
-use super::is_linked;
-use crate::examples::images::{TWO_BLOCKS, TWO_FILES};
-use crate::examples::lines::{TWO_FILES_LINES, TWO_FILES_LISTED};
-use crate::examples::{FIRST_LINK, Link, Store};
+use super::OwnStores;
 use link_driver::Gate;
+use link_examples::images::{TWO_BLOCKS, TWO_FILES};
+use link_examples::lines::{TWO_FILES_LINES, TWO_FILES_LISTED};
+use link_examples::{FIRST_LINK, Link, Store};
+use link_runs::is_linked;
 use std::alloc::{AllocError, Global};
 use std::hint;
 use std::sync::atomic::{AtomicBool, AtomicU64, Ordering};
@@ -113,7 +114,7 @@ fn is_held<R: Threads + Sync>(
         passed: AtomicU64::new(0),
         late: AtomicBool::new(false),
     };
-    let linked = is_linked(rt, alloc, link, &["--threads", "2"], &gate)?;
+    let linked = is_linked(rt, alloc, &OwnStores, link, &["--threads", "2"], &gate)?;
     let met = gate.met.load(Ordering::SeqCst);
     Ok(
         linked

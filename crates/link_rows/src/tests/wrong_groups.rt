@@ -1,9 +1,9 @@
 //! Groups that are wrong. The group is section 2 of each file.
 
-use crate::examples::groups::{GROUP, N_BREAKS, N_IN_3};
-use crate::examples::objects::{A, Input, RETURN, START, WHOLE};
-use crate::examples::{Files, Refusal, Store, push_object};
 use elf_bytes::{Object, Section, SectionLink};
+use link_examples::groups::{GROUP, N_BREAKS, N_IN_3};
+use link_examples::objects::{A, Input, RETURN, START, WHOLE};
+use link_examples::{Files, Refusal, Store, objects_of, push_objects};
 use std::alloc::{AllocError, Global};
 
 /// Entries of 8 bytes.
@@ -201,25 +201,10 @@ const OTHER_INPUTS: &[Input] = &[
     },
 ];
 
-fn push_first_inputs(files: &mut Files, alloc: Global) -> Result<(), AllocError> {
-    for input in FIRST_INPUTS {
-        push_object(files, alloc, input)?;
-    }
-    Ok(())
-}
-
-fn push_other_inputs(files: &mut Files, alloc: Global) -> Result<(), AllocError> {
-    for input in OTHER_INPUTS {
-        push_object(files, alloc, input)?;
-    }
-    Ok(())
-}
-
 /// The files that are at hand.
 pub fn files(alloc: Global) -> Result<Files, AllocError> {
-    let mut files = Vec::new(alloc);
-    push_first_inputs(&mut files, alloc)?;
-    push_other_inputs(&mut files, alloc)?;
+    let mut files = objects_of(alloc, FIRST_INPUTS)?;
+    push_objects(&mut files, alloc, OTHER_INPUTS)?;
     Ok(files)
 }
 

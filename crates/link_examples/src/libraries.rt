@@ -1,8 +1,6 @@
 //! The archives of the examples.
 
-use crate::examples::objects::{
-    ASKED_M, BREAK, COMMON_OF_8, RETURN, START, STRONG, TO_SECOND, WHOLE,
-};
+use crate::objects::{ASKED_M, BREAK, COMMON_OF_8, RETURN, START, STRONG, TO_SECOND, WHOLE};
 use elf_bytes::{ARCHIVE, Archive, Contents, Member, Object, Section, Symbol, THIN};
 
 /// An input that is an archive: its name, the archive, and what stands behind its members.

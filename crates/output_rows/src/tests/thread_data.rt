@@ -1,10 +1,10 @@
 //! The global offset table and thread-local data (RISC-V ELF psABI, thread local storage): entries by first use, the words that they
 //! hold, offsets from the start of the thread-local block, and its program header.
 
-use crate::examples::images::{FIRST, READ_OF_FOUR, STACK};
-use crate::examples::objects::{Input, RETURN, START, TO_SECOND, WEAKLY, WHOLE};
-use crate::examples::{FIRST_LINK, Files, Link, Store, push_object};
 use elf_bytes::{Image, Object, Reloc, Section, Symbol};
+use link_examples::images::{FIRST, READ_OF_FOUR, STACK};
+use link_examples::objects::{Input, RETURN, START, TO_SECOND, WEAKLY, WHOLE};
+use link_examples::{FIRST_LINK, Files, Link, Store, objects_of};
 use std::alloc::{AllocError, Global};
 
 /// The headers of an executable of five program headers.
@@ -445,11 +445,7 @@ const INPUTS: &[Input] = &[
 
 /// The files that are at hand.
 pub fn files(alloc: Global) -> Result<Files, AllocError> {
-    let mut files = Vec::new(alloc);
-    for input in INPUTS {
-        push_object(&mut files, alloc, input)?;
-    }
-    Ok(files)
+    objects_of(alloc, INPUTS)
 }
 
 /// Thread-local data at 0x12000, and the entry after it.
@@ -481,7 +477,7 @@ const DYNAMIC_IMAGE: Image = Image {
 };
 
 /// Ten words of nine uses of eight entries.
-pub const ENTRIES_IMAGE: Image = Image {
+const ENTRIES_IMAGE: Image = Image {
     segments: &[
         READ_OF_FIVE,
         [1, 5, 0x1000, 0x11000, 72, 72, 4096],
@@ -701,3 +697,26 @@ pub const OFFSETS_OF_THREADS: &[Link] = &[
         ..FIRST_LINK
     },
 ];
+
+/// The map has the global offset table.
+pub const MAPPED: &[Link] = &[Link {
+    words: &["rvld", "-s", "--Map", "m", "entries.o"],
+    store: Store::Threads,
+    image: ENTRIES_IMAGE,
+    lines: &[
+        "rvld map 1",
+        "entry 0000000000011000",
+        "section 0000000000011000 0000000000000048 .text",
+        "input 0000000000011000 0000000000000048 entries.o 1 .text",
+        "section 0000000000012000 0000000000000008 .tdata",
+        "input 0000000000012000 0000000000000008 entries.o 2 .tdata",
+        "section 0000000000012008 0000000000000050 .got",
+        "got 0000000000012008 0000000000000050",
+        "section 0000000000012058 0000000000000010 .data",
+        "input 0000000000012058 0000000000000010 entries.o 3 .data",
+        "symbol 0000000000011000 _start",
+        "symbol 0000000000012058 d",
+        "symbol 0000000000000004 v",
+    ],
+    ..FIRST_LINK
+}];

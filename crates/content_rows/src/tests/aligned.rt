@@ -1,12 +1,11 @@
 //! Bytes that keep an alignment (RISC-V ELF psABI, R_RISCV_ALIGN): how many stay, what moves with them, and where they do not suffice;
 //! and a call that goes nowhere, which keeps its eight bytes.
 
-use super::merged::WORD;
-use crate::examples::images::{FIRST, NAMES, READ, READ_OF_FOUR, STACK, WEAK_CALL};
-use crate::examples::libraries::{Library, OFFER_OF_WEAK};
-use crate::examples::objects::{Input, RETURN, START, TO_SECOND, WEAKLY, WHOLE};
-use crate::examples::{FIRST_LINK, Files, Link, Refusal, Store, push_object};
 use elf_bytes::{Image, Object, Reloc, Section, Symbol};
+use link_examples::images::{FIRST, NAMES, READ, READ_OF_FOUR, STACK, WEAK_CALL};
+use link_examples::libraries::{Library, OFFER_OF_WEAK};
+use link_examples::objects::{Input, RETURN, START, TO_SECOND, WEAKLY, WHOLE, WORD};
+use link_examples::{FIRST_LINK, Files, Link, Refusal, Store, objects_of, push_objects};
 use std::alloc::{AllocError, Global};
 
 /// Six bytes at the beginning, for a multiple of 8.
@@ -333,20 +332,10 @@ const WRONG_INPUTS: &[Input] = &[
     },
 ];
 
-fn push_wrong_inputs(files: &mut Files, alloc: Global) -> Result<(), AllocError> {
-    for input in WRONG_INPUTS {
-        push_object(files, alloc, input)?;
-    }
-    Ok(())
-}
-
 /// The files that are at hand.
 pub fn files(alloc: Global) -> Result<Files, AllocError> {
-    let mut files = Vec::new(alloc);
-    for input in INPUTS {
-        push_object(&mut files, alloc, input)?;
-    }
-    push_wrong_inputs(&mut files, alloc)?;
+    let mut files = objects_of(alloc, INPUTS)?;
+    push_objects(&mut files, alloc, WRONG_INPUTS)?;
     Ok(files)
 }
 

@@ -1,13 +1,15 @@
 //! The symbol table of an executable (System V gABI, "Symbol Table"): which symbols have an entry, in which order, and what each says.
 
-use crate::examples::images::{FIRST, READ, READ_OF_FOUR, STACK};
-use crate::examples::libraries::Library;
-use crate::examples::lines::{FIRST_LISTED, NAMES_LISTED};
-use crate::examples::objects::{A, BREAK, Input, RETURN, START, TO_SECOND, WEAKLY, WHOLE};
-use crate::examples::{FIRST_LINK, Files, Link, Store, push_object};
 use elf_bytes::{
     ARCHIVE, Archive, Contents, Image, Listed, Member, Object, Reloc, Section, Symbol,
 };
+use link_examples::images::{FIRST, READ, READ_OF_FOUR, STACK};
+use link_examples::libraries::Library;
+use link_examples::lines::{FIRST_LISTED, NAMES_LISTED};
+use link_examples::objects::{
+    A, BREAK, Input, OWN_END, RETURN, START, TO_SECOND, WEAKLY, WHOLE, WORD_OF_END,
+};
+use link_examples::{FIRST_LINK, Files, Link, Store, objects_of};
 use std::alloc::{AllocError, Global};
 
 const DATA: Section = Section {
@@ -381,15 +383,21 @@ const INPUTS: &[Input] = &[
         object: ASKER,
         most: WHOLE,
     },
+    Input {
+        name: "word.o",
+        object: WORD_OF_END,
+        most: WHOLE,
+    },
+    Input {
+        name: "end.o",
+        object: OWN_END,
+        most: WHOLE,
+    },
 ];
 
 /// The files that are at hand.
 pub fn files(alloc: Global) -> Result<Files, AllocError> {
-    let mut files = Vec::new(alloc);
-    for input in INPUTS {
-        push_object(&mut files, alloc, input)?;
-    }
-    Ok(files)
+    objects_of(alloc, INPUTS)
 }
 
 /// Thread-local data begin at 0x12000, and the data after them end at 0x12010; what is empty would begin at 0x12020.
@@ -632,7 +640,7 @@ const WITH_EDATA: Image = Image {
 };
 
 /// A word of the linker's `_end`.
-const WORD_OF_END: Image = Image {
+const END_LISTED: Image = Image {
     segments: &[
         READ_OF_FOUR,
         [1, 5, 0x1000, 0x11000, 4, 4, 4096],
@@ -661,7 +669,7 @@ const WORD_OF_END: Image = Image {
 };
 
 /// A word of a file's own `_end`.
-const WORD_OF_OWN_END: Image = Image {
+const OWN_END_LISTED: Image = Image {
     segments: &[
         READ_OF_FOUR,
         [1, 5, 0x1000, 0x11000, 8, 8, 4096],
@@ -685,7 +693,7 @@ const WORD_OF_OWN_END: Image = Image {
         [21, 3, 0, 0, 0x2050, 13, 1],
         [29, 3, 0, 0, 0x205d, 39, 1],
     ],
-    ..WORD_OF_END
+    ..END_LISTED
 };
 
 /// What is discarded has no symbol, and of the linker's symbols those alone that a file of the link asks for.
@@ -718,14 +726,14 @@ pub const CHOSEN: &[Link] = &[
     },
     Link {
         words: &["rvld", "word.o"],
-        store: Store::LinkerSymbols,
-        image: WORD_OF_END,
+        store: Store::Symbols,
+        image: END_LISTED,
         ..FIRST_LINK
     },
     Link {
         words: &["rvld", "word.o", "end.o"],
-        store: Store::LinkerSymbols,
-        image: WORD_OF_OWN_END,
+        store: Store::Symbols,
+        image: OWN_END_LISTED,
         ..FIRST_LINK
     },
 ];

@@ -1,6 +1,6 @@
 //! What links leave that write a symbol table and a map.
 
-use crate::examples::images::{FIRST, READ, STACK};
+use crate::images::{FIRST, READ, STACK};
 use elf_bytes::{Image, Listed};
 
 /// The names of the sections of one with a symbol table.

@@ -1,36 +1,19 @@
 //! Strings and constants that are merged (System V gABI, SHF_MERGE and SHF_STRINGS): each piece stands once in a pool, and what
 //! names a place of a merged section names that place of its piece.
 
-use crate::examples::images::{FIRST, STACK};
-use crate::examples::objects::{Input, RETURN, START, WHOLE};
-use crate::examples::{FIRST_LINK, Files, Link, Store, push_object};
 use elf_bytes::{Image, Object, Reloc, Section, Symbol};
-use std::alloc::{AllocError, Global};
-
-/// `abc`, four empty strings and `xyz`.
-const STRINGS: Section = Section {
-    name: b".rodata.str1.8",
-    flags: 0x32,
-    align: 8,
-    bytes: b"abc\0\0\0\0\0xyz\0",
-    entsize: 1,
-    ..RETURN
+use link_examples::images::{FIRST, FOUR_ALONE, STACK};
+use link_examples::objects::{
+    CONSTANTS, FOUR_CONSTANTS, Input, RETURN, SAID_AGAIN, START, STRINGS, WHOLE, WORD,
 };
+use link_examples::{FIRST_LINK, Files, Link, Store, objects_of};
+use std::alloc::{AllocError, Global};
 
 /// One string without an alignment.
 const STRING: Section = Section {
     align: 1,
     bytes: b"x\0",
     ..STRINGS
-};
-
-/// Constants of 4 bytes: 1, 2 and 1.
-const CONSTANTS: Section = Section {
-    name: b".rodata.cst4",
-    flags: 0x12,
-    bytes: b"\x01\0\0\0\x02\0\0\0\x01\0\0\0",
-    entsize: 4,
-    ..RETURN
 };
 
 const DATA: Section = Section {
@@ -40,16 +23,8 @@ const DATA: Section = Section {
     ..RETURN
 };
 
-/// A word of 8 bytes at the beginning, of symbol 1.
-pub const WORD: Reloc = Reloc {
-    offset: 0,
-    kind: 2,
-    symbol: 1,
-    addend: 0,
-};
-
 /// The symbol of section 2 itself.
-pub const OF_SECOND: Symbol = Symbol {
+const OF_SECOND: Symbol = Symbol {
     name: b"",
     binding: 0,
     sort: 3,
@@ -66,7 +41,7 @@ const AT_4: Symbol = Symbol {
     ..OF_SECOND
 };
 
-/// Strings, and a word of the last of them. The code names the words, and they name the strings.
+/// These strings, and a word of the last of them. The code names the words, and they name the strings.
 const SAID: Object = Object {
     flags: 0,
     sections: &[
@@ -93,13 +68,6 @@ const SAID: Object = Object {
         },
         START,
     ],
-};
-
-/// The same strings alone.
-const SAID_AGAIN: Object = Object {
-    flags: 0,
-    sections: &[STRINGS],
-    symbols: &[],
 };
 
 /// A string of its own, which nothing names.
@@ -298,19 +266,6 @@ const APART: Object = Object {
     symbols: &[START],
 };
 
-/// Four constants, of which three differ.
-const FOUR_CONSTANTS: Object = Object {
-    flags: 0,
-    sections: &[
-        RETURN,
-        Section {
-            bytes: b"\x01\0\0\0\x02\0\0\0\x01\0\0\0\x03\0\0\0",
-            ..CONSTANTS
-        },
-    ],
-    symbols: &[START],
-};
-
 const INPUTS: &[Input] = &[
     Input {
         name: "said.o",
@@ -356,11 +311,7 @@ const INPUTS: &[Input] = &[
 
 /// The files that are at hand.
 pub fn files(alloc: Global) -> Result<Files, AllocError> {
-    let mut files = Vec::new(alloc);
-    for input in INPUTS {
-        push_object(&mut files, alloc, input)?;
-    }
-    Ok(files)
+    objects_of(alloc, INPUTS)
 }
 
 /// A `ret`, a pool of three strings, and the address of the last.
@@ -542,27 +493,6 @@ pub const MANY_POOLS: Image = Image {
         [18, 1, 6, 0x11000, 0x1000, 4, 4],
         [24, 1, 3, 0x12000, 0x2000, 2, 1],
         [32, 3, 0, 0, 0x2002, 42, 1],
-    ],
-    ..FIRST
-};
-
-/// A pool of three constants.
-pub const FOUR_ALONE: Image = Image {
-    segments: &[
-        [1, 4, 0, 0x10000, 0xf4, 0xf4, 4096],
-        [1, 5, 0x1000, 0x11000, 4, 4, 4096],
-        STACK,
-    ],
-    contents: &[
-        (0xe8, b"\x01\0\0\0\x02\0\0\0\x03"),
-        (0x1000, b"\x67\x80\0\0"),
-        (0x1004, b"\0.rodata\0.text\0.shstrtab\0"),
-    ],
-    table: 0x1020,
-    sections: &[
-        [1, 1, 2, 0x100e8, 0xe8, 12, 4],
-        [9, 1, 6, 0x11000, 0x1000, 4, 4],
-        [15, 3, 0, 0, 0x1004, 25, 1],
     ],
     ..FIRST
 };

@@ -1,8 +1,8 @@
 //! What `--gc-sections` keeps and drops.
 
-use crate::examples::groups::GROUP;
-use crate::examples::objects::{A, Input, RETURN, START, TO_SECOND, WHOLE};
-use crate::examples::{Files, push_object};
+use crate::groups::GROUP;
+use crate::objects::{A, Input, RETURN, START, TO_SECOND, WHOLE};
+use crate::stores::{Files, objects_of, push_objects};
 use elf_bytes::{Object, Reloc, Section, SectionLink, Symbol};
 use std::alloc::{AllocError, Global};
 
@@ -528,24 +528,9 @@ const OTHER_INPUTS: &[Input] = &[
     },
 ];
 
-fn push_first_inputs(files: &mut Files, alloc: Global) -> Result<(), AllocError> {
-    for input in FIRST_INPUTS {
-        push_object(files, alloc, input)?;
-    }
-    Ok(())
-}
-
-fn push_other_inputs(files: &mut Files, alloc: Global) -> Result<(), AllocError> {
-    for input in OTHER_INPUTS {
-        push_object(files, alloc, input)?;
-    }
-    Ok(())
-}
-
 /// The files that are at hand.
 pub fn files(alloc: Global) -> Result<Files, AllocError> {
-    let mut files = Vec::new(alloc);
-    push_first_inputs(&mut files, alloc)?;
-    push_other_inputs(&mut files, alloc)?;
+    let mut files = objects_of(alloc, FIRST_INPUTS)?;
+    push_objects(&mut files, alloc, OTHER_INPUTS)?;
     Ok(files)
 }

@@ -1,8 +1,8 @@
 //! Groups of sections (System V gABI, section groups): which copy of a COMDAT group stays, and what a link lacks without the others.
 
-use crate::examples::libraries::Library;
-use crate::examples::objects::{ASKER, ASKER_OF_BOTH, Input, RETURN, START, TO_SECOND, WHOLE};
-use crate::examples::{Files, push_library, push_object};
+use crate::libraries::Library;
+use crate::objects::{ASKER, ASKER_OF_BOTH, Input, RETURN, START, TO_SECOND, WHOLE};
+use crate::stores::{Files, objects_of, push_library, push_objects};
 use elf_bytes::{ARCHIVE, Archive, Contents, Member, Object, Reloc, Section, SectionLink, Symbol};
 use std::alloc::{AllocError, Global};
 
@@ -560,32 +560,12 @@ const OTHER_INPUTS: &[Input] = &[
     },
 ];
 
-fn push_first_inputs(files: &mut Files, alloc: Global) -> Result<(), AllocError> {
-    for input in FIRST_INPUTS {
-        push_object(files, alloc, input)?;
-    }
-    Ok(())
-}
-
-fn push_other_inputs(files: &mut Files, alloc: Global) -> Result<(), AllocError> {
-    for input in OTHER_INPUTS {
-        push_object(files, alloc, input)?;
-    }
-    Ok(())
-}
-
-fn push_libraries(files: &mut Files, alloc: Global) -> Result<(), AllocError> {
-    for library in LIBRARIES {
-        push_library(files, alloc, library)?;
-    }
-    Ok(())
-}
-
 /// The files that are at hand.
 pub fn files(alloc: Global) -> Result<Files, AllocError> {
-    let mut files = Vec::new(alloc);
-    push_first_inputs(&mut files, alloc)?;
-    push_other_inputs(&mut files, alloc)?;
-    push_libraries(&mut files, alloc)?;
+    let mut files = objects_of(alloc, FIRST_INPUTS)?;
+    push_objects(&mut files, alloc, OTHER_INPUTS)?;
+    for library in LIBRARIES {
+        push_library(&mut files, alloc, library)?;
+    }
     Ok(files)
 }

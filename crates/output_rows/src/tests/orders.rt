@@ -1,11 +1,11 @@
 //! The order of what is laid out: notes first, and arrays of functions by the numbers in their names.
 
-use crate::examples::images::{
+use elf_bytes::{Object, Section};
+use link_examples::images::{
     NOTES_AND_DATA, NUMBERED, NUMBERED_OF_TWO, ONE_NOTE, READ_ONLY_ARRAY, TWO_NOTES,
 };
-use crate::examples::objects::{Input, RETURN, START, WHOLE};
-use crate::examples::{FIRST_LINK, Files, Link, Store, push_object};
-use elf_bytes::{Object, Section};
+use link_examples::objects::{Input, RETURN, START, WHOLE};
+use link_examples::{FIRST_LINK, Files, Link, Store, objects_of};
 use std::alloc::{AllocError, Global};
 
 /// Read-only data, and two notes after it, of which one has an own name.
@@ -215,18 +215,9 @@ const INPUTS: &[Input] = &[
     },
 ];
 
-fn push_inputs(files: &mut Files, alloc: Global) -> Result<(), AllocError> {
-    for input in INPUTS {
-        push_object(files, alloc, input)?;
-    }
-    Ok(())
-}
-
 /// The files that are at hand.
 pub fn files(alloc: Global) -> Result<Files, AllocError> {
-    let mut files = Vec::new(alloc);
-    push_inputs(&mut files, alloc)?;
-    Ok(files)
+    objects_of(alloc, INPUTS)
 }
 
 /// An output section that begins with a note stands before all other read-only ones.

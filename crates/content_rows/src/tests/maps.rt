@@ -3,13 +3,12 @@
 use super::folded::ONE_PAIR;
 use super::merged::{MANY_POOLS, POOL};
 use super::symbols::SHORT_CALLS;
-use super::thread_data::ENTRIES_IMAGE;
-use crate::examples::images::{ASKED, COMMON_OF_8, FIRST, RETURN_ALONE, RETURN_AND_BREAK, STACK};
-use crate::examples::libraries::{Library, ONE_MEMBER};
-use crate::examples::lines::{FIRST_LINES, FIRST_LISTED};
-use crate::examples::objects::{ASKER, Input, RETURN, START, WHOLE};
-use crate::examples::{FIRST_LINK, Files, Link, Store, push_object};
 use elf_bytes::{ARCHIVE, Archive, Contents, Image, Member, Object, Section, Symbol};
+use link_examples::images::{ASKED, COMMON_OF_8, FIRST, RETURN_ALONE, RETURN_AND_BREAK, STACK};
+use link_examples::libraries::{Library, ONE_MEMBER};
+use link_examples::lines::{FIRST_LINES, FIRST_LISTED};
+use link_examples::objects::{ASKER, Input, RETURN, START, WHOLE};
+use link_examples::{FIRST_LINK, Files, Link, Store, objects_of};
 use std::alloc::{AllocError, Global};
 
 /// One section of each class, not in order; empty ones; and one that has no bytes in its file but stands among those that have.
@@ -172,11 +171,7 @@ const INPUTS: &[Input] = &[
 
 /// The files that are at hand.
 pub fn files(alloc: Global) -> Result<Files, AllocError> {
-    let mut files = Vec::new(alloc);
-    for input in INPUTS {
-        push_object(&mut files, alloc, input)?;
-    }
-    Ok(files)
+    objects_of(alloc, INPUTS)
 }
 
 /// Zeros of each thread stand where the data after them do.
@@ -391,8 +386,8 @@ pub const LEFT_OUT: &[Link] = &[
     },
 ];
 
-/// Pools, and the global offset table.
-pub const GENERAL: &[Link] = &[
+/// Pools.
+pub const POOLS: &[Link] = &[
     Link {
         words: &["rvld", "-s", "--Map", "m", "said.o", "again.o"],
         store: Store::Merged,
@@ -434,27 +429,6 @@ pub const GENERAL: &[Link] = &[
             "section 0000000000012000 0000000000000002 .rodata",
             "input 0000000000012000 0000000000000002 apart.o 8 .rodata.g",
             "symbol 0000000000011000 _start",
-        ],
-        ..FIRST_LINK
-    },
-    Link {
-        words: &["rvld", "-s", "--Map", "m", "entries.o"],
-        store: Store::Threads,
-        image: ENTRIES_IMAGE,
-        lines: &[
-            "rvld map 1",
-            "entry 0000000000011000",
-            "section 0000000000011000 0000000000000048 .text",
-            "input 0000000000011000 0000000000000048 entries.o 1 .text",
-            "section 0000000000012000 0000000000000008 .tdata",
-            "input 0000000000012000 0000000000000008 entries.o 2 .tdata",
-            "section 0000000000012008 0000000000000050 .got",
-            "got 0000000000012008 0000000000000050",
-            "section 0000000000012058 0000000000000010 .data",
-            "input 0000000000012058 0000000000000010 entries.o 3 .data",
-            "symbol 0000000000011000 _start",
-            "symbol 0000000000012058 d",
-            "symbol 0000000000000004 v",
         ],
         ..FIRST_LINK
     },

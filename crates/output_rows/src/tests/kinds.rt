@@ -1,11 +1,10 @@
 //! Relocations of every kind but those of the GOT and of thread-local data (RISC-V ELF psABI, relocations): code, numbers of every
 //! width, the ends of what a kind can hold, and what is refused. The bytes of instructions are those that GNU as gives.
 
-use super::merged::WORD;
-use crate::examples::images::{FIRST, NAMES_WITH_DATA, READ_OF_FOUR, STACK};
-use crate::examples::objects::{Input, RETURN, START, TO_SECOND, WEAKLY, WHOLE};
-use crate::examples::{FIRST_LINK, Files, Link, Refusal, Store, push_object};
 use elf_bytes::{Image, Object, Reloc, Section, Symbol};
+use link_examples::images::{FIRST, NAMES_WITH_DATA, READ_OF_FOUR, STACK};
+use link_examples::objects::{Input, RETURN, START, TO_SECOND, WEAKLY, WHOLE, WORD};
+use link_examples::{FIRST_LINK, Files, Link, Refusal, Store, objects_of, push_objects};
 use std::alloc::{AllocError, Global};
 
 const DATA: Section = Section {
@@ -933,28 +932,11 @@ const WRONG_INPUTS: &[Input] = &[
     },
 ];
 
-fn push_beyond(files: &mut Files, alloc: Global) -> Result<(), AllocError> {
-    for input in BEYOND_INPUTS {
-        push_object(files, alloc, input)?;
-    }
-    Ok(())
-}
-
-fn push_wrong(files: &mut Files, alloc: Global) -> Result<(), AllocError> {
-    for input in WRONG_INPUTS {
-        push_object(files, alloc, input)?;
-    }
-    Ok(())
-}
-
 /// The files that are at hand.
 pub fn files(alloc: Global) -> Result<Files, AllocError> {
-    let mut files = Vec::new(alloc);
-    for input in INPUTS {
-        push_object(&mut files, alloc, input)?;
-    }
-    push_beyond(&mut files, alloc)?;
-    push_wrong(&mut files, alloc)?;
+    let mut files = objects_of(alloc, INPUTS)?;
+    push_objects(&mut files, alloc, BEYOND_INPUTS)?;
+    push_objects(&mut files, alloc, WRONG_INPUTS)?;
     Ok(files)
 }
 

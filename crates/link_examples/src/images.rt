@@ -656,3 +656,24 @@ pub const TWO_BLOCKS: Image = Image {
     ],
     ..FIRST
 };
+
+/// A pool of three constants.
+pub const FOUR_ALONE: Image = Image {
+    segments: &[
+        [1, 4, 0, 0x10000, 0xf4, 0xf4, 4096],
+        [1, 5, 0x1000, 0x11000, 4, 4, 4096],
+        STACK,
+    ],
+    contents: &[
+        (0xe8, b"\x01\0\0\0\x02\0\0\0\x03"),
+        (0x1000, b"\x67\x80\0\0"),
+        (0x1004, b"\0.rodata\0.text\0.shstrtab\0"),
+    ],
+    table: 0x1020,
+    sections: &[
+        [1, 1, 2, 0x100e8, 0xe8, 12, 4],
+        [9, 1, 6, 0x11000, 0x1000, 4, 4],
+        [15, 3, 0, 0, 0x1004, 25, 1],
+    ],
+    ..FIRST
+};

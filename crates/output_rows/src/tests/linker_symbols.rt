@@ -1,12 +1,11 @@
 //! The symbols of the linker: the ends of what is laid out, the arrays of functions, and the first and the last place of sections whose
 //! names are identifiers of C.
 
-use super::merged::WORD;
-use crate::examples::images::{FIRST, NAMES_WITH_DATA, READ_OF_FOUR, STACK};
-use crate::examples::libraries::Library;
-use crate::examples::objects::{A, Input, RETURN, START, WHOLE};
-use crate::examples::{FIRST_LINK, Files, Link, Refusal, Store, push_object};
 use elf_bytes::{ARCHIVE, Archive, Contents, Image, Member, Object, Reloc, Section, Symbol};
+use link_examples::images::{FIRST, NAMES_WITH_DATA, READ_OF_FOUR, STACK};
+use link_examples::libraries::Library;
+use link_examples::objects::{A, Input, OWN_END, RETURN, START, WHOLE, WORD, WORD_OF_END};
+use link_examples::{FIRST_LINK, Files, Link, Refusal, Store, objects_of, push_objects};
 use std::alloc::{AllocError, Global};
 
 const DATA: Section = Section {
@@ -276,20 +275,7 @@ const WITH_THREADS: Object = Object {
     ..PLAIN
 };
 
-/// A word of `_end`.
-const WORD_OF_END: Object = Object {
-    flags: 0,
-    sections: &[
-        RETURN,
-        Section {
-            relocs: &[WORD],
-            ..DATA
-        },
-    ],
-    symbols: &[ASKED, START],
-};
-
-/// The same, weak.
+/// A weak word of `_end`.
 const WEAK_WORD_OF_END: Object = Object {
     symbols: &[
         Symbol {
@@ -299,16 +285,6 @@ const WEAK_WORD_OF_END: Object = Object {
         START,
     ],
     ..WORD_OF_END
-};
-
-/// `_end` of one `ret`.
-const OWN_END: Object = Object {
-    flags: 0,
-    sections: &[RETURN],
-    symbols: &[Symbol {
-        name: b"_end",
-        ..START
-    }],
 };
 
 const WEAK_OWN_END: Object = Object {
@@ -687,20 +663,10 @@ const NAMED_INPUTS: &[Input] = &[
     },
 ];
 
-fn push_named_inputs(files: &mut Files, alloc: Global) -> Result<(), AllocError> {
-    for input in NAMED_INPUTS {
-        push_object(files, alloc, input)?;
-    }
-    Ok(())
-}
-
 /// The files that are at hand.
 pub fn files(alloc: Global) -> Result<Files, AllocError> {
-    let mut files = Vec::new(alloc);
-    for input in FIXED_INPUTS {
-        push_object(&mut files, alloc, input)?;
-    }
-    push_named_inputs(&mut files, alloc)?;
+    let mut files = objects_of(alloc, FIXED_INPUTS)?;
+    push_objects(&mut files, alloc, NAMED_INPUTS)?;
     Ok(files)
 }
 

@@ -65,6 +65,14 @@ pub const TO_SECOND: Reloc = Reloc {
     addend: 0,
 };
 
+/// A word of 8 bytes at the beginning, of symbol 1.
+pub const WORD: Reloc = Reloc {
+    offset: 0,
+    kind: 2,
+    symbol: 1,
+    addend: 0,
+};
+
 /// A jump to the function behind it.
 pub const A: Object = Object {
     flags: 0,
@@ -414,6 +422,81 @@ const WEAK_N: Object = Object {
     }],
 };
 
+/// `abc`, four empty strings and `xyz`.
+pub const STRINGS: Section = Section {
+    name: b".rodata.str1.8",
+    flags: 0x32,
+    align: 8,
+    bytes: b"abc\0\0\0\0\0xyz\0",
+    entsize: 1,
+    ..RETURN
+};
+
+/// These strings alone.
+pub const SAID_AGAIN: Object = Object {
+    flags: 0,
+    sections: &[STRINGS],
+    symbols: &[],
+};
+
+/// Constants of 4 bytes: 1, 2 and 1.
+pub const CONSTANTS: Section = Section {
+    name: b".rodata.cst4",
+    flags: 0x12,
+    bytes: b"\x01\0\0\0\x02\0\0\0\x01\0\0\0",
+    entsize: 4,
+    ..RETURN
+};
+
+/// Four constants, of which three differ.
+pub const FOUR_CONSTANTS: Object = Object {
+    flags: 0,
+    sections: &[
+        RETURN,
+        Section {
+            bytes: b"\x01\0\0\0\x02\0\0\0\x01\0\0\0\x03\0\0\0",
+            ..CONSTANTS
+        },
+    ],
+    symbols: &[START],
+};
+
+/// A word of `_end`.
+pub const WORD_OF_END: Object = Object {
+    flags: 0,
+    sections: &[
+        RETURN,
+        Section {
+            name: b".data",
+            flags: 3,
+            align: 8,
+            bytes: b"\0\0\0\0\0\0\0\0",
+            relocs: &[WORD],
+            ..RETURN
+        },
+    ],
+    symbols: &[
+        Symbol {
+            name: b"_end",
+            sort: 0,
+            section: 0,
+            size: 0,
+            ..START
+        },
+        START,
+    ],
+};
+
+/// `_end` of one `ret`.
+pub const OWN_END: Object = Object {
+    flags: 0,
+    sections: &[RETURN],
+    symbols: &[Symbol {
+        name: b"_end",
+        ..START
+    }],
+};
+
 /// All inputs that are objects. Each link has them all at hand.
 pub const INPUTS: &[Input] = &[
     Input {
@@ -534,6 +617,16 @@ pub const INPUTS: &[Input] = &[
     Input {
         name: "n.o",
         object: WEAK_N,
+        most: WHOLE,
+    },
+    Input {
+        name: "again.o",
+        object: SAID_AGAIN,
+        most: WHOLE,
+    },
+    Input {
+        name: "four.o",
+        object: FOUR_CONSTANTS,
         most: WHOLE,
     },
 ];

@@ -1,10 +1,11 @@
 //! Functions that are folded (`--icf all`): those whose bytes are equal and whose targets are equal, or are folded in their turn.
 
-use crate::examples::images::{FIRST, NAMES, READ, STACK};
-use crate::examples::objects::{Input, RETURN, START, TO_SECOND, WHOLE};
-use crate::examples::{FIRST_LINK, Files, Link, SOUND, Store, push_object, push_words, run_over};
 use elf_bytes::{Image, Object, Reloc, Section, Symbol, image_of, object_of};
 use link_driver::OpenGate;
+use link_examples::images::{FIRST, NAMES, READ, STACK};
+use link_examples::objects::{Input, RETURN, START, TO_SECOND, WHOLE};
+use link_examples::{FIRST_LINK, Files, Link, SOUND, Store, objects_of, push_words};
+use link_runs::run_over;
 use std::alloc::{AllocError, Global};
 use std::test::Fail;
 use std::thread::Threads;
@@ -507,11 +508,7 @@ const INPUTS: &[Input] = &[
 
 /// The files that are at hand.
 pub fn files(alloc: Global) -> Result<Files, AllocError> {
-    let mut files = Vec::new(alloc);
-    for input in INPUTS {
-        push_object(&mut files, alloc, input)?;
-    }
-    Ok(files)
+    objects_of(alloc, INPUTS)
 }
 
 /// A jump, and one pair.

@@ -1,0 +1,11 @@
+//! Runs of the commands of worked examples over files and streams in memory, and whether they leave what their examples say. A crate of
+//! examples gives its `Stores`.
+#![tactic(auto)]
+
+mod links;
+mod refusals;
+mod runs;
+
+pub use links::{is_linked, is_linked_by_any};
+pub use refusals::{is_refused, is_refused_by_any};
+pub use runs::{Left, run_over, run_with};

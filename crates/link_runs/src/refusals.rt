@@ -1,0 +1,47 @@
+//! What a command leaves that links nothing.
+
+use crate::runs::run_with;
+use link_driver::OpenGate;
+use link_examples::{Call, Refusal, SOUND, Stores, WORKERS};
+use std::alloc::{AllocError, Global};
+use std::thread::Threads;
+
+/// Whether a command leaves no file, its line and its status.
+pub fn is_refused<R: Threads + Sync, S: Stores>(
+    rt: &R,
+    alloc: Global,
+    stores: &S,
+    refusal: &Refusal,
+    workers: &[&str],
+) -> Result<bool, AllocError> {
+    let call = Call {
+        words: refusal.words,
+        workers,
+        store: refusal.store,
+        libraries: refusal.libraries,
+        outside: &SOUND,
+    };
+    let left = run_with(rt, alloc, stores, &call, &OpenGate)?;
+    Ok(
+        left.status == refusal.status
+            && left.say.calls() == 0
+            && left.err.written() == refusal.line.as_bytes()
+            && left.depot.calls() == refusal.loads
+            && left.depot.begun() == 0,
+    )
+}
+
+/// Whether it does with each number of workers.
+pub fn is_refused_by_any<R: Threads + Sync, S: Stores>(
+    rt: &R,
+    alloc: Global,
+    stores: &S,
+    refusal: &Refusal,
+) -> Result<bool, AllocError> {
+    for workers in WORKERS {
+        if !is_refused(rt, alloc, stores, refusal, workers)? {
+            return Ok(false);
+        }
+    }
+    Ok(true)
+}
