@@ -86,6 +86,11 @@ abbrev pub AfterLink : Limits → Asked → (names : List (List ℕ)) → List S
 AfterLink limits asked names ss (Ok linked) = Links limits asked names ss linked
 AfterLink limits asked names ss (Err stop) = Stops limits asked ss stop
 
+-- of a link and its tables, the link
+abbrev pub linked_of : {T : Type 0} → Result (Linked × T) LinkStop → Result Linked LinkStop
+linked_of (Ok both) = Ok both.0
+linked_of (Err stop) = Err stop
+
 -- what a link without a defect gives is what Link is
 pub record IsLinked (asked : Asked) (given : List (List ℕ)) (linked : Linked) : Type 0 where
   pub status : (link (Some asked) given).status ≡ 0

@@ -17,11 +17,12 @@ ghost use Rattle.link_driver.specs.Endings.{status_of, told_line, TellsDefect, T
 use crate::diagnostics::{Lines, line_about, line_for, lines_for};
 use crate::finding::find_sources;
 use crate::inputs::{Inputs, generated_inputs, inputs_of};
-use crate::linking::{Linked, link};
+use crate::linking::{Linked, link_with_tables};
 use link_command::{Command, Wanted, command_of};
 use lk_base::{Defect, Limits, LinkStop};
 use lk_depot::{Depot, Failed, FileKind, LoadAllStop, Sink, put_all, say_all};
 use std::alloc::{AllocError, Global};
+use std::mem::forget;
 use std::thread::Threads;
 use work_split::Gate;
 
@@ -169,10 +170,12 @@ fn link_inputs<R: Threads + Sync, D: Depot, S: Sink, G: Gate>(
     ensures begun { (D.store depot.old).begun ≤ (D.store depot.new).begun }
     ensures say_faults { (S.output say.old).faults ≤ (S.output say.new).faults }
 {
-    let linked = match link(rt, alloc, command, inputs, &Limits::standard(), gate) {
-        Ok(linked) => linked,
+    let limits = Limits::standard();
+    let (linked, tables) = match link_with_tables(rt, alloc, command, inputs, &limits, gate) {
+        Ok(both) => both,
         Err(stop) => return report_stop(alloc, command, inputs, &stop),
     };
+    forget(tables);
     let Ok(lines) = lines_for(alloc, command) else {
         return Ending::Memory;
     };
@@ -205,7 +208,9 @@ fn link_files<R: Threads + Sync, D: Depot, S: Sink, G: Gate>(
     let Ok(inputs) = inputs_of(alloc, names, contents) else {
         return Ending::Memory;
     };
-    link_inputs(rt, alloc, command, &inputs, depot, say, gate)
+    let ending = link_inputs(rt, alloc, command, &inputs, depot, say, gate);
+    forget(inputs);
+    ending
 }
 
 /// Generates the objects of an accepted command and links them.
@@ -230,7 +235,9 @@ fn link_generated<R: Threads + Sync, D: Depot, S: Sink, G: Gate>(
     let Ok(inputs) = generated_inputs(alloc, objects) else {
         return Ending::Memory;
     };
-    link_inputs(rt, alloc, command, &inputs, depot, say, gate)
+    let ending = link_inputs(rt, alloc, command, &inputs, depot, say, gate);
+    forget(inputs);
+    ending
 }
 
 /// Links what an accepted command names.
@@ -330,7 +337,8 @@ fn tell<E: Sink>(err: &mut E, line: &[u8])
 /// `words` are the command's, the program's name first. Inputs are loaded from `depot`, as in the order of the command, before the
 /// executable, and the map where one is asked, are begun there; all of them are named as the command says. The report goes to
 /// `say`, the line of an end that is not 0 or 4 to `err`. All memory is taken from `alloc` before a
-/// file is begun, and given back at the end.
+/// file is begun. What the inputs and the tables of a link hold is not given back, since a process ends next that is done with it, and to free it
+/// takes a tenth of the time of many objects: a process that goes on calls [`link`](crate::link), which keeps nothing.
 ///
 /// The answer is the exit status: 0 linked; 1 the inputs have a defect, whose line is told; 2 the command is refused; 3 an input
 /// could not be read, or a file or the report could not be written; 4 out of memory. `rt` starts as many workers as the

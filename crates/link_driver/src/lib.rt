@@ -31,7 +31,8 @@ pub use finding::find_sources;
 pub use inputs::Inputs;
 pub use link_command::{Command, IcfMode, Wanted};
 pub use linking::{
-    Linked, Options, bind_names, find_kept, find_leaders, lay_out, link, read_files,
+    Linked, Options, bind_names, find_kept, find_leaders, lay_out, link, link_with_tables,
+    read_files,
 };
 pub use sources::Source;
 pub use work_split::{Gate, OpenGate};

@@ -25,7 +25,7 @@ ghost use Rattle.lk_tables.specs.Uppers.{AreListed, section_uppers};
 ghost use Rattle.link_driver.specs.Contents.{input_contents, input_names, names_of, sources_of};
 ghost use Rattle.link_driver.specs.Defects.{opening_defects, reading_defects};
 ghost use Rattle.link_driver.specs.Link.{bound_names, kept_of, laid_out, last_phases, leaders_in, piece_defects, placing_phases, report_by, table_of, wishes_of};
-ghost use Rattle.link_driver.specs.Phases.{AfterLink, HoldsPast, IsWritten, LinkStands, Makes, ShortenedCallsReach, StandsWhole};
+ghost use Rattle.link_driver.specs.Phases.{AfterLink, HoldsPast, IsWritten, LinkStands, Makes, ShortenedCallsReach, StandsWhole, linked_of};
 ghost use Rattle.link_driver.specs.Placing.{laid_by};
 ghost use Rattle.link_driver.specs.Sources.{files_in, heads_in, live_in, shown_files, sources};
 ghost use Rattle.link_driver.specs.Tables.{IsCollected, MayStay, wished};
@@ -58,7 +58,7 @@ use relax::sizes;
 use sec_gc::{keep, roots};
 use sec_graph::{edges, items};
 use std::alloc::{AllocError, Global};
-use std::thread::Threads;
+use std::thread::{Threads, join_mut};
 use str_merge::{piece_bound, piece_count};
 use sym_resolve::bind;
 use symbol_addresses::find_addresses;
@@ -250,7 +250,8 @@ pub fn find_leaders<R: Threads + Sync, G: Gate>(
 /// Stops at the first alignment that needs more bytes than it has, by section and offset; else where there are more output sections than a link
 /// may have; else where the image is not below its limit. Or it is out of memory.
 #[tactic(auto, unfolding(crate::specs::Link::laid_out, crate::specs::Link::cuts_in))]
-pub fn lay_out<'a>(
+pub fn lay_out<'a, R: Threads + Sync, G: Gate>(
+    rt: &R,
     alloc: Global,
     limits: &Limits,
     tables: &Tables<'a>,
@@ -260,8 +261,12 @@ pub fn lay_out<'a>(
     leaders: &[Option<SecNo>],
     got: &Got,
     options: Options,
+    workers: u32,
+    gate: &G,
 ) -> Result<Layout<'a>, LinkStop>
     requires limits { IsWithinStandard limits.now }
+    requires some { 1 ≤ workers }
+    requires most { workers ≤ 64 }
     requires bound { IsBindingOf (files_of tables.now) (binding_view binding.now) }
     requires stay { MayStay (files_of tables.now) (binding_view binding.now) kept.now }
     requires lead { AreLeaders (files_of tables.now) (binding_view binding.now) leaders.now }
@@ -276,7 +281,9 @@ pub fn lay_out<'a>(
     ensures reach { IfOk result (λ layout. CallsReach (files_of tables.now) (binding_view binding.now) leaders.now (with_contents (layout_view layout) (pools_view (files_of tables.now) pools.now) (entries_of got.now))) }
 {
     let on = options.relax;
-    let sizes = sizes(alloc, tables, binding, pools, leaders, on)?;
+    let sizes = sizes(
+        rt, alloc, tables, binding, pools, leaders, on, workers, gate,
+    )?;
     match place(alloc, tables, binding, pools, got, leaders, &sizes, limits) {
         Ok(layout) => {
             calls_reach(
@@ -456,33 +463,69 @@ fn check_pieces(tables: &Tables, limits: &Limits) -> Result<(), LinkStop>
     }
 }
 
-/// Links the files of a command, which are found in these inputs: pass after pass, and the defects of each are those of its phase.
-pub fn link_sources<R: Threads + Sync, G: Gate>(
+/// Whether there are no more pieces than a link may have, and all names bound. With two workers or more another thread looks at the pieces
+/// meanwhile, since neither needs the other.
+fn bind_beside<R: Threads + Sync, G: Gate>(
+    rt: &R,
+    alloc: Global,
+    limits: &Limits,
+    tables: &Tables,
+    entry: &str,
+    workers: u32,
+    gate: &G,
+) -> (Result<(), LinkStop>, Result<Binding, LinkStop>)
+    requires some { 1 ≤ workers }
+    requires most { workers ≤ 64 }
+    ensures few { Goes result.0 (piece_defects limits.now (files_of tables.now)) }
+    ensures goes { Goes result.1 (binding_defects (files_of tables.now) (discarded (files_of tables.now)) entry.now) }
+    ensures names { IfOk result.1 (λ binding. binding_view binding ≡ bound_names (files_of tables.now) entry.now) }
+    ensures least { IfOk result.1 (λ _. IsLawful (files_of tables.now) (discarded (files_of tables.now)) entry.now (bound_names (files_of tables.now) entry.now)) }
+{
+    if workers == 1 {
+        let few = check_pieces(tables, limits);
+        return (few, bind_names(rt, alloc, tables, entry, workers, gate));
+    }
+    join_mut(
+        rt,
+        &mut || -> Result<(), LinkStop>
+            ensures { Goes result (piece_defects limits.entry.now (files_of tables.entry.now)) }
+        { check_pieces(tables, limits) },
+        &mut || -> Result<Binding, LinkStop>
+            requires { (1 ≤ workers) × (workers ≤ 64) }
+            ensures { Goes result (binding_defects (files_of tables.entry.now) (discarded (files_of tables.entry.now)) entry.entry.now) × IfOk result (λ binding. binding_view binding ≡ bound_names (files_of tables.entry.now) entry.entry.now) × IfOk result (λ _. IsLawful (files_of tables.entry.now) (discarded (files_of tables.entry.now)) entry.entry.now (bound_names (files_of tables.entry.now) entry.entry.now)) }
+        { bind_names(rt, alloc, tables, entry, workers, gate) },
+    )
+}
+
+/// Links the files of a command, which are found in these inputs: pass after pass, and the defects of each are those of its phase. Gives the
+/// tables too.
+pub fn link_sources<'a, R: Threads + Sync, G: Gate>(
     rt: &R,
     alloc: Global,
     command: &Command,
     inputs: &Inputs,
-    sources: &[Source],
+    sources: &[Source<'a>],
     limits: &Limits,
     gate: &G,
-) -> Result<Linked, LinkStop>
+) -> Result<(Linked, Tables<'a>), LinkStop>
     requires limits { IsWithinStandard limits.now }
     requires some { 1 ≤ command.now.threads }
     requires most { command.now.threads ≤ 64 }
-    ensures { AfterLink limits.now (asks command.now) (shown_files (input_names inputs.now) (input_contents inputs.now) (sources_of sources.now)) (sources_of sources.now) result }
+    ensures { AfterLink limits.now (asks command.now) (shown_files (input_names inputs.now) (input_contents inputs.now) (sources_of sources.now)) (sources_of sources.now) (linked_of result) }
 {
     let workers = command.threads;
     let tables = match read_files(rt, alloc, limits, sources, workers, gate) {
         Ok(tables) => tables,
         Err(stop) => return Err(stop),
     };
-    match check_pieces(&tables, limits) {
+    // All names are bound from here on.
+    let entry = command.entry.as_str();
+    let (few, bound) = bind_beside(rt, alloc, limits, &tables, entry, workers, gate);
+    match few {
         Ok(()) => {}
         Err(stop) => return Err(stop),
     }
-    // All names are bound from here on.
-    let entry = command.entry.as_str();
-    let binding = match bind_names(rt, alloc, &tables, entry, workers, gate) {
+    let binding = match bound {
         Ok(binding) => binding,
         Err(stop) => return Err(stop),
     };
@@ -505,7 +548,7 @@ pub fn link_sources<R: Threads + Sync, G: Gate>(
         Ok(linked) => linked,
         Err(stop) => return Err(stop),
     };
-    Ok(linked)
+    Ok((linked, tables))
 }
 
 /// Links the inputs of a command: those that it names, in order, with their bytes, or the objects that are generated for it.
@@ -526,6 +569,27 @@ pub fn link<R: Threads + Sync, G: Gate>(
     requires some { 1 ≤ command.now.threads }
     requires most { command.now.threads ≤ 64 }
     ensures { AfterLink limits.now (asks command.now) (shown_files (input_names inputs.now) (input_contents inputs.now) (sources limits.now (input_contents inputs.now))) (sources limits.now (input_contents inputs.now)) result }
+{
+    match link_with_tables(rt, alloc, command, inputs, limits, gate) {
+        Ok((linked, _)) => Ok(linked),
+        Err(stop) => Err(stop),
+    }
+}
+
+/// Does what [`link`] does, and gives the tables that were read of the inputs as well. To free their many lists takes a tenth of the time of
+/// a link of many objects: who is about to end the process can [`forget`](std::mem::forget) them.
+pub fn link_with_tables<'a, R: Threads + Sync, G: Gate>(
+    rt: &R,
+    alloc: Global,
+    command: &Command,
+    inputs: &'a Inputs,
+    limits: &Limits,
+    gate: &G,
+) -> Result<(Linked, Tables<'a>), LinkStop>
+    requires limits { IsWithinStandard limits.now }
+    requires some { 1 ≤ command.now.threads }
+    requires most { command.now.threads ≤ 64 }
+    ensures { AfterLink limits.now (asks command.now) (shown_files (input_names inputs.now) (input_contents inputs.now) (sources limits.now (input_contents inputs.now))) (sources limits.now (input_contents inputs.now)) (linked_of result) }
 {
     let sources = find_sources(alloc, limits, inputs)?;
     link_sources(rt, alloc, command, inputs, sources.as_slice(), limits, gate)

@@ -89,6 +89,7 @@ fn find_placement<'a, R: Threads + Sync, G: Gate>(
     let got = entries(alloc, tables, numbers, leaders.as_slice())?;
     // Nothing moves from here on.
     let layout = match lay_out(
+        rt,
         alloc,
         limits,
         tables,
@@ -98,6 +99,8 @@ fn find_placement<'a, R: Threads + Sync, G: Gate>(
         leaders.as_slice(),
         &got,
         options,
+        workers,
+        gate,
     ) {
         Ok(layout) => layout,
         Err(stop) => return Err(stop),

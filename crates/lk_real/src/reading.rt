@@ -12,6 +12,7 @@ use std::fs::File;
 use std::io;
 use std::io::{ErrorKind, Read, Seek, SeekFrom};
 use std::ops::Range;
+use std::os::unix::fs::FileExt;
 use std::thread::Threads;
 use work_split::{OpenGate, over_shares, pieces};
 
@@ -21,32 +22,80 @@ const MOST_READ: u64 = 1 << 31;
 /// An end that no file has. A folder may seek to such a one, and its read then fails as it should.
 const NO_END: u64 = 1 << 62;
 
+/// The bytes of a file that one call reads at most.
+const BUFFER: usize = 1 << 17;
+
+/// Bytes of the block that `make_room` takes.
+const ROOM: usize = (32 << 20) - (64 << 10);
+
+/// Takes a block of memory and gives it back untouched. glibc keeps it for the lists that this thread, and those after it, take
+/// later, where it would ask the system for a page or two each time (`M_TOP_PAD` in `mallopt(3)`).
+fn make_room(alloc: Global) -> Result<(), AllocError> {
+    let block: Vec<u8> = Vec::with_capacity(alloc, ROOM)?;
+    drop(block);
+    Ok(())
+}
+
 /// How many files are worth a thread.
 const FILES_PER_WORKER: usize = 32;
 
-/// How many bytes a load makes room for at first: those of the file, or none if seeking does not tell them, as at a pipe.
-/// It takes less time than `metadata`, which fills a buffer for a path.
-fn first_room(file: &mut File) -> io::Result<u64>
-    ensures { IfOk result (λ n. n ≤ 2 ^ 31) }
+/// The bytes of a file as seeking tells them, `MOST_READ` where they are more; 0 where it does not tell them, as at a pipe, and such a file is
+/// then at its start. It takes less time than `metadata`, which fills a buffer for a path.
+fn end_of(file: &mut File) -> u64
+    ensures { result ≤ 2 ^ 31 }
 {
     let Ok(end) = file.seek(SeekFrom::End(0)) else {
-        return Ok(0);
+        return 0;
     };
-    file.seek(SeekFrom::Start(0))?;
     if end >= NO_END {
-        return Ok(0);
+        let _ = file.seek(SeekFrom::Start(0));
+        return 0;
     }
-    Ok(end.min(MOST_READ))
+    end.min(MOST_READ)
+}
+
+/// Takes over the bytes of a file that lie before `end`, by way of `buffer`: the memory they go to is written once. A file that is cut
+/// meanwhile gives fewer.
+fn read_up_to(file: &File, bytes: &mut Vec<u8>, end: u64, buffer: &mut [u8]) -> io::Result<()> {
+    let mut at: u64 = 0;
+    for _ in 0..u64::MAX {
+        if end <= at {
+            return Ok(());
+        }
+        let most = (end - at).min(buffer.len() as u64) as usize;
+        match file.read_at(&mut buffer[..most], at) {
+            Ok(0) => return Ok(()),
+            Ok(count) => {
+                bytes.extend_from_slice(&buffer[..count])?;
+                at = at.saturating_add(count as u64);
+            }
+            Err(error) => {
+                if error.kind() != ErrorKind::Interrupted {
+                    return Err(error);
+                }
+            }
+        }
+    }
+    Err(io::Error::from(ErrorKind::Interrupted))
+}
+
+/// Up to `MOST_READ` bytes of a file, from its start. What is in `buffer` does not matter.
+fn bytes_by(rt: &HostRuntime, alloc: Global, name: &str, buffer: &mut [u8]) -> io::Result<Vec<u8>> {
+    let mut file = File::open(rt, name)?;
+    let end = end_of(&mut file);
+    let mut bytes = Vec::with_capacity(alloc, end as usize)?;
+    if 0 < end {
+        read_up_to(&file, &mut bytes, end, buffer)?;
+        return Ok(bytes);
+    }
+    file.take(MOST_READ).read_to_end(&mut bytes)?;
+    Ok(bytes)
 }
 
 /// Up to `MOST_READ` bytes of a file, from its start.
 pub(crate) fn bytes_of(rt: &HostRuntime, alloc: Global, name: &str) -> io::Result<Vec<u8>> {
-    let mut file = File::open(rt, name)?;
-    let room = first_room(&mut file)?;
-    // With room for one byte more the last read, which finds the end, moves nothing.
-    let mut bytes = Vec::with_capacity(alloc, room as usize + 1)?;
-    file.take(MOST_READ).read_to_end(&mut bytes)?;
-    Ok(bytes)
+    let mut buffer = vec![in alloc; 0u8; BUFFER]?;
+    bytes_by(rt, alloc, name, buffer.as_mut_slice())
 }
 
 /// The bytes of a file, or None if it can't be read, or is not wanted.
@@ -55,11 +104,12 @@ fn read_if(
     files: &HostRuntime,
     alloc: Global,
     name: &str,
+    buffer: &mut [u8],
 ) -> Result<Option<Vec<u8>>, AllocError> {
     if !wanted {
         return Ok(None);
     }
-    match bytes_of(files, alloc, name) {
+    match bytes_by(files, alloc, name, buffer) {
         Ok(bytes) => Ok(Some(bytes)),
         Err(error) => {
             if error.kind() == ErrorKind::OutOfMemory {
@@ -81,10 +131,12 @@ fn read_share(
     requires within { share.end ≤ length names.now }
     ensures { IsShare no_defects IsAny share.start share.end result }
 {
+    let _ = make_room(alloc);
     let mut read = Vec::with_capacity(alloc, share.end - share.start)?;
+    let mut buffer = vec![in alloc; 0u8; BUFFER]?;
     let mut all = true;
     for at in share.start..share.end {
-        let file = read_if(all, files, alloc, names[at].as_str())?;
+        let file = read_if(all, files, alloc, names[at].as_str(), buffer.as_mut_slice())?;
         all = file.is_some();
         read.push(file)?;
     }

@@ -131,6 +131,36 @@ fn files_are_made_written_and_read(rt: HostRuntime) -> Result<(), Fail> {
     Ok(())
 }
 
+/// So many bytes that differ from place to place.
+fn long_text(alloc: Global, len: u32) -> Result<Vec<u8>, AllocError> {
+    let mut text = Vec::with_capacity(alloc, len as usize)?;
+    for at in 0..len {
+        text.push((at % 251) as u8)?;
+    }
+    Ok(text)
+}
+
+#[test]
+fn long_files_are_read_whole(rt: HostRuntime) -> Result<(), Fail> {
+    let alloc = rt.alloc();
+    let folder = made_folder(&rt, alloc, "long")?;
+    let name = joined(alloc, folder.as_str(), "long")?;
+    let mut depot = RealDepot::new(&rt, alloc);
+    // Around the most bytes that are read at once, and many times as many.
+    for len in [131_071, 131_072, 131_073, 262_144, 400_000] {
+        let text = long_text(alloc, len)?;
+        stands(&rt, name.as_str(), text.as_slice(), 0o600)?;
+        assert!(rt;
+            depot
+                .load(alloc, name.as_str())
+                .is_ok_and(|bytes| bytes.as_slice() == text.as_slice())
+        );
+    }
+    assert_eq!(rt; depot.faults(), 0);
+    fs::remove_dir_all(&rt, folder.as_str())?;
+    Ok(())
+}
+
 /// So many files, each of which holds its own name.
 fn made_files(
     rt: &HostRuntime,

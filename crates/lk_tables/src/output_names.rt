@@ -72,13 +72,14 @@ fn is_under(name: &[u8], prefix: &[u8]) -> bool
         && name.starts_with(prefix)
 }
 
-// Whether a name is one of those that may end in a priority, with one to five bytes in its place.
+// Whether a name is one of those that may end in a priority, with one to five bytes in its place. Its length is looked at first: most names
+// are too short.
 fn is_numbered(name: &[u8]) -> bool
     ensures { result ≡ is_numbered name.now }
 {
-    (is_under(name, b".init_array") || is_under(name, b".fini_array"))
-        && 13 <= name.len()
+    13 <= name.len()
         && name.len() <= 17
+        && (is_under(name, b".init_array") || is_under(name, b".fini_array"))
 }
 
 // The number that at most five decimal digits write.

@@ -11,3 +11,4 @@ pub mod PointSteps
 pub mod RowFacts
 mod RunSteps
 mod SafeSizes
+mod UnrelaxedParts

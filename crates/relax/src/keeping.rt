@@ -27,25 +27,33 @@ use lk_base::SecNo;
 use lk_base::relocations::moves_bytes;
 use lk_tables::{Binding, Reloc, Tables};
 use std::alloc::{AllocError, Global};
+use std::thread::Threads;
+use work_split::Gate;
 
 /// By section number, where each section loses bytes, in order of offset: each alignment with all its bytes, since no place is known yet, and
 /// each call that may be shortened, with the four bytes of `jal` or the two of `c.j`. A call of eight bytes is none of them. With `on` a call
 /// has the least size that allows the greatest distance that its target can have, wherever the sections stand; without it no call is
-/// relaxed. `leaders` are by section number. The only error is out of memory.
-pub fn sizes(
+/// relaxed. `leaders` are by section number. Where no call can be relaxed the workers list the alignments of a run of files each. The only
+/// error is out of memory.
+pub fn sizes<R: Threads + Sync, G: Gate>(
+    rt: &R,
     alloc: Global,
     tables: &Tables,
     binding: &Binding,
     pools: &Pools,
     leaders: &[Option<SecNo>],
     on: bool,
+    workers: u32,
+    gate: &G,
 ) -> Result<Sizes, AllocError>
+    requires some { 1 ≤ workers }
+    requires most { workers ≤ 64 }
     ensures cuts { IfOk result (λ sizes. sizes_of sizes ≡ spec.cuts_of (files_of tables.now) (binding_view binding.now) (pools_view (files_of tables.now) pools.now) leaders.now on) }
     ensures fit { IfOk result (λ sizes. FitSections (files_of tables.now) (sizes_of sizes)) }
     ensures law { IfOk result (λ _. spec.IsLeastSafe (files_of tables.now) (binding_view binding.now) (pools_view (files_of tables.now) pools.now) leaders.now on) }
 {
     if !may_relax(tables, on) {
-        let sizes = unrelaxed_sizes(alloc, tables)?;
+        let sizes = unrelaxed_sizes(rt, alloc, tables, workers, gate)?;
         return Ok(sizes);
     }
     relaxed_sizes(alloc, tables, binding, pools, leaders, on)

@@ -9,6 +9,7 @@ mod jumps;
 mod keeping;
 mod losses;
 mod members;
+mod parts;
 mod settling;
 mod solving;
 mod unrelaxed;

@@ -3,6 +3,7 @@ pub mod FoundPlaces
 pub mod LinkerAddresses
 pub mod Near
 pub mod NotedSteps
+pub mod NumberRuns
 pub mod PastSymbols
 pub mod PoolPositions
 pub mod Prevails

@@ -1,5 +1,5 @@
 -- A symbol whose name is bound to another symbol of a file, the one that prevails, has the address of that.
-use Rattle.std.specs.Prelude.{◌≡◌, ℕ, ◌<◌, ◌&&◌, ◌==◌, not, Bool, true, if◌then◌else◌, List, length, slice_index}
+use Rattle.std.specs.Prelude.{◌≡◌, ℕ, ◌<◌, ◌&&◌, ◌==◌, not, Bool, true, if◌then◌else◌, List, [], ◌∷◌, length, slice_index}
 use Rattle.lk_tables.specs.Binding.{Bindings}
 use Rattle.lk_tables.specs.Files.{File, by_symbol, symbol_no}
 use Rattle.lk_tables.specs.Ranks.{file_of, is_linker_rank, no_rank, symbol_of_rank}
@@ -23,6 +23,10 @@ own_address link f i =
 
 abbrev pub own_addresses : LaidLink → List ℕ
 own_addresses link = by_symbol (link_files link) (own_address link)
+
+-- that of the symbol of a number, as a list of one
+abbrev pub own_at : LaidLink → ℕ → List ℕ
+own_at link n = slice_index (own_addresses link) n ∷ []
 
 -- the file that a rank names is there, and the number of the symbol
 abbrev pub HasFile : List File → (rank : ℕ) → Type 0

@@ -1,18 +1,18 @@
 //! The addresses of all symbols.
 
-ghost use Rattle.std.specs.Prelude.{◌≡◌, ◌-◌, ◌<◌, ◌≤◌, ◌++◌, length, flat_map, IfOk, OnOk};
+ghost use Rattle.std.specs.Prelude.{◌≡◌, ◌-◌, ◌<◌, ◌≤◌, ◌++◌, length, map, min, flat_map, IfOk, OnOk};
 ghost use Rattle.std.specs.List.{range_with_len};
 ghost use Rattle.lk_tables.specs.BoundNames.{IsBindingOf};
 ghost use Rattle.lk_tables.specs.BindingView.{binding_view};
+ghost use Rattle.lk_tables.specs.Files.{file_at, first_symbol, symbol_total};
 ghost use Rattle.lk_tables.specs.TablesView.{files_of};
-ghost use Rattle.lk_tables.proofs.ByNumber.{symbol_row};
 ghost use Rattle.link_sections.specs.Addresses as spec;
 ghost use Rattle.link_sections.specs.GotView.{entries_of};
 ghost use Rattle.link_sections.specs.LaidOut.{layout_view, with_contents};
 ghost use Rattle.link_sections.specs.PoolViews.{pools_view};
 ghost use Rattle.link_sections.specs.Sound.{IsSound};
 ghost use Rattle.symbol_addresses.specs.Links.{link_files};
-ghost use Rattle.symbol_addresses.specs.Prevailing.{own_address, own_addresses};
+ghost use Rattle.symbol_addresses.specs.Prevailing.{own_address, own_addresses, own_at};
 ghost use Rattle.work_split.specs.Pieces.{Tiles};
 ghost use Rattle.work_split.specs.Runs.{IsRun};
 
@@ -27,13 +27,16 @@ use lk_tables::{Binding, Tables};
 use std::alloc::{AllocError, Global};
 use std::ops::Range;
 use std::thread::Threads;
-use work_split::{Gate, over_shares, pieces_by_weight};
+use work_split::{Gate, over_shares, pieces};
+
+/// Fewer symbols are not worth a thread.
+const LEAST: usize = 4096;
 
 /// What each symbol stands for once everything has its place: an address or a number. The list has one entry for each symbol of all files,
 /// by symbol number: 0 for those of a file that takes no part, and for one that stands for nothing. A symbol in a section that is merged
 /// has the address of its byte in the pool; one of the linker's own has that of what its name says. The symbols are shared among so many
-/// workers, by files, each of which reads these alone; then those that are bound to another symbol take its address. The only error is out
-/// of memory.
+/// workers, by number and whatever file they are of, each of which reads these alone; then those that are bound to another symbol take its
+/// address. The only error is out of memory.
 pub fn find_addresses<R: Threads + Sync, G: Gate>(
     rt: &R,
     alloc: Global,
@@ -72,7 +75,7 @@ pub fn find_addresses<R: Threads + Sync, G: Gate>(
     Ok(Addresses { symbols })
 }
 
-/// The addresses that symbols have without a look at other symbols. The workers each find those of one piece of the files.
+/// The addresses that symbols have without a look at other symbols. The workers each find those of one piece of the symbols' numbers.
 fn find_own<R: Threads + Sync, G: Gate>(
     rt: &R,
     alloc: Global,
@@ -84,15 +87,15 @@ fn find_own<R: Threads + Sync, G: Gate>(
     requires most { workers ≤ 64 }
     ensures { IfOk result (λ found. found.items ≡ own_addresses sources.now.link) }
 {
-    let pieces = pieces_of(alloc, sources.link.tables, workers)?;
+    let pieces = pieces_of(alloc, sources.link.tables.symbol_count(), workers)?;
     let found = over_shares(
         rt,
         alloc,
         gate,
         pieces.as_slice(),
         |piece: Range<usize>| -> Result<Vec<u64>, LinkStop>
-            requires piece { piece.end ≤ length (link_files sources.now.link) }
-            ensures { IsRun (symbol_row (link_files sources.entry.now.link) (own_address sources.entry.now.link)) piece result }
+            requires piece { piece.end ≤ symbol_total (link_files sources.now.link) }
+            ensures { IsRun (own_at sources.entry.now.link) piece result }
         { Ok(addresses_in(alloc, sources, piece)?) },
     );
     match found {
@@ -101,55 +104,73 @@ fn find_own<R: Threads + Sync, G: Gate>(
     }
 }
 
-/// The files cut into pieces of about as many symbols each, one for each worker.
-fn pieces_of(alloc: Global, tables: &Tables, workers: u32) -> Result<Vec<Range<usize>>, AllocError>
+/// The numbers of so many symbols cut into pieces of about the same length: one for each worker, or fewer where pieces would be shorter
+/// than [`LEAST`].
+fn pieces_of(alloc: Global, symbols: usize, workers: u32) -> Result<Vec<Range<usize>>, AllocError>
     requires some { 1 ≤ workers }
     requires most { workers ≤ 64 }
-    ensures tiles { IfOk result (λ pieces. Tiles 0 (length (files_of tables.now)) pieces.items) }
+    ensures tiles { IfOk result (λ pieces. Tiles 0 symbols pieces.items) }
     ensures most { IfOk result (λ pieces. length pieces.items ≤ 64) }
 {
-    let mut counts = Vec::with_capacity(alloc, tables.file_count())?;
-    for file in tables.files() {
-        counts.push(file.symbols().len() as u64)?;
-    }
-    pieces_by_weight(alloc, counts.as_slice(), workers)
+    let wanted = (symbols / LEAST).min(workers as usize).max(1);
+    pieces(alloc, symbols, wanted as u32)
 }
 
-/// The addresses of the symbols of a run of files.
+/// The addresses of the symbols of a run of numbers. The walk begins at the file of the first number, and goes on file by file, so no
+/// other symbol's file is looked up.
 fn addresses_in(
     alloc: Global,
     sources: &Sources,
     piece: Range<usize>,
 ) -> Result<Vec<u64>, AllocError>
-    requires piece { piece.end ≤ length (link_files sources.now.link) }
-    ensures { IfOk result (λ found. found.items ≡ flat_map (symbol_row (link_files sources.now.link) (own_address sources.now.link)) (range_with_len piece.start (piece.end - piece.start))) }
+    requires piece { piece.end ≤ symbol_total (link_files sources.now.link) }
+    ensures { IfOk result (λ found. found.items ≡ flat_map (own_at sources.now.link) (range_with_len piece.start (piece.end - piece.start))) }
 {
-    sources.link.tables.is_few();
-    let mut found = Vec::with_capacity(alloc, symbols_of(sources.link.tables, &piece))?;
-    for file in piece.start..piece.end {
-        push_addresses(&mut found, sources, file as u32)?;
+    let tables = sources.link.tables;
+    tables.is_few();
+    let mut found = Vec::with_capacity(alloc, piece.end.saturating_sub(piece.start))?;
+    for file in file_of_symbol(tables, piece.start)..tables.file_count() {
+        let first = tables.symbol_no(file, 0);
+        if piece.end <= first {
+            return Ok(found);
+        }
+        let symbols = piece.start.saturating_sub(first)..piece.end - first;
+        push_addresses(&mut found, sources, file as u32, symbols)?;
     }
     Ok(found)
 }
 
-/// How many symbols a run of files has.
-fn symbols_of(tables: &Tables, piece: &Range<usize>) -> usize {
-    let mut count: usize = 0;
-    for file in piece.start..piece.end {
-        if let Some(entry) = tables.files().get(file) {
-            count = count.saturating_add(entry.symbols().len());
+/// The file of a symbol's number, by bisection: the last one whose symbols do not begin past it.
+fn file_of_symbol(tables: &Tables, number: usize) -> usize
+    ensures within { result ≤ length (files_of tables.now) }
+    ensures before { first_symbol (files_of tables.now) result ≤ number }
+{
+    let mut file = 0;
+    let mut end = tables.file_count();
+    while file + 1 < end {
+        let middle = file + (end - file) / 2;
+        if tables.symbol_no(middle, 0) <= number {
+            file = middle;
+        } else {
+            end = middle;
         }
     }
-    count
+    file
 }
 
-/// The addresses of one file's symbols.
-fn push_addresses(found: &mut Vec<u64>, sources: &Sources, file: FileNo) -> Result<(), AllocError>
+/// The addresses of a run of one file's symbols, which may end past its last symbol.
+fn push_addresses(
+    found: &mut Vec<u64>,
+    sources: &Sources,
+    file: FileNo,
+    symbols: Range<usize>,
+) -> Result<(), AllocError>
     requires file { file < length (link_files sources.now.link) }
-    ensures { OnOk result (found.new.items ≡ found.old.items ++ symbol_row (link_files sources.now.link) (own_address sources.now.link) file) }
+    ensures { OnOk result (found.new.items ≡ found.old.items ++ map (own_address sources.now.link file) (range_with_len symbols.start (min symbols.end (length (file_at (link_files sources.now.link) file).head.symbols) - symbols.start))) }
 {
     sources.link.tables.is_few();
-    for symbol in 0..sources.link.tables.file(file).symbols().len() {
+    let count = sources.link.tables.file(file).symbols().len();
+    for symbol in symbols.start..symbols.end.min(count) {
         found.push(own_address(sources, file, symbol as u32))?;
     }
     Ok(())

@@ -189,6 +189,7 @@ fn kept_made<'a, R: Threads + Sync>(
     )?;
     let got = entries(alloc, tables, &numbers, leaders.as_slice())?;
     let layout = match lay_out(
+        rt,
         alloc,
         limits,
         tables,
@@ -198,6 +199,8 @@ fn kept_made<'a, R: Threads + Sync>(
         leaders.as_slice(),
         &got,
         options,
+        2,
+        &OpenGate,
     ) {
         Ok(layout) => layout,
         Err(stop) => return Err(stop),

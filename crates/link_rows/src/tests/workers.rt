@@ -60,9 +60,9 @@ impl Gate for Holder {
 type Shared<'a> = (Link<'a>, u64);
 
 /// The passes of the first link are heads, bodies, the list of offers, the claims for names, the ranks of offers, the names that nothing
-/// offers, the addresses of symbols, and the test of relocations; since it has no archive, no member is claimed. Those of the second are the
-/// claims for groups, the symbols that stand for sections' names, the edges between sections and the blocks of the executable too. Those of
-/// the third are those of the first, and the lists of symbols for the symbol table and for the map.
+/// offers, and the test of relocations; since it has no archive, no member is claimed, and it has too few symbols for their addresses to be
+/// shared out. Those of the second are the claims for groups, the symbols that stand for sections' names, the edges between sections and the
+/// blocks of the executable too. Those of the third are those of the first, and the lists of symbols for the symbol table and for the map.
 const SHARED: &[Shared] = &[
     (
         Link {
@@ -70,7 +70,7 @@ const SHARED: &[Shared] = &[
             image: TWO_FILES,
             ..FIRST_LINK
         },
-        8,
+        7,
     ),
     (
         Link {
@@ -87,7 +87,7 @@ const SHARED: &[Shared] = &[
             image: TWO_BLOCKS,
             ..FIRST_LINK
         },
-        12,
+        11,
     ),
     (
         Link {
@@ -96,7 +96,7 @@ const SHARED: &[Shared] = &[
             lines: TWO_FILES_LINES,
             ..FIRST_LINK
         },
-        10,
+        9,
     ),
 ];
 

@@ -21,8 +21,8 @@ returns-in_default-clause-ends g c =
     (record { files = c.in-Ok.ensures.files; kinds = c.in-Ok.ensures.kinds; begun = c.in-Ok.ensures.begun })
     (none_failed c.in-Ok.ensures.loads.1)
 
-pub link_inputs-requires-clause-names : goal.link_inputs-requires-clause-names
-link_inputs-requires-clause-names g c = λ κs bound.
+pub link_inputs-ending-requires-clause-names : goal.link_inputs-ending-requires-clause-names
+link_inputs-ending-requires-clause-names g c = λ κs bound.
     let asked = asks c.args.command.now in
     c.in-Ok-inputs_of.ensures.names ∙ c.requires.names ∙ sym (ap (λ n. names_by n asked.inputs) c.requires.files)
 
@@ -31,7 +31,7 @@ returns-clause-ends g c =
     let before = g.D.Depot.store c.args.depot.now in
     let given = contents_of c.in-Ok.contents.items in
     let P : List (List ℕ) → Type 0 = λ names. AreContents before.files names given in
-    c.link_inputs.ensures.ends before given (record {
+    c.link_inputs-ending.ensures.ends before given (record {
       loaded = subst P c.requires.names c.in-Ok.ensures.loads.0;
       unread = c.in-Ok.ensures.loads.1;
       untouched = record { files = c.in-Ok.ensures.files; kinds = c.in-Ok.ensures.kinds; begun = c.in-Ok.ensures.begun };

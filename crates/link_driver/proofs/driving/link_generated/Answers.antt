@@ -11,8 +11,8 @@ returns-in_default-clause-ends g c =
     lacking (Some (asks c.args.command.now)) (g.D.Depot.store c.args.depot.now) (g.D.Depot.store c.args.depot.now) (g.S.Sink.output c.args.say.now)
     (record { files = refl; kinds = refl; begun = refl }) (none_failed refl)
 
-pub link_inputs-requires-clause-names : goal.link_inputs-requires-clause-names
-link_inputs-requires-clause-names g c = λ κs bound.
+pub link_inputs-ending-requires-clause-names : goal.link_inputs-ending-requires-clause-names
+link_inputs-ending-requires-clause-names g c = λ κs bound.
     let asked = asks c.args.command.now in
     c.in-Ok.ensures.names ∙ sym (ap (λ n. names_by n asked.inputs) c.requires.generated)
 
@@ -20,5 +20,5 @@ pub returns-clause-ends : goal.returns-clause-ends
 returns-clause-ends g c =
     let asked = asks c.args.command.now in
     let before = g.D.Depot.store c.args.depot.now in
-    c.link_inputs.ensures.ends before [] (nothing_loaded asked before c.requires.files)
+    c.link_inputs-ending.ensures.ends before [] (nothing_loaded asked before c.requires.files)
     (c.in-Ok.ensures.contents ∙ sym (ap (λ n. contents_by n []) c.requires.generated))

@@ -18,19 +18,19 @@ use Rattle.link_driver.proofs.Whole.{header_room}
 use Rattle.link_driver.proofs.linking.lay_out.Goals as goal
 
 pub place-requires-clause-pools : goal.place-requires-clause-pools
-place-requires-clause-pools c =
+place-requires-clause-pools g c =
     let files = files_of c.args.tables.now in
     let b = binding_view c.args.binding.now in
     let P : List Pool → Type 0 = λ pools. HaveFirsts files b pools in
     subst P (sym (ap pool_heads c.requires.pools) ∙ pool_heads_are files c.args.pools.now) (firsts_stay files b c.args.kept.now c.requires.stay)
 
 pub place-requires-clause-sizes : goal.place-requires-clause-sizes
-place-requires-clause-sizes c =
+place-requires-clause-sizes g c =
     sizes_fit (files_of c.args.tables.now) (binding_view c.args.binding.now) (sizes_of c.in_ok-sizes.sizes)
     c.in_ok-sizes.ensures.fit
 
 pub returns-in-Ok-clause-goes : goal.returns-in-Ok-clause-goes
-returns-in-Ok-clause-goes c =
+returns-in-Ok-clause-goes g c =
     let files = files_of c.args.tables.now in
     let b = binding_view c.args.binding.now in
     let w = wished c.args.options in
@@ -38,7 +38,7 @@ returns-in-Ok-clause-goes c =
     (sizes_of c.in_ok-sizes.sizes) c.in_ok-sizes.ensures.cuts c.args.limits.now) ∙ c.in-Ok.ensures.goes
 
 pub returns-in-Ok-clause-laid : goal.returns-in-Ok-clause-laid
-returns-in-Ok-clause-laid c =
+returns-in-Ok-clause-laid g c =
     let files = files_of c.args.tables.now in
     let b = binding_view c.args.binding.now in
     let w = wished c.args.options in
@@ -46,7 +46,7 @@ returns-in-Ok-clause-laid c =
     (sizes_of c.in_ok-sizes.sizes) c.in_ok-sizes.ensures.cuts (layout_view c.in-Ok.layout) c.in-Ok.ensures.found
 
 pub returns-clause-goes : goal.returns-clause-goes
-returns-clause-goes c =
+returns-clause-goes g c =
     let files = files_of c.args.tables.now in
     let b = binding_view c.args.binding.now in
     let w = wished c.args.options in
@@ -55,15 +55,15 @@ returns-clause-goes c =
     (sizes_of c.in_ok-sizes.sizes) c.in_ok-sizes.ensures.cuts c.args.limits.now) c.in-Err.ensures.goes
 
 pub calls_reach-requires-clause-pools : goal.calls_reach-requires-clause-pools
-calls_reach-requires-clause-pools c =
+calls_reach-requires-clause-pools g c =
     let files = files_of c.args.tables.now in
     let b = binding_view c.args.binding.now in
     let P : List Pool → Type 0 = λ pools. HaveFirsts files b pools in
     subst P (sym (ap pool_heads c.requires.pools) ∙ pool_heads_are files c.args.pools.now) (firsts_stay files b c.args.kept.now c.requires.stay)
 
 pub calls_reach-requires-clause-room : goal.calls_reach-requires-clause-room
-calls_reach-requires-clause-room c =
+calls_reach-requires-clause-room g c =
     ap (layout_defects c.args.limits.now (files_of c.args.tables.now)) c.in-Ok.ensures.found ∙ c.in-Ok.ensures.goes
 
 pub returns-in-Ok-clause-room : goal.returns-in-Ok-clause-room
-returns-in-Ok-clause-room c = header_room c.in-Ok.layout.bounds c.in-Ok.ensures.segments c.in-Ok.ensures.rising
+returns-in-Ok-clause-room g c = header_room c.in-Ok.layout.bounds c.in-Ok.ensures.segments c.in-Ok.ensures.rising

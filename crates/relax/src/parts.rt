@@ -1,0 +1,39 @@
+//! Rows that the workers make, each those of a run of files.
+
+ghost use Rattle.std.specs.Prelude.{◌≡◌, ◌++◌, flat_map, IfOk, OnOk};
+
+use flat_rows::Rows;
+use link_sections::Cut;
+use std::alloc::{AllocError, Global};
+
+/// A list of one part.
+pub fn one_part(alloc: Global, rows: Rows<Cut>) -> Result<Vec<Rows<Cut>>, AllocError>
+    ensures { IfOk result (λ parts. flat_map (λ part. part) parts.items ≡ rows) }
+{
+    let mut parts = Vec::new(alloc);
+    parts.push(rows)?;
+    Ok(parts)
+}
+
+/// The rows of all parts, one part after the other. Those of the first are not copied.
+pub fn join_rows(alloc: Global, parts: Vec<Rows<Cut>>) -> Result<Rows<Cut>, AllocError>
+    ensures { IfOk result (λ rows. rows ≡ flat_map (λ part. part) parts.items) }
+{
+    let mut rows = Rows::empty(alloc)?;
+    for part in parts {
+        take_rows(&mut rows, part)?;
+    }
+    Ok(rows)
+}
+
+/// Adds all rows of another list. If there are no others, these are not copied.
+fn take_rows(rows: &mut Rows<Cut>, more: Rows<Cut>) -> Result<(), AllocError>
+    ensures { OnOk result (rows.new ≡ rows.old ++ more) }
+{
+    if rows.count() == 0 {
+        *rows = more;
+        return Ok(());
+    }
+    rows.append(&more)?;
+    Ok(())
+}
