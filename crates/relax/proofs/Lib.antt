@@ -1,5 +1,6 @@
 pub mod CutSteps
 pub mod Fitting
+mod CallParts
 mod Hints
 mod KeyMaps
 mod LeastSizes

@@ -16,7 +16,6 @@ ghost use Rattle.relax.specs.CallSizes as spec;
 ghost use Rattle.relax.specs.ItemViews.{noted};
 
 use crate::members::Member;
-use flat_rows::Rows;
 use link_sections::{Pools, Target};
 use lk_base::abi::{EF_RISCV_RVC, R_RISCV_CALL, R_RISCV_CALL_PLT, R_RISCV_NONE, R_RISCV_RELAX};
 use lk_base::{FileNo, SecNo};
@@ -402,7 +401,12 @@ fn calls_in(
 
 /// The calls of a member, if it is a section and calls are relaxed.
 #[tactic(auto, unfolding(crate::specs::CallSizes::calls_of))]
-fn calls_of(alloc: Global, scene: &Scene, on: bool, from: usize) -> Result<Vec<Call>, AllocError>
+pub fn calls_of(
+    alloc: Global,
+    scene: &Scene,
+    on: bool,
+    from: usize,
+) -> Result<Vec<Call>, AllocError>
     requires { from < length scene.now.members.now }
     ensures { IfOk result (λ calls. calls.items ≡ spec.calls_of (files_of scene.now.tables.now) (binding_view scene.now.binding.now) (merged_views scene.now.pools.now) scene.now.leaders.now scene.now.members.now on from) }
 {
@@ -411,17 +415,4 @@ fn calls_of(alloc: Global, scene: &Scene, on: bool, from: usize) -> Result<Vec<C
         return Ok(Vec::new(alloc));
     }
     calls_in(alloc, scene, from, member.section)
-}
-
-/// The calls of each member.
-#[tactic(auto, unfolding(crate::specs::CallSizes::call_rows))]
-pub fn call_rows(alloc: Global, scene: &Scene, on: bool) -> Result<Rows<Call>, AllocError>
-    ensures { IfOk result (λ rows. rows ≡ spec.call_rows (files_of scene.now.tables.now) (binding_view scene.now.binding.now) (merged_views scene.now.pools.now) scene.now.leaders.now scene.now.members.now on) }
-{
-    let mut rows = Rows::empty(alloc)?;
-    for from in 0..scene.members.len() {
-        let calls = calls_of(alloc, scene, on, from)?;
-        rows.push(calls.as_slice())?;
-    }
-    Ok(rows)
 }

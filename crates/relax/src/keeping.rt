@@ -15,9 +15,10 @@ ghost use Rattle.relax.specs.Placing.{IsKnown, IsOneSize, added};
 ghost use Rattle.relax.specs.Scenes.{cuts_in, rows_in};
 ghost use Rattle.relax.specs.Sizes.{FitSections};
 
-use crate::calls::{Call, Scene, call_rows, place_of, places_of};
+use crate::calls::{Call, Scene, place_of, places_of};
 use crate::cutting::push_cut;
 use crate::jumps::{Mark, count_of, jumps_of, marks_of};
+use crate::listing::call_rows;
 use crate::members::{Member, members_of};
 use crate::solving::{least_sizes, size_at};
 use crate::unrelaxed::{may_relax, unrelaxed_sizes};
@@ -33,8 +34,8 @@ use work_split::Gate;
 /// By section number, where each section loses bytes, in order of offset: each alignment with all its bytes, since no place is known yet, and
 /// each call that may be shortened, with the four bytes of `jal` or the two of `c.j`. A call of eight bytes is none of them. With `on` a call
 /// has the least size that allows the greatest distance that its target can have, wherever the sections stand; without it no call is
-/// relaxed. `leaders` are by section number. Where no call can be relaxed the workers list the alignments of a run of files each. The only
-/// error is out of memory.
+/// relaxed. `leaders` are by section number. Where no call can be relaxed the workers list the alignments of a run of files each,
+/// and else the calls of a run of members. The only error is out of memory.
 pub fn sizes<R: Threads + Sync, G: Gate>(
     rt: &R,
     alloc: Global,
@@ -56,18 +57,25 @@ pub fn sizes<R: Threads + Sync, G: Gate>(
         let sizes = unrelaxed_sizes(rt, alloc, tables, workers, gate)?;
         return Ok(sizes);
     }
-    relaxed_sizes(alloc, tables, binding, pools, leaders, on)
+    relaxed_sizes(
+        rt, alloc, tables, binding, pools, leaders, on, workers, gate,
+    )
 }
 
 /// The same, whether or not there is a call.
-fn relaxed_sizes(
+fn relaxed_sizes<R: Threads + Sync, G: Gate>(
+    rt: &R,
     alloc: Global,
     tables: &Tables,
     binding: &Binding,
     pools: &Pools,
     leaders: &[Option<SecNo>],
     on: bool,
+    workers: u32,
+    gate: &G,
 ) -> Result<Sizes, AllocError>
+    requires some { 1 ≤ workers }
+    requires most { workers ≤ 64 }
     ensures cuts { IfOk result (λ sizes. sizes_of sizes ≡ spec.cuts_of (files_of tables.now) (binding_view binding.now) (pools_view (files_of tables.now) pools.now) leaders.now on) }
     ensures fit { IfOk result (λ sizes. FitSections (files_of tables.now) (sizes_of sizes)) }
     ensures law { IfOk result (λ _. spec.IsLeastSafe (files_of tables.now) (binding_view binding.now) (pools_view (files_of tables.now) pools.now) leaders.now on) }
@@ -84,19 +92,28 @@ fn relaxed_sizes(
         members: members.as_slice(),
         places: places.as_slice(),
     };
-    let sizes = sizes_in(alloc, &scene, on)?;
+    let sizes = sizes_in(rt, alloc, &scene, on, workers, gate)?;
     Ok(sizes)
 }
 
 /// The same, once the members are in order.
-fn sizes_in(alloc: Global, scene: &Scene, on: bool) -> Result<Sizes, AllocError>
+fn sizes_in<R: Threads + Sync, G: Gate>(
+    rt: &R,
+    alloc: Global,
+    scene: &Scene,
+    on: bool,
+    workers: u32,
+    gate: &G,
+) -> Result<Sizes, AllocError>
+    requires some { 1 ≤ workers }
+    requires most { workers ≤ 64 }
     requires few { length scene.now.members.now < 2 ^ 33 }
     requires known { All (IsKnown (files_of scene.now.tables.now) (binding_view scene.now.binding.now)) scene.now.members.now }
     ensures cuts { IfOk result (λ sizes. sizes_of sizes ≡ cuts_in scene.now on) }
     ensures fit { IfOk result (λ sizes. FitSections (files_of scene.now.tables.now) (sizes_of sizes)) }
     ensures law { IfOk result (λ _. spec.AreLeastSafe scene.now.members.now (rows_in scene.now on) (spec.least_sizes scene.now.members.now (rows_in scene.now on))) }
 {
-    let calls = call_rows(alloc, scene, on)?;
+    let calls = call_rows(rt, alloc, scene, on, workers, gate)?;
     let marks = marks_of(alloc, scene.members, &calls)?;
     let jumps = jumps_of(alloc, scene.members, &calls, marks.as_slice())?;
     let sizes = least_sizes(alloc, jumps.as_slice())?;

@@ -7,6 +7,7 @@ mod cutting;
 mod items;
 mod jumps;
 mod keeping;
+mod listing;
 mod losses;
 mod members;
 mod parts;

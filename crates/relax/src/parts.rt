@@ -1,13 +1,12 @@
-//! Rows that the workers make, each those of a run of files.
+//! Rows that the workers make, each those of a run of files or of members.
 
 ghost use Rattle.std.specs.Prelude.{◌≡◌, ◌++◌, flat_map, IfOk, OnOk};
 
 use flat_rows::Rows;
-use link_sections::Cut;
 use std::alloc::{AllocError, Global};
 
 /// A list of one part.
-pub fn one_part(alloc: Global, rows: Rows<Cut>) -> Result<Vec<Rows<Cut>>, AllocError>
+pub fn one_part<T: Copy + Drop>(alloc: Global, rows: Rows<T>) -> Result<Vec<Rows<T>>, AllocError>
     ensures { IfOk result (λ parts. flat_map (λ part. part) parts.items ≡ rows) }
 {
     let mut parts = Vec::new(alloc);
@@ -16,7 +15,7 @@ pub fn one_part(alloc: Global, rows: Rows<Cut>) -> Result<Vec<Rows<Cut>>, AllocE
 }
 
 /// The rows of all parts, one part after the other. Those of the first are not copied.
-pub fn join_rows(alloc: Global, parts: Vec<Rows<Cut>>) -> Result<Rows<Cut>, AllocError>
+pub fn join_rows<T: Copy + Drop>(alloc: Global, parts: Vec<Rows<T>>) -> Result<Rows<T>, AllocError>
     ensures { IfOk result (λ rows. rows ≡ flat_map (λ part. part) parts.items) }
 {
     let mut rows = Rows::empty(alloc)?;
@@ -27,7 +26,7 @@ pub fn join_rows(alloc: Global, parts: Vec<Rows<Cut>>) -> Result<Rows<Cut>, Allo
 }
 
 /// Adds all rows of another list. If there are no others, these are not copied.
-fn take_rows(rows: &mut Rows<Cut>, more: Rows<Cut>) -> Result<(), AllocError>
+fn take_rows<T: Copy + Drop>(rows: &mut Rows<T>, more: Rows<T>) -> Result<(), AllocError>
     ensures { OnOk result (rows.new ≡ rows.old ++ more) }
 {
     if rows.count() == 0 {

@@ -14,7 +14,7 @@ use Rattle.relax.proofs.MemberFacts.{few_members, length_rooms, members_known, r
 use Rattle.relax.proofs.keeping.relaxed_sizes.Goals as goal
 
 pub invariant_of-scene : goal.invariant_of-scene
-invariant_of-scene c =
+invariant_of-scene g c =
     let files = files_of c.args.tables.now in
     let b = binding_view c.args.binding.now in
     let rooms = rooms_of c.args.pools.now.pools.items in
@@ -28,7 +28,7 @@ invariant_of-scene c =
     }
 
 pub sizes_in-requires-clause-few : goal.sizes_in-requires-clause-few
-sizes_in-requires-clause-few c =
+sizes_in-requires-clause-few g c =
     let files = files_of c.args.tables.now in
     let b = binding_view c.args.binding.now in
     let rooms = rooms_of c.args.pools.now.pools.items in
@@ -36,7 +36,7 @@ sizes_in-requires-clause-few c =
     omega (arith, ap length is, few_members files b rooms c.args.leaders.now, length_rooms c.args.pools.now.pools.items, c.few_pools.ensures, c.is_few.ensures.section_count_is)
 
 pub sizes_in-requires-clause-known : goal.sizes_in-requires-clause-known
-sizes_in-requires-clause-known c =
+sizes_in-requires-clause-known g c = λ κs within.
     let files = files_of c.args.tables.now in
     let b = binding_view c.args.binding.now in
     let rooms = rooms_of c.args.pools.now.pools.items in
@@ -45,7 +45,7 @@ sizes_in-requires-clause-known c =
 
 pub returns-clause-cuts : goal.returns-clause-cuts
 unfolding cuts_of pools_view
-returns-clause-cuts c =
+returns-clause-cuts g c =
     let files = files_of c.args.tables.now in
     let b = binding_view c.args.binding.now in
     let leaders = c.args.leaders.now in
@@ -58,7 +58,7 @@ returns-clause-cuts c =
 
 pub returns-clause-law : goal.returns-clause-law
 unfolding pools_view
-returns-clause-law c =
+returns-clause-law g c =
     let files = files_of c.args.tables.now in
     let b = binding_view c.args.binding.now in
     let leaders = c.args.leaders.now in

@@ -21,19 +21,19 @@ use Rattle.relax.proofs.SafeSizes.{count_is, jumps_are, least_are, least_safe, s
 use Rattle.relax.proofs.keeping.sizes_in.Goals as goal
 
 pub marks_of-requires-clause-sound : goal.marks_of-requires-clause-sound
-marks_of-requires-clause-sound c =
+marks_of-requires-clause-sound g c =
     let s = c.args.scene.now in
     subst (AreSoundRows s.members.now) (sym c.in_ok-calls.ensures)
     (rows_sound s.tables.now (binding_view s.binding.now) (merged_views s.pools.now) s.leaders.now s.members.now c.args.on c.requires.known)
 
 pub jumps_of-requires-clause-sound : goal.jumps_of-requires-clause-sound
-jumps_of-requires-clause-sound c =
+jumps_of-requires-clause-sound g c =
     let s = c.args.scene.now in
     subst (AreSoundRows s.members.now) (sym c.in_ok-calls.ensures)
     (rows_sound s.tables.now (binding_view s.binding.now) (merged_views s.pools.now) s.leaders.now s.members.now c.args.on c.requires.known)
 
 pub least_sizes-requires : goal.least_sizes-requires
-least_sizes-requires c =
+least_sizes-requires g c =
     let s = c.args.scene.now in
     let ms = s.members.now in
     let rows = rows_in s c.args.on in
@@ -43,13 +43,13 @@ least_sizes-requires c =
     record { jumps = subst (λ (l : List Jump). All (IsJump (length l)) l) (sym is) (jumps_are ms rows sound low) }
 
 pub cut_rows-requires-clause-sound : goal.cut_rows-requires-clause-sound
-cut_rows-requires-clause-sound c =
+cut_rows-requires-clause-sound g c =
     let s = c.args.scene.now in
     subst (AreSoundRows s.members.now) (sym c.in_ok-calls.ensures)
     (rows_sound s.tables.now (binding_view s.binding.now) (merged_views s.pools.now) s.leaders.now s.members.now c.args.on c.requires.known)
 
 pub cut_rows-requires-clause-sizes : goal.cut_rows-requires-clause-sizes
-cut_rows-requires-clause-sizes c =
+cut_rows-requires-clause-sizes g c =
     let s = c.args.scene.now in
     let ms = s.members.now in
     let rows = rows_in s c.args.on in
@@ -59,7 +59,7 @@ cut_rows-requires-clause-sizes c =
     subst (λ (l : List ℕ). All IsOneSize l) (sym c.as_slice-4.ensures.value) (sizes_of ms rows sound c.in_ok-sizes.sizes.items safe)
 
 pub cut_rows-requires-clause-count : goal.cut_rows-requires-clause-count
-cut_rows-requires-clause-count c =
+cut_rows-requires-clause-count g c =
     let s = c.args.scene.now in
     let ms = s.members.now in
     let rows = rows_in s c.args.on in
@@ -69,7 +69,7 @@ cut_rows-requires-clause-count c =
     ap length c.as_slice-4.ensures.value ∙ safe.lawful.count ∙ count_is ms rows sound ∙ ap (λ r. length (all_calls r)) (sym c.in_ok-calls.ensures)
 
 pub returns-clause-cuts : goal.returns-clause-cuts
-returns-clause-cuts c =
+returns-clause-cuts g c =
     let s = c.args.scene.now in
     let ms = s.members.now in
     let files = files_of s.tables.now in
@@ -84,7 +84,7 @@ returns-clause-cuts c =
 
 pub returns-clause-fit : goal.returns-clause-fit
 unfolding all_cuts
-returns-clause-fit c =
+returns-clause-fit g c =
     let s = c.args.scene.now in
     let ms = s.members.now in
     let files = files_of s.tables.now in
@@ -104,7 +104,7 @@ returns-clause-fit c =
     (λ n k. size_one calls z (place_in ms n) k lawful)
 
 pub returns-clause-law : goal.returns-clause-law
-returns-clause-law c =
+returns-clause-law g c =
     let s = c.args.scene.now in
     let ms = s.members.now in
     let rows = rows_in s c.args.on in

@@ -1,0 +1,98 @@
+//! The calls of all members, listed by the workers.
+
+ghost use Rattle.std.specs.Prelude.{◌≡◌, ◌≤◌, length, flat_map, IfOk};
+ghost use Rattle.work_split.specs.Pieces.{Tiles};
+ghost use Rattle.relax.specs.Scenes.{IsCallPart, calls_between, rows_in};
+
+use crate::calls::{Call, Scene, calls_of};
+use crate::parts::{join_rows, one_part};
+use flat_rows::Rows;
+use lk_base::LinkStop;
+use std::alloc::{AllocError, Global};
+use std::ops::Range;
+use std::thread::Threads;
+use work_split::{Gate, over_shares, pieces};
+
+/// Fewer members are not worth a thread.
+const LEAST: usize = 4_096;
+
+/// The calls of each member. The workers list those of a run of members each.
+#[tactic(auto, unfolding(crate::specs::CallSizes::call_rows))]
+pub fn call_rows<R: Threads + Sync, G: Gate>(
+    rt: &R,
+    alloc: Global,
+    scene: &Scene,
+    on: bool,
+    workers: u32,
+    gate: &G,
+) -> Result<Rows<Call>, AllocError>
+    requires some { 1 ≤ workers }
+    requires most { workers ≤ 64 }
+    ensures { IfOk result (λ rows. rows ≡ rows_in scene.now on) }
+{
+    let pieces = pieces_of(alloc, scene.members.len(), workers)?;
+    let parts = all_parts(rt, alloc, scene, on, pieces.as_slice(), gate)?;
+    let rows = join_rows(alloc, parts)?;
+    Ok(rows)
+}
+
+/// So many members cut into pieces of about the same length: one for each worker, or fewer where pieces would be shorter than [`LEAST`].
+fn pieces_of(alloc: Global, members: usize, workers: u32) -> Result<Vec<Range<usize>>, AllocError>
+    requires some { 1 ≤ workers }
+    requires most { workers ≤ 64 }
+    ensures tiles { IfOk result (λ pieces. Tiles 0 members pieces.items) }
+    ensures most { IfOk result (λ pieces. length pieces.items ≤ 64) }
+{
+    let wanted = (members / LEAST).min(workers as usize).max(1);
+    pieces(alloc, members, wanted as u32)
+}
+
+/// The calls of all members, in parts: each worker makes one, of a piece of the members.
+fn all_parts<R: Threads + Sync, G: Gate>(
+    rt: &R,
+    alloc: Global,
+    scene: &Scene,
+    on: bool,
+    pieces: &[Range<usize>],
+    gate: &G,
+) -> Result<Vec<Rows<Call>>, AllocError>
+    requires tiles { Tiles 0 (length scene.now.members.now) pieces.now }
+    requires most { length pieces.now ≤ 64 }
+    ensures { IfOk result (λ parts. flat_map (λ part. part) parts.items ≡ calls_between scene.now on 0 (length scene.now.members.now)) }
+{
+    let found = over_shares(
+        rt,
+        alloc,
+        gate,
+        pieces,
+        |piece: Range<usize>| -> Result<Vec<Rows<Call>>, LinkStop>
+            requires ordered { piece.start ≤ piece.end }
+            requires within { piece.end ≤ length scene.now.members.now }
+            ensures { IsCallPart scene.entry.now on piece result }
+        { Ok(part_of(alloc, scene, on, piece)?) },
+    );
+    match found {
+        Ok(parts) => Ok(parts),
+        Err(_) => Err(AllocError),
+    }
+}
+
+/// Those of a run of members, as one part.
+fn part_of(
+    alloc: Global,
+    scene: &Scene,
+    on: bool,
+    piece: Range<usize>,
+) -> Result<Vec<Rows<Call>>, AllocError>
+    requires ordered { piece.start ≤ piece.end }
+    requires within { piece.end ≤ length scene.now.members.now }
+    ensures { IfOk result (λ parts. flat_map (λ part. part) parts.items ≡ calls_between scene.now on piece.start piece.end) }
+{
+    let mut rows = Rows::empty(alloc)?;
+    for from in piece.start..piece.end {
+        let calls = calls_of(alloc, scene, on, from)?;
+        rows.push(calls.as_slice())?;
+    }
+    let parts = one_part(alloc, rows)?;
+    Ok(parts)
+}
