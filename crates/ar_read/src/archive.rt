@@ -14,7 +14,7 @@ use lk_base::{DefectKind, Flaw, ReadFault};
 use lk_tables::Span;
 use std::alloc::Global;
 
-/// A member of an archive.
+/// A member of an archive of System V's form (`ar`, with GNU's table of long names). Its spans are file offsets in the archive, in bytes.
 #[derive(Clone, Copy, Debug, PartialEq, Eq)]
 pub struct Member {
     /// Its name, in its header or in the table of long names. It may be empty.

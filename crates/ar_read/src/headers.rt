@@ -14,7 +14,7 @@ use crate::format::{
 use lk_base::{DefectKind, Flaw, NO_FILE};
 use lk_tables::Span;
 
-/// What a header says.
+/// What a member's header says (`struct ar_hdr` of <ar.h>, 60 bytes). Its spans are file offsets in the archive, in bytes.
 #[derive(Clone, Copy, Debug, PartialEq, Eq)]
 pub struct ArHead {
     /// Its name field, without the spaces at its end.

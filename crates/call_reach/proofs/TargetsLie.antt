@@ -21,7 +21,7 @@ use Rattle.lk_tables.specs.BoundNames.{IsBindingOf}
 use Rattle.lk_tables.specs.Files.{AreFew, File, file_at, first_section, is_section_symbol, no_section, no_symbol, section_at, section_count, section_no, section_total, symbol_at, writes}
 use Rattle.lk_tables.specs.InputSections.{input_at, input_of, common_in, room_input, section_input}
 use Rattle.lk_tables.specs.Sections.{is_written}
-use Rattle.lk_tables.specs.Sites.{place_of, relocs_of}
+use Rattle.lk_tables.specs.Sites.{place_of}
 use Rattle.lk_tables.specs.Sites as sites
 use Rattle.lk_tables.specs.TablesView.{files_of}
 use Rattle.lk_tables.specs.Targets.{bound, clamped, commons_at, defined_by, definition, offset_in, room_of, size_of, target_by, target_of}

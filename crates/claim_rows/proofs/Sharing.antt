@@ -8,8 +8,8 @@ use Rattle.std.specs.declared.ops.Range.{Range}
 use Rattle.claim_core.specs.declared.events.Event.{Event}
 use Rattle.claim_core.specs.Events.{event, none_of, after, EachIsLeast}
 use Rattle.rank_claims.specs.declared.rule.OwnStep.{OwnStep}
-use Rattle.rank_claims.specs.declared.rule.OwnStep.TheVariants.{Claimed}
-use Rattle.rank_claims.specs.Claims.{TableView, SeatView, SitsAt, HasClaimed, HasClaimedEach, IsClosing, offer_at}
+use Rattle.rank_claims.specs.declared.rule.OwnStep.TheVariants.{Claimed, SplitOff}
+use Rattle.rank_claims.specs.Claims.{TableView, SeatView, SitsAt, HasClaimed, HasClaimedEach, IsClosing, after_split, joined, newcomer, offer_at}
 use Rattle.rank_claims.proofs.Claimed.{HasClaimed-left, HasClaimed-right}
 use Rattle.work_split.specs.Pieces.{Tiles}
 use Rattle.work_split.specs.Tasks.{IsAt}
@@ -28,6 +28,22 @@ HasClaimedFrom-more offers start i found steps before k from below =
     let P : ℕ → Type 0 = λ n. HasClaimed (steps ++ step) (offer_at offers n) in
     subst P at (found, Contains-push steps (Claimed (offer_at offers i) found)))
     (cases_lt k i)
+
+-- a seat that another was split off has its claims
+pub keeps-split : (steps : List OwnStep) (s s' : SeatView) → KeepsClaims steps s.steps → s' ≡ after_split s → KeepsClaims steps s'.steps
+keeps-split steps s s' keeps is = subst (λ x. KeepsClaims steps x.steps) (sym is) (λ e has. HasClaimed-left s.steps (SplitOff ∷ []) e (keeps e has))
+
+-- the seat that was split off sits at the same table
+pub sits-newcomer : (t : TableView) (s s' : SeatView) → SitsAt t s → s' ≡ newcomer s → SitsAt t s'
+sits-newcomer t s s' sits is = record {
+  table = ap (λ (x : SeatView). x.table) is ∙ sits.table;
+  offers = ap (λ (x : SeatView). x.offers) is ∙ sits.offers;
+  wide = ap (λ (x : SeatView). length x.known) is ∙ sits.wide;
+}
+
+-- a seat that another was joined into has its own claims
+pub keeps-joined : (steps : List OwnStep) (s other s' : SeatView) → KeepsClaims steps s.steps → s' ≡ joined s other → KeepsClaims steps s'.steps
+keeps-joined steps s other s' keeps is = subst (λ x. KeepsClaims steps x.steps) (sym is) (λ e has. HasClaimed-left s.steps other.steps e (keeps e has))
 
 -- one more seat is joined
 pub kept-more : (steps : List OwnStep) (other : SeatView) (before : List SeatView) → All (λ s. KeepsClaims s.steps steps) before

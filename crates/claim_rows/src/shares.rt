@@ -51,6 +51,7 @@ pub fn claim_each<R: Threads + Sync, G: Gate>(
     requires seat { SitsAt claims.now seat.old }
     requires offers { offers.now ≡ claims.now.offers }
     ensures seat { SitsAt claims.now seat.new }
+    ensures keeps { KeepsClaims seat.old.steps seat.new.steps }
     ensures claimed { OnOk result (HasClaimedEach offers.now seat.new.steps) }
 {
     let cuts = pieces(alloc, offers.len(), workers)?;
@@ -69,6 +70,7 @@ fn seats_for(
 ) -> Result<Vec<ClaimSeat>, AllocError>
     requires { SitsAt claims.now seat.old }
     ensures sits { SitsAt claims.now seat.new }
+    ensures keeps { KeepsClaims seat.old.steps seat.new.steps }
     ensures count { IfOk result (λ seats. vec_len seats ≡ count) }
     ensures seated { IfOk result (λ seats. All (SitsAt claims.now) seats.items) }
 {
@@ -136,6 +138,7 @@ fn join_all(claims: &Claims, seat: &mut ClaimSeat, others: Vec<ClaimSeat>)
     requires seat { SitsAt claims.now seat.old }
     requires others { All (SitsAt claims.now) others.items }
     ensures table { SitsAt claims.now seat.new }
+    ensures keeps { KeepsClaims seat.old.steps seat.new.steps }
     ensures kept { All (λ other. KeepsClaims other.steps seat.new.steps) others.items }
 {
     for other in others {

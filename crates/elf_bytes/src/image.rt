@@ -1,9 +1,10 @@
 //! Executables, written out from their fields.
 
+use crate::abi::{SHT_SYMTAB, SYM_SIZE};
 use crate::numbers::push_numbers;
 use std::alloc::{AllocError, Global};
 
-/// The symbol table of an executable, and the names behind it.
+/// The symbol table of an executable, and the names after it.
 #[derive(Clone, Copy)]
 pub struct Listed<'a> {
     /// The offset of the table.
@@ -119,8 +120,8 @@ fn push_listed(out: &mut Vec<u8>, listed: &Listed) -> Result<(), AllocError> {
 /// What a header says of other sections: that of a symbol table names the next section, which has its names, and the first symbol that
 /// is not local, and has the size of an entry.
 fn links_of(sort: u64, number: u64) -> [u64; 3] {
-    if sort == 2 {
-        [number.wrapping_add(1), 1, 24]
+    if sort == SHT_SYMTAB {
+        [number.wrapping_add(1), 1, SYM_SIZE]
     } else {
         [0, 0, 0]
     }

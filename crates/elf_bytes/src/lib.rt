@@ -2,6 +2,7 @@
 //! `archive` those of an archive from its members, and `image` those of an executable.
 #![tactic(auto)]
 
+mod abi;
 mod archive;
 mod image;
 mod numbers;

@@ -1,5 +1,6 @@
 //! Objects, built for examples.
 
+use crate::abi::{RELA_SIZE, SHF_INFO_LINK, SHT_RELA, SHT_STRTAB, SHT_SYMTAB, STB_LOCAL, SYM_SIZE};
 use crate::numbers::{pad, push_numbers, push_zeros};
 use std::alloc::{AllocError, Global};
 
@@ -166,7 +167,16 @@ fn push_relocs(
             let size = entries.len() as u64;
             push_section(
                 parts,
-                [0, 4, 0x40, size, symtab, target, 8, 24],
+                [
+                    0,
+                    SHT_RELA,
+                    SHF_INFO_LINK,
+                    size,
+                    symtab,
+                    target,
+                    8,
+                    RELA_SIZE,
+                ],
                 0,
                 &entries,
             )?;
@@ -177,7 +187,7 @@ fn push_relocs(
 
 /// The symbol table's bytes; the names go to `texts`.
 fn table_of(alloc: Global, symbols: &[Symbol], texts: &mut Vec<u8>) -> Result<Vec<u8>, AllocError> {
-    let mut out = vec![in alloc; 0u8; 24]?;
+    let mut out = vec![in alloc; 0u8; SYM_SIZE as usize]?;
     for symbol in symbols {
         let numbers = [
             (texts.len() as u64, 4),
@@ -203,18 +213,36 @@ fn push_symbols(
 ) -> Result<(), AllocError> {
     let mut texts = vec![in alloc; 0u8; 1]?;
     let table = table_of(alloc, symbols, &mut texts)?;
-    let locals = symbols.iter().filter(|symbol| symbol.binding == 0).count();
+    let locals = symbols
+        .iter()
+        .filter(|symbol| symbol.binding == STB_LOCAL)
+        .count();
     let first = (locals as u64).wrapping_add(1);
     let link = symtab.wrapping_add(1);
     let size = table.len() as u64;
-    push_section(parts, [0, 2, 0, size, link, first, 8, 24], 0, &table)?;
-    push_section(parts, [0, 3, 0, texts.len() as u64, 0, 0, 1, 0], 0, &texts)
+    push_section(
+        parts,
+        [0, SHT_SYMTAB, 0, size, link, first, 8, SYM_SIZE],
+        0,
+        &table,
+    )?;
+    push_section(
+        parts,
+        [0, SHT_STRTAB, 0, texts.len() as u64, 0, 0, 1, 0],
+        0,
+        &texts,
+    )
 }
 
 /// Adds the section of the sections' names.
 fn push_names(alloc: Global, parts: &mut Parts) -> Result<(), AllocError> {
     let names = Vec::from_slice(alloc, &parts.names)?;
-    push_section(parts, [0, 3, 0, names.len() as u64, 0, 0, 1, 0], 0, &names)?;
+    push_section(
+        parts,
+        [0, SHT_STRTAB, 0, names.len() as u64, 0, 0, 1, 0],
+        0,
+        &names,
+    )?;
     pad(&mut parts.body)
 }
 

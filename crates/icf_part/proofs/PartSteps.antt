@@ -2,52 +2,23 @@
 use Rattle.std.proofs.Common.{◌≡◌, ℕ, ◌+◌, ◌-◌, ◌<◌, ◌≤◌, List, [], ◌∷◌, ◌++◌, length, map, flat_map, get_or, sym, ap, ◌∙◌, subst, ⊎_elim, arith}
 use Rattle.std.specs.List.{range_with_len}
 use Rattle.std.proofs.lemmas.Bool.{cases_lt}
-use Rattle.std.proofs.lemmas.Grind.{flat_map-append}
-use Rattle.std.proofs.lemmas.List.{get_or-map, length-map, map-append}
-use Rattle.std.proofs.lemmas.List.FromFn.{fill_by_all, map-range_with_len_more}
+use Rattle.std.proofs.lemmas.List.{get_or-map, length-map}
+use Rattle.std.proofs.lemmas.List.FromFn.{fill_by_all}
 use Rattle.link_sections.specs.declared.fold_items.FoldItem.{FoldItem as LentItem}
 use Rattle.link_sections.specs.FoldItems.{item_view, item_views, sections_of}
+use Rattle.work_split.proofs.ListedRuns.{both_parts, first_run, run_more}
 use Rattle.work_split.proofs.RunsBeside.{GoesBeside}
-use Rattle.lk_base.proofs.Ranges.{range_parts}
 use Rattle.icf_part.specs.Folding.{item_at, no_item}
 use Rattle.icf_part.specs.Signatures.{AllFit, AreRows, AreRowsFrom, all_places, places, places_from, row_bytes}
 
--- a list over a run of numbers, as it begins and one number on
-pub from_first : {Y : Type 0} (f : ℕ → Y) (a : ℕ) → [] ≡ map f (range_with_len a (a - a))
-from_first f a = let e : a - a ≡ 0 = omega arith in sym (ap (λ k. map f (range_with_len a k)) e)
-
-pub from_more : {Y : Type 0} (f : ℕ → Y) (a n : ℕ) (old new : List Y) → a ≤ n → old ≡ map f (range_with_len a (n - a)) → new ≡ old ++ f n ∷ [] →
-    new ≡ map f (range_with_len a ((n + 1) - a))
-from_more f a n old new le held push =
-    let e : (n + 1) - a ≡ (n - a) + 1 = omega arith in
-    push ∙ ap (λ l. l ++ f n ∷ []) held ∙ sym (map-range_with_len_more f a (n - a) n (omega arith)) ∙ sym (ap (λ k. map f (range_with_len a k)) e)
-
-two_runs : {Y : Type 0} (f : ℕ → Y) (a m b : ℕ) → a ≤ m → m ≤ b → map f (range_with_len a (b - a)) ≡ map f (range_with_len a (m - a)) ++ map f (range_with_len m (b - m))
-two_runs f a m b low high =
-    let n : b - a ≡ (m - a) + (b - m) = omega arith in
-    let from : a + (m - a) ≡ m = omega arith in
-    ap (λ k. map f (range_with_len a k)) n ∙ ap (map f) (range_parts a (m - a) (b - m))
-    ∙ map-append f (range_with_len a (m - a)) (range_with_len (a + (m - a)) (b - m))
-    ∙ ap (λ k. map f (range_with_len a (m - a)) ++ map f (range_with_len k (b - m))) from
-
-both_parts : {Y : Type 0} (f : ℕ → Y) (a m b : ℕ) (xs ys : List (List Y)) → a ≤ m → m ≤ b →
-    flat_map (λ part. part) xs ≡ map f (range_with_len a (m - a)) → flat_map (λ part. part) ys ≡ map f (range_with_len m (b - m)) →
-    flat_map (λ part. part) (xs ++ ys) ≡ map f (range_with_len a (b - a))
-both_parts f a m b xs ys low high one two =
-    flat_map-append (λ part. part) xs ys ∙ ap (λ l. l ++ flat_map (λ part. part) ys) one ∙ ap (λ l. map f (range_with_len a (m - a)) ++ l) two
-    ∙ sym (two_runs f a m b low high)
-
-pub parts_beside : {Y : Type 0} (f : ℕ → Y) → GoesBeside {X = List Y} (λ a b parts. flat_map (λ part. part) parts ≡ map f (range_with_len a (b - a)))
-parts_beside f = record { none = λ a. from_first f a; both = λ a m b xs ys low high one two. both_parts f a m b xs ys low high one two }
-
 -- rows of numbers
 pub rows_first : (words : ℕ → List ℕ) (a : ℕ) → AreRowsFrom words a a []
-rows_first words a = record { rows_are = from_first (λ k. row_bytes (words k)) a; fit = λ k low lt. absurd (omega (arith, low, lt)) }
+rows_first words a = record { rows_are = first_run (λ k. row_bytes (words k)) a; fit = λ k low lt. absurd (omega (arith, low, lt)) }
 
 pub rows_more : (words : ℕ → List ℕ) (a n : ℕ) (old new : List (List ℕ)) (row : List ℕ) → a ≤ n → AreRowsFrom words a n old → row ≡ words n → AllFit row →
     new ≡ old ++ row_bytes row ∷ [] → AreRowsFrom words a (n + 1) new
 rows_more words a n old new row le are is fits push = record {
-  rows_are = from_more (λ k. row_bytes (words k)) a n old new le are.rows_are (push ∙ ap (λ r. old ++ row_bytes r ∷ []) is);
+  rows_are = run_more (λ k. row_bytes (words k)) a n old new le are.rows_are (push ∙ ap (λ r. old ++ row_bytes r ∷ []) is);
   fit = λ k low lt. ⊎_elim
       (λ (before : k < n). are.fit k low before)
       (λ (last : n ≤ k).

@@ -20,8 +20,8 @@ use work_split::Gate;
 const ITEM_END: usize = 1 << 31;
 
 /// For each item the place of its leader: the least item that can stand for it. Items are given in order of their sections' numbers. The
-/// answer is the same whatever the number of workers; each makes what is compared of one piece of the items, and more than one sort as many as
-/// the machine has processors. The only error is out of memory, which 2^31 items or more are answered with.
+/// answer is the same whatever the number of workers; each makes what is compared of one piece of the items, and more than one number rows by
+/// threads, eight or as many as there are processors. The only error is out of memory, which 2^31 items or more are answered with.
 pub fn fold<R: Threads + Sync, G: Gate>(
     rt: &R,
     alloc: Global,

@@ -11,8 +11,8 @@ use name_numbers::number_texts;
 use std::alloc::{AllocError, Global};
 use std::thread::Threads;
 
-/// The number of each row, of rows in parts. They are sorted by tags that their bytes decide, and compared byte by byte where these are
-/// equal.
+/// The number of each row, of rows in parts. They are numbered by tables of tags that their bytes decide, and compared byte by byte; few,
+/// and all where tags collide, are sorted.
 pub fn number_rows<R: Threads + Sync>(
     rt: &R,
     alloc: Global,
@@ -65,7 +65,7 @@ fn contents_of<'a>(alloc: Global, items: &[FoldItem<'a>]) -> Result<Vec<&'a [u8]
     Ok(texts)
 }
 
-/// The number of each item's output section, by its name. Most often they are all one, so that they stand in order, and one worker is quicker.
+/// The number of each item's output section, by its name. One worker does it, since most often they are all one.
 pub fn number_outputs<R: Threads + Sync>(
     rt: &R,
     alloc: Global,

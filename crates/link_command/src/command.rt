@@ -45,21 +45,21 @@ pub enum IcfMode {
 /// An accepted command.
 #[derive(Drop)]
 pub struct Command {
-    /// The name of the executable.
+    /// `-o`: the name of the executable, `a.out` where none is given.
     pub output: String,
-    /// The name of the map file, if one is asked for.
+    /// `--Map`: the name of the map file, if one is asked for.
     pub map: Option<String>,
-    /// The name of the symbol at which the executable starts.
+    /// `-e`: the name of the symbol at which the executable starts, `_start` where none is given.
     pub entry: String,
-    /// The number of workers.
+    /// `--threads`: the number of workers, 1 to 64, 4 where none is given.
     pub threads: u32,
-    /// Whether sections that nothing refers to are left out.
+    /// `--gc-sections`: whether sections that nothing refers to are left out.
     pub gc: bool,
-    /// Whether equal code is folded.
+    /// `--icf`: whether equal code is folded.
     pub icf: IcfMode,
-    /// Whether calls are relaxed.
+    /// Without `--no-relax`: whether calls are relaxed.
     pub relax: bool,
-    /// Whether symbols are left out.
+    /// `-s`: whether the symbol table is left out.
     pub strip: bool,
     /// What is linked.
     pub inputs: Wanted,

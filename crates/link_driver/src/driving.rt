@@ -337,14 +337,14 @@ fn tell<E: Sink>(err: &mut E, line: &[u8])
 /// `words` are the command's, the program's name first. Inputs are loaded from `depot`, as in the order of the command, before the
 /// executable, and the map where one is asked, are begun there; all of them are named as the command says. The report goes to
 /// `say`, the line of an end that is not 0 or 4 to `err`. All memory is taken from `alloc` before a
-/// file is begun. What the inputs and the tables of a link hold is not given back, since a process ends next that is done with it, and to free it
-/// takes a tenth of the time of many objects: a process that goes on calls [`link`](crate::link), which keeps nothing.
+/// file is begun. What the inputs hold, and after a link without a defect the tables, is not given back, since a process ends next that is done
+/// with it, and to free it takes a tenth of the time of many objects: a process that goes on calls [`link`](crate::link), which keeps nothing.
 ///
-/// The answer is the exit status: 0 linked; 1 the inputs have a defect, whose line is told; 2 the command is refused; 3 an input
+/// The answer is the exit status: 0 linked; 1 the inputs have a defect, whose line is reported; 2 the command is refused; 3 an input
 /// could not be read, or a file or the report could not be written; 4 out of memory. `rt` starts as many workers as the
 /// command asks for; they share the loads and the passes over files, symbols, sections and blocks. Where there are two or more, passes that do
-/// not need one another run side by side, each on a thread of its own; names and the symbols of the executable and the map are sorted, and what
-/// merged sections are cut into and what folding compares is numbered, by as many threads as there are processors, or by eight. `gate` is called
+/// not need one another run side by side, each on a thread of its own; names, the pieces of merged sections and what folding compares are
+/// numbered, and the symbols of the executable and the map sorted, by eight threads or by as many as there are processors. `gate` is called
 /// by each worker of a pass before and after its piece, where there are two pieces or more. No answer depends on either.
 pub fn run<R: Threads + Sync, D: Depot, S: Sink, E: Sink, G: Gate>(
     rt: &R,

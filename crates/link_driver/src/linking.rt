@@ -144,7 +144,8 @@ pub fn bind_names<R: Threads + Sync, G: Gate>(
     )
 }
 
-/// By section number, which sections are kept: all, or those that the roots lead to. The only error is out of memory.
+/// By section number, which sections are kept: with `gc` those that the roots lead to, else all that may stay. It is as long as the tables have
+/// sections. The only error is out of memory.
 #[tactic(auto, unfolding(crate::specs::Link::kept_of))]
 pub fn find_kept<R: Threads + Sync, G: Gate>(
     rt: &R,
@@ -174,17 +175,17 @@ pub fn find_kept<R: Threads + Sync, G: Gate>(
 /// What a command asks of a link beside its names.
 #[derive(Clone, Copy, Debug, PartialEq, Eq)]
 pub struct Options {
-    /// Whether sections that nothing refers to are left out.
+    /// `--gc-sections`: whether sections that nothing refers to are left out.
     pub gc: bool,
-    /// Whether equal code is folded.
+    /// `--icf all`: whether equal code is folded.
     pub icf: bool,
-    /// Whether calls are relaxed.
+    /// Without `--no-relax`: whether calls are relaxed.
     pub relax: bool,
-    /// Whether symbols are left out.
+    /// `-s`: whether the symbol table is left out.
     pub strip: bool,
-    /// Whether there is a map.
+    /// `--Map`: whether there is a map.
     pub map: bool,
-    /// Of how many generated objects there is a report, if there is one.
+    /// `--self-input`: of how many generated objects there is a report, if there is one.
     pub generated: Option<u32>,
 }
 
@@ -212,8 +213,8 @@ fn options_of(command: &Command) -> Options
     }
 }
 
-/// By section number, which section is written in the place of each: those that are merged stand in pools, and equal code is
-/// folded. The only error is out of memory.
+/// By section number, which section is written in the place of each: none where it is not kept or is merged into a pool; itself where its own
+/// bytes are written; with `icf` the first section that it is folded with. The only error is out of memory.
 #[tactic(auto, unfolding(crate::specs::Link::leaders_in))]
 pub fn find_leaders<R: Threads + Sync, G: Gate>(
     rt: &R,
@@ -511,7 +512,8 @@ pub fn link_sources<'a, R: Threads + Sync, G: Gate>(
     requires limits { IsWithinStandard limits.now }
     requires some { 1 ≤ command.now.threads }
     requires most { command.now.threads ≤ 64 }
-    ensures { AfterLink limits.now (asks command.now) (shown_files (input_names inputs.now) (input_contents inputs.now) (sources_of sources.now)) (sources_of sources.now) (linked_of result) }
+    ensures after { AfterLink limits.now (asks command.now) (shown_files (input_names inputs.now) (input_contents inputs.now) (sources_of sources.now)) (sources_of sources.now) (linked_of result) }
+    ensures tables { IfOk result (λ both. files_of both.1 ≡ files_in (sources_of sources.now)) }
 {
     let workers = command.threads;
     let tables = match read_files(rt, alloc, limits, sources, workers, gate) {
@@ -576,8 +578,9 @@ pub fn link<R: Threads + Sync, G: Gate>(
     }
 }
 
-/// Does what [`link`] does, and gives the tables that were read of the inputs as well. To free their many lists takes a tenth of the time of
-/// a link of many objects: who is about to end the process can [`forget`](std::mem::forget) them.
+/// Does what [`link`] does, and gives the tables that were read of the inputs as well. They borrow the inputs and are the caller's; at a stop
+/// they are freed. To free their many lists takes a tenth of the time of a link of many objects: who is about to end the process can
+/// [`forget`](std::mem::forget) them.
 pub fn link_with_tables<'a, R: Threads + Sync, G: Gate>(
     rt: &R,
     alloc: Global,
@@ -589,7 +592,8 @@ pub fn link_with_tables<'a, R: Threads + Sync, G: Gate>(
     requires limits { IsWithinStandard limits.now }
     requires some { 1 ≤ command.now.threads }
     requires most { command.now.threads ≤ 64 }
-    ensures { AfterLink limits.now (asks command.now) (shown_files (input_names inputs.now) (input_contents inputs.now) (sources limits.now (input_contents inputs.now))) (sources limits.now (input_contents inputs.now)) (linked_of result) }
+    ensures after { AfterLink limits.now (asks command.now) (shown_files (input_names inputs.now) (input_contents inputs.now) (sources limits.now (input_contents inputs.now))) (sources limits.now (input_contents inputs.now)) (linked_of result) }
+    ensures tables { IfOk result (λ both. files_of both.1 ≡ files_in (sources limits.now (input_contents inputs.now))) }
 {
     let sources = find_sources(alloc, limits, inputs)?;
     link_sources(rt, alloc, command, inputs, sources.as_slice(), limits, gate)

@@ -41,8 +41,11 @@ impl Defect {
 #[derive(Clone, Copy, Debug, PartialEq, Eq)]
 pub struct Flaw {
     pub kind: DefectKind,
+    /// The section, 0 if it is of none.
     pub section: u32,
+    /// Where, as the kind counts: a file offset or an offset in the section, in bytes, a count, or a symbol's index (docs/rules.md, "Defects").
     pub place: u64,
+    /// What more there is to say, as the kind has it; 0 if there is nothing.
     pub other: u64,
 }
 

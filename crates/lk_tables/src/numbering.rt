@@ -4,8 +4,8 @@ ghost use Rattle.std.specs.Prelude.{◌≡◌, ◌<◌, List, length, slice_inde
 ghost use Rattle.lk_tables.specs.Files.{File, file_at};
 ghost use Rattle.lk_tables.specs.NameNumbers.{NumbersNames, name_number};
 
-/// The numbers of the names of all files' symbols. The number of a name is that of the first symbol that has it, in order of file
-/// and symbol; so two symbols have names of one number exactly if their names are equal.
+/// The numbers of the names of all files' symbols that are not LOCAL. The number of a name is that of the first such symbol that has it, in
+/// order of file and symbol; so two of them have names of one number exactly if their names are equal. A LOCAL symbol has 0.
 #[derive(Debug, Drop)]
 pub struct NameNumbers {
     /// The number of each file's first symbol, and after these how many symbols there are.

@@ -60,7 +60,8 @@ impl<'a> Tables<'a> {
         self.first_sections[self.files.len()] as usize
     }
 
-    /// The number of a section of a file that takes part.
+    /// The number of a section of a file that takes part; an index from the file's section count on is that of a COMMON symbol. Index 0 of a file
+    /// that takes no part gives the number of the next file's first section.
     pub fn section_no(&self, file: usize, section: usize) -> usize
         requires file { file < length (files_of self.now) }
         requires section { section < 2 ^ 32 }
@@ -82,7 +83,7 @@ impl<'a> Tables<'a> {
         }
     }
 
-    /// There are no more files, symbols and sections than a link has at most.
+    /// There are no more files, symbols and sections than a link has at most. Nothing is done while a program runs: the clause is all.
     pub fn is_few(&self)
         ensures { AreFew (files_of self.now) }
     {}

@@ -18,7 +18,7 @@ const CLASS_RANKS: u64 = 0x100_0000_0000_0000;
 /// So many ranks has each file in a class.
 const FILE_RANKS: u64 = 0x1_0000_0000;
 
-/// Whether a symbol offers its name: other files see it, and it is defined.
+/// Whether a symbol offers its name: other files see it, and it is defined, or COMMON (System V gABI, "Symbol Table").
 pub fn is_offer(symbol: &Symbol) -> bool
     ensures { result ≡ spec.is_offer symbol.now }
 {
@@ -36,7 +36,7 @@ pub fn class_of(symbol: &Symbol) -> u64
     if symbol.binding == STB_WEAK { 2 } else { 0 }
 }
 
-/// The rank of an offer of a class, by its file and its symbol.
+/// The rank of an offer of a class, by its file and its symbol: class * 2^56 + file * 2^32 + symbol. The least rank is the strongest offer.
 pub fn rank_of(class: u64, file: usize, symbol: usize) -> u64
     requires class { class ≤ 4 }
     requires file { file < 2 ^ 24 }

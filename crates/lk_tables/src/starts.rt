@@ -10,7 +10,7 @@ use crate::reading::is_common;
 use lk_base::FileNo;
 use std::alloc::{AllocError, Global};
 
-/// The number of each file's first symbol, and after these how many symbols there are.
+/// The number of each file's first symbol, in order of the files, and after these how many symbols there are. The only error is out of memory.
 pub fn first_symbols(alloc: Global, files: &[File]) -> Result<Vec<u32>, AllocError>
     requires { symbol_total (file_views files.now) < 2 ^ 31 }
     ensures { IfOk result (λ firsts. firsts.items ≡ map (first_symbol (file_views files.now)) (range_with_len 0 (length files.now + 1))) }
@@ -25,7 +25,7 @@ pub fn first_symbols(alloc: Global, files: &[File]) -> Result<Vec<u32>, AllocErr
     Ok(firsts)
 }
 
-/// The number of each file's first section, and after these how many sections there are.
+/// The number of each file's first section, in order of the files, and after these how many sections there are. The only error is out of memory.
 pub fn first_sections(alloc: Global, files: &[File]) -> Result<Vec<u32>, AllocError>
     requires { section_total (file_views files.now) ≤ 2 ^ 28 }
     ensures { IfOk result (λ firsts. firsts.items ≡ map (first_section (file_views files.now)) (range_with_len 0 (length files.now + 1))) }

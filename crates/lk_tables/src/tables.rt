@@ -24,7 +24,9 @@ pub struct Heads<'a> {
     ghost numbered: { IfSome names (NumbersNames (heads_alone (file_views files.items))) } by { Prim.hlevel props },
 }
 
-/// The files of a link, with the bodies of those that take part.
+/// The files of a link, with the bodies of those that take part. The bytes of the inputs are lent for `'a`, and none is copied. Symbols have
+/// numbers in order of file and index. So have sections of the files that take part: in each file its own, and after them one for each of its
+/// COMMON symbols.
 #[derive(Debug, Drop)]
 pub struct Tables<'a> {
     pub(crate) files: Vec<File<'a>>,

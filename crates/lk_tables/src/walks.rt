@@ -23,13 +23,14 @@ pub trait RelocTest {
     /// What is wrong with a relocation of a section of a file.
     ghost defects: { Self → ℕ → ℕ → Reloc → List Defect };
 
-    /// Whether there may be a defect in a file that takes part in the link.
+    /// Whether there may be a defect in a file that takes part in the link. Asked once for each file; where it is false no relocation of the
+    /// file is read. It may be true where there is none.
     fn wants(&self, file: FileNo) -> bool
         requires file { file < length (files self.now) }
         requires live { (file_at (files self.now) file).live ≡ true }
         ensures { result ≡ false → over_file (files self.now) (over_section (files self.now) (defects self.now)) file ≡ [] };
 
-    /// The first defect of a relocation.
+    /// The first defect of a relocation. Asked for a file's relocations in order of section and offset, up to the first that has one.
     fn check(&self, file: FileNo, section: u32, reloc: &Reloc) -> Option<Defect>
         requires file { file < length (files self.now) }
         requires live { (file_at (files self.now) file).live ≡ true }

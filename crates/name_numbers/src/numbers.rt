@@ -19,8 +19,8 @@ use std::thread::Threads;
 /// The numbers of fewer symbols are not worth threads.
 const LEAST: usize = 262_144;
 
-/// Numbers the names of all files' symbols, whether their files take part in the link or not. One worker does all by itself; for more,
-/// threads are started if there are many names.
+/// Numbers the names of all files' symbols, whether their files take part in the link or not: by symbol number, 0 for LOCAL ones. One worker
+/// does all by itself; for more, threads are started if there are many names. The only error is out of memory.
 pub fn number_names<R: Threads + Sync>(
     rt: &R,
     alloc: Global,

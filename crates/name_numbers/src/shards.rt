@@ -26,8 +26,9 @@ pub struct First {
     pub first: u32,
 }
 
-/// For each tag the first index that has it, or none where tags were made up to crowd a table. One worker does all by itself; for more,
-/// threads are started.
+/// For each tag the first index that has it, or `0xffff_ffff`, which is no index, where tags were made up to crowd a table. Whether what the
+/// tags are of is equal, too, is for the caller to compare (`are_told`). One worker does all by itself; for more, threads are started. The only
+/// error is out of memory.
 pub fn number_tags<R: Threads + Sync>(
     rt: &R,
     alloc: Global,

@@ -3,3 +3,4 @@ pub mod Ends
 pub mod Keeps
 pub mod Rows
 pub mod Sitting
+pub mod Wholes

@@ -1,5 +1,5 @@
 -- A table of claims and a seat at it as callers see them, what each call does to a seat, and what the closed table gives.
-use Rattle.std.specs.Prelude.{◌≡◌, ℕ, ◌≤◌, List, [], ◌∷◌, ◌++◌, length, min, slice_index, slice_index_or, slice_set, All, Contains}
+use Rattle.std.specs.Prelude.{◌≡◌, ℕ, suc, ◌≤◌, List, [], ◌∷◌, ◌++◌, length, min, slice_index, slice_index_or, slice_set, All, Contains}
 use Rattle.atomic_table.specs.Seated.{TableId}
 use Rattle.claim_core.specs.declared.events.Event.{Event}
 use Rattle.claim_core.specs.Events.{event, none_of, after, IsReached, IsOffered, EachIsOffered, EachIsLeast, DrawsEach}
@@ -12,12 +12,14 @@ pub record TableView : Type 0 where
   pub words : ℕ
   pub offers : List Event
 
--- A seat: its table, the offers, for each word the least number that it knows the word not to be above, and its own steps in order
+-- A seat: its table, the offers, for each word the least number that it knows the word not to be above, its own steps in order, and
+-- its share of the table, as parts: k is a part that is the whole halved k times. The shares of all seats are the whole table
 pub record SeatView : Type 0 where
   pub table : TableId
   pub offers : List Event
   pub known : List ℕ
   pub steps : List OwnStep
+  pub share : List ℕ
 
 -- the seat is one of this table's: it has the table's offers, and knows of each of its words
 pub record SitsAt (t : TableView) (s : SeatView) : Type 0 where
@@ -29,9 +31,19 @@ pub record SitsAt (t : TableView) (s : SeatView) : Type 0 where
 abbrev pub offer_at : List Event → ℕ → Event
 offer_at offers i = slice_index_or offers i (event 0 0)
 
--- the seat that a new table comes with
+-- the seat that a new table comes with: it has the whole of it
 abbrev pub first_seat : TableView → SeatView
-first_seat t = record { table = t.table; offers = t.offers; known = none_of t.words; steps = [] }
+first_seat t = record { table = t.table; offers = t.offers; known = none_of t.words; steps = []; share = 0 ∷ [] }
+
+-- a share of which the first part was halved
+abbrev pub halved : List ℕ → List ℕ
+halved [] = []
+halved (k ∷ parts) = suc k ∷ parts
+
+-- the other half of that part
+abbrev pub half_of : List ℕ → List ℕ
+half_of [] = []
+half_of (k ∷ parts) = suc k ∷ []
 
 -- The seat after its claim of an offer, on a word that held `found`
 abbrev pub after_claim : SeatView → Event → ℕ → SeatView
@@ -41,13 +53,13 @@ after_claim s e found = record s { known = slice_set s.known e.word (min found e
 abbrev pub after_look : SeatView → ℕ → ℕ → SeatView
 after_look s word found = record s { known = slice_set s.known word found; steps = s.steps ++ Read word found ∷ [] }
 
--- the seat after another was split off it, which is a step of its own
+-- the seat after another was split off it, which is a step of its own, and took half of a part
 abbrev pub after_split : SeatView → SeatView
-after_split s = record s { steps = s.steps ++ SplitOff ∷ [] }
+after_split s = record s { steps = s.steps ++ SplitOff ∷ []; share = halved s.share }
 
--- the seat that is split from this one: it knows the same, and has made no step
+-- the seat that is split from this one: it knows the same, has made no step, and has the other half
 abbrev pub newcomer : SeatView → SeatView
-newcomer s = record s { steps = [] }
+newcomer s = record s { steps = []; share = half_of s.share }
 
 -- place by place the lesser of two rows' numbers, as far as both go
 abbrev pub lesser_of : List ℕ → List ℕ → List ℕ
@@ -57,7 +69,7 @@ lesser_of (x ∷ xs) (y ∷ ys) = min x y ∷ lesser_of xs ys
 
 -- the seat that another was joined into
 abbrev pub joined : SeatView → SeatView → SeatView
-joined s other = record s { known = lesser_of s.known other.known; steps = s.steps ++ other.steps }
+joined s other = record s { known = lesser_of s.known other.known; steps = s.steps ++ other.steps; share = s.share ++ other.share }
 
 -- What a step may find at a word: NONE or a rank on offer for it, and no more than the seat knew
 abbrev pub IsFound : SeatView → ℕ → ℕ → Type 0

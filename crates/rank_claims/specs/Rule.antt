@@ -1,5 +1,5 @@
 -- The rule that every step on a table of claims keeps, and what a step tells its seat. What a seat knows is its view.
-use Rattle.std.specs.Prelude.{◌≡◌, ℕ, ◌<◌, ◌≤◌, ◌⊎◌, Bool, true, false, List, [], ◌∷◌, ◌++◌, length, max, min, slice_index, slice_set, Contains}
+use Rattle.std.specs.Prelude.{◌≡◌, ℕ, ◌+◌, ◌-◌, ◌^◌, ◌<◌, ◌≤◌, ◌⊎◌, Bool, true, false, List, [], ◌∷◌, ◌++◌, length, max, min, slice_index, slice_set, All, Contains}
 use Rattle.atomic_table.specs.Table.{State, Me, Step}
 use Rattle.atomic_table.specs.Seated.{TableId}
 use Rattle.atomic_table.specs.declared.shared.Seat.{Seat}
@@ -9,8 +9,8 @@ use Rattle.claim_core.specs.Events.{event, none_of, AllInRow, IsReached, IsOffer
 use Rattle.rank_claims.specs.declared.rule.OwnStep.{OwnStep}
 use Rattle.rank_claims.specs.declared.rule.OwnStep.TheVariants.{Claimed, Read, SplitOff}
 use Rattle.rank_claims.specs.declared.rule.View.{View}
-use Rattle.rank_claims.specs.Claims.{HasClaimed, SeatView, lesser_of}
-use Rattle.seat_views.specs.Views.{EachView, SomeView}
+use Rattle.rank_claims.specs.Claims.{HasClaimed, SeatView, half_of, halved, lesser_of}
+use Rattle.seat_views.specs.Views.{EachView, SomeView, total_of}
 
 -- a seat at a table with no slots
 abbrev pub Seated : Type 0
@@ -18,11 +18,11 @@ Seated = Me (Unit {0}) View
 
 -- a view as its seat's callers see it
 abbrev pub seen : Seat (Unit {0}) View → SeatView
-seen s = record { table = s.table_id; offers = s.me.0.offers; known = s.me.0.known; steps = s.me.0.steps }
+seen s = record { table = s.table_id; offers = s.me.0.offers; known = s.me.0.known; steps = s.me.0.steps; share = s.me.0.share }
 
 -- the view of the first seat of a table
 abbrev pub founder : ℕ → List Event → View
-founder count offers = record { live = true; offers = offers; known = none_of count; steps = [] }
+founder count offers = record { live = true; offers = offers; known = none_of count; steps = []; share = 0 ∷ [] }
 
 abbrev pub view_after_claim : View → Event → ℕ → View
 view_after_claim v e found = record v { known = slice_set v.known e.word (min found e.rank); steps = v.steps ++ Claimed e found ∷ [] }
@@ -31,17 +31,17 @@ abbrev pub view_after_look : View → ℕ → ℕ → View
 view_after_look v word found = record v { known = slice_set v.known word found; steps = v.steps ++ Read word found ∷ [] }
 
 abbrev pub view_after_split : View → View
-view_after_split v = record v { steps = v.steps ++ SplitOff ∷ [] }
+view_after_split v = record v { steps = v.steps ++ SplitOff ∷ []; share = halved v.share }
 
 abbrev pub view_split : View → View
-view_split v = record v { steps = [] }
+view_split v = record v { steps = []; share = half_of v.share }
 
 abbrev pub view_joined : View → View → View
-view_joined v w = record v { known = lesser_of v.known w.known; steps = v.steps ++ w.steps }
+view_joined v w = record v { known = lesser_of v.known w.known; steps = v.steps ++ w.steps; share = v.share ++ w.share }
 
 -- what is left of a view that was joined into another: no rule speaks of it
 abbrev pub view_spent : View
-view_spent = record { live = false; offers = []; known = []; steps = [] }
+view_spent = record { live = false; offers = []; known = []; steps = []; share = [] }
 
 -- whether a view is that of a seat which was not joined into another
 abbrev pub is_live : View → Bool
@@ -61,13 +61,31 @@ IsClaimed views word rank = SomeView is_live (λ v. HasClaimed v.steps (event wo
 abbrev pub EachIsClaimed : List View → List ℕ → Type 0
 EachIsClaimed views words = (word : ℕ) → word < length words → (slice_index words word ≡ NONE) ⊎ IsClaimed views word (slice_index words word)
 
--- The rule. At each moment the words are a state that events of the offers lead to, each rank in them was claimed, and they
--- fit each live view. A table for no words has one all the same, which no offer and no call names
+-- how many parts a share has, if the whole table is 2 ^ depth of them
+abbrev pub parts_in : (depth : ℕ) → List ℕ → ℕ
+parts_in depth [] = 0
+parts_in depth (k ∷ parts) = 2 ^ (depth - k) + parts_in depth parts
+
+-- a share has a part, and none was halved more often than this
+pub record IsShare (depth : ℕ) (v : View) : Type 0 where
+  pub some : 0 < length v.share
+  pub most : All (λ k. k ≤ depth) v.share
+
+-- Each live view has a share, and all of them are the whole table: a seat comes only from another, of whose share it has a half
+pub record AreWhole (views : List View) : Type 0 where
+  pub depth : ℕ
+  pub each : EachView is_live (IsShare depth) views
+  pub whole : total_of is_live (λ v. parts_in depth v.share) views ≡ 2 ^ depth
+
+-- The rule. At each moment the words are a state that events of the offers lead to, each rank in them was claimed, they fit
+-- each live view, and there are no more live views than were split off. A table for no words has one all the same, which no
+-- offer and no call names
 pub record Kept (count : ℕ) (offers : List Event) (s : State (Unit {0}) View) : Type 0 where
   pub wide : length s.words ≡ max count 1
   pub reached : IsReached offers s.words
   pub claimed : EachIsClaimed s.views s.words
   pub each : EachView is_live (Fits count offers s.words) s.views
+  pub shares : AreWhole s.views
 
 -- what a step may find at a word
 abbrev pub ViewFinds : View → ℕ → ℕ → Type 0

@@ -19,6 +19,7 @@ pub struct View {
     pub offers: LinkedList<Event>,
     pub known: LinkedList<u64>,
     pub steps: LinkedList<OwnStep>,
+    pub share: LinkedList<u64>,
 }
 
 // What a table is given when it is made.
@@ -28,7 +29,7 @@ pub struct Key<'a> {
     pub offers: &'a [Event],
 }
 
-// The words only fall, and only to ranks on offer that a seat has claimed.
+// The words only fall, and only to ranks on offer that a seat has claimed, and no seat comes but by a split.
 pub struct Falling;
 
 impl<'a> TableRule<(), View, Key<'a>> for Falling {

@@ -35,6 +35,8 @@ impl<'a> Model for Claims<'a> {
 
 /// A seat at a table, for one thread at a time. What it knows exists in proofs alone: it has no bytes, and to split or
 /// to join seats copies nothing. What a seat that is dropped has claimed stays claimed, but no other seat knows of it.
+/// The shares of all seats are the whole table, so a seat comes from [`Claims::open`] or from another seat, and what a call
+/// does to the share of the seat that it is given shows whether it made one.
 #[derive(Drop)]
 pub struct ClaimSeat {
     seat: Seat<(), View>,
@@ -52,7 +54,7 @@ impl Model for ClaimSeat {
 }
 
 impl<'a> Claims<'a> {
-    /// A table whose words are all `NONE`, with the first seat at it.
+    /// A table whose words are all `NONE`, with the first seat at it, which has the whole table as its share.
     pub fn open(
         alloc: Global,
         words: u32,
@@ -99,7 +101,7 @@ impl<'a> Claims<'a> {
         shared.load::<Looking>(&mut seat.seat, word as usize)
     }
 
-    /// A second seat, which knows what the first one knows and has made no step.
+    /// A second seat, which knows what the first one knows, has made no step, and takes half of a part of the first one's share.
     pub fn split(&self, seat: &mut ClaimSeat) -> ClaimSeat
         requires { SitsAt self.now seat.old }
         ensures step { seat.new ≡ after_split seat.old }
@@ -110,7 +112,7 @@ impl<'a> Claims<'a> {
         ClaimSeat { seat: other }
     }
 
-    /// The seat learns what the other knows, and takes the other's steps after its own.
+    /// The seat learns what the other knows, and takes the other's steps after its own, and its share.
     pub fn join(&self, seat: &mut ClaimSeat, other: ClaimSeat)
         requires seat { SitsAt self.now seat.old }
         requires other { SitsAt self.now other }

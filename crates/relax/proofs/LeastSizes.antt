@@ -7,7 +7,7 @@ use Rattle.std.proofs.lemmas.List.{get_or-map, get_or-set_other, get_or-set_same
 use Rattle.std.proofs.Math.Seq.{take-set-lt}
 use Rattle.std.proofs.lemmas.List.FromFn.{fill_by_all, get_or-map-range_with_len, get_or-range_with_len, length-map-range_with_len, length-range_with_len}
 use Rattle.std.proofs.lemmas.List.Elements.{All-cons}
-use Rattle.std.proofs.lemmas.List.Sums.{sum_by-le, sum_by-take-le, sum_by-set, sum_by_more, sum_by_push, sum_by-cons}
+use Rattle.std.proofs.lemmas.List.Sums.{sum_by-le, sum_by-take-le, sum_by-set, sum_by_more, sum_by-cons}
 use Rattle.lk_base.proofs.Loops.{range_more}
 use Rattle.relax.specs.declared.jumps.Jump.{Jump}
 use Rattle.relax.specs.Jumps.{AreBelow, AreLawful, AreSafe, IsJump, IsLawful, all_lost, allows, is_allowed, is_small, jump_at, jump_bytes, least_of, lost_before, lost_in, lost_sums, lost_upto, no_jump, raised, raised_size, reach, size_at, some_rises}

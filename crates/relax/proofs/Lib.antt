@@ -1,6 +1,5 @@
 pub mod CutSteps
 pub mod Fitting
-mod CallParts
 mod Hints
 mod KeyMaps
 mod LeastSizes

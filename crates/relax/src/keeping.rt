@@ -54,32 +54,9 @@ pub fn sizes<R: Threads + Sync, G: Gate>(
     ensures law { IfOk result (λ _. spec.IsLeastSafe (files_of tables.now) (binding_view binding.now) (pools_view (files_of tables.now) pools.now) leaders.now on) }
 {
     if !may_relax(tables, on) {
-        let sizes = unrelaxed_sizes(rt, alloc, tables, workers, gate)?;
-        return Ok(sizes);
+        let unrelaxed = unrelaxed_sizes(rt, alloc, tables, workers, gate)?;
+        return Ok(unrelaxed);
     }
-    relaxed_sizes(
-        rt, alloc, tables, binding, pools, leaders, on, workers, gate,
-    )
-}
-
-/// The same, whether or not there is a call.
-fn relaxed_sizes<R: Threads + Sync, G: Gate>(
-    rt: &R,
-    alloc: Global,
-    tables: &Tables,
-    binding: &Binding,
-    pools: &Pools,
-    leaders: &[Option<SecNo>],
-    on: bool,
-    workers: u32,
-    gate: &G,
-) -> Result<Sizes, AllocError>
-    requires some { 1 ≤ workers }
-    requires most { workers ≤ 64 }
-    ensures cuts { IfOk result (λ sizes. sizes_of sizes ≡ spec.cuts_of (files_of tables.now) (binding_view binding.now) (pools_view (files_of tables.now) pools.now) leaders.now on) }
-    ensures fit { IfOk result (λ sizes. FitSections (files_of tables.now) (sizes_of sizes)) }
-    ensures law { IfOk result (λ _. spec.IsLeastSafe (files_of tables.now) (binding_view binding.now) (pools_view (files_of tables.now) pools.now) leaders.now on) }
-{
     tables.is_few();
     few_pools(pools);
     let members = members_of(alloc, tables, binding, pools, leaders)?;

@@ -12,7 +12,8 @@ use lk_base::relocations::is_upper;
 use lk_tables::{Reloc, Tables, Uppers, section_count};
 use std::alloc::{AllocError, Global};
 
-/// The upper parts of each section, by its number. The only error is out of memory.
+/// The upper parts of each section, by its number: relocations of the kinds 20 to 23, to which others refer by a label (RISC-V ELF psABI,
+/// "Relocations"), in order of offset, and of one offset in that of the file. The only error is out of memory.
 pub fn find_uppers(alloc: Global, tables: &Tables) -> Result<Uppers, AllocError>
     ensures { IfOk result (λ uppers. AreListed (section_uppers (files_of tables.now)) uppers) }
 {

@@ -1,3 +1,4 @@
 pub mod EachViews
 pub mod Places
 pub mod SomeViews
+pub mod Totals

@@ -1,5 +1,5 @@
 -- What a rule may say of the views of all seats at a table. A view that is not live was joined into another, and no rule speaks of it.
-use Rattle.std.specs.Prelude.{◌≡◌, ℕ, Bool, true, List}
+use Rattle.std.specs.Prelude.{◌≡◌, ℕ, ◌+◌, Bool, true, List, [], ◌∷◌, if◌then◌else◌}
 use mathlib.Core.Option.{some}
 use lib.ListN.{get_elem?}
 
@@ -15,3 +15,12 @@ module _ {V : Type 0} (live : V → Bool) where
     pub at : get_elem? views seat ≡ some view
     pub lives : live view ≡ true
     pub is : Is view
+
+  -- what a view adds to a total over all live views
+  abbrev pub counted : (V → ℕ) → V → ℕ
+  counted amount v = if live v then amount v else 0
+
+  -- what all live views have together
+  abbrev pub total_of : (V → ℕ) → List V → ℕ
+  total_of amount [] = 0
+  total_of amount (v ∷ views) = counted amount v + total_of amount views

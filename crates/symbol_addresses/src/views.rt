@@ -31,7 +31,8 @@ pub fn symbol_address(view: &View, file: FileNo, symbol: SymNo) -> u64
     )
 }
 
-/// The address of an offset of a section that is written as it is: it stands where its leader does.
+/// The address of an offset, in bytes, of a section that is written as it is: it stands where its leader does. It is wider than 64 bits, so
+/// that sums and differences with it are exact.
 pub fn section_address(view: &View, section: SecNo, offset: u64) -> i128
     ensures value { result ≡ pos (laid.address_in (leaders_in view.now) (laid_in view.now) section offset) }
     ensures low { pos 0 ≤ℤ result }
@@ -40,7 +41,7 @@ pub fn section_address(view: &View, section: SecNo, offset: u64) -> i128
     in_section(&link_of(view), section, offset)
 }
 
-/// The address of an offset of a piece of a pool.
+/// The address of an offset, in bytes, of a piece of a pool; as wide as that of a section.
 pub fn piece_address(view: &View, pool: u32, piece: u32, offset: u64) -> i128
     ensures value { result ≡ pos (spec.piece_address (laid_in view.now) pool piece offset) }
     ensures low { pos 0 ≤ℤ result }

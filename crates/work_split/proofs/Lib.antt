@@ -5,3 +5,4 @@ pub mod Tiling
 pub mod Weighing
 pub mod RunsJoined
 pub mod RunsBeside
+pub mod ListedRuns

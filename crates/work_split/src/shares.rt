@@ -12,7 +12,7 @@ use std::ops::Range;
 use std::thread::Threads;
 
 /// What the workers gave, in the order of their pieces; if one has stopped, the first stop in this order, whichever
-/// worker was ahead.
+/// worker was ahead. Then the lists of all others, and later stops, are dropped.
 pub fn join<T: Drop>(
     alloc: Global,
     shares: Vec<Result<Vec<T>, LinkStop>>,
@@ -94,8 +94,8 @@ fn shares_of<
     )
 }
 
-/// Runs `task` once for each piece, as [`over_pieces`] does, and joins what the tasks give. If a task stopped, the answer is the
-/// first stop in order of the pieces; or out of memory.
+/// Runs `task` for each piece, as [`over_pieces`] does, and joins what the tasks give. If a task stopped, the answer is the first stop in
+/// order of the pieces, once all tasks have ended; or out of memory.
 pub fn over_shares<
     R: Threads + Sync,
     G: Gate,

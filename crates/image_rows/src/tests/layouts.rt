@@ -6,6 +6,7 @@ use super::links::{PLAIN, inputs_of, run_passes, run_within};
 use super::objects::{BY_FIRST, CODE, START, object_with};
 use elf_bytes::{Object, Reloc, Section, Symbol};
 use link_sections::{Content, Layout, Member, OutputPlace};
+use lk_base::abi::SHT_NOBITS;
 use lk_base::kinds::{NOPS_SHORT, TOO_BIG};
 use lk_base::{Defect, Limits, LinkStop, count_defect};
 use lk_tables::Class;
@@ -15,7 +16,11 @@ use std::thread::Threads;
 
 /// A section.
 fn section(name: &'static [u8], sort: u64, flags: u64, size: u64, align: u64) -> Section<'static> {
-    let zeros = if sort == 8 { 0 } else { size as usize };
+    let zeros = if sort == SHT_NOBITS as u64 {
+        0
+    } else {
+        size as usize
+    };
     Section {
         name,
         sort,

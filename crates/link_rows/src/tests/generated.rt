@@ -2,7 +2,7 @@
 
 use super::OwnStores;
 use elf_bytes::{Image, Listed};
-use link_driver::OpenGate;
+use link_driver::{Gate, OpenGate};
 use link_examples::images::{FIRST, READ_OF_FOUR, STACK};
 use link_examples::{Call, FIRST_LINK, Link, NO_WORDS, Refusal, SOUND, Store, WORKERS};
 use link_runs::{Left, run_with};
@@ -239,24 +239,25 @@ const FOUR_THOUSAND: Many = (
 );
 
 /// Links generated objects.
-fn link_many<R: Threads + Sync>(
+pub fn link_many<R: Threads + Sync, G: Gate>(
     rt: &R,
     alloc: Global,
-    many: &Many,
+    words: &[&str],
     workers: &[&str],
+    gate: &G,
 ) -> Result<Left, AllocError> {
     let call = Call {
-        words: many.0,
+        words,
         workers,
         store: Store::Objects,
         libraries: &[],
         outside: &SOUND,
     };
-    run_with(rt, alloc, &OwnStores, &call, &OpenGate)
+    run_with(rt, alloc, &OwnStores, &call, gate)
 }
 
 /// The bytes of the executable.
-fn executable(left: &Left) -> &[u8] {
+pub fn executable(left: &Left) -> &[u8] {
     left.depot.bytes("a.out").unwrap_or(b"".as_slice())
 }
 
@@ -275,15 +276,15 @@ fn is_linked<R: Threads + Sync>(
     many: &Many,
     workers: &[&str],
 ) -> Result<bool, AllocError> {
-    let left = link_many(rt, alloc, many, workers)?;
+    let left = link_many(rt, alloc, many.0, workers, &OpenGate)?;
     Ok(is_whole(&left, many))
 }
 
 /// Whether it is, and the executable has the same bytes, with each number of workers.
 fn is_the_same<R: Threads + Sync>(rt: &R, alloc: Global, many: &Many) -> Result<bool, AllocError> {
-    let first = link_many(rt, alloc, many, &[])?;
+    let first = link_many(rt, alloc, many.0, &[], &OpenGate)?;
     for workers in WORKERS {
-        let left = link_many(rt, alloc, many, workers)?;
+        let left = link_many(rt, alloc, many.0, workers, &OpenGate)?;
         if !is_whole(&left, many) || executable(&left) != executable(&first) {
             return Ok(false);
         }

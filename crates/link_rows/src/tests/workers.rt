@@ -1,11 +1,12 @@
 //! Two workers, of which one is held before each of its tasks.
 
 use super::OwnStores;
-use link_driver::Gate;
+use super::generated::{executable, link_many};
+use link_driver::{Gate, OpenGate};
 use link_examples::images::{TWO_BLOCKS, TWO_FILES};
 use link_examples::lines::{TWO_FILES_LINES, TWO_FILES_LISTED};
 use link_examples::{FIRST_LINK, Link, Store};
-use link_runs::is_linked;
+use link_runs::{Left, is_linked};
 use std::alloc::{AllocError, Global};
 use std::hint;
 use std::sync::atomic::{AtomicBool, AtomicU64, Ordering};
@@ -40,6 +41,26 @@ fn count_up(count: &AtomicU64) -> u64 {
     let next = count.load(Ordering::SeqCst).wrapping_add(1);
     count.store(next, Ordering::SeqCst);
     next
+}
+
+impl Holder {
+    fn of(held: u32) -> Holder {
+        Holder {
+            held,
+            met: AtomicU64::new(0),
+            passed: AtomicU64::new(0),
+            late: AtomicBool::new(false),
+        }
+    }
+
+    /// How many tasks the held worker stood before, if the other was past as many and each time soon enough.
+    fn tasks(&self) -> Option<u64> {
+        let met = self.met.load(Ordering::SeqCst);
+        if self.late.load(Ordering::SeqCst) || met != self.passed.load(Ordering::SeqCst) {
+            return None;
+        }
+        Some(met)
+    }
 }
 
 impl Gate for Holder {
@@ -108,20 +129,9 @@ fn is_held<R: Threads + Sync>(
     held: u32,
 ) -> Result<bool, AllocError> {
     let (link, passes) = shared;
-    let gate = Holder {
-        held,
-        met: AtomicU64::new(0),
-        passed: AtomicU64::new(0),
-        late: AtomicBool::new(false),
-    };
+    let gate = Holder::of(held);
     let linked = is_linked(rt, alloc, &OwnStores, link, &["--threads", "2"], &gate)?;
-    let met = gate.met.load(Ordering::SeqCst);
-    Ok(
-        linked
-            && met == *passes
-            && met == gate.passed.load(Ordering::SeqCst)
-            && !gate.late.load(Ordering::SeqCst),
-    )
+    Ok(linked && gate.tasks() == Some(*passes))
 }
 
 #[test]
@@ -134,5 +144,54 @@ fn workers_in_either_order(rt: HostRuntime) -> Result<(), Fail> {
             );
         }
     }
+    Ok(())
+}
+
+/// A command that links generated objects, so many that two workers share each pass that few symbols, sections or members of output sections
+/// leave to one, and in how many passes they do.
+type Large<'a> = (&'a [&'a str], u64);
+
+/// Beside what small links share, both list the calls that may be shortened, and find addresses.
+const RELAXED: Large = (&["rvld", "-s", "--self-input", "2048"], 11);
+
+/// The same with alignments in place of the calls.
+const UNRELAXED: Large = (&["rvld", "-s", "--no-relax", "--self-input", "2048"], 11);
+
+/// Whether two links gave the same executable and report.
+fn is_alike(left: &Left, right: &Left) -> bool {
+    left.status == 0
+        && right.status == 0
+        && !executable(left).is_empty()
+        && executable(left) == executable(right)
+        && left.say.written() == right.say.written()
+}
+
+/// Whether two workers, each held in turn, give what one does.
+fn is_large_held<R: Threads + Sync>(
+    rt: &R,
+    alloc: Global,
+    large: &Large,
+) -> Result<bool, AllocError> {
+    let (words, passes) = large;
+    let alone = link_many(rt, alloc, words, &["--threads", "1"], &OpenGate)?;
+    for held in 0..2 {
+        let gate = Holder::of(held);
+        let left = link_many(rt, alloc, words, &["--threads", "2"], &gate)?;
+        if !is_alike(&left, &alone) || gate.tasks() != Some(*passes) {
+            return Ok(false);
+        }
+    }
+    Ok(true)
+}
+
+#[test]
+fn many_calls_in_either_order(rt: HostRuntime) -> Result<(), Fail> {
+    assert!(rt; is_large_held(&rt, rt.alloc(), &RELAXED)?);
+    Ok(())
+}
+
+#[test]
+fn many_alignments_in_either_order(rt: HostRuntime) -> Result<(), Fail> {
+    assert!(rt; is_large_held(&rt, rt.alloc(), &UNRELAXED)?);
     Ok(())
 }

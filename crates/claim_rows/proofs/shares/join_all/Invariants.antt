@@ -10,4 +10,5 @@ invariant-loop-other l =
     × goal.iterator-loop-other.is_finite l.other-iterator
     × (l.yielded ++ into_iter_items l.other-iterator ≡ l.fn.others.items)
     × SitsAt l.claims l.seat
+    × KeepsClaims l.fn.seat.steps l.seat.steps
     × All (λ other. KeepsClaims other.steps l.seat.steps) l.yielded

@@ -5,7 +5,8 @@ use Rattle.work_split.proofs.RunsBeside.{joined_beside}
 use Rattle.work_split.proofs.Tiling.{tiles_within}
 use Rattle.icf_part.specs.Folding.{item_at}
 use Rattle.icf_part.specs.Signatures.{places}
-use Rattle.icf_part.proofs.PartSteps.{parts_beside, places_all}
+use Rattle.work_split.proofs.ListedRuns.{runs_beside}
+use Rattle.icf_part.proofs.PartSteps.{places_all}
 use Rattle.icf_part.proofs.places.all_places.Goals as goal
 
 pub over_shares-found-requires-clause-accepts : goal.over_shares-found-requires-clause-accepts
@@ -22,5 +23,5 @@ returns-in_ok-rows-in-Ok g c =
     let f : ℕ → List ℕ = λ a. places secs (item_at views a) in
     let Is : ℕ → ℕ → List (List (List ℕ)) → Type 0 = λ a b parts. flat_map (λ part. part) parts ≡ map f (range_with_len a (b - a)) in
     let found : flat_map (λ part. part) c.in-Ok.parts.items ≡ map f (range_with_len 0 (n - 0)) =
-    joined_beside Is (parts_beside f) _ n c.args.pieces.now c.over_shares-found.result c.in-Ok.parts c.over_shares-found.ensures (λ p s h. h.1) c.requires.tiles c.in-Ok.is in
+    joined_beside Is (runs_beside f) _ n c.args.pieces.now c.over_shares-found.result c.in-Ok.parts c.over_shares-found.ensures (λ p s h. h.1) c.requires.tiles c.in-Ok.is in
     places_all secs c.args.items.now c.in_ok-rows-in-Ok.rows c.requires.sections (c.in_ok-rows-in-Ok.ensures ∙ ap (flat_map (λ part. part)) c.as_slice.ensures.value ∙ found)

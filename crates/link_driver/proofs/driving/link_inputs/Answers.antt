@@ -15,14 +15,14 @@ returns-in_default-clause-ends g c = λ before given loaded bytes.
 
 pub returns-in-Err-clause-ends : goal.returns-in-Err-clause-ends
 returns-in-Err-clause-ends g c = λ before given loaded bytes.
-    let stops = rw c.standard-limits.ensures at c.in-Err.ensures in
+    let stops = rw c.standard-limits.ensures at c.in-Err.ensures.after in
     not_linked (asks c.args.command.now) before (g.D.Depot.store c.args.depot.now) (g.S.Sink.output c.args.say.now) given
     (input_contents c.args.inputs.now) (sources standard (input_contents c.args.inputs.now)) c.in-Err.stop c.report_stop.result loaded bytes
     refl stops.ends.first c.report_stop.ensures
 
 pub returns-clause-ends : goal.returns-clause-ends
 returns-clause-ends g c = λ before given loaded bytes.
-    let links = rw c.standard-limits.ensures at c.in-Ok.ensures in
+    let links = rw c.standard-limits.ensures at c.in-Ok.ensures.after in
     c.conclude.ensures.ends before given (record {
       inputs_are = loaded;
       is_link = is_linked (asks c.args.command.now) given (input_names c.args.inputs.now) (input_contents c.args.inputs.now)

@@ -30,8 +30,8 @@ early limits within ss asked stop at before = record {
   reach = not_past stop (placing_defects limits asked ss) _ before;
 }
 
-pub returns-in-Err : goal.returns-in-Err
-returns-in-Err g c =
+pub returns-in-Err-clause-after : goal.returns-in-Err-clause-after
+returns-in-Err-clause-after g c =
     let limits = c.args.limits.now in
     let asked = asks c.args.command.now in
     let ss = sources_of c.args.sources.now in
@@ -45,8 +45,8 @@ found {X} ds r s is goes = let P : Result X LinkStop → Type 0 = λ x. Goes x d
 told_of : {X : Type 0} (P : X → Type 0) (r : Result X LinkStop) (x : X) → r ≡ Ok x → IfOk r P → P x
 told_of {X} P r x is holds = let Q : Result X LinkStop → Type 0 = λ s. IfOk s P in subst Q is holds
 
-pub returns-in-Err-few : goal.returns-in-Err-few
-returns-in-Err-few g c =
+pub returns-in-Err-few-clause-after : goal.returns-in-Err-few-clause-after
+returns-in-Err-few-clause-after g c =
     let limits = c.args.limits.now in
     let asked = asks c.args.command.now in
     let ss = sources_of c.args.sources.now in
@@ -57,8 +57,8 @@ returns-in-Err-few g c =
     (at_pieces limits asked ss c.in-Ok.ensures.goes files c.in-Ok.ensures.tables stop many)
     (early_pieces limits asked ss c.in-Ok.ensures.goes files c.in-Ok.ensures.tables stop many)
 
-pub returns-in-Err-bound : goal.returns-in-Err-bound
-returns-in-Err-bound g c =
+pub returns-in-Err-bound-clause-after : goal.returns-in-Err-bound-clause-after
+returns-in-Err-bound-clause-after g c =
     let limits = c.args.limits.now in
     let asked = asks c.args.command.now in
     let ss = sources_of c.args.sources.now in
@@ -84,8 +84,8 @@ link_kept-requires-clause-bound g c = λ κs within.
     binding_is c.as_str-entry.result.now files (binding_view c.in-Ok-bound.binding)
     (told_of (λ binding. binding_view binding ≡ bound_names files c.as_str-entry.result.now) c.bind_beside-few.result.1 c.in-Ok-bound.binding c.in-Ok-bound.is c.bind_beside-few.ensures.names)
 
-pub returns-in-Err-link_kept : goal.returns-in-Err-link_kept
-returns-in-Err-link_kept g c =
+pub returns-in-Err-link_kept-clause-after : goal.returns-in-Err-link_kept-clause-after
+returns-in-Err-link_kept-clause-after g c =
     let limits = c.args.limits.now in
     let asked = asks c.args.command.now in
     let ss = sources_of c.args.sources.now in
@@ -113,8 +113,8 @@ returns-in-Err-link_kept g c =
           (subst Q c.options_of-options.ensures c.in-Err-link_kept.ensures.reach);
     }
 
-pub returns : goal.returns
-returns g c =
+pub returns-clause-after : goal.returns-clause-after
+returns-clause-after g c =
     let asked = asks c.args.command.now in
     let ss = sources_of c.args.sources.now in
     let files = files_of c.in-Ok.tables in

@@ -7,7 +7,7 @@ use Rattle.work_split.proofs.RunsBeside.{joined_beside}
 use Rattle.work_split.proofs.Tiling.{tiles_within}
 use Rattle.relax.specs.declared.calls.Call.{Call}
 use Rattle.relax.specs.CallSizes.{calls_of}
-use Rattle.relax.proofs.CallParts.{runs_beside}
+use Rattle.work_split.proofs.ListedRuns.{runs_beside}
 use Rattle.relax.proofs.listing.all_parts.Goals as goal
 
 pub over_shares-found-requires-clause-accepts : goal.over_shares-found-requires-clause-accepts

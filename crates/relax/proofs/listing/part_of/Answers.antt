@@ -5,7 +5,7 @@ use Rattle.link_sections.specs.PoolViews.{merged_views}
 use Rattle.relax.specs.declared.calls.Call.{Call}
 use Rattle.relax.specs.CallSizes.{calls_of}
 use Rattle.relax.specs.Scenes.{calls_between}
-use Rattle.relax.proofs.CallParts.{first_run, run_more}
+use Rattle.work_split.proofs.ListedRuns.{first_run, run_more}
 use Rattle.relax.proofs.listing.part_of.Goals as goal
 
 pub loop-from-init : goal.loop-from-init

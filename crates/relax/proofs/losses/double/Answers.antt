@@ -1,4 +1,4 @@
-use Rattle.std.proofs.Common.{◌≡◌, ◌+◌, ◌-◌, ◌*◌, ◌/◌, ◌<◌, ◌≤◌, ℕ, ap, sym, ◌∙◌, subst, set, length, get_or, arith}
+use Rattle.std.proofs.Common.{◌≡◌, ◌-◌, ◌*◌, ◌/◌, ◌≤◌, ap, sym, ◌∙◌, subst, set, get_or, arith}
 use Rattle.relax.specs.Jumps.{size_at}
 use Rattle.relax.specs.Losses.{AreRuns}
 use Rattle.relax.proofs.RunSteps.{run_falls}

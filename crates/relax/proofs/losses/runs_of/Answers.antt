@@ -1,4 +1,4 @@
-use Rattle.std.proofs.Common.{◌≡◌, ◌+◌, ◌-◌, ◌≤◌, length, ap, sym, subst, arith}
+use Rattle.std.proofs.Common.{◌≡◌, ◌+◌, ◌-◌, length, ap, sym, subst, arith}
 use Rattle.std.specs.Prelude.{min}
 use Rattle.relax.specs.Jumps.{lost_upto}
 use Rattle.relax.proofs.LeastSizes.{length_sums, sum_at}

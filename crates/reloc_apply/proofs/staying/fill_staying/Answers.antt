@@ -1,7 +1,6 @@
 use Rattle.std.proofs.Common.{arith}
 use Rattle.reloc_apply.proofs.StayingSteps.{next, start, turn}
 use Rattle.reloc_apply.proofs.staying.fill_staying.Goals as goal
-use Rattle.reloc_apply.proofs.staying.fill_staying.Goals.{In-loop-k}
 
 pub ends_before-old-requires-clause-small : goal.ends_before-old-requires-clause-small
 ends_before-old-requires-clause-small c = λ i d lt. let lies = c.requires.within i d lt in omega (arith, lies, c.requires.end)

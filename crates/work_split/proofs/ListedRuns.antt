@@ -26,9 +26,10 @@ module _ {X : Type 0} (give : ℕ → X) where
   run_more a n old new le held push =
       push ∙ ap (λ l. l ++ give n ∷ []) held ∙ ap (λ l. map give (range_with_len a (n - a)) ++ l) (sym (one_run n)) ∙ both_runs a n (n + 1) le (omega arith)
 
+  pub both_parts : (a m b : ℕ) (xs ys : List (List X)) → a ≤ m → m ≤ b → flat_map (λ part. part) xs ≡ map give (range_with_len a (m - a))
+      → flat_map (λ part. part) ys ≡ map give (range_with_len m (b - m)) → flat_map (λ part. part) (xs ++ ys) ≡ map give (range_with_len a (b - a))
+  both_parts a m b xs ys low high one two =
+      flat_map-append (λ part. part) xs ys ∙ ap (λ l. l ++ flat_map (λ part. part) ys) one ∙ ap (λ l. map give (range_with_len a (m - a)) ++ l) two ∙ both_runs a m b low high
+
   pub runs_beside : GoesBeside {X = List X} (λ a b parts. flat_map (λ part. part) parts ≡ map give (range_with_len a (b - a)))
-  runs_beside = record {
-    none = first_run;
-    both = λ a m b xs ys low high one two.
-        flat_map-append (λ part. part) xs ys ∙ ap (λ l. l ++ flat_map (λ part. part) ys) one ∙ ap (λ l. map give (range_with_len a (m - a)) ++ l) two ∙ both_runs a m b low high;
-  }
+  runs_beside = record { none = first_run; both = both_parts }
