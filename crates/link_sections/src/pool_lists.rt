@@ -15,6 +15,7 @@ impl Pools {
     #[tactic(auto, unfolding(crate::specs::PoolViews::merged_by))]
     pub fn none(alloc: Global) -> Pools
         ensures pools { result.pools.items ≡ [] }
+        ensures pieces { piece_rows result ≡ [] }
         ensures merged { merged_views result ≡ [] }
     {
         Pools {

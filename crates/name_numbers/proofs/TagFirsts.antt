@@ -1,6 +1,6 @@
 -- A table of tags: a search for a tag ends at one slot, and what is put there is the first of its tag. The first of a tag whose text it has is
 -- the first of the text.
-use Rattle.std.proofs.Common.{◌≡◌, ◌≢◌, ℕ, ◌+◌, ◌<◌, ◌≤◌, ◌==◌, ◌&&◌, nat_lt, true, false, List, [], ◌∷◌, ◌++◌, length, map, get_or, set, replicate, Contains, refl, sym, ap, ◌∙◌, subst, ⊎_elim, inr, arith}
+use Rattle.std.proofs.Common.{◌≡◌, ◌≢◌, ℕ, ◌+◌, ◌<◌, ◌≤◌, ◌==◌, ◌&&◌, nat_lt, true, false, List, [], ◌∷◌, ◌++◌, length, map, get_or, set, replicate, Contains, refl, sym, ap, ◌∙◌, subst, ⊎_elim, ◌⊎◌, inl, inr, arith}
 use Rattle.std.specs.Prelude.{All}
 use Rattle.std.specs.List.{range_with_len}
 use Rattle.std.specs.Str.{bytes_eq}
@@ -166,10 +166,8 @@ listed_more tags old new i first push lt is before x has =
     (Contains-push_cases old one x (subst P push has))
 
 -- numbers before any is written
-pub firsts_none : (tags numbers : List ℕ) (n : ℕ) → length tags ≤ no_index → n ≡ length tags → numbers ≡ replicate n no_index → AreFirsts tags numbers
-firsts_none tags numbers n few all is i lt less =
-    let none : get_or numbers i 0 ≡ no_index = ap (λ l. get_or l i 0) is ∙ get_or-replicate n i no_index 0 (omega (arith, lt, all)) in
-    absurd (omega (arith, few, less, none))
+pub firsts_none : (tags numbers : List ℕ) (n : ℕ) → n ≡ length tags → numbers ≡ replicate n no_index → AreFirsts tags numbers
+firsts_none tags numbers n all is i lt = inl (ap (λ l. get_or l i 0) is ∙ get_or-replicate n i no_index 0 (omega (arith, lt, all)))
 
 -- whether texts are those of their numbers
 pub told_is : (texts : List (List ℕ)) (numbers : List ℕ) (i : ℕ) → i < length texts → is_told texts numbers i ≡ true → (get_or numbers i 0 < length texts) × (text_at texts i ≡ text_at texts (get_or numbers i 0))
@@ -214,14 +212,18 @@ module _ (texts : List (List ℕ)) where
       (cases_Bool (bytes_eq (text_at texts k) text)))
       (λ below. let d = bytes_eq-Decides (text_at texts q) text in d.1 (sym told))
 
-  pub texts_by_tags : (numbers : List ℕ) → length numbers ≡ length texts → AreFirsts (spread_tags texts) numbers → AreTold texts numbers → numbers ≡ text_numbers texts
+  pub texts_by_tags : (numbers : List ℕ) → length texts ≤ no_index → length numbers ≡ length texts → AreFirsts (spread_tags texts) numbers → AreTold texts numbers → numbers ≡ text_numbers texts
   unfolding text_numbers
-  texts_by_tags numbers wide firsts told =
+  texts_by_tags numbers few wide firsts told =
       ext_get_or 0 numbers (map (text_number texts) texts) (wide ∙ sym (length-map texts (text_number texts)))
       (λ i lt.
       let inside : i < length texts = omega (arith, lt, wide) in
       let t = told i inside in
       let q = get_or numbers i 0 in
       let len = length_tags in
-      sym (first_number i q inside t.0 (firsts i (omega (arith, inside, len)) (let less = t.0 in omega (arith, less, len))) t.1)
+      let first : IsFirst (spread_tags texts) i q = ⊎_elim
+      (λ (none : q ≡ no_index). let less = t.0 in absurd (omega (arith, less, few, none)))
+      (λ (is : IsFirst (spread_tags texts) i q). is)
+      (firsts i (omega (arith, inside, len))) in
+      sym (first_number i q inside t.0 first t.1)
       ∙ sym (get_or-map (text_number texts) texts i [] 0 inside))

@@ -23,9 +23,12 @@ pub record IsFirst (tags : List ℕ) (i first : ℕ) : Type 0 where
   pub same : tag_at tags first ≡ tag_at tags i
   pub least : (k : ℕ) → k < first → tag_at tags k ≢ tag_at tags i
 
--- numbers that are indexes are those of the first of their tags
+abbrev pub no_index : ℕ
+no_index = 0xffffffff
+
+-- each number is that of the first of its tag, or no index
 abbrev pub AreFirsts : (tags numbers : List ℕ) → Type 0
-AreFirsts tags numbers = (i : ℕ) → i < length tags → slice_index_or numbers i 0 < length tags → IsFirst tags i (slice_index_or numbers i 0)
+AreFirsts tags numbers = (i : ℕ) → i < length tags → (slice_index_or numbers i 0 ≡ no_index) ⊎ IsFirst tags i (slice_index_or numbers i 0)
 
 -- an index is there, and this is the first of its tag
 pub record IsListed (tags : List ℕ) (x : First) : Type 0 where
@@ -90,8 +93,6 @@ pub record AreListedBy (tags : List ℕ) (count n : ℕ) (made : List AreMade) :
   pub each : (p : ℕ) (d : AreMade) → p < n → IfOk (slice_index_or made p d) (λ lists. AreParts tags (piece_from count p) (piece_from count (p + 1)) lists.items)
 
 -- no text has this index: an empty slot has it
-abbrev pub no_index : ℕ
-no_index = 0xffffffff
 
 abbrev pub no_slot : Slot
 no_slot = record { tag = 0; at = 0 }

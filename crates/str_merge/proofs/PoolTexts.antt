@@ -138,7 +138,7 @@ told_numbered w pool members ns is own tagged told few =
     let long = tagged.0 in
     record {
       texts_are = own_texts w pool members is own;
-      numbers_are = texts_by_tags texts ns tagged.0 tagged.1 told;
+      numbers_are = texts_by_tags texts ns (omega (arith, few, long)) tagged.0 tagged.1 told;
       few = omega (arith, few, long);
     }
 

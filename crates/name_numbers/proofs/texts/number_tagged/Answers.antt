@@ -24,5 +24,7 @@ returns g c =
     let count : length c.args.tags.now ≡ length texts = ap length c.requires.tags ∙ length_tags texts in
     let P : List ℕ → Type 0 = AreTold texts in
     let Q : List ℕ → Type 0 = λ l. AreFirsts l c.in_ok-numbers.numbers.items in
-    texts_by_tags texts c.in_ok-numbers.numbers.items (c.in_ok-numbers.ensures.len ∙ count) (subst Q c.requires.tags c.in_ok-numbers.ensures.firsts)
+    let few = c.requires.few in
+    let wide = length_texts c.args.texts.now in
+    texts_by_tags texts c.in_ok-numbers.numbers.items (omega (arith, few, wide)) (c.in_ok-numbers.ensures.len ∙ count) (subst Q c.requires.tags c.in_ok-numbers.ensures.firsts)
     (subst P c.as_slice.ensures.value (c.are_told.ensures c.if-not-are_told.false))
