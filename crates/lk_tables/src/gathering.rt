@@ -15,9 +15,10 @@ use crate::tables::Heads;
 use std::alloc::{AllocError, Global};
 
 impl<'a> Heads<'a> {
-    /// No files. It keeps the allocator.
+    /// No files, whose names are not numbered. It keeps the allocator.
     pub fn empty(alloc: Global) -> Heads<'a>
-        ensures { heads_of result ≡ [] }
+        ensures files { heads_of result ≡ [] }
+        ensures names { are_numbered result ≡ false }
     {
         Heads {
             alloc,
