@@ -1,0 +1,123 @@
+#!/usr/bin/env python3
+"""Puts wrong bodies into the public calls of crates, and lists each that no contract refuses.
+
+`scripts/wrong-bodies/NAME.txt` has the bodies of a crate: after a line `src/FILE.rt: THE SIGNATURE'S BEGINNING` (`#2` after it: the second line of
+the file that begins so) each indented line is an early return with a wrong answer, under a test of its own, that stands at the start of the
+call's body. `# meant:` before one says why it is let through. All lines of a crate are put into a copy of the sources at once, and one `rt check
+--allow-holes` lists the goals that stay open by source line: a line is refused if a clause of its call, or an invariant, is among them.
+That a goal stays open shows only that the tactics find no proof of it.
+
+Usage: scripts/wrong-bodies.py [--jobs N] [NAME ..]   (no names: all crates that have a list). The last line is `N refused, M let through`, where
+those that are meant to be are not counted; the status is 0 if none is. What the checks print is kept in the folder that is named on stderr.
+"""
+import os
+import re
+import shutil
+import subprocess
+import sys
+import tempfile
+
+ROOT = os.path.dirname(os.path.dirname(os.path.realpath(__file__)))
+LISTS = os.path.join(ROOT, 'scripts', 'wrong-bodies')
+
+
+def bodies_in(path):
+    """Gives (file, beginning, which) and the bodies, each with whether it is meant to be let through, of each call of a list."""
+    calls, meant = [], False
+    with open(path, encoding='utf-8') as lines:
+        for line in lines:
+            text = line.strip()
+            if text.startswith('#'):
+                meant = meant or text.startswith('# meant:')
+            elif line.startswith('    '):
+                calls[-1][1].append((text, meant))
+                meant = False
+            elif text:
+                file, beginning = text.split(': ', 1)
+                which = re.search(r' #(\d+)$', beginning)
+                calls.append(((file, beginning[: which.start()] if which else beginning, int(which[1]) if which else 1), []))
+    return calls
+
+
+def put_in(folder, calls):
+    """Puts the bodies into a crate's sources and gives, by file and line number, the call and the body that stands there."""
+    texts, places = {}, {}
+    for (file, beginning, which), bodies in calls:
+        lines = texts.get(file)
+        if lines is None:
+            with open(os.path.join(folder, file), encoding='utf-8') as it:
+                lines = texts[file] = [(line, None) for line in it.read().split('\n')]
+        at = [n for n, (line, own) in enumerate(lines) if own is None and line.strip().startswith(beginning)]
+        if len(at) < which:
+            sys.exit(f'{folder}/{file} has no line {which} that begins: {beginning}')
+        n = at[which - 1]
+        while not lines[n][0].rstrip().endswith('{'):
+            n += 1
+        space = re.match(' *', lines[n][0])[0] + '    '
+        lines[n + 1 : n + 1] = [(space + body, (beginning, body, meant)) for body, meant in bodies]
+    for file, lines in texts.items():
+        with open(os.path.join(folder, file), 'w', encoding='utf-8') as it:
+            it.write('\n'.join(line for line, _ in lines))
+        places.update({(file, n): own for n, (_, own) in enumerate(lines, 1) if own})
+    return places
+
+
+def open_goals(said):
+    """Gives what a check says of each source line."""
+    notes, place = {}, None
+    for line in said.splitlines():
+        found = re.match(r'(?:\w+: )?(src/[^:]+):(\d+):\d+: (.*)', line)
+        if found:
+            notes.setdefault((found[1], int(found[2])), []).append(found[3])
+        # (a goal at which the tactics met a limit stands among the holes alone, after its place)
+        found = re.match(r'\s+-- (src/[^:]+):(\d+):\d+$', line)
+        place = (found[1], int(found[2])) if found else place
+        if place and re.match(r'\s+pub (returns|invariant_of)', line):
+            notes.setdefault(place, []).append('a clause that the function ensures holds: a hole')
+    return notes
+
+
+def judge(name, top, jobs):
+    """Gives how many bodies of a crate are refused, and how many are let through that are not meant to be."""
+    folder = os.path.join(top, 'crates', name)
+    places = put_in(folder, bodies_in(os.path.join(LISTS, f'{name}.txt')))
+    said = subprocess.run(['rt', 'check', '--allow-holes', '--jobs', jobs], cwd=folder, stdin=subprocess.DEVNULL, stdout=subprocess.PIPE, stderr=subprocess.STDOUT, text=True).stdout
+    with open(os.path.join(top, f'{name}.out'), 'w', encoding='utf-8') as it:
+        it.write(said)
+    if 'functions=' not in said and 'no hole is left' not in said and 'holes' not in said:
+        sys.exit(f'{name}: the check did not come to its goals: {said[-2000:]}')
+    notes, refused, through = open_goals(said), 0, 0
+    for place, (call, body, meant) in sorted(places.items()):
+        is_refused = any('ensures holds' in it or 'invariant' in it for it in notes.get(place, []))
+        refused += is_refused
+        if not is_refused:
+            through += not meant
+            why = 'only a callee asks for more' if place in notes else 'let through'
+            print(f"{name}: {why}{', as it is meant to be' if meant else ''}: {place[0]}: {call}\n    {body}")
+    print(f'{name}: {refused} of {len(places)} refused', flush=True)
+    shutil.rmtree(os.path.join(folder, 'src'))
+    shutil.copytree(os.path.join(ROOT, 'crates', name, 'src'), os.path.join(folder, 'src'))
+    return refused, through
+
+
+def main():
+    words = sys.argv[1:]
+    jobs = '2'
+    if words[:1] == ['--jobs']:
+        jobs, words = words[1], words[2:]
+    names = words or sorted(it[:-4] for it in os.listdir(LISTS))
+    top = tempfile.mkdtemp(prefix='wrong-bodies-')
+    print(f'in {top}', file=sys.stderr)
+    for it in ('crates.txt', 'HANDLES'):
+        shutil.copy(os.path.join(ROOT, it), top)
+    shutil.copytree(os.path.join(ROOT, 'crates'), os.path.join(top, 'crates'), ignore=shutil.ignore_patterns('out'))
+    try:
+        found = [judge(it, top, jobs) for it in names]
+    finally:
+        shutil.rmtree(os.path.join(top, 'crates'))
+    through = sum(it for _, it in found)
+    print(f'{sum(it for it, _ in found)} refused, {through} let through')
+    return 1 if through else 0
+
+
+sys.exit(main())
