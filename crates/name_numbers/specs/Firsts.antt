@@ -23,6 +23,7 @@ pub record IsFirst (tags : List ℕ) (i first : ℕ) : Type 0 where
   pub same : tag_at tags first ≡ tag_at tags i
   pub least : (k : ℕ) → k < first → tag_at tags k ≢ tag_at tags i
 
+-- no text has this index: an empty slot has it
 abbrev pub no_index : ℕ
 no_index = 0xffffffff
 
@@ -91,8 +92,6 @@ AreMade = Result (Vec (Vec Entry)) AllocError
 pub record AreListedBy (tags : List ℕ) (count n : ℕ) (made : List AreMade) : Type 0 where
   pub count_is : length made ≡ n
   pub each : (p : ℕ) (d : AreMade) → p < n → IfOk (slice_index_or made p d) (λ lists. AreParts tags (piece_from count p) (piece_from count (p + 1)) lists.items)
-
--- no text has this index: an empty slot has it
 
 abbrev pub no_slot : Slot
 no_slot = record { tag = 0; at = 0 }
