@@ -3,7 +3,8 @@
 
 `scripts/wrong-bodies/NAME.txt` has the bodies of a crate: after a line `src/FILE.rt: THE SIGNATURE'S BEGINNING` (`#2` after it: the second line of
 the file that begins so) each indented line is an early return with a wrong answer, under a test of its own, that stands at the start of the
-call's body. `# meant:` before one says why it is let through. All lines of a crate are put into a copy of the sources at once, and one `rt check
+call's body. `# meant:` before one says why it is let through; `# alone` before one that has no test, so that nothing after it is reached: the second
+of these of a call is put into a second copy, and so on. All other lines of a crate are put into a copy of the sources at once, and one `rt check
 --allow-holes` lists the goals that stay open by source line: a line is refused if a clause of its call, or an invariant, is among them.
 That a goal stays open shows only that the tactics find no proof of it.
 
@@ -22,21 +23,29 @@ LISTS = os.path.join(ROOT, 'scripts', 'wrong-bodies')
 
 
 def bodies_in(path):
-    """Gives (file, beginning, which) and the bodies, each with whether it is meant to be let through, of each call of a list."""
-    calls, meant = [], False
+    """Gives (file, beginning, which) and the bodies, each with whether it is meant to be let through and whether it stands alone, of each call."""
+    calls, meant, alone = [], False, False
     with open(path, encoding='utf-8') as lines:
         for line in lines:
             text = line.strip()
             if text.startswith('#'):
                 meant = meant or text.startswith('# meant:')
+                alone = alone or text == '# alone'
             elif line.startswith('    '):
-                calls[-1][1].append((text, meant))
-                meant = False
+                calls[-1][1].append((text, meant, alone))
+                meant = alone = False
             elif text:
                 file, beginning = text.split(': ', 1)
                 which = re.search(r' #(\d+)$', beginning)
                 calls.append(((file, beginning[: which.start()] if which else beginning, int(which[1]) if which else 1), []))
     return calls
+
+
+def copies_of(calls):
+    """Gives the bodies of each copy, as put_in takes them: those without a test go last, one of a call into each copy."""
+    alone = [(call, [body[:2] for body in bodies if body[2]]) for call, bodies in calls]
+    for n in range(max(1, max(len(bodies) for _, bodies in alone))):
+        yield [(call, [body[:2] for body in bodies if not body[2] and n == 0] + own[n : n + 1]) for (call, bodies), (_, own) in zip(calls, alone)]
 
 
 def put_in(folder, calls):
@@ -80,23 +89,26 @@ def open_goals(said):
 def judge(name, top, jobs):
     """Gives how many bodies of a crate are refused, and how many are let through that are not meant to be."""
     folder = os.path.join(top, 'crates', name)
-    places = put_in(folder, bodies_in(os.path.join(LISTS, f'{name}.txt')))
-    said = subprocess.run(['rt', 'check', '--allow-holes', '--jobs', jobs], cwd=folder, stdin=subprocess.DEVNULL, stdout=subprocess.PIPE, stderr=subprocess.STDOUT, text=True).stdout
-    with open(os.path.join(top, f'{name}.out'), 'w', encoding='utf-8') as it:
-        it.write(said)
-    if 'functions=' not in said and 'no hole is left' not in said and 'holes' not in said:
-        sys.exit(f'{name}: the check did not come to its goals: {said[-2000:]}')
-    notes, refused, through = open_goals(said), 0, 0
-    for place, (call, body, meant) in sorted(places.items()):
-        is_refused = any('ensures holds' in it or 'invariant' in it for it in notes.get(place, []))
-        refused += is_refused
-        if not is_refused:
-            through += not meant
-            why = 'only a callee asks for more' if place in notes else 'let through'
-            print(f"{name}: {why}{', as it is meant to be' if meant else ''}: {place[0]}: {call}\n    {body}")
-    print(f'{name}: {refused} of {len(places)} refused', flush=True)
-    shutil.rmtree(os.path.join(folder, 'src'))
-    shutil.copytree(os.path.join(ROOT, 'crates', name, 'src'), os.path.join(folder, 'src'))
+    total, refused, through = 0, 0, 0
+    for n, calls in enumerate(copies_of(bodies_in(os.path.join(LISTS, f'{name}.txt'))), 1):
+        places = put_in(folder, calls)
+        said = subprocess.run(['rt', 'check', '--allow-holes', '--jobs', jobs], cwd=folder, stdin=subprocess.DEVNULL, stdout=subprocess.PIPE, stderr=subprocess.STDOUT, text=True).stdout
+        with open(os.path.join(top, f'{name}.{n}.out'), 'w', encoding='utf-8') as it:
+            it.write(said)
+        if 'functions=' not in said and 'no hole is left' not in said and 'holes' not in said:
+            sys.exit(f'{name}: the check did not come to its goals: {said[-2000:]}')
+        notes = open_goals(said)
+        for place, (call, body, meant) in sorted(places.items()):
+            is_refused = any('ensures holds' in it or 'invariant' in it for it in notes.get(place, []))
+            refused += is_refused
+            if not is_refused:
+                through += not meant
+                why = 'only a callee asks for more' if place in notes else 'let through'
+                print(f"{name}: {why}{', as it is meant to be' if meant else ''}: {place[0]}: {call}\n    {body}")
+        total += len(places)
+        shutil.rmtree(os.path.join(folder, 'src'))
+        shutil.copytree(os.path.join(ROOT, 'crates', name, 'src'), os.path.join(folder, 'src'))
+    print(f'{name}: {refused} of {total} refused', flush=True)
     return refused, through
 
 

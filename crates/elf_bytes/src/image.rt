@@ -26,7 +26,7 @@ pub struct Image<'a> {
     pub flags: u64,
     /// The program headers: type, flags, offset, address, size in the file, size in memory and alignment.
     pub segments: &'a [[u64; 7]],
-    /// What stands behind the program headers, and before the symbol table where there is one: zeros up to an offset, and bytes.
+    /// What stands after the program headers, and before the symbol table where there is one: zeros up to an offset, and bytes.
     pub contents: &'a [(usize, &'a [u8])],
     /// The symbol table, and what follows it up to the section headers.
     pub listed: Option<Listed<'a>>,

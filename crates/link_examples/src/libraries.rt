@@ -3,7 +3,7 @@
 use crate::objects::{ASKED_M, BREAK, COMMON_OF_8, RETURN, START, STRONG, TO_SECOND, WHOLE};
 use elf_bytes::{ARCHIVE, Archive, Contents, Member, Object, Section, Symbol, THIN};
 
-/// An input that is an archive: its name, the archive, and what stands behind its members.
+/// An input that is an archive: its name, the archive, and what stands after its members.
 #[derive(Clone, Copy)]
 pub struct Library<'a> {
     pub name: &'a str,

@@ -28,7 +28,7 @@ impl Got {
         }
     }
 
-    /// Adds an entry for a key and a use, behind all others, if there is none yet; `file` and `symbol` are those of the relocation that
+    /// Adds an entry for a key and a use, after all others, if there is none yet; `file` and `symbol` are those of the relocation that
     /// asks. Out of memory leaves the table as it was.
     #[tactic(auto, unfolding(crate::specs::GotEntries::with_use))]
     pub fn add(
