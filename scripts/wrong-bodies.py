@@ -1,5 +1,5 @@
 #!/usr/bin/env python3
-"""Puts wrong bodies into the public calls of crates, and lists each that no contract refuses.
+"""Puts wrong bodies into the calls of crates, and lists each that no contract refuses.
 
 `scripts/wrong-bodies/NAME.txt` has the bodies of a crate: after a line `src/FILE.rt: THE SIGNATURE'S BEGINNING` (`#2` after it: the second line of
 the file that begins so) each indented line is an early return with a wrong answer, under a test of its own, that stands at the start of the
@@ -8,8 +8,12 @@ of these of a call is put into a second copy, and so on. All other lines of a cr
 --allow-holes` lists the goals that stay open by source line: a line is refused if a clause of its call, or an invariant, is among them.
 That a goal stays open shows only that the tactics find no proof of it.
 
-Usage: scripts/wrong-bodies.py [--jobs N] [NAME ..]   (no names: all crates that have a list). The last line is `N refused, M let through`, where
-those that are meant to be are not counted; the status is 0 if none is. What the checks print is kept in the folder that is named on stderr.
+`scripts/wrong-bodies/NAME/` has edits of the crate, in the form of those in `crates/NAME/must-fail`, which the gate does not try: `rt must-fail` tries
+them on the same copy, each in a check of its own (half a minute of a processor each; three to five minutes in link_driver).
+
+Usage: scripts/wrong-bodies.py [--jobs N] [--lists | --edits] [NAME ..]   (no names: all crates that have a list or a folder; --lists and --edits try one of the two alone).
+The last line is `N refused, M let through`, where those that are meant to be are not counted; the status is 0 if none is. What the checks print is kept
+in the folder that is named on stderr.
 """
 import os
 import re
@@ -112,19 +116,46 @@ def judge(name, top, jobs):
     return refused, through
 
 
+def judge_edits(name, top):
+    """Gives how many edits of a crate are refused, and how many are not or could not be tried."""
+    own = os.path.join(LISTS, name)
+    edits = sorted(it for it in os.listdir(own) if it.endswith('.edit'))
+    tried = os.path.join(top, 'crates', name, 'must-fail')
+    shutil.rmtree(tried, ignore_errors=True)
+    shutil.copytree(own, tried)
+    said = subprocess.run(['rt', 'must-fail', name], cwd=top, stdin=subprocess.DEVNULL, stdout=subprocess.PIPE, stderr=subprocess.STDOUT, text=True).stdout
+    with open(os.path.join(top, f'{name}.edits.out'), 'w', encoding='utf-8') as it:
+        it.write(said)
+    # (a refusal that stands on a name that is gone shows nothing of a contract)
+    refused = {it for it in edits if re.search(rf'must-fail {name}/{re.escape(it)}: refused, as it must be(?! \(only because)', said)}
+    for it in edits:
+        if it not in refused:
+            line = next((line for line in said.splitlines() if f'{name}/{it}:' in line), 'not tried')
+            print(f'{name}: {line}')
+    print(f'{name}: {len(refused)} of {len(edits)} edits refused', flush=True)
+    return len(refused), len(edits) - len(refused)
+
+
 def main():
     words = sys.argv[1:]
-    jobs = '2'
+    jobs, parts = '2', ['--lists', '--edits']
     if words[:1] == ['--jobs']:
         jobs, words = words[1], words[2:]
-    names = words or sorted(it[:-4] for it in os.listdir(LISTS))
+    if words[:1] in (['--lists'], ['--edits']):
+        parts, words = words[:1], words[1:]
+    lists = [it[:-4] for it in os.listdir(LISTS) if it.endswith('.txt')] if '--lists' in parts else []
+    edits = [it for it in os.listdir(LISTS) if os.path.isdir(os.path.join(LISTS, it))] if '--edits' in parts else []
+    names = words or sorted({*lists, *edits})
+    lacking = [it for it in names if it not in lists and it not in edits]
+    if lacking:
+        sys.exit(f'scripts/wrong-bodies has nothing of that kind for {lacking[0]}')
     top = tempfile.mkdtemp(prefix='wrong-bodies-')
     print(f'in {top}', file=sys.stderr)
     for it in ('crates.txt', 'HANDLES'):
         shutil.copy(os.path.join(ROOT, it), top)
     shutil.copytree(os.path.join(ROOT, 'crates'), os.path.join(top, 'crates'), ignore=shutil.ignore_patterns('out'))
     try:
-        found = [judge(it, top, jobs) for it in names]
+        found = [judge(it, top, jobs) for it in names if it in lists] + [judge_edits(it, top) for it in names if it in edits]
     finally:
         shutil.rmtree(os.path.join(top, 'crates'))
     through = sum(it for _, it in found)
