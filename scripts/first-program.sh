@@ -1,0 +1,24 @@
+#!/usr/bin/env bash
+# Builds rvld, links a C program on picolibc with it, and runs that under qemu.
+# Usage: scripts/first-program.sh [--unproved]     --unproved: with a program built in some minutes of which nothing is proved (scripts/unproved.sh), kept apart
+# from the proved one, which takes an hour on four processors where nothing was proved before
+set -eu
+top=$(cd "$(dirname "${BASH_SOURCE[0]}")/.." && pwd)
+for tool in riscv64-unknown-elf-gcc qemu-riscv64 rt; do
+    command -v "$tool" >/dev/null || { echo "first-program: $tool is not there (Debian: gcc-riscv64-unknown-elf picolibc-riscv64-unknown-elf qemu-user; rt is the toolchain's)"; exit 1; }
+done
+work=$(mktemp -d)
+trap 'rm -rf "$work"' EXIT
+rvld=$top/crates/rvld/out/rvld
+if [ "${1:-}" = --unproved ]; then
+    rvld=$work/rvld
+    "$top/scripts/unproved.sh" "$rvld"
+elif [ ! -x "$rvld" ]; then
+    echo "first-program: proving and building rvld"
+    (cd "$top/crates/rvld" && rt run >/dev/null 2>&1) || true
+    [ -x "$rvld" ] || { echo "first-program: rvld was not built: rt run in crates/rvld says why"; exit 1; }
+fi
+cd "$work"
+riscv64-unknown-elf-gcc --specs=picolibc.specs -O2 -c "$top"/scripts/real/{start,syscalls,hello}.c
+RVLD=$rvld riscv64-unknown-elf-gcc -B "$top/scripts/drivers" -nostdlib -o hello start.o syscalls.o hello.o -L /usr/lib/picolibc/riscv64-unknown-elf/lib -lc -lgcc
+qemu-riscv64 hello
