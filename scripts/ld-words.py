@@ -8,17 +8,21 @@ Usage: scripts/ld-words.py
 import os
 import shlex
 import shutil
+import signal
 import subprocess
 import sys
 import tempfile
+import time
 
 HERE = os.path.dirname(os.path.realpath(__file__))
 LD = os.path.join(HERE, 'rvld-ld')
-VERSION = 'rvld-ld: rvld, a static linker for RV64 (takes the words of GNU ld)\n'
+VERSION = 'rvld-ld 1.0.0 (compatible with GNU ld 2.40)\n'
 PIE = 'rvld writes programs for fixed addresses; give the driver -static or -no-pie'
 SHARED = 'a shared library; rvld links static programs'
 ADDRESSES = 'rvld chooses each address itself'
-MEMBERS = 'rvld takes no names to ask for by the command; refer to it in an object'
+NUMBER = 'rvld-ld takes NAME=NUMBER, and no other expression'
+MADE = '/proc/self/fd/3'    # the first file that rvld-ld makes
+MAP = '--Map=' + MADE
 
 # What drivers hand over: the tools, the driver's words, and rvld's words by the last part of each path (or the line, where it is refused).
 LINUX = 'crt1.o crti.o crtbeginT.o a.o libgcc.a libgcc_eh.a libc.a crtend.o crtn.o'
@@ -27,7 +31,7 @@ DRIVERS = [
     ('riscv64-linux-gnu-gcc -static -o prog', '--output=prog ' + LINUX),
     ('riscv64-linux-gnu-gcc -static -flto -O2 -g', LINUX),
     ('riscv64-linux-gnu-gcc -static -rdynamic -s', '-s ' + LINUX),
-    ('riscv64-linux-gnu-gcc -static -Wl,--gc-sections,-Map=prog.map,-e,begin -Wl,-z,now,-O1', '--Map=prog.map --entry=begin --gc-sections ' + LINUX),
+    ('riscv64-linux-gnu-gcc -static -Wl,--gc-sections,-e,begin -Wl,-z,now,-O1', '--entry=begin --gc-sections ' + LINUX),
     ('riscv64-linux-gnu-gcc -static -Wl,--icf=all,--no-relax,--threads=2', '--icf=all --threads=2 --no-relax ' + LINUX),
     ('riscv64-linux-gnu-gcc -static -Wl,--build-id=none,--no-eh-frame-hdr,-rpath,/lib', LINUX),
     ('riscv64-linux-gnu-gcc -nostdlib -no-pie', 'a.o'),
@@ -38,7 +42,9 @@ DRIVERS = [
     ('riscv64-linux-gnu-gcc -shared', ['-shared: rvld writes no shared objects']),
     ('riscv64-linux-gnu-gcc -nostdlib -r', ['-r: rvld writes no objects']),
     ('riscv64-linux-gnu-gcc -static -T a.ld', ['-T: rvld takes no linker scripts']),
-    ('riscv64-linux-gnu-gcc -static -u name', ['-u: ' + MEMBERS]),
+    ('riscv64-linux-gnu-gcc -static -u name', '3 ' + LINUX),
+    ('riscv64-linux-gnu-gcc -static -Wl,--defsym=place=0x1000', '3 ' + LINUX),
+    ('riscv64-linux-gnu-gcc -static -Wl,--sort-common,--sort-section=alignment,--warn-common', LINUX),
     ('riscv64-linux-gnu-gcc -static -Wl,--whole-archive', ['--whole-archive: rvld takes the members of an archive that are asked for, and no others']),
     ('riscv64-unknown-elf-gcc', 'crt0.o crtbegin.o a.o libgcc.a libc.a libgloss.a crtend.o'),
     ('riscv64-unknown-elf-gcc -nostdlib -o prog', '--output=prog a.o'),
@@ -100,10 +106,43 @@ TAKEN = [
     ('-s --strip-all -strip-all a.o', '-s a.o'),
     ('--self-input 4', '--self-input=4'),
     ('--self-input=4 -o prog --gc-sections --icf=all', '--self-input=4 --output=prog --icf=all --gc-sections'),
+    ('-M a.o', MAP + ' a.o'),
+    ('--print-map a.o', MAP + ' a.o'),
+    ('-print-map --gc-sections a.o', MAP + ' --gc-sections a.o'),
+    ('-Map=- a.o', MAP + ' a.o'),
+    ('-Map - a.o', MAP + ' a.o'),
+    ('-t a.o', MAP + ' a.o'),
+    ('--trace a.o', MAP + ' a.o'),
+    ('--print-gc-sections a.o', MAP + ' a.o'),
+    ('--print-gc-sections --no-print-gc-sections a.o', 'a.o'),
+    ('--print-memory-usage a.o', MAP + ' a.o'),
+    ('-y main a.o', MAP + ' a.o'),
+    ('-ymain --trace-symbol=other a.o', MAP + ' a.o'),
+    ('--sort-section=name a.o', 'a.o'),
+    ('--sort-section alignment a.o', 'a.o'),
+    ('--sort-common --sort-common=descending a.o', 'a.o'),
+    ('-u main a.o', MADE + ' a.o'),
+    ('-umain --undefined=main --undefined main a.o', MADE + ' a.o'),
+    ('--require-defined=main a.o', MADE + ' a.o'),
+    ('-u one -u two a.o', '/proc/self/fd/3 /proc/self/fd/4 a.o'),
+    ('--defsym=place=0x10000 a.o', MADE + ' a.o'),
+    ('--defsym place=64K a.o', MADE + ' a.o'),
+    ('--defsym=place=-1 a.o', MADE + ' a.o'),
+    ('-Map=m -u main a.o', '--Map=/proc/self/fd/4 /proc/self/fd/3 a.o'),
+    ('-o --version a.o', '--output=--version a.o'),
+    ('-e --help a.o', '--entry=--help a.o'),
+    ('--stats a.o', 'a.o'),
+    ('--verbose a.o', 'a.o'),
+    ('-z max-page-size=0x1000 -z common-page-size=4K a.o', 'a.o'),
+    ('@quotes', '--output=a b c\\"d\'e a.o'),
+    ('@blanks', 'a.o b.o'),
     ('@words', '--output=a file.out a.o d/liba.a'),
     ('@nothing a.o', '@nothing a.o'),
     ('-v a.o', 'a.o'),
 ]
+
+# What has rvld-ld tell something itself.
+TELLING = ('-t ', '--trace a', '--print-memory', '--stats', '--verbose')
 
 # Words that are refused, and the line.
 REFUSED = [
@@ -118,11 +157,12 @@ REFUSED = [
     ('--script=a.ld a.o', '--script=a.ld: rvld takes no linker scripts'),
     ('--whole-archive d/liba.a a.o', '--whole-archive: rvld takes the members of an archive that are asked for, and no others'),
     ('--version-script=a.ver a.o', '--version-script=a.ver: rvld gives symbols no versions'),
-    ('--defsym=a=1 a.o', '--defsym=a=1: rvld defines no symbols by the command'),
+    ('--defsym=a=b a.o', '--defsym=a=b: ' + NUMBER),
+    ('--defsym a=1+1 a.o', '--defsym=a=1+1: ' + NUMBER),
+    ('--defsym a a.o', '--defsym=a: ' + NUMBER),
+    ('--defsym =1 a.o', '--defsym==1: ' + NUMBER),
+    ('--defsym=a=08 a.o', '--defsym=a=08: ' + NUMBER),
     ('--wrap=malloc a.o', '--wrap=malloc: rvld renames no symbols'),
-    ('-u a a.o', '-u: ' + MEMBERS),
-    ('-uname a.o', '-uname: ' + MEMBERS),
-    ('--undefined=a a.o', '--undefined=a: ' + MEMBERS),
     ('-Ttext=0x80000000 a.o', '-Ttext=0x80000000: ' + ADDRESSES),
     ('-Ttext 0x80000000 a.o', '-Ttext: ' + ADDRESSES),
     ('-Ttext-segment=0x80000000 a.o', '-Ttext-segment=0x80000000: ' + ADDRESSES),
@@ -138,11 +178,6 @@ REFUSED = [
     ('a.o -L e -Bdynamic -ls', 'cannot find -ls: e has it as a shared library alone, and rvld links static programs; give the driver -static'),
     ('--icf=safe a.o', '--icf=safe: rvld folds all equal code or none: --icf=all or --icf=none'),
     ('--icf some a.o', '--icf=some: rvld folds all equal code or none: --icf=all or --icf=none'),
-    ('-M a.o', '-M: rvld writes the map to a file: -Map=FILE'),
-    ('--print-map a.o', '--print-map: rvld writes the map to a file: -Map=FILE'),
-    ('-print-map a.o', '-print-map: rvld writes the map to a file: -Map=FILE'),
-    ('-Map=- a.o', '-Map=-: rvld writes the map to a file: -Map=FILE'),
-    ('-Map - a.o', '-Map: rvld writes the map to a file: -Map=FILE'),
     ('a.o -Map', '-Map: its value is missing'),
     ('-Map= a.o', '-Map=: its value is missing'),
     ('--self-input=4 a.o', '--self-input=4: it stands in place of files, and here are both'),
@@ -151,8 +186,9 @@ REFUSED = [
     ('--self-input=all', '--self-input=all: the number of generated objects is 1 to 65536'),
     ('--strip-all=yes a.o', '--strip-all=yes: not known, or not with a value'),
     ('-Map=prog -o prog a.o', 'prog: named for the program and for the map'),
-    ('--print-gc-sections a.o', '--print-gc-sections: what is left out stands in the map: -Map=FILE'),
-    ('-t a.o', '-t: what is linked stands in the map: -Map=FILE'),
+    ('--sort-section=size a.o', '--sort-section=size: the orders are name, alignment and none; none changes a program without a linker script'),
+    ('@zero', 'a%00b: a zero byte, which no name has'),
+    ('@d', '@d: cannot be read: Is a directory'),
     ('-m elf32lriscv a.o', '-melf32lriscv: rvld links 64-bit little-endian RISC-V alone (-m elf64lriscv)'),
     ('-EB a.o', '-EB: rvld links little endian alone'),
     ('-z execstack a.o', '-zexecstack: rvld writes no program whose stack may be executed'),
@@ -187,7 +223,7 @@ REFUSED = [
 
 # Words of other linkers that rvld-ld does not know. Each is refused in one line that names it, by itself and through a driver.
 UNKNOWN = '''
-    --strange --no-strange -strange -Wstrange -plt --stats --verbose --time-trace --print-memory-usage --sort-section=name --orphan-handling=error
+    --strange --no-strange -strange -Wstrange -plt --time-trace --orphan-handling=error
     --symbol-ordering-file=order --call-graph-profile-sort=none --pack-dyn-relocs=relr --thinlto-cache-dir=cache --lto-O2 --out-implib=a.lib
     --spare-dynamic-tags=5 --target2=abs --cmse-implib --be8 --fix-cortex-a53-843419 --print-archive-stats=file --reproduce=a.tar --vs-diagnostics
 '''.split()
@@ -206,6 +242,9 @@ class Tests:
             open(os.path.join(work, name), 'w').close()
         with open(os.path.join(work, 'words'), 'w') as file:
             file.write('-o "a file.out"\n\ta.o \'-L\' d -l\\a\n')
+        for name, text in (('quotes', '-o "a b" c\\\\\\"d\\\'e \'a.o\''), ('blanks', '\v\fa.o\r\n\tb.o'), ('zero', 'a\0b a.o')):
+            with open(os.path.join(work, name), 'w') as file:
+                file.write(text)
         with open(os.path.join(work, 'around'), 'w') as file:
             file.write('a.o @around')
         with open(os.path.join(work, 'recorder'), 'w') as file:
@@ -233,7 +272,8 @@ class Tests:
 
     def taken(self, words, wanted):
         status, out, err, got = self.run([LD] + shlex.split(words))
-        self.check(words, (status, out, err, got and ' '.join(got)), (0, VERSION if words.startswith('-v') else '', '', wanted))
+        told = ('', '') if any(word in words for word in TELLING) else (out, err)
+        self.check(words, (status, *told, got and ' '.join(got)), (0, VERSION if words.startswith('-v') else '', '', wanted))
 
     def refused(self, words, line):
         self.check(words, self.run([LD] + shlex.split(words)), (2, '', 'rvld-ld: %s\n' % line, None))
@@ -256,7 +296,12 @@ class Tests:
         if isinstance(wanted, list):
             self.check(' '.join(words), (status, out, err, got), (2, '', 'rvld-ld: %s\n' % wanted[0], None))
         else:
-            short = None if got is None else ' '.join(word if word.startswith('-') else os.path.basename(word) for word in got)
+            short = [word if word.startswith('-') else os.path.basename(word) for word in got or ()]
+            made = [i for i, word in enumerate(got or ()) if word.startswith('/proc/self/fd/')]
+            # a glibc of which one member is mended is handed on as a made file, the last of them
+            if made and 'libc.a' not in short:
+                short[made[-1]] = 'libc.a'
+            short = None if got is None else ' '.join(short)
             self.check(' '.join(words), (status, out, err, short), (0, '', '', wanted))
 
     @staticmethod
@@ -303,7 +348,8 @@ class Tests:
         for words in ('--version', '-v', '-V', '-m elf64lriscv --version'):
             self.check(words, self.run([LD] + words.split()), (0, VERSION, '', None))
         status, out, err, got = self.run([LD, '--help'])
-        self.check('--help', (status, out.startswith('rvld-ld: '), err, got), (0, True, '', None))
+        self.check('--help', (status, out.startswith('usage: rvld-ld '), err, got), (0, True, '', None))
+        self.check('--verbose', self.run([LD, '--verbose']), (0, VERSION, '', None))
 
     def found(self):
         """Where rvld is looked for: beside the link, beside the file, on the path."""
@@ -311,6 +357,9 @@ class Tests:
         recorder, beside = self.env['RVLD'], os.path.join(self.work, 'beside')
         copy = os.path.join(beside, 'ld')
         shutil.copy(LD, copy)
+        self.check('a copy alone', self.run([copy, 'a.o'], env),
+                   (2, '', 'rvld-ld: its folder rvld_ld is not beside %s: call it by a link, not by a copy\n' % os.path.realpath(copy), None))
+        shutil.copytree(os.path.join(HERE, 'rvld_ld'), os.path.join(beside, 'rvld_ld'))
         python = os.path.dirname(shutil.which('python3') or sys.executable)
         env['PATH'] = os.pathsep.join([python, os.path.join(self.work, 'empty')])
         if shutil.which('rvld', path=env['PATH']) is None:
@@ -327,6 +376,42 @@ class Tests:
         self.check('RVLD that is missing', self.run([copy, 'a.o'], env),
                    (2, '', 'rvld-ld: %s: cannot be run: No such file or directory\n' % env['RVLD'], None))
 
+    def program(self, name, text):
+        """A program in rvld's place, and the environment that names it."""
+        path = os.path.join(self.work, name)
+        with open(path, 'w') as file:
+            file.write('#!/bin/sh\n' + text)
+        os.chmod(path, 0o755)
+        return dict(self.env, RVLD=path)
+
+    def ended(self):
+        """Signals: what ends rvld-ld ends rvld first, and what ends rvld ends rvld-ld; a broken pipe ends it as it ends GNU ld."""
+        env = self.program('slow', 'echo $$ >"$RECORDED.new"\nmv "$RECORDED.new" "$RECORDED"\nexec sleep 60\n')
+        for number in (signal.SIGTERM, signal.SIGINT, signal.SIGHUP):
+            if os.path.exists(self.recorded):
+                os.remove(self.recorded)
+            run = subprocess.Popen([LD, 'a.o'], cwd=self.work, env=env, stdin=subprocess.DEVNULL, stdout=subprocess.PIPE, stderr=subprocess.PIPE)
+            while not os.path.exists(self.recorded) and run.poll() is None:
+                time.sleep(0.01)
+            with open(self.recorded) as file:
+                child = int(file.read())
+            run.send_signal(number)
+            said = run.communicate()
+            try:
+                os.kill(child, 0)
+            except ProcessLookupError:
+                child = None
+            self.check('ended by %s' % number.name, (run.returncode, said, child), (-number, (b'', b''), None))
+        for number in (signal.SIGKILL, signal.SIGSEGV, signal.SIGXFSZ):
+            env = self.program('killed', 'ulimit -c 0\nkill -%d $$\n' % number)
+            self.check('rvld ended by %s' % number.name, self.run([LD, 'a.o'], env), (-number, '', '', None))
+        for words in (['--help'], ['-v'], ['--strange']):
+            reader, writer = os.pipe()
+            os.close(reader)
+            end = subprocess.run([LD, *words], cwd=self.work, env=self.env, stdout=writer, stderr=writer)
+            os.close(writer)
+            self.check('a broken pipe: ' + words[0], end.returncode, -signal.SIGPIPE)
+
 
 def main():
     with tempfile.TemporaryDirectory() as work:
@@ -341,6 +426,7 @@ def main():
         tests.called()
         tests.asked()
         tests.found()
+        tests.ended()
     print('%d passed, %d failed' % (tests.passed, tests.failed))
     return 1 if tests.failed else 0
 
