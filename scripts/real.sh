@@ -5,8 +5,9 @@
 # and 64 workers, which must give the same bytes. Then compiler drivers are called with scripts/rvld-ld as their linker; inputs that rvld
 # refuses must be so by the line that docs/rules.md has; and the commands of README.md, docs/guide.md and docs/rules.md are run.
 #
-# Usage: scripts/real.sh [PART..]     PART: free picolibc musl glibc refused guide; without any, all of them. Two have to be named:
+# Usage: scripts/real.sh [PART..]     PART: free picolibc musl glibc refused guide; without any, all of them. Three have to be named:
 #                                     newer: programs by clang 19, and with picolibc 1.8.10, of Debian 13, which are some 200 MB to get;
+#                                     packages: Debian's packages by their own build systems (scripts/packages.sh, whose head has more)
 #                                     size: the bytes of code of some programs beside a ld.lld that shortens calls, and a GNU ld (scripts/code_size.py)
 #   RVLD=PROGRAM      the linker; else crates/rvld/out/rvld. scripts/real/peer puts the other in its place
 #   RVLD_WORDS=..     words that each of its links gets; if it is not set, -s where rvld takes no command without it
@@ -21,6 +22,7 @@ set -u
 top=$(cd "$(dirname "${BASH_SOURCE[0]}")/.." && pwd)
 sources=$top/scripts/real
 said=$sources/said
+. "$sources/debian.sh"
 ok=0 differ=0 refused=0 skipped=0
 
 tell() { echo "real: $*"; }
@@ -34,14 +36,6 @@ there() {
     local what=$1 tool
     shift
     for tool; do command -v "$tool" >/dev/null 2>&1 || { skip "$what" "$tool is not there"; return 1; }; done
-}
-
-# once MARK COMMAND..: runs the command in the work folder unless it succeeded before; its output goes to MARK.log
-once() {
-    local mark=$1
-    shift
-    [ -e "$mark.done" ] && return 0
-    if "$@" >"$mark.log" 2>&1; then : >"$mark.done"; else return 1; fi
 }
 
 first_line() { head -n 1 "$1" | cut -c 1-300; }
@@ -217,34 +211,6 @@ part_picolibc() {
 }
 
 # ------------------------------------------------------------------------------------------------------------------------ musl
-
-# apt_here COMMAND..: apt-get with a list of sources, lists and a cache of its own, in the folder $apt; nothing is installed
-apt=apt architecture=riscv64
-apt_here() {
-    apt-get -q -o "Dir::Etc::sourcelist=$work/$apt/list.sources" -o Dir::Etc::sourceparts=- -o "Dir::State::lists=$work/$apt/lists" \
-        -o "Dir::Cache=$work/$apt/cache" -o "APT::Architecture=$architecture" -o "APT::Architectures::=$architecture" -o Acquire::Languages=none \
-        -o "APT::Sandbox::User=$(id -un)" -o Debug::NoLocking=1 -o Acquire::Retries=1 -o Acquire::http::Timeout=20 -o Acquire::https::Timeout=20 "$@"
-}
-
-# the lists of Debian 13, from the mirror that apt uses for Debian here
-make_lists() {
-    local mirror=${REAL_MIRROR:-} keys=/usr/share/keyrings/debian-archive-keyring.gpg
-    # shellcheck disable=SC2016
-    [ -n "$mirror" ] || mirror=$(apt-get indextargets --format '$(CREATED_BY) $(SITE)' 'Origin: Debian' | sed -n 's/^Packages //p' | head -n 1)
-    [ -n "$mirror" ] || { echo "no mirror of Debian is known"; return 1; }
-    mkdir -p "$apt/lists/partial" "$apt/cache/archives/partial"
-    printf 'Types: deb deb-src\nURIs: %s\nSuites: trixie\nComponents: main\n' "$mirror" >"$apt/list.sources"
-    [ ! -e $keys ] || echo "Signed-By: $keys" >>"$apt/list.sources"
-    apt_here -o APT::Update::Error-Mode=any update
-}
-
-get_musl() { apt_here download musl-dev && dpkg -x musl-dev_*.deb musl; }
-
-# get_source PACKAGE FOLDER: the package's own source, without Debian's changes
-get_source() {
-    mkdir -p "src/$2" && (cd "src/$2" && apt_here source --download-only --tar-only "$1") || return 1
-    tar -x --strip-components=1 -f "$(find "src/$2" -name '*.orig.tar.*' ! -name '*.asc' | head -n 1)" -C "src/$2"
-}
 
 # cc_musl OUT SOURCE OPTION..
 cc_musl() {
@@ -481,36 +447,8 @@ part_refused() {
 
 # --------------------------------------------------------------------------------------------- newer tools, and sizes of code
 
-# Debian 13's ld.lld and GNU ld for RISC-V, for this machine, with all that they are linked with
-get_linkers() {
-    local file
-    apt_here download lld-19 libllvm19 binutils-riscv64-linux-gnu libjansson4 libsframe1 libc6 libstdc++6 libgcc-s1 libxml2 libedit2 libzstd1 zlib1g \
-        libtinfo6 libffi8 libbsd0 libmd0 liblzma5 libz3-4 || return 1
-    for file in *_"$architecture".deb; do dpkg -x "$file" linkers || return 1; done
-    rm -f ./*_"$architecture".deb
-}
-
 get_clang() { apt_here download clang-19 libclang-cpp19 libclang-common-19-dev && for file in *clang*_"$architecture".deb; do dpkg -x "$file" linkers || return 1; done; }
 get_picolibc() { apt_here download picolibc-riscv64-unknown-elf && dpkg -x picolibc-riscv64-unknown-elf_*.deb picolibc && rm -f picolibc-riscv64-unknown-elf_*.deb; }
-
-# newer_here WHAT GET..: runs each get_GET once, with the lists of Debian 13 for this machine; else WHAT is skipped
-newer_here() {
-    local what=$1 get apt=apt-here architecture
-    shift
-    there "$what" apt-get dpkg || return 1
-    architecture=$(dpkg --print-architecture)
-    once apt-here make_lists || { skip "$what" "no lists of Debian 13: $(tail -n 1 apt-here.log)"; return 1; }
-    for get; do once "get-$get" "get_$get" || { skip "$what" "no packages: $(tail -n 1 "get-$get.log")"; return 1; }; done
-}
-
-# wrap NAME PROGRAM WORD..: bin/NAME runs the program of Debian 13 with Debian 13's libraries, and with the words before its own
-wrap() {
-    local loader libraries
-    loader=$(find "$work/linkers/usr" -name 'ld-linux*.so*' | head -n 1)
-    libraries=$(dirname "$(find "$work/linkers/usr" -name 'libLLVM*.so*' -path '*-linux-gnu/*' | head -n 1)"):$work/linkers/usr/lib/llvm-19/lib
-    printf '#!/bin/sh\nexec "%s" --library-path "%s" "%s" %s "$@"\n' "$loader" "$libraries" "$work/linkers/$2" "${*:3}" >"bin/$1"
-    chmod +x "bin/$1"
-}
 
 # sized NAME WORD..: a row of the table, and what differs
 sized() {
@@ -559,9 +497,9 @@ part_newer() {
         $bare -fno-pic -fexperimental-relative-c++-abi-vtables $cxx -c -o cells-relative.o "$sources/cells.cpp" &&
         $bare -fpic -mtls-dialect=desc $cxx -c -o cells-desc.o "$sources/cells.cpp"; } >told 2>&1; then
         made "cells by clang 19" run_words cells start-newer.o cells-newer.o
+        made "cells by clang 19, tables of distances to functions" run_words cells start-newer.o cells-relative.o
         if [ "$is_rvld" = 1 ]; then
             refused_so "thread-local data without a C library" "rvld: F22 Undefined file=cells-pic.o section=N place=N name=__tls_get_addr other=0" start-newer.o cells-pic.o
-            refused_so "tables of distances to functions" "rvld: F12 RelocKind file=cells-relative.o section=N place=N name= other=59" start-newer.o cells-relative.o
             refused_so "thread-local data by descriptors" "rvld: F12 RelocKind file=cells-desc.o section=N place=N name= other=62" start-newer.o cells-desc.o
         fi
     else
@@ -635,6 +573,12 @@ part_size() {
         cc_musl "sqlite-long/$file.o" "src/sqlite/made/$file.c" -O0 -march=rv64g -mabi=lp64d -DSQLITE_THREADSAFE=0 -DSQLITE_OMIT_LOAD_EXTENSION -I src/sqlite/made || return
     done
     musl_sized "musl SQLite, GCC -O0 -march=rv64g" sqlite-long/*.o
+}
+
+# -------------------------------------------------------------------------------------------------------------------- packages
+
+part_packages() {
+    if PACKAGES_WORK=${PACKAGES_WORK:-$work/packages} "$top/scripts/packages.sh"; then ok packages; else differs packages "the lines above say which"; fi
 }
 
 # ----------------------------------------------------------------------------------------------------------------------- guide
