@@ -1,13 +1,12 @@
 -- Lists that loops over groups collect, and what stands in lists.
-use Rattle.std.proofs.Common.{◌≡◌, ℕ, ◌+◌, ◌<◌, ◌≤◌, ◌^◌, Bool, true, false, if◌then◌else◌, List, [], ◌∷◌, ◌++◌, length, take, get_or, All, Contains, refl, sym, ap, ◌∙◌, subst, ⊎_elim, arith}
+use Rattle.std.proofs.Common.{◌≡◌, ℕ, ◌+◌, ◌<◌, ◌≤◌, Bool, true, false, if◌then◌else◌, List, [], ◌∷◌, ◌++◌, length, take, get_or, All, Contains, refl, sym, ap, ◌∙◌, subst, ⊎_elim, arith}
 use Rattle.std.specs.Prelude.{Option, Some, None, is_some, flat_map}
 use Rattle.std.specs.Borrow.{Bor}
 use Rattle.std.specs.List.{list_any}
-use Rattle.std.proofs.lemmas.List.{append-nil, get_or-map, flat_map_more, map_push, take_more, take_all}
+use Rattle.std.proofs.lemmas.List.{append-nil, flat_map_more, map_push, take_more, take_all}
 use Rattle.std.proofs.lemmas.List.Elements.{All-nil, All-cons, All-append, All-contains, Contains-append_left, Contains-append_right, Contains-append_cases}
 use Rattle.std.proofs.lemmas.List.Folds.{list_any_at}
-use Rattle.std.proofs.lemmas.Bool.{cases_Bool, cases_lt, cond-true, cond-false, or_cases}
-use Rattle.claim_core.specs.Events.{event}
+use Rattle.std.proofs.lemmas.Bool.{cases_Bool, cond-true, cond-false, or_cases}
 use Rattle.lk_tables.specs.declared.objects.Object.{Object}
 use Rattle.lk_tables.specs.FileView.{object_of_file}
 use Rattle.lk_tables.specs.Files.{File, file_at}
@@ -16,10 +15,10 @@ use Rattle.lk_tables.specs.Names.{text_of}
 use Rattle.name_numbers.specs.Texts.{lent_texts}
 use Rattle.name_numbers.proofs.Walks.{all_range, all_if}
 use Rattle.comdat.specs.declared.groups.ComdatGroup.{ComdatGroup}
-use Rattle.comdat.specs.Claims.{claim_at, group_at, no_comdat, signatures}
 use Rattle.comdat.specs.Comdats.{comdat_view, comdat_views}
-use Rattle.comdat.specs.Discarded.{Comdat, comdat_of, comdats_in, comdats, rank}
+use Rattle.comdat.specs.Discarded.{Comdat, comdat_of, comdats_in, comdats}
 use Rattle.comdat.specs.Marks.{IsOfFiles}
+use Rattle.comdat.specs.Signatures.{signatures}
 
 -- a loop over a list that collects: one element more
 pub take_flat : {X Y : Type 0} (g : X → List Y) (xs : List X) (i : ℕ) (d : X) (base old new : List Y) → i < length xs → new ≡ old ++ g (get_or xs i d) →
@@ -125,18 +124,3 @@ comdats_of_files files =
     all_when P (file_at files f).live (flat_map (comdat_of (file_at files f).bytes f) (file_at files f).object.groups) (λ live.
     all_flat P (comdat_of (file_at files f).bytes f) (file_at files f).object.groups (λ g has.
     all_if P g.comdat (made f g.section (text_of (file_at files f).bytes g.signature) g.members) (λ is. record { within = omega arith; live = live }))))
-
--- the claim of a group that was read
-pub claim_made : (groups : List ComdatGroup) (ns : List ℕ) (j r : ℕ) (blank : ComdatGroup) → j < length groups → r ≡ rank (comdat_view (get_or groups j blank)) → event (get_or ns j 0) r ≡ claim_at (comdat_views groups) ns j
-claim_made groups ns j r blank lt is = ap (event (get_or ns j 0)) (is ∙ ap rank (sym (get_or-map comdat_view groups j blank no_comdat lt)))
-
--- one rank more that is a u64
-pub small_next : (groups : List ComdatGroup) (j r : ℕ) (blank : ComdatGroup) → j < length groups → r ≡ rank (comdat_view (get_or groups j blank)) → r < 2 ^ 64 →
-    ((k : ℕ) → k < j → rank (group_at (comdat_views groups) k) < 2 ^ 64) → (k : ℕ) → k < j + 1 → rank (group_at (comdat_views groups) k) < 2 ^ 64
-small_next groups j r blank lt is few each k less = ⊎_elim
-    (λ (early : k < j). each k early)
-    (λ (late : j ≤ k).
-    let same : k ≡ j = omega arith in
-    let e : rank (group_at (comdat_views groups) k) ≡ r = ap (λ i. rank (group_at (comdat_views groups) i)) same ∙ ap rank (get_or-map comdat_view groups j blank no_comdat lt) ∙ sym is in
-    omega arith)
-    (cases_lt k j)

@@ -3,4 +3,5 @@ pub mod FirstStays
 pub mod GroupLists
 pub mod Marking
 pub mod Members
+pub mod Rising
 pub mod Sections

@@ -11,10 +11,10 @@ use Rattle.lk_tables.specs.FileView.{file_view, file_views}
 use Rattle.lk_tables.specs.Files.{File, file_at, section_no}
 use Rattle.lk_tables.proofs.FirstNumbers.{file_read}
 use Rattle.comdat.specs.declared.groups.ComdatGroup.{ComdatGroup}
-use Rattle.comdat.specs.Claims.{group_at, no_comdat}
 use Rattle.comdat.specs.Comdats.{comdat_view, comdat_views}
 use Rattle.comdat.specs.Discarded.{Comdat}
 use Rattle.comdat.specs.Marks.{IsOfFiles, beaten, beaten_at, marked, member_no, members_of}
+use Rattle.comdat.specs.Signatures.{group_at, no_comdat}
 use Rattle.comdat.proofs.GroupLists.{take_flat}
 use Rattle.comdat.proofs.Marking.{marked_next}
 
@@ -43,14 +43,14 @@ member_passed files f m sections old new read past is =
     is ∙ ap (marked old) (sym (cond-false (nat_lt m count) (section_no files f m ∷ []) [] (le-ltb m count (omega (arith, ap length read)))))
 
 -- one group more: its members are marked, or none
-pub group_next : (files : List File) (groups : List Comdat) (ns row : List ℕ) (j : ℕ) (start old new : List Bool) → new ≡ marked old (beaten_at files groups ns row j) →
-    old ≡ marked start (flat_map (beaten_at files groups ns row) (range_with_len 0 j)) → new ≡ marked start (flat_map (beaten_at files groups ns row) (range_with_len 0 (j + 1)))
-group_next files groups ns row j start old new is before =
-    let g = beaten_at files groups ns row in
+pub group_next : (files : List File) (groups : List Comdat) (ns : List ℕ) (j : ℕ) (start old new : List Bool) → new ≡ marked old (beaten_at files groups ns j) →
+    old ≡ marked start (flat_map (beaten_at files groups ns) (range_with_len 0 j)) → new ≡ marked start (flat_map (beaten_at files groups ns) (range_with_len 0 (j + 1)))
+group_next files groups ns j start old new is before =
+    let g = beaten_at files groups ns in
     let ss = flat_map g (range_with_len 0 j) in
     marked_next start old new ss (g j) (flat_map g (range_with_len 0 (j + 1))) before is (sym (flat_step g j ss (ss ++ g j) refl refl))
 
-module _ (files : List File) (groups : List ComdatGroup) (ns row : List ℕ) (j : ℕ) (blank : ComdatGroup) (lt : j < length groups) where
+module _ (files : List File) (groups : List ComdatGroup) (ns : List ℕ) (j : ℕ) (blank : ComdatGroup) (lt : j < length groups) where
   abbrev read_group : Comdat
   read_group = comdat_view (get_or groups j blank)
 
@@ -62,13 +62,11 @@ module _ (files : List File) (groups : List ComdatGroup) (ns row : List ℕ) (j 
       let P : Comdat → Type 0 = IsOfFiles files in
       subst P group_read (each j no_comdat (omega (arith, length-map groups comdat_view)))
 
-  pub group_marked : (b : Bool) (old new : List Bool) → b ≡ beaten read_group (get_or ns j 0) row → b ≡ true → new ≡ marked old (members_of files read_group) → new ≡ marked old (beaten_at files (comdat_views groups) ns row j)
+  pub group_marked : (b : Bool) (old new : List Bool) → b ≡ beaten ns j → b ≡ true → new ≡ marked old (members_of files read_group) → new ≡ marked old (beaten_at files (comdat_views groups) ns j)
   group_marked b old new is goes marks =
-      let own : beaten (group_at (comdat_views groups) j) (get_or ns j 0) row ≡ true = ap (λ g. beaten g (get_or ns j 0) row) group_read ∙ sym is ∙ goes in
       marks ∙ ap (λ g. marked old (members_of files g)) (sym group_read)
-      ∙ ap (marked old) (sym (cond-true (beaten (group_at (comdat_views groups) j) (get_or ns j 0) row) (members_of files (group_at (comdat_views groups) j)) [] own))
+      ∙ ap (marked old) (sym (cond-true (beaten ns j) (members_of files (group_at (comdat_views groups) j)) [] (sym is ∙ goes)))
 
-  pub group_passed : (b : Bool) (old new : List Bool) → b ≡ beaten read_group (get_or ns j 0) row → b ≡ false → new ≡ old → new ≡ marked old (beaten_at files (comdat_views groups) ns row j)
-  group_passed b old new is stays same =
-      let own : beaten (group_at (comdat_views groups) j) (get_or ns j 0) row ≡ false = ap (λ g. beaten g (get_or ns j 0) row) group_read ∙ sym is ∙ stays in
-      same ∙ ap (marked old) (sym (cond-false (beaten (group_at (comdat_views groups) j) (get_or ns j 0) row) (members_of files (group_at (comdat_views groups) j)) [] own))
+pub group_passed : (files : List File) (groups : List Comdat) (ns : List ℕ) (j : ℕ) (b : Bool) (old new : List Bool) → b ≡ beaten ns j → b ≡ false → new ≡ old → new ≡ marked old (beaten_at files groups ns j)
+group_passed files groups ns j b old new is stays same =
+    same ∙ ap (marked old) (sym (cond-false (beaten ns j) (members_of files (group_at groups j)) [] (sym is ∙ stays)))

@@ -11,9 +11,9 @@ use Rattle.lk_tables.proofs.ByNumber.{length_by_section, read_by_section}
 use Rattle.lk_tables.proofs.FirstNumbers.{section_more, section_upto, section_within}
 use Rattle.lk_tables.proofs.LiveFiles.{counted}
 use Rattle.name_numbers.proofs.Walks.{all_range, all_if, in_range, in_if, same_range}
-use Rattle.comdat.specs.Claims.{group_at, no_comdat}
 use Rattle.comdat.specs.Discarded.{Comdat, comdats, discarded, discards, goes, has_member}
 use Rattle.comdat.specs.Marks.{IsOfFiles, beaten, beaten_at, beaten_members, marked, member_no, members_of}
+use Rattle.comdat.specs.Signatures.{group_at, no_comdat}
 use Rattle.comdat.proofs.GroupLists.{all_flat, all_when, any_from, any_of, comdats_of_files, in_flat, in_when}
 use Rattle.comdat.proofs.Marking.{length_marked, marks_has, marks_only_these}
 
@@ -62,11 +62,11 @@ gone_at files groups j = if goes groups (group_at groups j) then members_of file
 abbrev gone : List File → List Comdat → List ℕ
 gone files groups = flat_map (gone_at files groups) (range_with_len 0 (length groups))
 
-beaten_gone : (files : List File) (groups : List Comdat) (ns row : List ℕ) → ((j : ℕ) → j < length groups → beaten (group_at groups j) (get_or ns j 0) row ≡ goes groups (group_at groups j)) →
-    beaten_members files groups ns row ≡ gone files groups
+beaten_gone : (files : List File) (groups : List Comdat) (ns : List ℕ) → ((j : ℕ) → j < length groups → beaten ns j ≡ goes groups (group_at groups j)) →
+    beaten_members files groups ns ≡ gone files groups
 unfolding beaten_members
-beaten_gone files groups ns row same =
-    same_range (beaten_at files groups ns row) (gone_at files groups) 0 (length groups)
+beaten_gone files groups ns same =
+    same_range (beaten_at files groups ns) (gone_at files groups) 0 (length groups)
     (λ j low high. ap (λ b. if b then members_of files (group_at groups j) else []) (same j (omega arith)))
 
 module _ (files : List File) (f k : ℕ) (lt : f < length files) (inside : k < section_count (file_at files f)) where
@@ -145,9 +145,9 @@ pub none_discarded : (files : List File) (marks : List Bool) → comdats files �
 none_discarded files marks none is =
     marks_discarded files marks (is ∙ ap (λ l. marked (replicate (section_total files) false) (gone files l)) (sym none))
 
-pub some_discarded : (files : List File) (groups : List Comdat) (ns row : List ℕ) (start marks : List Bool) → groups ≡ comdats files →
-    ((j : ℕ) → j < length groups → beaten (group_at groups j) (get_or ns j 0) row ≡ goes groups (group_at groups j)) →
-    start ≡ replicate (section_total files) false → marks ≡ marked start (beaten_members files groups ns row) → marks ≡ discarded files
-some_discarded files groups ns row start marks are same was is =
+pub some_discarded : (files : List File) (groups : List Comdat) (ns : List ℕ) (start marks : List Bool) → groups ≡ comdats files →
+    ((j : ℕ) → j < length groups → beaten ns j ≡ goes groups (group_at groups j)) →
+    start ≡ replicate (section_total files) false → marks ≡ marked start (beaten_members files groups ns) → marks ≡ discarded files
+some_discarded files groups ns start marks are same was is =
     marks_discarded files marks
-    (is ∙ ap (λ l. marked l (beaten_members files groups ns row)) was ∙ ap (marked (replicate (section_total files) false)) (beaten_gone files groups ns row same ∙ ap (gone files) are))
+    (is ∙ ap (λ l. marked l (beaten_members files groups ns)) was ∙ ap (marked (replicate (section_total files) false)) (beaten_gone files groups ns same ∙ ap (gone files) are))

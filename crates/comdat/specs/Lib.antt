@@ -1,5 +1,5 @@
-pub mod Claims
 pub mod Comdats
 pub mod Discarded
 pub mod Law
 pub mod Marks
+pub mod Signatures

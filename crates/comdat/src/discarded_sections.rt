@@ -5,10 +5,9 @@ ghost use Rattle.lk_tables.specs.TablesView.{files_of};
 ghost use Rattle.comdat.specs.Discarded.{comdats, discarded};
 ghost use Rattle.comdat.specs.Law.{KeepsFirst};
 
-use crate::claims::{claims_of, signatures_of};
 use crate::groups::comdats_of;
 use crate::marks::mark_beaten;
-use claim_rows::least_offers;
+use crate::signatures::signatures_of;
 use lk_tables::Tables;
 use name_numbers::number_texts;
 use std::alloc::{AllocError, Global};
@@ -43,15 +42,6 @@ pub fn discard<R: Threads + Sync, G: Gate>(
     }
     let signatures = signatures_of(alloc, groups.as_slice())?;
     let numbers = number_texts(rt, alloc, signatures.as_slice(), workers)?;
-    let claims = claims_of(alloc, groups.as_slice(), numbers.as_slice())?;
-    let words = groups.len() as u32;
-    let row = least_offers(rt, alloc, gate, workers, words, claims.as_slice())?;
-    mark_beaten(
-        &mut marks,
-        tables,
-        groups.as_slice(),
-        numbers.as_slice(),
-        row.as_slice(),
-    );
+    mark_beaten(&mut marks, tables, groups.as_slice(), numbers.as_slice());
     Ok(marks)
 }

@@ -2,7 +2,7 @@
 
 ghost use Rattle.std.specs.Prelude.{◌≡◌, ◌++◌, ◌<◌, ◌^◌, length, IfOk, OnOk};
 ghost use Rattle.lk_tables.specs.FileView.{file_view, file_views};
-ghost use Rattle.comdat.specs.Comdats.{comdat_view, comdat_views};
+ghost use Rattle.comdat.specs.Comdats.{comdat_views};
 ghost use Rattle.comdat.specs.Discarded as spec;
 
 use lk_base::FileNo;
@@ -56,11 +56,4 @@ fn push_comdats<'t, 'a>(
         }
     }
     Ok(())
-}
-
-/// Where a group stands among all of a link, as one number: its file, then its section.
-pub fn rank_of(group: &ComdatGroup) -> u64
-    ensures { result ≡ spec.rank (comdat_view group.now) }
-{
-    group.file as u64 * 0x1_0000_0000 + group.section as u64
 }

@@ -1,49 +1,35 @@
 //! The sections of groups that go, by number.
 
-ghost use Rattle.std.specs.Prelude.{◌≡◌, length, slice_index, All};
+ghost use Rattle.std.specs.Prelude.{◌≡◌, ◌<◌, length, All};
 ghost use Rattle.lk_tables.specs.Files.{section_total};
 ghost use Rattle.lk_tables.specs.TablesView.{files_of};
 ghost use Rattle.comdat.specs.Comdats.{comdat_view, comdat_views};
 ghost use Rattle.comdat.specs.Marks.{IsOfFiles, beaten, beaten_members, members_of, marked};
 
-use crate::groups::{ComdatGroup, rank_of};
+use crate::groups::ComdatGroup;
 use lk_tables::Tables;
 
-/// Marks the members of each group of which the rank is not the least of its signature.
-pub fn mark_beaten(
-    marks: &mut Vec<bool>,
-    tables: &Tables,
-    groups: &[ComdatGroup],
-    numbers: &[u32],
-    row: &[u64],
-)
+/// Marks the members of each group of whose signature another stands before it. The number of a signature is the place of the first group
+/// that has it.
+pub fn mark_beaten(marks: &mut Vec<bool>, tables: &Tables, groups: &[ComdatGroup], numbers: &[u32])
     requires wide { length marks.old.items ≡ section_total (files_of tables.now) }
     requires files { All (IsOfFiles (files_of tables.now)) (comdat_views groups.now) }
     requires numbers { length numbers.now ≡ length groups.now }
-    ensures { marks.new.items ≡ marked marks.old.items (beaten_members (files_of tables.now) (comdat_views groups.now) numbers.now row.now) }
+    ensures { marks.new.items ≡ marked marks.old.items (beaten_members (files_of tables.now) (comdat_views groups.now) numbers.now) }
 {
     for j in 0..groups.len() {
-        if is_beaten(&groups[j], numbers[j], row) {
+        if is_beaten(numbers, j) {
             mark_members(marks, tables, &groups[j]);
         }
     }
 }
 
-/// Whether the least rank of a word is not that of the group.
-fn is_beaten(group: &ComdatGroup, number: u32, row: &[u64]) -> bool
-    ensures { result ≡ beaten (comdat_view group.now) number row.now }
+/// Whether a signature's number is not this place.
+fn is_beaten(numbers: &[u32], j: usize) -> bool
+    requires { j < length numbers.now }
+    ensures { result ≡ beaten numbers.now j }
 {
-    rank_at(row, number) != rank_of(group)
-}
-
-/// The rank that a row has for a word; 0 past its end.
-fn rank_at(row: &[u64], word: u32) -> u64
-    ensures { result ≡ slice_index row.now word }
-{
-    match row.get(word as usize) {
-        Some(rank) => *rank,
-        None => 0,
-    }
+    numbers[j] as usize != j
 }
 
 /// Marks the members of a group. A member that is past the end of its file's section table is no section.

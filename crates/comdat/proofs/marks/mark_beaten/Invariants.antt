@@ -8,4 +8,4 @@ use Rattle.comdat.proofs.marks.mark_beaten.Given as goal
 
 abbrev pub invariant-loop-j : goal.invariant-loop-j
 invariant-loop-j l =
-    l.marks.items ≡ marked l.initial.marks.items (flat_map (beaten_at (files_of l.tables) (comdat_views l.groups) l.numbers l.row) (range_with_len 0 l.j))
+    l.marks.items ≡ marked l.initial.marks.items (flat_map (beaten_at (files_of l.tables) (comdat_views l.groups) l.numbers) (range_with_len 0 l.j))

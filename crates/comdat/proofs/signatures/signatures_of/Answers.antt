@@ -1,5 +1,5 @@
 use Rattle.comdat.proofs.GroupLists.{signatures_next, signatures_all}
-use Rattle.comdat.proofs.claims.signatures_of.Goals as goal
+use Rattle.comdat.proofs.signatures.signatures_of.Goals as goal
 
 pub loop-group-preserved : goal.loop-group-preserved
 loop-group-preserved c =
