@@ -1,5 +1,4 @@
 -- Steps that were claimed stay claimed when more are made or joined, and pieces that tile leave no offer out.
-use Rattle.std.proofs.Math.Seq.{get_or-append_right}
 use Rattle.std.proofs.Common.{◌≡◌, ℕ, ◌+◌, ◌<◌, ◌≤◌, Result, Ok, Err, List, [], ◌∷◌, ◌++◌, length, get_or, All, IfOk, sym, ap, ◌∙◌, subst, ⊎_elim, arith, length-append, ◌-◌}
 use Rattle.std.proofs.lemmas.List.{get_or_default}
 use Rattle.std.proofs.lemmas.List.Elements.{All-push, All-weaker, Contains-push, All-contains_itself}
@@ -66,11 +65,6 @@ claimed-each table offers cuts seats whole tiles done kept i d lt =
     let P : Event → Type 0 = HasClaimed whole.steps in
     subst P (get_or_default offers i (event 0 0) d lt) (kept cut.worker whole within (offer_at offers i) has)
 
--- two facts of one answer are a third
-pub IfOk-both : {X E : Type 0} (r : Result X E) (P Q R : X → Type 0) → ((x : X) → P x → Q x → R x) → IfOk r P → IfOk r Q → IfOk r R
-IfOk-both (Ok x) P Q R f p q = f x p q
-IfOk-both (Err e) P Q R f p q = tt
-
 -- what the tasks of the pieces answer, of which each was given its seat
 pub done-from : (table : TableView) (offers : List Event) (cuts : List (Range ℕ)) (seats done : List SeatView) → length cuts ≡ length seats → length done ≡ length cuts
     → ((w : ℕ) (p : Range ℕ) (x y : SeatView) → w < length cuts → IsAt cuts w p → IsAt seats w x → IsAt done w y → Range ℕ × (SitsAt table y × HasClaimedFrom offers p.start p.end y.steps))
@@ -96,14 +90,3 @@ finished t s row words offers count same closed has =
     let P : ℕ → List Event → Type 0 = λ n os. HasClaimedEach os s.steps → EachIsLeast os row × (row ≡ after (none_of n) os) in
     let itself = All-contains_itself t.offers in
     subst (λ (n : ℕ). P n offers) count (subst (P t.words) same (λ each. (closed.least each, closed.agrees each t.offers (itself, itself)))) has
-
--- what holds of each element holds of one in the midst
-pub among : {X : Type 0} (P : X → Type 0) (done rest whole : List X) (x : X) → done ++ x ∷ rest ≡ whole → All P whole → P x
-among P done rest whole x e all =
-    let count = ap length (sym e) in
-    let lt : length done < length whole = omega (arith, count, length-append done (x ∷ rest)) in
-    let none : length done - length done ≡ 0 = omega arith in
-    let here : get_or whole (length done) x ≡ x =
-    ap (λ l. get_or l (length done) x) (sym e) ∙ get_or-append_right done (x ∷ rest) (length done) x (omega arith)
-    ∙ ap (λ k. get_or (x ∷ rest) k x) none in
-    subst P here (all (length done) x lt)

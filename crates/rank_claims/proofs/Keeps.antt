@@ -13,12 +13,12 @@ use Rattle.claim_core.proofs.EventLemmas.{length-lowered, after-push, lowered_at
 use Rattle.rank_claims.specs.declared.rule.OwnStep.TheVariants.{Claimed, Read, SplitOff}
 use Rattle.rank_claims.specs.declared.rule.View.{View}
 use Rattle.rank_claims.specs.Claims.{HasClaimed}
-use Rattle.rank_claims.specs.Rule.{is_live, Seated, Fits, Kept, ViewFinds, TellsClaim, TellsLook, IsSeated, Covers, founder, view_after_claim, view_after_look, view_after_split, view_split, view_joined, view_spent}
+use Rattle.rank_claims.specs.Rule.{is_live, share_of, Seated, Fits, Kept, ViewFinds, TellsClaim, TellsLook, IsSeated, Covers, founder, view_after_claim, view_after_look, view_after_split, view_split, view_joined, view_spent}
 use Rattle.rank_claims.proofs.Claimed.{HasClaimed-left, HasClaimed-push, HasClaimed-right, claimed_lowered, claimed_none, claimed_stays}
 use Rattle.seat_views.proofs.EachViews.{each_first, each_join, each_split, each_step}
 use Rattle.seat_views.proofs.Places.{other_view}
 use Rattle.seat_views.proofs.SomeViews.{some_here, some_join, some_split, some_step}
-use Rattle.rank_claims.proofs.Wholes.{whole_first, whole_join, whole_split, whole_step}
+use Rattle.seat_views.proofs.Wholes.{whole_first, whole_join, whole_split, whole_step}
 use Rattle.rank_claims.proofs.Rows.{length-lesser_of, le-lesser_of, Covers-claimed, Covers-looked, Covers-split, Covers-joined}
 
 abbrev Table : Type 0
@@ -89,7 +89,7 @@ claim_keeps count slots id offers me e on lt live s r wide at small =
             r.claimed;
         each = each_step is_live (Fits count offers s.words) (Fits count offers (lowered s.words e)) s.views id w (Fits-lowered count offers s.words e)
             (λ _. Fits-claimed count offers s.words e me.0 here lt f) r.each;
-        shares = whole_step s.views id me.0 w at live live refl r.shares;
+        shares = whole_step is_live share_of s.views id me.0 w at live live refl r.shares;
       },
       record { view = refl; slots = refl; finds = finds count offers s me.0 e.word lt r f },
     )
@@ -111,7 +111,7 @@ look_keeps count slots id offers me word lt live s r wide at small =
         claimed = claimed_stays s.views (set s.views id w) s.words
             (λ other rank. some_step is_live (λ v. HasClaimed v.steps (event other rank)) s.views id me.0 w at live (HasClaimed-left me.0.steps (Read word x ∷ []) (event other rank))) r.claimed;
         each = each_step is_live (Fits count offers s.words) (Fits count offers s.words) s.views id w (λ v fits. fits) (λ _. Fits-looked count offers s.words word me.0 lt f) r.each;
-        shares = whole_step s.views id me.0 w at live live refl r.shares;
+        shares = whole_step is_live share_of s.views id me.0 w at live live refl r.shares;
       }),
       record { view = refl; slots = refl; finds = finds count offers s me.0 word lt r f },
     )
@@ -126,7 +126,7 @@ split_keeps count id offers v live s r at = record {
   each = each_split is_live (Fits count offers s.words) s.views id (view_after_split v) (view_split v)
       (λ on. let f = r.each id v at on in record { one_list = f.one_list; wide = f.wide; above = f.above })
       (λ on. let f = r.each id v at on in record { one_list = f.one_list; wide = f.wide; above = f.above }) r.each;
-  shares = whole_split s.views id v at live r.shares;
+  shares = whole_split is_live share_of s.views id v (view_after_split v) (view_split v) at live live live refl refl r.shares;
 }
 
 Fits-joined : (count : ℕ) (offers : List Event) (ws : List ℕ) (v w : View) → Fits count offers ws v → Fits count offers ws w → Fits count offers ws (view_joined v w)
@@ -147,7 +147,7 @@ join_keeps count id other offers v w live alive s r at ne there =
           (HasClaimed-left v.steps w.steps (event word rank)) (HasClaimed-right v.steps w.steps (event word rank)))
           r.claimed;
       each = each_join is_live (Fits count offers s.words) s.views id other both view_spent (λ _. Fits-joined count offers s.words v w (r.each id v at live) (r.each other w theirs alive)) refl r.each;
-      shares = whole_join s.views id other v w at live there theirs alive r.shares;
+      shares = whole_join is_live share_of s.views id other v w both view_spent at live there theirs alive live refl refl r.shares;
     }
 
 founder_fits : (count : ℕ) (offers : List Event) → Fits count offers (none_of (max count 1)) (founder count offers)
@@ -163,7 +163,7 @@ opening_keeps count offers = record {
   reached = record { events = []; offered = All-nil (Contains offers); leads = ap none_of (length-replicate (max count 1) NONE) };
   claimed = claimed_none (founder count offers ∷ []) (max count 1);
   each = each_first is_live (Fits count offers (none_of (max count 1))) (founder count offers) (founder_fits count offers);
-  shares = whole_first count offers;
+  shares = whole_first is_live share_of (founder count offers) refl refl;
 }
 
 -- a seat stays one that callers have

@@ -3,4 +3,3 @@ pub mod Ends
 pub mod Keeps
 pub mod Rows
 pub mod Sitting
-pub mod Wholes

@@ -1,10 +1,11 @@
 -- A table of claims and a seat at it as callers see them, what each call does to a seat, and what the closed table gives.
-use Rattle.std.specs.Prelude.{◌≡◌, ℕ, suc, ◌≤◌, List, [], ◌∷◌, ◌++◌, length, min, slice_index, slice_index_or, slice_set, All, Contains}
+use Rattle.std.specs.Prelude.{◌≡◌, ℕ, ◌≤◌, List, [], ◌∷◌, ◌++◌, length, min, slice_index, slice_index_or, slice_set, All, Contains}
 use Rattle.atomic_table.specs.Seated.{TableId}
 use Rattle.claim_core.specs.declared.events.Event.{Event}
 use Rattle.claim_core.specs.Events.{event, none_of, after, IsReached, IsOffered, EachIsOffered, EachIsLeast, DrawsEach}
 use Rattle.rank_claims.specs.declared.rule.OwnStep.{OwnStep}
 use Rattle.rank_claims.specs.declared.rule.OwnStep.TheVariants.{Claimed, Read, SplitOff}
+use Rattle.seat_views.specs.Shares.{half_of, halved}
 
 -- a table: which one it is, how many words it has, and the offers that it was opened for
 pub record TableView : Type 0 where
@@ -34,16 +35,6 @@ offer_at offers i = slice_index_or offers i (event 0 0)
 -- the seat that a new table comes with: it has the whole of it
 abbrev pub first_seat : TableView → SeatView
 first_seat t = record { table = t.table; offers = t.offers; known = none_of t.words; steps = []; share = 0 ∷ [] }
-
--- a share of which the first part was halved
-abbrev pub halved : List ℕ → List ℕ
-halved [] = []
-halved (k ∷ parts) = suc k ∷ parts
-
--- the other half of that part
-abbrev pub half_of : List ℕ → List ℕ
-half_of [] = []
-half_of (k ∷ parts) = suc k ∷ []
 
 -- The seat after its claim of an offer, on a word that held `found`
 abbrev pub after_claim : SeatView → Event → ℕ → SeatView

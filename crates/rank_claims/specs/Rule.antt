@@ -1,5 +1,5 @@
 -- The rule that every step on a table of claims keeps, and what a step tells its seat. What a seat knows is its view.
-use Rattle.std.specs.Prelude.{◌≡◌, ℕ, ◌+◌, ◌-◌, ◌^◌, ◌<◌, ◌≤◌, ◌⊎◌, Bool, true, false, List, [], ◌∷◌, ◌++◌, length, max, min, slice_index, slice_set, All, Contains}
+use Rattle.std.specs.Prelude.{◌≡◌, ℕ, ◌<◌, ◌≤◌, ◌⊎◌, Bool, true, false, List, [], ◌∷◌, ◌++◌, length, max, min, slice_index, slice_set, Contains}
 use Rattle.atomic_table.specs.Table.{State, Me, Step}
 use Rattle.atomic_table.specs.Seated.{TableId}
 use Rattle.atomic_table.specs.declared.shared.Seat.{Seat}
@@ -9,8 +9,9 @@ use Rattle.claim_core.specs.Events.{event, none_of, AllInRow, IsReached, IsOffer
 use Rattle.rank_claims.specs.declared.rule.OwnStep.{OwnStep}
 use Rattle.rank_claims.specs.declared.rule.OwnStep.TheVariants.{Claimed, Read, SplitOff}
 use Rattle.rank_claims.specs.declared.rule.View.{View}
-use Rattle.rank_claims.specs.Claims.{HasClaimed, SeatView, half_of, halved, lesser_of}
-use Rattle.seat_views.specs.Views.{EachView, SomeView, total_of}
+use Rattle.rank_claims.specs.Claims.{HasClaimed, SeatView, lesser_of}
+use Rattle.seat_views.specs.Shares.{AreWhole, half_of, halved}
+use Rattle.seat_views.specs.Views.{EachView, SomeView}
 
 -- a seat at a table with no slots
 abbrev pub Seated : Type 0
@@ -47,6 +48,9 @@ view_spent = record { live = false; offers = []; known = []; steps = []; share =
 abbrev pub is_live : View → Bool
 is_live v = v.live
 
+abbrev pub share_of : View → List ℕ
+share_of v = v.share
+
 -- A view fits the words: it has the table's offers, and no word is above what it knows
 pub record Fits (count : ℕ) (offers : List Event) (words : List ℕ) (v : View) : Type 0 where
   pub one_list : v.offers ≡ offers
@@ -61,22 +65,6 @@ IsClaimed views word rank = SomeView is_live (λ v. HasClaimed v.steps (event wo
 abbrev pub EachIsClaimed : List View → List ℕ → Type 0
 EachIsClaimed views words = (word : ℕ) → word < length words → (slice_index words word ≡ NONE) ⊎ IsClaimed views word (slice_index words word)
 
--- how many parts a share has, if the whole table is 2 ^ depth of them
-abbrev pub parts_in : (depth : ℕ) → List ℕ → ℕ
-parts_in depth [] = 0
-parts_in depth (k ∷ parts) = 2 ^ (depth - k) + parts_in depth parts
-
--- a share has a part, and none was halved more often than this
-pub record IsShare (depth : ℕ) (v : View) : Type 0 where
-  pub some : 0 < length v.share
-  pub most : All (λ k. k ≤ depth) v.share
-
--- Each live view has a share, and all of them are the whole table: a seat comes only from another, of whose share it has a half
-pub record AreWhole (views : List View) : Type 0 where
-  pub depth : ℕ
-  pub each : EachView is_live (IsShare depth) views
-  pub whole : total_of is_live (λ v. parts_in depth v.share) views ≡ 2 ^ depth
-
 -- The rule. At each moment the words are a state that events of the offers lead to, each rank in them was claimed, they fit
 -- each live view, and there are no more live views than were split off. A table for no words has one all the same, which no
 -- offer and no call names
@@ -85,7 +73,7 @@ pub record Kept (count : ℕ) (offers : List Event) (s : State (Unit {0}) View) 
   pub reached : IsReached offers s.words
   pub claimed : EachIsClaimed s.views s.words
   pub each : EachView is_live (Fits count offers s.words) s.views
-  pub shares : AreWhole s.views
+  pub shares : AreWhole is_live share_of s.views
 
 -- what a step may find at a word
 abbrev pub ViewFinds : View → ℕ → ℕ → Type 0

@@ -1,5 +1,12 @@
+pub mod Closings
+pub mod Keeps
 mod Listed
+mod Reached
 pub mod Reaching
 mod Rooted
+mod Rounds
 mod Searching
+pub mod Sitting
+mod Stolen
 mod Visiting
+pub mod Wins

@@ -5,17 +5,27 @@ ghost use Rattle.lk_tables.specs.Reach.{IsReach};
 ghost use Rattle.link_sections.specs.Edges.{ends_of};
 ghost use Rattle.sec_gc.specs.Kept.{reached};
 
-use crate::rounds::follow;
-use crate::visits::visit_all;
+use crate::closing::close_rounds;
+use crate::following::{follow, mark_roots};
+use crate::marks::Marks;
+use crate::stealing::follow_by_all;
 use link_sections::Edges;
 use lk_base::SecNo;
 use std::alloc::{AllocError, Global};
 use std::thread::Threads;
 use work_split::Gate;
 
+/// If no more sections wait to be followed, the calling worker goes on alone.
+const FEW: usize = 1024;
+
+/// How many sections may wait before several workers share them.
+fn limit_for(workers: u32) -> usize {
+    if workers == 1 { usize::MAX } else { FEW }
+}
+
 /// By section number, whether a section is kept: the roots are, each section to which a kept one leads, and no others. It answers the
-/// same whatever the number of workers. Each section is followed once, and a round over few edges starts no thread. The only error
-/// is out of memory.
+/// same whatever the number of workers. No thread is started while few sections wait to be followed, nor for a link of few sections. The
+/// only error is out of memory.
 pub fn keep<R: Threads + Sync, G: Gate>(
     rt: &R,
     alloc: Global,
@@ -30,14 +40,19 @@ pub fn keep<R: Threads + Sync, G: Gate>(
     ensures reach { IfOk result (λ seen. IsReach roots.now (ends_of edges.now) seen.items) }
     ensures kept { IfOk result (λ seen. seen.items ≡ reached roots.now (ends_of edges.now)) }
 {
-    let mut seen = vec![in alloc; false; edges.count()]?;
-    let mut queue = Vec::with_capacity(alloc, edges.count())?;
-    visit_all(&mut seen, &mut queue, roots)?;
-    let mut next: usize = 0;
-    while next < queue.len() {
-        let end = queue.len();
-        follow(rt, alloc, &mut seen, &mut queue, next, edges, workers, gate)?;
-        next = end;
-    }
-    Ok(seen)
+    let (marks, mut seat) = Marks::open(alloc, roots, edges)?;
+    let mut list = Vec::with_capacity(alloc, edges.count())?;
+    mark_roots(&marks, &mut seat, roots, &mut list);
+    let place = follow(&marks, &mut seat, edges, &mut list, limit_for(workers));
+    follow_by_all(
+        rt,
+        alloc,
+        gate,
+        workers,
+        &marks,
+        &mut seat,
+        edges,
+        &list[place..],
+    )?;
+    close_rounds(rt, alloc, gate, workers, &marks, &mut seat, edges)
 }

@@ -1,7 +1,8 @@
 use Rattle.std.proofs.Common.{List, sym, ◌≡◌, ◌<◌, length, subst, arith}
 use Rattle.rank_claims.specs.Claims.{SeatView, SitsAt}
 use Rattle.work_split.proofs.Tiling.{tiles_within}
-use Rattle.claim_rows.proofs.Sharing.{IfOk-both, done-from}
+use Rattle.claim_rows.proofs.Sharing.{done-from}
+use Rattle.seat_views.proofs.Joining.{IfOk-both}
 use Rattle.claim_rows.proofs.shares.claim_pieces.Goals as goal
 
 pub over_pieces-requires-clause-accepts : goal.over_pieces-requires-clause-accepts

@@ -4,7 +4,8 @@ use Rattle.rank_claims.specs.Claims.{SeatView, SitsAt}
 use Rattle.rank_claims.proofs.Sitting.{sits_joined}
 use Rattle.claim_rows.specs.Shares.{KeepsClaims}
 use Rattle.work_split.proofs.Sharing.{taken_all, taken_more}
-use Rattle.claim_rows.proofs.Sharing.{among, keeps-joined, kept-more}
+use Rattle.claim_rows.proofs.Sharing.{keeps-joined, kept-more}
+use Rattle.seat_views.proofs.Joining.{among}
 use Rattle.claim_rows.proofs.shares.join_all.Goals as goal
 
 pub loop-other-preserved : goal.loop-other-preserved
