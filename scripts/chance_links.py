@@ -39,11 +39,11 @@ SETS = ['set_a', 'set_b', 'own', 'strings', 'COMMON', 'none', '.set']
 LINKERS = ('__ehdr_start __rela_iplt_start __rela_iplt_end _etext etext _edata edata __bss_start _end end _GLOBAL_OFFSET_TABLE_ __global_pointer$ '
            '__preinit_array_start __preinit_array_end __init_array_start __init_array_end __fini_array_start __fini_array_end').split()
 WIDTHS = {0: 0, 1: 4, 2: 8, 16: 4, 17: 4, 18: 8, 19: 8, 20: 4, 21: 4, 22: 4, 23: 4, 24: 4, 25: 4, 26: 4, 27: 4, 28: 4, 29: 4, 30: 4, 31: 4, 32: 0,
-          33: 1, 34: 2, 35: 4, 36: 8, 37: 1, 38: 2, 39: 4, 40: 8, 43: 0, 44: 2, 45: 2, 51: 0, 52: 1, 53: 1, 54: 1, 55: 2, 56: 4, 57: 4}
+          33: 1, 34: 2, 35: 4, 36: 8, 37: 1, 38: 2, 39: 4, 40: 8, 43: 0, 44: 2, 45: 2, 51: 0, 52: 1, 53: 1, 54: 1, 55: 2, 56: 4, 57: 4, 59: 4}
 UPPERS = (20, 21, 22, 23)
 NEAR = (16, 17, 44, 45)                         # kinds that reach only what is near
 ANY = [0, 1, 2, 17, 18, 19, 19, 20, 21, 22, 23, 23, 24, 25, 26, 27, 28, 29, 30, 31, 32, 33, 34, 35, 36, 37, 38, 39, 40, 43, 44, 45, 16, 52, 53, 54, 55,
-       56, 57]
+       56, 57, 59]
 BODIES = [bytes.fromhex(body) for body in ('67800000', '73001000', '97000000e780000067800000', '170500001305050067800000',
                                            '97000000e780000097000000e7800000', '17030000670003000100', '1700000067000000')]
 

@@ -15,11 +15,12 @@ NONE, WORD, LONG, BRANCH, JAL, CALLS, RVC_BRANCH, RVC_JUMP = 0, 1, 2, 16, 17, (1
 GOT, TLS_GOT, TLS_GD = ENTRIES = 20, 21, 22
 PCREL_HI, PCREL_LO_I, PCREL_LO_S, HI, LO_I, LO_S, TPREL_HI, TPREL_LO_I, TPREL_LO_S, TPREL_ADD = range(23, 33)
 ADDS, SUBS, SETS = {33: 1, 34: 2, 35: 4, 36: 8}, {37: 1, 38: 2, 39: 4, 40: 8}, {54: 1, 55: 2, 56: 4}
-ALIGN, RELAX, SUB6, SET6, DISTANCE = 43, 51, 52, 53, 57
+ALIGN, RELAX, SUB6, SET6, DISTANCE, PLT32 = 43, 51, 52, 53, 57, 59
 WIDTHS = {NONE: 0, RELAX: 0, TPREL_ADD: 0, WORD: 4, LONG: 8, 18: 8, 19: 8, ALIGN: None, RVC_BRANCH: 2, RVC_JUMP: 2, SUB6: 1, SET6: 1,
           **ADDS, **SUBS, **SETS}
-WIDTHS.update({kind: 4 for kind in (BRANCH, JAL, *ENTRIES, *range(23, 32), DISTANCE)})
+WIDTHS.update({kind: 4 for kind in (BRANCH, JAL, *ENTRIES, *range(23, 32), DISTANCE, PLT32)})
 PROGBITS, NOTE, NOBITS, ARRAYS = 1, 7, 8, (14, 15, 16)
+ABSOLUTE, COMMON = -1, -2                       # in place of a section's number
 BASE = 0x10000
 ONCE = (b'.text', b'.rodata', b'.srodata', b'.data.rel.ro', b'.data', b'.bss', b'.sdata', b'.sbss', b'.tdata', b'.tbss',
         b'.preinit_array', b'.init_array', b'.fini_array', b'.ctors', b'.dtors', b'.gcc_except_table')
@@ -106,8 +107,12 @@ class File:
             raise Flaw(2, 0, 58, 0)
         self.count = self.number(60, 2)
         if self.count == 0:
+            if self.table + 64 > len(b):
+                raise Flaw(3, 0, 40, 0)
+            self.count = self.number(self.table + 32, 8)
+        if self.count == 0:
             raise Flaw(4, 0, 60, 0)
-        if self.count > 65279:
+        if self.count > 2 ** 28:
             raise Flaw(8, 0, 60, 0)
         if self.table + 64 * self.count > len(b):
             raise Flaw(3, 0, 40, 0)
@@ -120,12 +125,14 @@ class File:
             s.null = i == 0 or s.type == 0
             self.sections.append(s)
         names = self.number(62, 2)
+        if names == 0xffff:
+            names = self.sections[0].link
         if not self.is_texts(names):
             raise Flaw(4, 0, 62, 0)
         names = self.sections[names]
         if names.offset + names.size > len(b):
             raise Flaw(3, 0, 62, 0)
-        self.symtab = 0
+        self.symtab = self.indexes = 0
         for i, s in enumerate(self.sections):
             if s.null:
                 continue
@@ -139,7 +146,10 @@ class File:
                     raise Flaw(4, i, s.at, 0)
                 self.symtab = i
             if s.type == 18:
-                raise Flaw(4, i, s.at, 0)
+                if (self.indexes or s.entsize != 4 or not 0 < s.link < self.count or self.sections[s.link].type != 2
+                        or s.size != 4 * (self.sections[s.link].size // 24)):
+                    raise Flaw(4, i, s.at, 0)
+                self.indexes = i
         for s in self.sections:
             s.written = (not s.null and s.flags & 2 and not s.flags & 0x80000000 and s.type in (1, 7, 8, 14, 15, 16)
                          and s.name != b'.eh_frame')
@@ -152,6 +162,7 @@ class File:
             y = Symbol()
             y.at = table.offset + 24 * i
             at_name, info, _, y.shndx, y.value, y.size = struct.unpack_from('<IBBHQQ', b, y.at)
+            y.shndx = self.place(i, y.shndx)
             y.binding, y.type = info >> 4, info & 15
             if i == 0:
                 y.name, y.binding, y.type, y.shndx = b'', 0, 0, 0
@@ -161,14 +172,26 @@ class File:
             if y.name is None:
                 raise Flaw(10, self.symtab, y.at, 0)
             if (y.binding not in (0, 1, 2, 10) or y.type not in (0, 1, 2, 3, 4, 5, 6, 10)
-                    or (y.shndx >= self.count and y.shndx not in (0xfff1, 0xfff2))
+                    or y.shndx is None
                     or (i < table.info) != (y.binding == 0)
-                    or (y.binding == 0 and y.shndx == 0xfff2)
+                    or (y.binding == 0 and y.shndx == COMMON)
                     or (y.binding != 0 and not y.name)
-                    or (y.shndx == 0xfff2 and y.type == 6)
+                    or (y.shndx == COMMON and y.type == 6)
                     or (0 < y.shndx < self.count and self.sections[y.shndx].written and y.value > self.sections[y.shndx].size)):
                 raise Flaw(9, self.symtab, y.at, 0)
             self.symbols.append(y)
+
+    def place(self, symbol, shndx):
+        """The number of a symbol's section, ABSOLUTE or COMMON, or None where the index names nothing."""
+        if shndx == 0:
+            return 0
+        if shndx in (0xfff1, 0xfff2):
+            return ABSOLUTE if shndx == 0xfff1 else COMMON
+        if shndx == 0xffff:
+            shndx = self.number(self.sections[self.indexes].offset + 4 * symbol, 4) if self.indexes else 0
+        elif shndx >= 0xff00:
+            return None
+        return shndx if 0 < shndx < self.count else None
 
     def is_texts(self, i):
         return 0 < i < self.count and self.sections[i].type == 3
@@ -207,7 +230,7 @@ class File:
                 continue
             if y.type == 10 and y.shndx != 0:
                 raise Flaw(17, self.symtab, y.at, 0)
-            if y.shndx == 0xfff2:
+            if y.shndx == COMMON:
                 if y.value and y.value & (y.value - 1) or y.value > 2 ** 20:
                     raise Flaw(15, self.symtab, y.at, 0)
                 if y.size > 2 ** 32:
@@ -324,7 +347,7 @@ def read_all(inputs):
 def offers_of(file):
     for i, y in enumerate(file.symbols):
         if y.binding and y.shndx:
-            yield i, y, 1 if y.shndx == 0xfff2 else 2 if y.binding == 2 else 0
+            yield i, y, 1 if y.shndx == COMMON else 2 if y.binding == 2 else 0
 
 
 def live_of(files):
@@ -472,7 +495,7 @@ class Link:
                 if s.written and (n, i) not in self.discarded:
                     self.sections[n, i] = (s.name, s.flags, s.type, s.size, s.align or 1)
             for i, y in enumerate(file.symbols):
-                if y.shndx == 0xfff2:
+                if y.shndx == COMMON:
                     if self.bound[y.name][1:] == (n, i):
                         size, align = self.commons[y.name]
                         self.sections[n, count] = (b'COMMON', 3, NOBITS, size, align)
@@ -492,11 +515,11 @@ class Link:
                 return ('linker', y.name) if self.is_linkers(y.name) else ZERO if y.binding == 2 else UNBOUND
             _, n, i = self.bound[y.name]
             y = self.files[n].symbols[i]
-        if y.shndx == 0xfff2:
+        if y.shndx == COMMON:
             return 'section', (n, y.common), 0, addend
         if y.shndx == 0:
             return 'number', 0
-        if y.shndx == 0xfff1 or not self.files[n].sections[y.shndx].written:
+        if y.shndx == ABSOLUTE or not self.files[n].sections[y.shndx].written:
             return 'number', y.value
         if y.binding == 0 and y.type == 3:
             size = self.files[n].sections[y.shndx].size
@@ -871,7 +894,7 @@ class Link:
             return self.address['got'] + 8 * word + a - place
         if kind in (TPREL_HI, TPREL_LO_I, TPREL_LO_S):
             return a if target == ZERO else s + a - (self.block or 0)
-        if kind in (BRANCH, JAL, RVC_BRANCH, RVC_JUMP, PCREL_HI, DISTANCE) + CALLS:
+        if kind in (BRANCH, JAL, RVC_BRANCH, RVC_JUMP, PCREL_HI, DISTANCE, PLT32) + CALLS:
             return s + a - place
         if kind in ADDS:
             return before + s + a
@@ -1014,7 +1037,7 @@ class Link:
         elif kind == WORD:
             within(-2 ** 31, 2 ** 32 - 1)
             store(at, 4, v)
-        elif kind == DISTANCE:
+        elif kind in (DISTANCE, PLT32):
             within(-2 ** 31, 2 ** 31 - 1)
             store(at, 4, v)
         elif kind in (SUB6, SET6):

@@ -6,6 +6,12 @@ pub const SHT_SYMTAB: u64 = 2;
 pub const SHT_STRTAB: u64 = 3;
 /// The type of a section of relocations with addends (sh_type).
 pub const SHT_RELA: u64 = 4;
+/// The type of a table of section indexes (sh_type).
+pub const SHT_SYMTAB_SHNDX: u64 = 18;
+/// The first section index that a field of 16 bits has no room for (st_shndx, e_shstrndx).
+pub const SHN_LORESERVE: u64 = 0xff00;
+/// The section index stands elsewhere (st_shndx, e_shstrndx).
+pub const SHN_XINDEX: u64 = 0xffff;
 /// Of a section whose sh_info is a section's number (sh_flags).
 pub const SHF_INFO_LINK: u64 = 0x40;
 /// The binding of a local symbol (st_info).

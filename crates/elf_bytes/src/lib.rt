@@ -10,4 +10,4 @@ mod object;
 
 pub use archive::{ARCHIVE, Archive, Contents, Member, THIN, archive_of};
 pub use image::{Image, Listed, image_of};
-pub use object::{Object, Reloc, Section, SectionLink, Symbol, object_of};
+pub use object::{ELSEWHERE, Object, Reloc, Section, SectionLink, Symbol, object_of};

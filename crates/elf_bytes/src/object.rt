@@ -1,6 +1,9 @@
 //! Objects, built for examples.
 
-use crate::abi::{RELA_SIZE, SHF_INFO_LINK, SHT_RELA, SHT_STRTAB, SHT_SYMTAB, STB_LOCAL, SYM_SIZE};
+use crate::abi::{
+    RELA_SIZE, SHF_INFO_LINK, SHN_LORESERVE, SHN_XINDEX, SHT_RELA, SHT_STRTAB, SHT_SYMTAB,
+    SHT_SYMTAB_SHNDX, STB_LOCAL, SYM_SIZE,
+};
 use crate::numbers::{pad, push_numbers, push_zeros};
 use std::alloc::{AllocError, Global};
 
@@ -43,12 +46,16 @@ pub struct Section<'a> {
     pub entsize: u64,
 }
 
+/// In a symbol's section: its number stands in the table of section indexes.
+pub const ELSEWHERE: u64 = 1 << 32;
+
 /// A symbol.
 #[derive(Clone, Copy)]
 pub struct Symbol<'a> {
     pub name: &'a [u8],
     pub binding: u64,
     pub sort: u64,
+    /// The section (st_shndx), or `ELSEWHERE` more than the number of one that stands in the table of section indexes.
     pub section: u64,
     pub value: u64,
     pub size: u64,
@@ -185,6 +192,48 @@ fn push_relocs(
     Ok(())
 }
 
+/// A symbol's section as its entry has it.
+fn index_in_entry(section: u64) -> u64 {
+    if section < ELSEWHERE {
+        section
+    } else {
+        SHN_XINDEX
+    }
+}
+
+/// Whether the section of a symbol stands in the table of section indexes.
+fn has_indexes(symbols: &[Symbol]) -> bool {
+    symbols.iter().any(|symbol| ELSEWHERE <= symbol.section)
+}
+
+/// Adds the table of section indexes, if a symbol needs one: 0 for each other symbol.
+fn push_indexes(
+    alloc: Global,
+    parts: &mut Parts,
+    symbols: &[Symbol],
+    symtab: u64,
+) -> Result<(), AllocError> {
+    if !has_indexes(symbols) {
+        return Ok(());
+    }
+    let mut words = vec![in alloc; 0u8; 4]?;
+    for symbol in symbols {
+        let number = if symbol.section < ELSEWHERE {
+            0
+        } else {
+            symbol.section
+        };
+        push_numbers(&mut words, &[(number, 4)])?;
+    }
+    let size = words.len() as u64;
+    push_section(
+        parts,
+        [0, SHT_SYMTAB_SHNDX, 0, size, symtab, 0, 4, 4],
+        0,
+        &words,
+    )
+}
+
 /// The symbol table's bytes; the names go to `texts`.
 fn table_of(alloc: Global, symbols: &[Symbol], texts: &mut Vec<u8>) -> Result<Vec<u8>, AllocError> {
     let mut out = vec![in alloc; 0u8; SYM_SIZE as usize]?;
@@ -193,7 +242,7 @@ fn table_of(alloc: Global, symbols: &[Symbol], texts: &mut Vec<u8>) -> Result<Ve
             (texts.len() as u64, 4),
             (symbol.binding.wrapping_mul(16).wrapping_add(symbol.sort), 1),
             (0, 1),
-            (symbol.section, 2),
+            (index_in_entry(symbol.section), 2),
             (symbol.value, 8),
             (symbol.size, 8),
         ];
@@ -246,10 +295,25 @@ fn push_names(alloc: Global, parts: &mut Parts) -> Result<(), AllocError> {
     pad(&mut parts.body)
 }
 
+/// A number in a field of the file header, and what it has instead of one that it has no room for.
+fn in_field(number: u64, instead: u64) -> u64 {
+    if number < SHN_LORESERVE {
+        number
+    } else {
+        instead
+    }
+}
+
+/// A number in section 0: one that the file header has no room for.
+fn in_section_0(number: u64) -> u64 {
+    if number < SHN_LORESERVE { 0 } else { number }
+}
+
 /// An object's bytes: the file header, the contents of the sections, and the section headers.
 fn join(alloc: Global, flags: u64, parts: &Parts, last: u64) -> Result<Vec<u8>, AllocError> {
     let mut out = Vec::from_slice(alloc, b"\x7fELF\x02\x01\x01\0\0\0\0\0\0\0\0\0")?;
     let table = (parts.body.len() as u64).wrapping_add(64);
+    let count = last.wrapping_add(1);
     let numbers = [
         (1, 2),
         (243, 2),
@@ -261,21 +325,27 @@ fn join(alloc: Global, flags: u64, parts: &Parts, last: u64) -> Result<Vec<u8>, 
         (64, 2),
         (0, 4),
         (64, 2),
-        (last.wrapping_add(1), 2),
-        (last, 2),
+        (in_field(count, 0), 2),
+        (in_field(last, SHN_XINDEX), 2),
     ];
     push_numbers(&mut out, &numbers)?;
     out.extend_from_slice(&parts.body)?;
+    push_zeros(&mut out, 32)?;
+    push_numbers(
+        &mut out,
+        &[(in_section_0(count), 8), (in_section_0(last), 4)],
+    )?;
+    push_zeros(&mut out, 20)?;
     out.extend_from_slice(&parts.headers)?;
     Ok(out)
 }
 
 /// The bytes of an object. After its own sections stand one of relocations for each that has any, the symbol table, the
-/// symbols' names and the sections' names, all without a name.
+/// symbols' names, the table of section indexes if a symbol needs one, and the sections' names, all without a name.
 pub fn object_of(alloc: Global, object: &Object) -> Result<Vec<u8>, AllocError> {
     let mut parts = Parts {
         body: Vec::new(alloc),
-        headers: vec![in alloc; 0u8; 64]?,
+        headers: Vec::new(alloc),
         names: vec![in alloc; 0u8; 1]?,
     };
     let own = object.sections.len() as u64;
@@ -285,6 +355,8 @@ pub fn object_of(alloc: Global, object: &Object) -> Result<Vec<u8>, AllocError> 
     push_named(&mut parts, object.sections, symtab)?;
     push_relocs(alloc, &mut parts, object.sections, symtab)?;
     push_symbols(alloc, &mut parts, object.symbols, symtab)?;
+    push_indexes(alloc, &mut parts, object.symbols, symtab)?;
     push_names(alloc, &mut parts)?;
-    join(alloc, object.flags, &parts, symtab.wrapping_add(2))
+    let last = symtab.wrapping_add(if has_indexes(object.symbols) { 3 } else { 2 });
+    join(alloc, object.flags, &parts, last)
 }

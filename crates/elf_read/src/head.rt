@@ -42,7 +42,13 @@ fn read(alloc: Global, bytes: &[u8]) -> Result<Head, ReadFault>
 {
     let file = open(bytes)?;
     let sections = read_sections(alloc, &file)?;
-    let symbols = read_symbols(alloc, &file, sections.list.as_slice(), sections.symtab)?;
+    let symbols = read_symbols(
+        alloc,
+        &file,
+        sections.list.as_slice(),
+        sections.symtab,
+        sections.index_table,
+    )?;
     Ok(Head {
         flags: word_at(bytes, E_FLAGS),
         sections: sections.list,

@@ -4,13 +4,13 @@ ghost use Rattle.std.specs.Prelude.{◌≡◌, ◌+◌, ◌*◌, ◌^◌, ◌<�
 ghost use Rattle.lk_base.specs.declared.abi.TheConstants.{EHDR_SIZE, SHDR_SIZE};
 ghost use Rattle.lk_tables.specs.Checks.{outcome, passes, ◌says◌, flaw_at};
 ghost use Rattle.lk_tables.specs.FileHeader as read;
-ghost use Rattle.lk_tables.specs.Sections.{names_from as first_name, names_size as size_of_names};
+ghost use Rattle.lk_tables.specs.Sections.{is_symtab, names_from as first_name, names_size as size_of_names};
 
 use crate::entries::header_at;
 use crate::numbers::{half_at, word_at, xword_at};
 use lk_base::abi::{
-    EF_RISCV_RVE, EHDR_SIZE, ELFCLASS64, ELFDATA2LSB, EM_RISCV, ET_REL, EV_CURRENT, SHDR_SIZE,
-    SHNUM_MAX, SHT_STRTAB,
+    EF_RISCV_RVE, EHDR_SIZE, ELFCLASS64, ELFDATA2LSB, EM_RISCV, ET_REL, EV_CURRENT, SECTIONS_MAX,
+    SHDR_SIZE, SHN_XINDEX, SHT_STRTAB, SHT_SYMTAB,
 };
 use lk_base::kinds::{BAD_HEADER, BAD_SECTION, LIMIT, NOT_OBJECT, OUTSIDE};
 use lk_base::{DefectKind, Flaw};
@@ -77,6 +77,13 @@ impl<'a> File<'a> {
         ensures { result ≡ read.is_strtab self.now.bytes.now index }
     {
         is_strtab_in(self.bytes, self.table, self.count, index)
+    }
+
+    /// Whether a section is a symbol table; index 0 names no section.
+    pub fn is_symtab(&self, index: u32) -> bool
+        ensures { result ≡ is_symtab self.now.bytes.now index }
+    {
+        0 < index && index < self.count && self.header(index).sh_type == SHT_SYMTAB
     }
 }
 
@@ -157,26 +164,30 @@ fn check_form(bytes: &[u8]) -> Result<(), Flaw>
 }
 
 /// The section table and the section names of a file of the form that is linked.
-#[tactic(auto, unfolding(lk_tables::specs::FileHeader::table_checks, lk_tables::specs::FileHeader::section_count, lk_tables::specs::FileHeader::names_index))]
+#[tactic(auto, unfolding(lk_tables::specs::FileHeader::table_checks))]
 fn open_table(bytes: &[u8]) -> Result<File<'_>, Flaw>
     requires { EHDR_SIZE ≤ length bytes.now }
     ensures checked { outcome result ≡ passes (read.table_checks bytes.now) }
     ensures same { IfOk result (λ file. file.bytes.now ≡ bytes.now) }
 {
     let table = xword_at(bytes, E_SHOFF);
-    let count = half_at(bytes, E_SHNUM) as u32;
-    let names = half_at(bytes, E_SHSTRNDX) as u32;
     let len = bytes.len() as u64;
+    if half_at(bytes, E_SHNUM) == 0 && ends_past(len, table, SHDR_SIZE) {
+        return Err(flaw(OUTSIDE, 0, E_SHOFF));
+    }
+    let count = count_in(bytes, table as usize);
     if count == 0 {
         return Err(flaw(BAD_SECTION, 0, E_SHNUM));
     }
-    if SHNUM_MAX < count as u64 {
+    if SECTIONS_MAX < count {
         return Err(flaw(LIMIT, 0, E_SHNUM));
     }
-    if ends_past(len, table, SHDR_SIZE * count as u64) {
+    if ends_past(len, table, SHDR_SIZE * count) {
         return Err(flaw(OUTSIDE, 0, E_SHOFF));
     }
     let table = table as usize;
+    let count = count as u32;
+    let names = names_index_in(bytes, table);
     if !is_strtab_in(bytes, table, count, names) {
         return Err(flaw(BAD_SECTION, 0, E_SHSTRNDX));
     }
@@ -191,6 +202,34 @@ fn open_table(bytes: &[u8]) -> Result<File<'_>, Flaw>
         names_from: header.offset as usize,
         names_size: header.size as usize,
     })
+}
+
+/// How many section headers there are; a number that e_shnum has no room for is the size of section 0.
+#[tactic(auto, unfolding(lk_tables::specs::FileHeader::section_count))]
+fn count_in(bytes: &[u8], table: usize) -> u64
+    requires long { EHDR_SIZE ≤ length bytes.now }
+    requires table_is { table ≡ read.e_shoff bytes.now }
+    requires within { read.e_shnum bytes.now ≡ 0 → table + SHDR_SIZE ≤ length bytes.now }
+    ensures { result ≡ read.section_count bytes.now }
+{
+    match half_at(bytes, E_SHNUM) {
+        0 => header_at(bytes, table).size,
+        count => count as u64,
+    }
+}
+
+/// Which section has the sections' names; an index that e_shstrndx has no room for is section 0's link.
+#[tactic(auto, unfolding(lk_tables::specs::FileHeader::names_index))]
+fn names_index_in(bytes: &[u8], table: usize) -> u32
+    requires long { EHDR_SIZE ≤ length bytes.now }
+    requires table_is { table ≡ read.e_shoff bytes.now }
+    requires within { table + SHDR_SIZE ≤ length bytes.now }
+    ensures { result ≡ read.names_index bytes.now }
+{
+    match half_at(bytes, E_SHSTRNDX) {
+        SHN_XINDEX => header_at(bytes, table).link,
+        index => index as u32,
+    }
 }
 
 /// Whether a section is a string table; index 0 names no section.

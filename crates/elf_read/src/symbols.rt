@@ -1,7 +1,7 @@
 //! The symbol table (System V gABI, "Symbol Table").
 
-ghost use Rattle.std.specs.Prelude.{◌≡◌, ◌+◌, ◌*◌, ◌<◌, ◌≤◌, length, Ok, IfOk, IfSome};
-ghost use Rattle.lk_base.specs.declared.abi.TheConstants.{SYM_SIZE};
+ghost use Rattle.std.specs.Prelude.{◌≡◌, ◌≢◌, ◌+◌, ◌*◌, ◌<◌, ◌≤◌, length, Ok, IfOk, IfSome};
+ghost use Rattle.lk_base.specs.declared.abi.TheConstants.{SYM_SIZE, WORD_SIZE};
 ghost use Rattle.lk_tables.specs.Checks.{checked, passes, Follows};
 ghost use Rattle.lk_tables.specs.FileHeader.{section_count, header as header_of};
 ghost use Rattle.lk_tables.specs.Heads.{sections_of, symbols_of, all_section_checks, all_symbol_checks};
@@ -12,10 +12,12 @@ ghost use Rattle.elf_read.specs.Names.{IsLast};
 use crate::entries::entry_at;
 use crate::header::{File, flaw};
 use crate::names::{LastName, NO_LAST, find_len, span};
+use crate::numbers::word_at;
 use crate::sections::{section_in, written_at};
 use lk_base::abi::{
-    SHN_ABS, SHN_COMMON, SHN_UNDEF, STB_GLOBAL, STB_GNU_UNIQUE, STB_LOCAL, STB_WEAK, STT_COMMON,
-    STT_FILE, STT_FUNC, STT_GNU_IFUNC, STT_NOTYPE, STT_OBJECT, STT_SECTION, STT_TLS, SYM_SIZE,
+    SHN_ABS, SHN_COMMON, SHN_LORESERVE, SHN_UNDEF, SHN_XINDEX, STB_GLOBAL, STB_GNU_UNIQUE,
+    STB_LOCAL, STB_WEAK, STT_COMMON, STT_FILE, STT_FUNC, STT_GNU_IFUNC, STT_NOTYPE, STT_OBJECT,
+    STT_SECTION, STT_TLS, SYM_SIZE, WORD_SIZE,
 };
 use lk_base::kinds::{BAD_NAME, BAD_SYMBOL};
 use lk_base::{Flaw, ReadFault};
@@ -38,6 +40,9 @@ struct SymbolTable<'a> {
     /// File offset of the symbol string table, and its bytes.
     strings_from: usize,
     strings_size: usize,
+    /// The section with the indexes that do not fit into entries, or 0, and the file offset of its first word.
+    index_table: u32,
+    words_from: usize,
 
     ghost sections_are: { sections.now ≡ sections_of bytes.now },
     ghost counted: { length sections.now ≡ section_count bytes.now },
@@ -49,34 +54,47 @@ struct SymbolTable<'a> {
     ghost strings_from_is: { strings_from ≡ read.strings_from bytes.now },
     ghost strings_size_is: { strings_size ≡ read.strings_size bytes.now },
     ghost strings_within: { strings_from + strings_size ≤ length bytes.now },
+    ghost index_table_is: { index_table ≡ read.index_table_of bytes.now },
+    ghost words_from_is: { words_from ≡ (header_of bytes.now (read.index_table_of bytes.now)).offset },
+    ghost words_within: { index_table ≢ 0 → words_from + WORD_SIZE * count ≤ length bytes.now },
 }
 
-/// All symbols of a file whose sections are sound; `symtab` is the symbol table's section, or 0.
+/// All symbols of a file whose sections are sound; `symtab` is the symbol table's section, `index_table` the one with the
+/// indexes that do not fit into its entries, or 0.
 #[tactic(auto, unfolding(lk_tables::specs::Symbols::symbol_count))]
 pub fn read_symbols(
     alloc: Global,
     file: &File,
     sections: &[Section],
     symtab: u32,
+    index_table: u32,
 ) -> Result<Vec<Symbol>, ReadFault>
     requires passed { passes (all_section_checks file.now.bytes.now) ≡ Ok tt }
     requires sections { sections.now ≡ sections_of file.now.bytes.now }
     requires symtab { symtab ≡ read.symtab_of file.now.bytes.now }
+    requires index_table { index_table ≡ read.index_table_of file.now.bytes.now }
     ensures checked { Follows result (all_symbol_checks file.now.bytes.now) }
     ensures list { IfOk result (λ symbols. symbols.items ≡ symbols_of file.now.bytes.now) }
 {
     if symtab == 0 {
         return Ok(Vec::new(alloc));
     }
-    read_entries(alloc, &table_in(file, sections, symtab))
+    read_entries(alloc, &table_in(file, sections, symtab, index_table))
 }
 
 /// The symbol table of a file whose sections are sound.
-fn table_in<'a>(file: &File<'a>, sections: &'a [Section], symtab: u32) -> SymbolTable<'a>
+fn table_in<'a>(
+    file: &File<'a>,
+    sections: &'a [Section],
+    symtab: u32,
+    index_table: u32,
+) -> SymbolTable<'a>
     requires readable { read.IsReadable file.now.bytes.now }
     requires sections { sections.now ≡ sections_of file.now.bytes.now }
     requires counted { length sections.now ≡ section_count file.now.bytes.now }
     requires symtab { symtab ≡ read.symtab_of file.now.bytes.now }
+    requires index_table { index_table ≡ read.index_table_of file.now.bytes.now }
+    requires index_table_high { index_table < section_count file.now.bytes.now }
     ensures { result.bytes.now ≡ file.now.bytes.now }
 {
     let header = file.header(symtab);
@@ -90,6 +108,8 @@ fn table_in<'a>(file: &File<'a>, sections: &'a [Section], symtab: u32) -> Symbol
         locals: header.info,
         strings_from: strings.offset as usize,
         strings_size: strings.size as usize,
+        index_table,
+        words_from: file.header(index_table).offset as usize,
     }
 }
 
@@ -128,7 +148,7 @@ fn read_symbol(table: &SymbolTable, last: &mut LastName, index: usize) -> Result
     ) else {
         return Err(flaw(BAD_NAME, table.index, at));
     };
-    let Some(place) = place_from(table.sections.len(), entry.shndx) else {
+    let Some(place) = place_of(table, index, entry.shndx) else {
         return Err(flaw(BAD_SYMBOL, table.index, at));
     };
     let symbol = Symbol {
@@ -159,24 +179,51 @@ fn null_symbol(entry: &SymbolEntry) -> Symbol
     }
 }
 
-/// Where a symbol of this `st_shndx` stands, in a file of `count` sections.
+/// Where a symbol of this `st_shndx` stands.
 #[tactic(auto, unfolding(lk_tables::specs::Symbols::place_from))]
-fn place_from(count: usize, shndx: u16) -> Option<Place>
-    ensures value { result ≡ read.place_from count shndx }
-    ensures within { IfSome result (λ place. IsPlaceWithin count place) }
+fn place_of(table: &SymbolTable, index: usize, shndx: u16) -> Option<Place>
+    requires index { index < table.now.count }
+    ensures value { result ≡ read.place_from (length table.now.sections.now) shndx (read.index_word table.now.bytes.now index) }
+    ensures within { IfSome result (λ place. IsPlaceWithin (length table.now.sections.now) place) }
 {
+    let count = table.sections.len();
     match shndx {
         SHN_UNDEF => Some(Place::Undef),
         SHN_ABS => Some(Place::Absolute),
         SHN_COMMON => Some(Place::Common),
+        SHN_XINDEX => place_in(count, index_word(table, index)),
         _ => {
-            if (shndx as usize) < count {
-                Some(Place::Within(shndx as u32))
+            if shndx < SHN_LORESERVE {
+                place_in(count, shndx as u32)
             } else {
                 None
             }
         }
     }
+}
+
+/// A section of a file that has `count` sections.
+fn place_in(count: usize, index: u32) -> Option<Place>
+    ensures value { result ≡ read.within count index }
+    ensures within { IfSome result (λ place. IsPlaceWithin count place) }
+{
+    if 0 < index && (index as usize) < count {
+        Some(Place::Within(index))
+    } else {
+        None
+    }
+}
+
+/// The index of a symbol's section that does not fit into its entry, or 0.
+#[tactic(auto, unfolding(lk_tables::specs::Symbols::index_word))]
+fn index_word(table: &SymbolTable, index: usize) -> u32
+    requires { index < table.now.count }
+    ensures { result ≡ read.index_word table.now.bytes.now index }
+{
+    if table.index_table == 0 {
+        return 0;
+    }
+    word_at(table.bytes, table.words_from + WORD_SIZE as usize * index)
 }
 
 /// Whether a symbol cannot be.

@@ -8,6 +8,7 @@ mod faults;
 mod generated;
 mod groups;
 mod limits;
+mod numbered;
 mod read;
 mod workers;
 mod wrong_groups;

@@ -14,7 +14,7 @@ use Rattle.lk_base.specs.declared.kinds.DefectKind.{DefectKind}
 use Rattle.lk_base.specs.declared.kinds.DefectKind.TheVariants.{F01, F02, F03, F04, F05, F06, F07, F08, F09, F10, F11, F12, F13, F14, F15, F16, F17, F18, F19, F20, F21, F22, F23, F24, F25, F26, F27}
 
 -- each byte is shown
-abbrev AreShown : List ℕ → Type 0
+abbrev pub AreShown : List ℕ → Type 0
 AreShown xs = list_all is_shown xs ≡ true
 
 both : (p q : Bool) → p ≡ true → q ≡ true → (p && q) ≡ true
@@ -25,7 +25,7 @@ both false q hp hq = hp
 shown_between : (b : ℕ) → 32 ≤ b → b ≤ 126 → is_shown b ≡ true
 shown_between b low high = grind arith
 
-shown-append : (xs ys : List ℕ) → AreShown xs → AreShown ys → AreShown (xs ++ ys)
+pub shown-append : (xs ys : List ℕ) → AreShown xs → AreShown ys → AreShown (xs ++ ys)
 shown-append xs ys hx hy = list_all-append is_shown xs ys ∙ both (list_all is_shown xs) (list_all is_shown ys) hx hy
 
 shown_plain : (b : ℕ) → is_plain b ≡ true → is_shown b ≡ true
@@ -46,7 +46,7 @@ shown-escaped_byte b small = by_kind (is_plain b) refl
         both (is_shown (hex_digit (b / 16))) (is_shown (hex_digit (b % 16)) && true) (shown-hex_digit (b / 16) high)
         (both (is_shown (hex_digit (b % 16))) true (shown-hex_digit (b % 16) low) refl)
 
-shown-escaped : (name : List ℕ) → All (λ b. b < 256) name → AreShown (escaped name)
+pub shown-escaped : (name : List ℕ) → All (λ b. b < 256) name → AreShown (escaped name)
 shown-escaped [] bytes = refl
 shown-escaped (b ∷ bs) bytes =
     shown-append (escaped_byte b) (escaped bs) (shown-escaped_byte b (All-head (λ x. x < 256) b bs bytes)) (shown-escaped bs (All-tail (λ x. x < 256) b bs bytes))

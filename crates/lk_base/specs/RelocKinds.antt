@@ -1,10 +1,10 @@
 -- The kinds of relocations (RISC-V ELF psABI, "Relocations"): of each its number, the bytes of its place, what is
 -- computed, which values the field takes, and the field.
-use Rattle.std.specs.Prelude.{ℕ, ◌≡◌, ◌+◌, ◌==◌, pos, Bool, true, false, if◌then◌else◌, IsTrue, Option, Some, None, List, [], ◌∷◌, map}
+use Rattle.std.specs.Prelude.{ℕ, ◌≡◌, ◌+◌, ◌==◌, pos, Bool, true, false, not, ◌&&◌, if◌then◌else◌, IsTrue, Option, Some, None, List, [], ◌∷◌, map}
 use Rattle.std.specs.List.{list_any, range_with_len}
 use Rattle.lk_base.specs.Formats.{Field, plain, no_bits, upper, upper_and_lower, i_format, s_format, b_format, j_format, cb_format, cj_format, low_six, whole_8, whole_16, whole_32, whole_64, field_of}
 use Rattle.lk_base.specs.Reaches.{Reach, any, from_to, even_from_to, minus, reach_of}
-use Rattle.lk_base.specs.declared.abi.TheConstants.{R_RISCV_NONE, R_RISCV_32, R_RISCV_64, R_RISCV_BRANCH, R_RISCV_JAL, R_RISCV_CALL, R_RISCV_CALL_PLT, R_RISCV_GOT_HI20, R_RISCV_TLS_GOT_HI20, R_RISCV_TLS_GD_HI20, R_RISCV_PCREL_HI20, R_RISCV_PCREL_LO12_I, R_RISCV_PCREL_LO12_S, R_RISCV_HI20, R_RISCV_LO12_I, R_RISCV_LO12_S, R_RISCV_TPREL_HI20, R_RISCV_TPREL_LO12_I, R_RISCV_TPREL_LO12_S, R_RISCV_TPREL_ADD, R_RISCV_ADD8, R_RISCV_ADD16, R_RISCV_ADD32, R_RISCV_ADD64, R_RISCV_SUB8, R_RISCV_SUB16, R_RISCV_SUB32, R_RISCV_SUB64, R_RISCV_ALIGN, R_RISCV_RVC_BRANCH, R_RISCV_RVC_JUMP, R_RISCV_RELAX, R_RISCV_SUB6, R_RISCV_SET6, R_RISCV_SET8, R_RISCV_SET16, R_RISCV_SET32, R_RISCV_32_PCREL}
+use Rattle.lk_base.specs.declared.abi.TheConstants.{R_RISCV_NONE, R_RISCV_32, R_RISCV_64, R_RISCV_BRANCH, R_RISCV_JAL, R_RISCV_CALL, R_RISCV_CALL_PLT, R_RISCV_GOT_HI20, R_RISCV_TLS_GOT_HI20, R_RISCV_TLS_GD_HI20, R_RISCV_PCREL_HI20, R_RISCV_PCREL_LO12_I, R_RISCV_PCREL_LO12_S, R_RISCV_HI20, R_RISCV_LO12_I, R_RISCV_LO12_S, R_RISCV_TPREL_HI20, R_RISCV_TPREL_LO12_I, R_RISCV_TPREL_LO12_S, R_RISCV_TPREL_ADD, R_RISCV_ADD8, R_RISCV_ADD16, R_RISCV_ADD32, R_RISCV_ADD64, R_RISCV_SUB8, R_RISCV_SUB16, R_RISCV_SUB32, R_RISCV_SUB64, R_RISCV_ALIGN, R_RISCV_RVC_BRANCH, R_RISCV_RVC_JUMP, R_RISCV_RELAX, R_RISCV_SUB6, R_RISCV_SET6, R_RISCV_SET8, R_RISCV_SET16, R_RISCV_SET32, R_RISCV_32_PCREL, R_RISCV_PLT32, R_RISCV_SET_ULEB128, R_RISCV_SUB_ULEB128}
 use Rattle.lk_base.specs.declared.relocations.Calculation.{Calculation}
 use Rattle.lk_base.specs.declared.relocations.Calculation.TheVariants.{Nothing, Hint, Padding, Address, Distance, Partner, GotDistance, ThreadOffset, Increase, Decrease}
 use Rattle.lk_base.specs.declared.relocations.Kind as code
@@ -70,6 +70,7 @@ lines =
     ∷ line R_RISCV_SET16 2 Address any (plain whole_16)
     ∷ line R_RISCV_SET32 4 Address any (plain whole_32)
     ∷ line R_RISCV_32_PCREL 4 Distance (from_to (minus 2147483648) (pos 2147483647)) (plain whole_32)
+    ∷ line R_RISCV_PLT32 4 Distance (from_to (minus 2147483648) (pos 2147483647)) (plain whole_32)
     ∷ []
 
 -- the kind of a number that has no line: nothing is written
@@ -106,11 +107,22 @@ has_value number = puts_value (kind_of number).calculation
 abbrev pub HasValue : ℕ → Type 0
 HasValue number = IsTrue (has_value number)
 
-unfoldable pub names_a_symbol : ℕ → Bool
-names_a_symbol number = takes_symbol (kind_of number).calculation
-
 abbrev pub is_among : List ℕ → ℕ → Bool
 is_among numbers number = list_any (λ n. n == number) numbers
+
+-- the place is a ULEB128 number, which is as long as its bytes say
+unfoldable pub is_uleb : ℕ → Bool
+is_uleb = is_among (R_RISCV_SET_ULEB128 ∷ R_RISCV_SUB_ULEB128 ∷ [])
+
+-- a value is put into the bits that the kind's field names
+unfoldable pub fills_field : ℕ → Bool
+fills_field number = has_value number && not (is_uleb number)
+
+abbrev pub FillsField : ℕ → Type 0
+FillsField number = IsTrue (fills_field number)
+
+unfoldable pub names_a_symbol : ℕ → Bool
+names_a_symbol number = takes_symbol (kind_of number).calculation
 
 -- what stands after its place may move, since its place may get shorter
 unfoldable pub moves_bytes : ℕ → Bool
@@ -154,4 +166,4 @@ line_at number = if is_linked number then Some (kind_of number) else None
 
 -- a table by number: the line of each number up to the last that has one
 unfoldable pub IsTable : List (Option code.Kind) → Type 0
-IsTable table = map line_view table ≡ map line_at (range_with_len 0 (R_RISCV_32_PCREL + 1))
+IsTable table = map line_view table ≡ map line_at (range_with_len 0 (R_RISCV_PLT32 + 1))

@@ -237,6 +237,12 @@ pub const R_RISCV_SET16: u32 = 55;
 pub const R_RISCV_SET32: u32 = 56;
 /// A distance of 32 bits.
 pub const R_RISCV_32_PCREL: u32 = 57;
+/// The distance to a function, of 32 bits.
+pub const R_RISCV_PLT32: u32 = 59;
+/// The first part of a pair: the address that a distance as a ULEB128 number goes to.
+pub const R_RISCV_SET_ULEB128: u32 = 60;
+/// The second part of a pair: the address that a distance as a ULEB128 number comes from.
+pub const R_RISCV_SUB_ULEB128: u32 = 61;
 
 // The project's own sizes.
 
@@ -247,7 +253,9 @@ pub const PAGE: u64 = 4096;
 /// The most bytes of an input file.
 pub const FILE_MAX: u64 = 0x7fff_ffff;
 /// The most section headers of a file.
-pub const SHNUM_MAX: u64 = 65_279;
+pub const SECTIONS_MAX: u64 = 0x1000_0000;
+/// The most bytes of a relocation's place: those of a ULEB128 number.
+pub const PLACE_MAX: u64 = 10;
 /// The greatest alignment.
 pub const ALIGN_MAX: u64 = 0x10_0000;
 /// The most bytes of a NOBITS section or of a COMMON symbol.

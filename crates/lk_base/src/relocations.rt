@@ -1,11 +1,11 @@
 //! The kinds of relocations (RISC-V ELF psABI, "Relocations"): one table.
 
 ghost use Rattle.std.specs.Prelude.{◌≡◌, ◌≤◌, None, is_some, IfSome, slice_index_or};
-ghost use Rattle.lk_base.specs.RelocKinds.{IsTable, goes_by_got, has_value, is_linked, is_lower, is_upper, kind_of, kind_view, moves_bytes, names_a_symbol, unknown};
+ghost use Rattle.lk_base.specs.RelocKinds.{IsTable, fills_field, goes_by_got, has_value, is_linked, is_lower, is_uleb, is_upper, kind_of, kind_view, moves_bytes, names_a_symbol, unknown};
 
 use crate::abi::{
     R_RISCV_ALIGN, R_RISCV_CALL, R_RISCV_CALL_PLT, R_RISCV_GOT_HI20, R_RISCV_PCREL_HI20,
-    R_RISCV_TLS_GD_HI20, R_RISCV_TLS_GOT_HI20,
+    R_RISCV_SET_ULEB128, R_RISCV_SUB_ULEB128, R_RISCV_TLS_GD_HI20, R_RISCV_TLS_GOT_HI20,
 };
 
 /// What a relocation of a kind computes, as the psABI's table has it: S is its symbol's address, A its addend, P its
@@ -171,6 +171,8 @@ const LINES: &[Option<Kind>] = &[
     kind!(2, Address, Rule::Any, Half), // R_RISCV_SET16
     kind!(4, Address, Rule::Any, Word), // R_RISCV_SET32
     kind!(4, Distance, Rule::FromTo(-2147483648, 2147483647), Word), // R_RISCV_32_PCREL
+    None, // R_RISCV_IRELATIVE
+    kind!(4, Distance, Rule::FromTo(-2147483648, 2147483647), Word), // R_RISCV_PLT32
 ];
 
 /// The kind of a number. If the table has no line for it, nothing is written.
@@ -224,6 +226,22 @@ pub fn has_value(number: u32) -> bool
         kind_of(number).calculation,
         Calculation::Nothing | Calculation::Hint | Calculation::Padding
     )
+}
+
+/// Whether the place of a kind is a ULEB128 number, which is as long as its bytes say.
+#[tactic(auto, unfolding(crate::specs::RelocKinds::is_uleb))]
+pub fn is_uleb(number: u32) -> bool
+    ensures { result ≡ is_uleb number }
+{
+    matches!(number, R_RISCV_SET_ULEB128 | R_RISCV_SUB_ULEB128)
+}
+
+/// Whether the relocations of a kind put a value into the bits that the kind's field names.
+#[tactic(auto, unfolding(crate::specs::RelocKinds::fills_field))]
+pub fn fills_field(number: u32) -> bool
+    ensures { result ≡ fills_field number }
+{
+    has_value(number) && !is_uleb(number)
 }
 
 /// Whether the relocations of a kind have a symbol.

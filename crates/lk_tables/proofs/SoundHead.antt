@@ -2,13 +2,13 @@
 use Rattle.std.proofs.Common.{◌≡◌, ◌≢◌, ℕ, ◌+◌, ◌*◌, ◌/◌, ◌-◌, ◌<◌, ◌≤◌, Bool, true, false, not, ◌&&◌, ◌||◌, ◌==◌, nat_lt, length, get_or, take, drop, List, [], ◌∷◌, ◌++◌, refl, sym, ap, ◌∙◌, arith, Option, Some, None, subst, inl, inr}
 use Rattle.std.specs.Prelude.{Ok, unwrap_or, is_some, if◌then◌else◌, max, min, ◌%◌, codes}
 use Rattle.std.specs.Str.{bytes_eq}
-use Rattle.std.proofs.lemmas.Bool.{cond_both, cases_eq, and_parts, or_parts, eqb-true, eq-eqb, ne_eqb, ltb-false}
+use Rattle.std.proofs.lemmas.Bool.{cond_both, cases_eq, and_parts, or_parts, eqb-true, eq-eqb, ne_eqb, ltb-false, ltb-true}
 use Rattle.std.proofs.lemmas.Bool.Decides.{nat_tests}
 use Rattle.std.proofs.lemmas.List.Quantifiers.{position-Some}
 use Rattle.std.proofs.lemmas.Grind.{common_steps}
 use Rattle.lk_base.specs.declared.defects.Flaw.{Flaw}
 use Rattle.lk_base.specs.RelocKinds.{is_among}
-use Rattle.lk_base.specs.declared.abi.TheConstants.{SHDR_SIZE, SHNUM_MAX, SHN_UNDEF, SHN_ABS, SHN_COMMON, SHT_NULL, SHT_SYMTAB, STB_LOCAL, SYM_SIZE}
+use Rattle.lk_base.specs.declared.abi.TheConstants.{SHDR_SIZE, SECTIONS_MAX, SHN_UNDEF, SHN_LORESERVE, SHN_ABS, SHN_COMMON, SHN_XINDEX, SHT_NULL, SHT_SYMTAB, STB_LOCAL, SYM_SIZE}
 use Rattle.lk_tables.specs.declared.heads.Place.{Place}
 use Rattle.lk_tables.specs.declared.heads.Place.TheVariants.{Undef, Absolute, Common, Within}
 use Rattle.lk_tables.specs.declared.heads.Section.{Section}
@@ -20,9 +20,9 @@ use Rattle.lk_tables.specs.Indexed.{IsIndexed}
 use Rattle.lk_tables.specs.Inside.{IsNameWithin, IsPlaceWithin, IsNullSymbol, HasLocalsFirst, IsHeadInside}
 use Rattle.lk_tables.specs.Names.{is_zero, text_of, name_len}
 use Rattle.lk_tables.specs.Sections.{section_of, is_null, is_written, written_at, is_loaded, loaded_types, is_bad_symtab, names_from, names_size}
-use Rattle.lk_tables.specs.Symbols.{symtab_of, symbol_of, symbol_from, null_symbol, symbol_count, symbol_checks, entry, bindings, sorts, place_from, place_at, strings_from, strings_size, symbol_name_len, is_common, is_strange, is_bad_local, is_misplaced, is_bad_common, is_past_end, is_bad_symbol}
+use Rattle.lk_tables.specs.Symbols.{symtab_of, symbol_of, symbol_from, null_symbol, symbol_count, symbol_checks, entry, bindings, sorts, place_from, place_at, index_word, within, strings_from, strings_size, symbol_name_len, is_common, is_strange, is_bad_local, is_misplaced, is_bad_common, is_past_end, is_bad_symbol}
 use Rattle.lk_tables.proofs.BodyFacts.{symbol_at, length_symbols, section_inside, header_passes, sections_pass, sections_are, symbols_are, symtab_is, no_symbols}
-use Rattle.lk_tables.proofs.HeadFacts.{sound_at, has_symtab, readable, section_at, length_sections}
+use Rattle.lk_tables.proofs.HeadFacts.{sound_at, has_first, readable, section_at, length_sections}
 use Rattle.lk_tables.proofs.Passing.{each, both_pass, none_from_ok, ok_from_none, checked_value}
 
 pub second_false : (x y : Bool) → (x && y) ≡ false → x ≡ true → y ≡ false
@@ -32,19 +32,19 @@ second_false false y e is = cc
 -- the section table
 record IsTable (b : List ℕ) : Type 0 where
   some : 0 < section_count b
-  few : section_count b ≤ SHNUM_MAX
+  few : section_count b ≤ SECTIONS_MAX
   within : e_shoff b + SHDR_SIZE * section_count b ≤ length b
 
 table_of : (b : List ℕ) → passes (header_checks b) ≡ Ok tt → IsTable b
-unfolding header_checks table_checks section_count
+unfolding header_checks table_checks
 table_of b e =
     let rest = (both_pass (identity_checks b) (form_checks b ++ table_checks b) (tt {0}) (tt {0}) e).1 in
     let last = (both_pass (form_checks b) (table_checks b) (tt {0}) (tt {0}) rest).1 in
     let lines : NoneBroken (table_checks b) = none_from_ok (table_checks b) (tt {0}) (tt {0}) last in
     record {
-      some = grind (arith, nat_tests, lines.0);
-      few = ltb-false _ _ lines.1.0;
-      within = ltb-false _ _ lines.1.1.0;
+      some = grind (arith, nat_tests, lines.1.0);
+      few = ltb-false _ _ lines.1.1.0;
+      within = ltb-false _ _ lines.1.1.1.0;
     }
 
 -- a name that ends in its table ends in the file
@@ -75,20 +75,29 @@ section_named b k e high =
     name_within b (names_from b) (names_size b) (header b k).name (sound_at b k e low high typed).named)
 
 -- where a symbol stands
-place_cases : (n x : ℕ) (p : Place) (a b c d : Bool) → (x == SHN_UNDEF) ≡ a → nat_lt x n ≡ d →
-    (if a then Some Undef else (if b then Some Absolute else (if c then Some Common else (if d then Some (Within x) else None)))) ≡ Some p → IsPlaceWithin n p
-place_cases n x p true b c d z lt e = let P : Place → Type 0 = λ q. IsPlaceWithin n q in let same : Undef ≡ p = cc in subst P same tt
-place_cases n x p false true c d z lt e = let P : Place → Type 0 = λ q. IsPlaceWithin n q in let same : Absolute ≡ p = cc in subst P same tt
-place_cases n x p false false true d z lt e = let P : Place → Type 0 = λ q. IsPlaceWithin n q in let same : Common ≡ p = cc in subst P same tt
-place_cases n x p false false false true z lt e =
+section_cases : (n k : ℕ) (p : Place) (a : Bool) → (nat_lt 0 k && nat_lt k n) ≡ a → (if a then Some (Within k) else None) ≡ Some p → IsPlaceWithin n p
+section_cases n k p true lt e =
     let P : Place → Type 0 = λ q. IsPlaceWithin n q in
-    let same : Within x ≡ p = cc in
-    subst P same (grind (arith, nat_tests), grind (arith, nat_tests))
-place_cases n x p false false false false z lt e = let no : ⊥ = cc in absurd no
+    let same : Within k ≡ p = cc in
+    let both = and_parts (nat_lt 0 k) (nat_lt k n) lt in
+    subst P same (ltb-true _ _ both.0, ltb-true _ _ both.1)
+section_cases n k p false lt e = let no : ⊥ = cc in absurd no
 
-place_within : (n x : ℕ) (p : Place) → place_from n x ≡ Some p → IsPlaceWithin n p
+section_within : (n k : ℕ) (p : Place) → within n k ≡ Some p → IsPlaceWithin n p
+section_within n k p e = section_cases n k p (nat_lt 0 k && nat_lt k n) refl e
+
+place_cases : (n x w : ℕ) (p : Place) (a b c d f : Bool) →
+    (if a then Some Undef else (if b then Some Absolute else (if c then Some Common else (if d then within n w else (if f then within n x else None))))) ≡ Some p → IsPlaceWithin n p
+place_cases n x w p true b c d f e = let P : Place → Type 0 = λ q. IsPlaceWithin n q in let same : Undef ≡ p = cc in subst P same tt
+place_cases n x w p false true c d f e = let P : Place → Type 0 = λ q. IsPlaceWithin n q in let same : Absolute ≡ p = cc in subst P same tt
+place_cases n x w p false false true d f e = let P : Place → Type 0 = λ q. IsPlaceWithin n q in let same : Common ≡ p = cc in subst P same tt
+place_cases n x w p false false false true f e = section_within n w p e
+place_cases n x w p false false false false true e = section_within n x p e
+place_cases n x w p false false false false false e = let no : ⊥ = cc in absurd no
+
+place_within : (n x w : ℕ) (p : Place) → place_from n x w ≡ Some p → IsPlaceWithin n p
 unfolding place_from
-place_within n x p e = place_cases n x p (x == SHN_UNDEF) (x == SHN_ABS) (x == SHN_COMMON) (nat_lt x n) refl refl e
+place_within n x w p e = place_cases n x w p (x == SHN_UNDEF) (x == SHN_ABS) (x == SHN_COMMON) (x == SHN_XINDEX) (nat_lt x SHN_LORESERVE) e
 
 some_within : (n : ℕ) (r : Option Place) → is_some r ≡ true → ((p : Place) → r ≡ Some p → IsPlaceWithin n p) → IsPlaceWithin n (unwrap_or r Undef)
 some_within n None is within = cc
@@ -96,7 +105,7 @@ some_within n (Some p) is within = within p refl
 
 stands_within : (b : List ℕ) (k : ℕ) → is_some (place_at b k) ≡ true → IsPlaceWithin (section_count b) (unwrap_or (place_at b k) Undef)
 unfolding place_at
-stands_within b k is = some_within (section_count b) (place_at b k) is (λ p e. place_within (section_count b) (entry b k).shndx p e)
+stands_within b k is = some_within (section_count b) (place_at b k) is (λ p e. place_within (section_count b) (entry b k).shndx (index_word b k) p e)
 
 value_within : (b : List ℕ) (p : Place) (value j : ℕ) → is_past_end b p value ≡ false → p ≡ Within j → 0 < j → is_written b (section_of b j) ≡ true →
     value ≤ (section_of b j).size
@@ -248,7 +257,7 @@ symtab_inside b e =
           let empty = no_symbols b none in
           record { locals = 0; few = omega arith; entries = omega (arith, empty); is = λ some. absurd (some empty) }
       | inr some ↦
-          let t = has_symtab b some in
+          let t = has_first b SHT_SYMTAB some in
           let r = readable b e some in
           let live : (header b (symtab_of b)).sh_type ≢ SHT_NULL = λ z. absurd (omega (arith, t.is)) in
           let few = few_locals b _ (symtab_of b) (sound_at b (symtab_of b) e t.low t.high live).table t.is in
@@ -298,7 +307,7 @@ symbols_pass b head is =
     (both_pass (all_section_checks b) (all_symbol_checks b) (tt {0}) (tt {0}) rest).1
 
 symtab_low : (b : List ℕ) → 0 < section_count b → symtab_of b < section_count b
-symtab_low b some = elim (cases_eq (symtab_of b) 0) [ inl none ↦ omega (arith, none) | inr other ↦ (has_symtab b other).high ]
+symtab_low b some = elim (cases_eq (symtab_of b) 0) [ inl none ↦ omega (arith, none) | inr other ↦ (has_first b SHT_SYMTAB other).high ]
 
 -- a sound head
 pub head_inside : (b : List ℕ) (head : HeadView) → HeadOf b head → IsHeadInside b head

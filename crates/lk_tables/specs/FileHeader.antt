@@ -1,8 +1,8 @@
 -- The file header of a relocatable object for 64-bit RISC-V, and its section table (System V gABI, "ELF Header",
 -- "Sections"; RISC-V ELF psABI, "File Header").
-use Rattle.std.specs.Prelude.{ℕ, ◌+◌, ◌*◌, Bool, not, ◌&&◌, ◌==◌, nat_lt, nat_eq, bit_and, List, [], ◌∷◌, ◌++◌, length, slice_index}
+use Rattle.std.specs.Prelude.{ℕ, ◌+◌, ◌*◌, Bool, not, ◌&&◌, ◌==◌, nat_lt, nat_eq, bit_and, if◌then◌else◌, List, [], ◌∷◌, ◌++◌, length, slice_index}
 use Rattle.std.specs.List.{starts_with}
-use Rattle.lk_base.specs.declared.abi.TheConstants.{ELFCLASS64, ELFDATA2LSB, EV_CURRENT, ET_REL, EM_RISCV, EF_RISCV_RVE, EHDR_SIZE, SHDR_SIZE, SHNUM_MAX, SHT_STRTAB}
+use Rattle.lk_base.specs.declared.abi.TheConstants.{ELFCLASS64, ELFDATA2LSB, EV_CURRENT, ET_REL, EM_RISCV, EF_RISCV_RVE, EHDR_SIZE, SHDR_SIZE, SECTIONS_MAX, SHN_XINDEX, SHT_STRTAB}
 use Rattle.lk_base.specs.declared.defects.Flaw.{Flaw}
 use Rattle.lk_base.specs.declared.kinds.DefectKind.{DefectKind}
 use Rattle.lk_base.specs.declared.kinds.TheConstants.{NOT_OBJECT, BAD_HEADER, OUTSIDE, BAD_SECTION, LIMIT}
@@ -25,19 +25,20 @@ e_shnum b = half_at b E_SHNUM
 abbrev pub e_shstrndx : List ℕ → ℕ
 e_shstrndx b = half_at b E_SHSTRNDX
 
--- how many section headers there are, and which names the section name string table
-unfoldable pub section_count : List ℕ → ℕ
-section_count b = e_shnum b
-
-unfoldable pub names_index : List ℕ → ℕ
-names_index b = e_shstrndx b
-
 -- where header i of the section table stands, and what it says
 abbrev pub place_of : List ℕ → ℕ → ℕ
 place_of b i = e_shoff b + SHDR_SIZE * i
 
 abbrev pub header : List ℕ → ℕ → SectionHeader
 header b i = header_at b (place_of b i)
+
+-- how many section headers there are, and which names the section name string table: numbers that the file header has
+-- no room for stand in section 0
+unfoldable pub section_count : List ℕ → ℕ
+section_count b = if e_shnum b == 0 then (header b 0).size else e_shnum b
+
+unfoldable pub names_index : List ℕ → ℕ
+names_index b = if e_shstrndx b == SHN_XINDEX then (header b 0).link else e_shstrndx b
 
 -- `size` bytes at `from` end past the file
 abbrev pub ends_past : (file from size : ℕ) → Bool
@@ -73,11 +74,13 @@ form_checks b =
     ∷ (not (half_at b E_SHENTSIZE == SHDR_SIZE) says at_file BAD_HEADER E_SHENTSIZE)
     ∷ []
 
--- "ELF Header", e_shnum and e_shstrndx: a section table in the file, of which one string table in the file has the names
+-- "ELF Header", e_shnum and e_shstrndx: a section table in the file (of which section 0 is asked for the count, if e_shnum
+-- has none), of which one string table in the file has the names
 unfoldable pub table_checks : List ℕ → List Check
 table_checks b =
-    (e_shnum b == 0 says at_file BAD_SECTION E_SHNUM)
-    ∷ (nat_lt SHNUM_MAX (e_shnum b) says at_file LIMIT E_SHNUM)
+    (e_shnum b == 0 && ends_past (length b) (e_shoff b) SHDR_SIZE says at_file OUTSIDE E_SHOFF)
+    ∷ (section_count b == 0 says at_file BAD_SECTION E_SHNUM)
+    ∷ (nat_lt SECTIONS_MAX (section_count b) says at_file LIMIT E_SHNUM)
     ∷ (ends_past (length b) (e_shoff b) (SHDR_SIZE * section_count b) says at_file OUTSIDE E_SHOFF)
     ∷ (not (is_strtab b (names_index b)) says at_file BAD_SECTION E_SHSTRNDX)
     ∷ (ends_past (length b) (header b (names_index b)).offset (header b (names_index b)).size says at_file OUTSIDE E_SHSTRNDX)

@@ -1,15 +1,15 @@
 -- The sections of an object and the checks of their headers (System V gABI, "Section Header Table", "Special Sections").
-use Rattle.std.specs.Prelude.{ℕ, ◌+◌, ◌/◌, ◌%◌, Bool, not, ◌&&◌, ◌||◌, ◌==◌, nat_lt, bit_and, Option, is_some, unwrap_or, if◌then◌else◌, List, [], ◌∷◌, length, take, drop, find, codes}
+use Rattle.std.specs.Prelude.{ℕ, ◌+◌, ◌*◌, ◌/◌, ◌%◌, Bool, not, ◌&&◌, ◌||◌, ◌==◌, nat_lt, bit_and, Option, is_some, unwrap_or, if◌then◌else◌, List, [], ◌∷◌, length, take, drop, find, codes}
 use Rattle.std.specs.List.{range_with_len}
 use Rattle.std.specs.Str.{bytes_eq}
 use Rattle.lk_base.specs.RelocKinds.{is_among}
-use Rattle.lk_base.specs.declared.abi.TheConstants.{SHT_NULL, SHT_PROGBITS, SHT_SYMTAB, SHT_NOTE, SHT_NOBITS, SHT_INIT_ARRAY, SHT_FINI_ARRAY, SHT_PREINIT_ARRAY, SHT_SYMTAB_SHNDX, SHF_ALLOC, SHF_EXCLUDE, SYM_SIZE}
+use Rattle.lk_base.specs.declared.abi.TheConstants.{SHT_NULL, SHT_PROGBITS, SHT_SYMTAB, SHT_NOTE, SHT_NOBITS, SHT_INIT_ARRAY, SHT_FINI_ARRAY, SHT_PREINIT_ARRAY, SHT_SYMTAB_SHNDX, SHF_ALLOC, SHF_EXCLUDE, SYM_SIZE, WORD_SIZE}
 use Rattle.lk_base.specs.declared.kinds.TheConstants.{OUTSIDE, BAD_SECTION, BAD_NAME}
 use Rattle.lk_tables.specs.declared.entries.SectionHeader.{SectionHeader}
 use Rattle.lk_tables.specs.declared.heads.Section.{Section}
 use Rattle.lk_tables.specs.declared.spans.Span.{Span}
 use Rattle.lk_tables.specs.Checks.{Check, ◌says◌, flaw_at}
-use Rattle.lk_tables.specs.FileHeader.{header, place_of, names_index, ends_past, is_strtab}
+use Rattle.lk_tables.specs.FileHeader.{header, place_of, names_index, section_count, ends_past, is_strtab}
 use Rattle.lk_tables.specs.Names.{name_len, span, no_name, text_of}
 
 -- the section name string table
@@ -50,12 +50,20 @@ section_of b i =
 unfoldable pub is_outside : List ℕ → SectionHeader → Bool
 is_outside b h = not (h.sh_type == SHT_NOBITS) && ends_past (length b) h.offset h.size
 
-abbrev pub is_symtab : List ℕ → ℕ → Bool
-is_symtab b k = nat_lt 0 k && (header b k).sh_type == SHT_SYMTAB
+-- section k has this type; section 0 has none
+abbrev pub has_type : List ℕ → (sh_type k : ℕ) → Bool
+has_type b sh_type k = nat_lt 0 k && (header b k).sh_type == sh_type
 
--- the first symbol table among the sections below i, or 0
-unfoldable pub symtab_before : List ℕ → ℕ → ℕ
-symtab_before b i = unwrap_or (find (is_symtab b) (range_with_len 0 i)) 0
+-- the first section of a type among the sections below i, or 0
+unfoldable pub first_of : List ℕ → (sh_type i : ℕ) → ℕ
+first_of b sh_type i = unwrap_or (find (has_type b sh_type) (range_with_len 0 i)) 0
+
+-- the first symbol table, and the first table of section indexes, among the sections below i, or 0
+abbrev pub symtab_before : List ℕ → ℕ → ℕ
+symtab_before b i = first_of b SHT_SYMTAB i
+
+abbrev pub index_table_before : List ℕ → ℕ → ℕ
+index_table_before b i = first_of b SHT_SYMTAB_SHNDX i
 
 -- a second symbol table, or one with entries of another size or whose names are in no string table, or with more local
 -- symbols than entries
@@ -68,13 +76,27 @@ is_bad_symtab b earlier h =
     || (not (is_strtab b h.link)
     || nat_lt (h.size / SYM_SIZE) h.info))))
 
--- the checks of section i; SYMTAB_SHNDX is not linked yet
+-- a symbol table of the file; index 0 names no section
+abbrev pub is_symtab : List ℕ → ℕ → Bool
+is_symtab b i = nat_lt 0 i && (nat_lt i (section_count b) && (header b i).sh_type == SHT_SYMTAB)
+
+-- a second table of section indexes, or one with entries of another size, of no symbol table, or with more or fewer
+-- entries than that symbol table
+unfoldable pub is_bad_index_table : List ℕ → (earlier : ℕ) → SectionHeader → Bool
+is_bad_index_table b earlier h =
+    h.sh_type == SHT_SYMTAB_SHNDX
+    && (not (earlier == 0)
+    || (not (h.entsize == WORD_SIZE)
+    || (not (is_symtab b h.link)
+    || not (h.size == WORD_SIZE * ((header b h.link).size / SYM_SIZE)))))
+
+-- the checks of section i
 unfoldable pub section_checks : List ℕ → ℕ → List Check
 section_checks b i = if is_null i (header b i).sh_type then [] else
     (is_outside b (header b i) says flaw_at OUTSIDE i (place_of b i))
     ∷ (not (is_some (section_name_len b (header b i).name)) says flaw_at BAD_NAME i (place_of b i))
     ∷ (is_bad_symtab b (symtab_before b i) (header b i) says flaw_at BAD_SECTION i (place_of b i))
-    ∷ ((header b i).sh_type == SHT_SYMTAB_SHNDX says flaw_at BAD_SECTION i (place_of b i))
+    ∷ (is_bad_index_table b (index_table_before b i) (header b i) says flaw_at BAD_SECTION i (place_of b i))
     ∷ []
 
 -- the types of sections that may be written

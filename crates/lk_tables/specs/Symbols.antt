@@ -1,7 +1,7 @@
 -- The symbols of an object and the checks of their entries (System V gABI, "Symbol Table").
-use Rattle.std.specs.Prelude.{◌≡◌, ℕ, ◌+◌, ◌*◌, ◌/◌, ◌%◌, ◌<◌, ◌≤◌, Bool, true, false, not, ◌&&◌, ◌||◌, ◌==◌, nat_lt, Option, Some, None, is_some, unwrap_or, if◌then◌else◌, List, [], ◌∷◌, length}
+use Rattle.std.specs.Prelude.{◌≡◌, ◌≢◌, ℕ, ◌+◌, ◌*◌, ◌/◌, ◌%◌, ◌<◌, ◌≤◌, Bool, true, false, not, ◌&&◌, ◌||◌, ◌==◌, nat_lt, Option, Some, None, is_some, unwrap_or, if◌then◌else◌, List, [], ◌∷◌, length}
 use Rattle.lk_base.specs.RelocKinds.{is_among}
-use Rattle.lk_base.specs.declared.abi.TheConstants.{SHN_UNDEF, SHN_ABS, SHN_COMMON, STB_LOCAL, STB_GLOBAL, STB_WEAK, STB_GNU_UNIQUE, STT_NOTYPE, STT_OBJECT, STT_FUNC, STT_SECTION, STT_FILE, STT_COMMON, STT_TLS, STT_GNU_IFUNC, SYM_SIZE}
+use Rattle.lk_base.specs.declared.abi.TheConstants.{SHN_UNDEF, SHN_LORESERVE, SHN_ABS, SHN_COMMON, SHN_XINDEX, STB_LOCAL, STB_GLOBAL, STB_WEAK, STB_GNU_UNIQUE, STT_NOTYPE, STT_OBJECT, STT_FUNC, STT_SECTION, STT_FILE, STT_COMMON, STT_TLS, STT_GNU_IFUNC, SYM_SIZE, WORD_SIZE}
 use Rattle.lk_base.specs.declared.kinds.TheConstants.{BAD_SYMBOL, BAD_NAME}
 use Rattle.lk_tables.specs.declared.entries.SymbolEntry.{SymbolEntry}
 use Rattle.lk_tables.specs.declared.heads.Symbol.{Symbol}
@@ -11,7 +11,8 @@ use Rattle.lk_tables.specs.Checks.{Check, ◌says◌, flaw_at}
 use Rattle.lk_tables.specs.Entries.{entry_at}
 use Rattle.lk_tables.specs.FileHeader.{header, section_count}
 use Rattle.lk_tables.specs.Names.{name_len, span, no_name}
-use Rattle.lk_tables.specs.Sections.{symtab_before, written_at, section_of}
+use Rattle.lk_tables.specs.Numbers.{word_at}
+use Rattle.lk_tables.specs.Sections.{symtab_before, index_table_before, written_at, section_of}
 
 -- the symbol table's section, or 0
 abbrev pub symtab_of : List ℕ → ℕ
@@ -27,6 +28,17 @@ symbol_place b i = (header b (symtab_of b)).offset + SYM_SIZE * i
 
 abbrev pub entry : List ℕ → ℕ → SymbolEntry
 entry b i = entry_at b (symbol_place b i)
+
+-- the section with the indexes that do not fit into symbols' entries, or 0
+abbrev pub index_table_of : List ℕ → ℕ
+index_table_of b = index_table_before b (section_count b)
+
+-- where its word of symbol i stands, and what it says; without that section 0
+abbrev pub index_place : List ℕ → ℕ → ℕ
+index_place b i = (header b (index_table_of b)).offset + WORD_SIZE * i
+
+unfoldable pub index_word : List ℕ → ℕ → ℕ
+index_word b i = if index_table_of b == 0 then 0 else word_at b (index_place b i)
 
 -- the symbol string table
 abbrev pub strings_from : List ℕ → ℕ
@@ -47,19 +59,26 @@ pub record IsReadable (b : List ℕ) : Type 0 where
   pub within : (header b (symtab_of b)).offset + (header b (symtab_of b)).size ≤ length b
   pub count : symbol_count b ≡ (header b (symtab_of b)).size / SYM_SIZE
   pub strings_within : strings_from b + strings_size b ≤ length b
+  pub indexes_within : index_table_of b ≢ 0 → (header b (index_table_of b)).offset + WORD_SIZE * symbol_count b ≤ length b
 
--- where a symbol of this st_shndx stands in a file of `count` sections; any other index names nothing
-unfoldable pub place_from : (count shndx : ℕ) → Option Place
-place_from count shndx =
+-- a section of a file that has `count` sections
+abbrev pub within : (count index : ℕ) → Option Place
+within count index = if nat_lt 0 index && nat_lt index count then Some (Within index) else None
+
+-- where a symbol of this st_shndx stands in a file of `count` sections; `word` is the index that did not fit. Any other
+-- reserved index names nothing, and neither does one that is no section's
+unfoldable pub place_from : (count shndx word : ℕ) → Option Place
+place_from count shndx word =
     if shndx == SHN_UNDEF then Some Undef
     else (if shndx == SHN_ABS then Some Absolute
     else (if shndx == SHN_COMMON then Some Common
-    else (if nat_lt shndx count then Some (Within shndx)
-    else None)))
+    else (if shndx == SHN_XINDEX then within count word
+    else (if nat_lt shndx SHN_LORESERVE then within count shndx
+    else None))))
 
 -- where symbol i stands
 unfoldable pub place_at : List ℕ → ℕ → Option Place
-place_at b i = place_from (section_count b) (entry b i).shndx
+place_at b i = place_from (section_count b) (entry b i).shndx (index_word b i)
 
 -- what entry i says; st_info has the binding in its high four bits, the type in the low
 unfoldable pub symbol_from : List ℕ → ℕ → Symbol

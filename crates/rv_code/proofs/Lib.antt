@@ -3,3 +3,4 @@ pub mod WholePlaces
 pub mod ReadingBack
 pub mod Going
 pub mod JumpWords
+pub mod UlebNumbers

@@ -2,3 +2,4 @@ pub mod Instructions
 pub mod Parts
 pub mod Places
 pub mod Transfers
+pub mod Uleb

@@ -7,10 +7,12 @@ mod instructions;
 mod parts;
 mod places;
 mod reaches;
+mod uleb;
 
 pub use instructions::{cj, jal, nops};
 pub use places::{patch, patch_bits};
 pub use reaches::fits;
+pub use uleb::{fits_uleb, patch_uleb, patch_uleb_bits};
 
 #[cfg(test)]
 mod tests;

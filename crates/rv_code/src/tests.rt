@@ -2,7 +2,7 @@
 
 mod encodings;
 
-use crate::{cj, fits, jal, nops, patch};
+use crate::{cj, fits, fits_uleb, jal, nops, patch, patch_uleb_bits};
 use encodings::{
     ADDRESS, BRANCH, BYTE, CALL, DISTANCE, DOUBLEWORD, HALF, JUMP, LOW, LOW_OF_FLOAT_STORE,
     LOW_OF_LOAD, LOW_OF_STORE, OTHER_BRANCH, OTHER_JUMP, OTHER_SHORT_BRANCH, OTHER_SIX,
@@ -13,9 +13,9 @@ use lk_base::abi::{
     R_RISCV_32, R_RISCV_32_PCREL, R_RISCV_64, R_RISCV_ADD8, R_RISCV_ADD16, R_RISCV_ADD32,
     R_RISCV_ADD64, R_RISCV_BRANCH, R_RISCV_CALL, R_RISCV_CALL_PLT, R_RISCV_GOT_HI20, R_RISCV_HI20,
     R_RISCV_JAL, R_RISCV_LO12_I, R_RISCV_LO12_S, R_RISCV_PCREL_HI20, R_RISCV_PCREL_LO12_I,
-    R_RISCV_PCREL_LO12_S, R_RISCV_RVC_BRANCH, R_RISCV_RVC_JUMP, R_RISCV_SET6, R_RISCV_SET8,
-    R_RISCV_SET16, R_RISCV_SET32, R_RISCV_SUB6, R_RISCV_SUB8, R_RISCV_SUB16, R_RISCV_SUB32,
-    R_RISCV_SUB64, R_RISCV_TLS_GD_HI20, R_RISCV_TLS_GOT_HI20, R_RISCV_TPREL_HI20,
+    R_RISCV_PCREL_LO12_S, R_RISCV_PLT32, R_RISCV_RVC_BRANCH, R_RISCV_RVC_JUMP, R_RISCV_SET6,
+    R_RISCV_SET8, R_RISCV_SET16, R_RISCV_SET32, R_RISCV_SUB6, R_RISCV_SUB8, R_RISCV_SUB16,
+    R_RISCV_SUB32, R_RISCV_SUB64, R_RISCV_TLS_GD_HI20, R_RISCV_TLS_GOT_HI20, R_RISCV_TPREL_HI20,
     R_RISCV_TPREL_LO12_I, R_RISCV_TPREL_LO12_S,
 };
 use lk_base::relocations::{has_value, kind_of};
@@ -136,7 +136,7 @@ const FIELDS: [Field; 23] = [
         rows: ADDRESS,
     },
     Field {
-        kinds: &[R_RISCV_32_PCREL],
+        kinds: &[R_RISCV_32_PCREL, R_RISCV_PLT32],
         rows: DISTANCE,
     },
     Field {
@@ -259,7 +259,7 @@ const REACHES: [Reach; 8] = [
         ],
     },
     Reach {
-        kinds: &[R_RISCV_32_PCREL],
+        kinds: &[R_RISCV_32_PCREL, R_RISCV_PLT32],
         fit: &[-2147483648, -2147483647, -1, 0, 1, 2147483646, 2147483647],
         odd: &[],
         out: &[
@@ -427,4 +427,76 @@ fn whole_instructions(rt: HostRuntime) {
     assert_eq!(rt; padding, [0x01, 0, 0, 0, 0x01, 0, 0, 0, 0x01, 0]);
     nops(&mut padding[..0]);
     assert_eq!(rt; padding, [0x01, 0, 0, 0, 0x01, 0, 0, 0, 0x01, 0]);
+}
+
+/// How many bytes a ULEB128 number has, ten bytes, a value, the ten with it, and whether the number takes it.
+type Row = (u32, [u8; 10], i128, [u8; 10], bool);
+
+/// The low bytes of ten, the others zeros.
+macro_rules! low {
+    ($first:literal) => {
+        [$first, 0, 0, 0, 0, 0, 0, 0, 0, 0]
+    };
+    ($first:literal, $second:literal) => {
+        [$first, $second, 0, 0, 0, 0, 0, 0, 0, 0]
+    };
+}
+
+/// A first byte, eight alike, and a last.
+macro_rules! ten {
+    ($first:literal, $each:literal, $last:literal) => {
+        [$first, $each, $each, $each, $each, $each, $each, $each, $each, $last]
+    };
+}
+
+const ULEBS: &[Row] = &[
+    (1, low!(0), 0, low!(0), true),
+    (1, low!(0), 127, low!(0x7f), true),
+    (1, low!(0x2a), 128, low!(0, 1), false),
+    (1, low!(0), -1, ten!(0x7f, 0x7f, 0x7f), false),
+    (2, low!(0x80, 0), 4, low!(0x84, 0), true),
+    (2, low!(0x80, 0x7f), 8, low!(0x88, 0), true),
+    (2, low!(0xff, 0), 16383, low!(0xff, 0x7f), true),
+    (2, low!(0x80, 0), -4, ten!(0xfc, 0x7f, 0x7f), false),
+    (
+        9,
+        ten!(0x80, 0x80, 0),
+        0x7fff_ffff_ffff_ffff,
+        ten!(0xff, 0xff, 0),
+        true,
+    ),
+    (
+        9,
+        ten!(0x80, 0x80, 0),
+        0x8000_0000_0000_0000,
+        ten!(0x80, 0x80, 1),
+        false,
+    ),
+    (
+        10,
+        ten!(0x80, 0x80, 0),
+        0xffff_ffff_ffff_ffff,
+        ten!(0xff, 0xff, 1),
+        true,
+    ),
+    (
+        10,
+        ten!(0x80, 0x80, 0),
+        0x1_0000_0000_0000_0000,
+        ten!(0x80, 0x80, 2),
+        false,
+    ),
+    (10, ten!(0x80, 0x80, 0), -1, ten!(0xff, 0xff, 0x7f), false),
+];
+
+#[test]
+fn numbers_of_seven_bits_a_byte(rt: HostRuntime) {
+    for row in ULEBS {
+        let (n, old, v, new, is_fit) = *row;
+        let mut place = old;
+        patch_uleb_bits(&mut place, v);
+        assert_eq!(rt; place, new, "{n} bytes, value {v}");
+        let misfit = if is_fit { None } else { Some(Misfit::Range) };
+        assert_eq!(rt; fits_uleb(n, v).err(), misfit, "{n} bytes, value {v}");
+    }
 }

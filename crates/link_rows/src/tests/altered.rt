@@ -12,7 +12,7 @@ use std::thread::Threads;
 const WORKERS: &[&[&str]] = &[&["--threads", "1"], &["--threads", "64"]];
 
 /// The generated object.
-fn object(alloc: Global) -> Result<Vec<u8>, AllocError> {
+pub fn object(alloc: Global) -> Result<Vec<u8>, AllocError> {
     let mut list = objects(alloc, 1)?;
     match list.pop() {
         Some(object) => Ok(object.1),
@@ -52,7 +52,7 @@ fn bytes_of(alloc: Global, sample: Sample) -> Result<Vec<u8>, AllocError> {
 }
 
 /// Links one file alone.
-fn link_alone<R: Threads + Sync>(
+pub fn link_alone<R: Threads + Sync>(
     rt: &R,
     alloc: Global,
     name: &str,
@@ -66,7 +66,7 @@ fn link_alone<R: Threads + Sync>(
 }
 
 /// Whether a file was linked.
-fn is_linked(left: &Left) -> bool {
+pub fn is_linked(left: &Left) -> bool {
     left.status == 0
         && left.err.calls() == 0
         && left.depot.kind("a.out") == Some(FileKind::Executable)
@@ -214,6 +214,12 @@ const OF_MACHINE: Altered = Altered {
 const HEADERS: &[Altered] = &[
     OF_MACHINE,
     Altered {
+        first: 60,
+        last: 61,
+        value: 0,
+        answer: Answer::Line("rvld: F04 BadSection file=gen0.o section=0 place=60 name= other=0\n"),
+    },
+    Altered {
         first: 62,
         last: 62,
         value: 11,
@@ -250,6 +256,12 @@ const HEADERS: &[Altered] = &[
 ];
 
 const CONTENTS: &[Altered] = &[
+    Altered {
+        first: 238,
+        last: 239,
+        value: 255,
+        answer: Answer::Line("rvld: F09 BadSymbol file=gen0.o section=8 place=232 name= other=0\n"),
+    },
     Altered {
         first: 238,
         last: 238,

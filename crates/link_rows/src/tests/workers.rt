@@ -82,7 +82,7 @@ type Shared<'a> = (Link<'a>, u64);
 
 /// The passes of the first link are heads, bodies, the list of offers, the claims for names, the ranks of offers, the names that nothing
 /// offers, and the test of relocations; since it has no archive, no member is claimed, and it has too few symbols for their addresses to be
-/// shared out. Those of the second are the claims for groups, the symbols that stand for sections' names, the edges between sections and the
+/// shared out. Those of the second are the symbols that stand for sections' names, the edges between sections and the
 /// blocks of the executable too. Those of the third are those of the first, and the lists of symbols for the symbol table and for the map.
 const SHARED: &[Shared] = &[
     (
@@ -108,7 +108,7 @@ const SHARED: &[Shared] = &[
             image: TWO_BLOCKS,
             ..FIRST_LINK
         },
-        11,
+        10,
     ),
     (
         Link {

@@ -169,8 +169,13 @@ const NUMBERS: Object = Object {
             ..RETURN
         },
         Section {
-            bytes: b"\xaa\x05\0\0\0\xff\xff\x80\xbb\xff\xff\xff\xff\xff\xff\xff\xff\xc1U\0\0\0\0\0\0\0\0\0\0\0\0\0\0\0\0\xcc\xff\xff\xff\xff\xff\xff\xff\xff\x7f\x01\x01",
+            bytes: b"\xaa\x05\0\0\0\xff\xff\x80\xbb\xff\xff\xff\xff\xff\xff\xff\xff\xc1U\0\0\0\0\0\0\0\0\0\0\0\0\0\0\0\0\xcc\xff\xff\xff\xff\xff\xff\xff\xff\x7f\x01\x01\0\0\0\0",
             relocs: &[
+                Reloc {
+                    offset: 47,
+                    kind: 59,
+                    ..WORD
+                },
                 Reloc {
                     offset: 46,
                     kind: 33,
@@ -477,7 +482,7 @@ const NUMBERS_IMAGE: Image = Image {
     segments: &[
         READ_OF_FOUR,
         [1, 5, 0x1000, 0x11000, 8, 8, 4096],
-        [1, 6, 0x2000, 0x12000, 47, 47, 4096],
+        [1, 6, 0x2000, 0x12000, 51, 51, 4096],
         STACK,
     ],
     contents: &[
@@ -488,15 +493,15 @@ const NUMBERS_IMAGE: Image = Image {
         ),
         (
             0x201d,
-            b"\x08\x11\x01\0\x08\x18\xcc\x08\x10\x08\x10\x01\0\0\0w\x10\x08",
+            b"\x08\x11\x01\0\x08\x18\xcc\x08\x10\x08\x10\x01\0\0\0w\x10\x08\xd9\xef\xff\xff",
         ),
-        (0x202f, NAMES_WITH_DATA),
+        (0x2033, NAMES_WITH_DATA),
     ],
-    table: 0x2048,
+    table: 0x2050,
     sections: &[
         [1, 1, 6, 0x11000, 0x1000, 8, 4],
-        [7, 1, 3, 0x12000, 0x2000, 47, 8],
-        [13, 3, 0, 0, 0x202f, 23, 1],
+        [7, 1, 3, 0x12000, 0x2000, 51, 8],
+        [13, 3, 0, 0, 0x2033, 23, 1],
     ],
     ..FIRST
 };

@@ -101,12 +101,12 @@ const ROWS: &[Row] = &[
     (40, 1, OUTSIDE, 0, 40, 0),
     (47, 0x80, OUTSIDE, 0, 40, 0),
     (58, 63, BAD_HEADER, 0, 58, 0),
-    // How many sections: 0, 5, 7, 65,030 and 65,286.
+    // How many sections: 0 in section 0 too, 5, 7, 65,030 and 65,286.
     (60, 0, BAD_SECTION, 0, 60, 0),
     (60, 5, BAD_SECTION, 0, 62, 0),
     (60, 7, OUTSIDE, 0, 40, 0),
     (61, 0xfe, OUTSIDE, 0, 40, 0),
-    (61, 0xff, LIMIT, 0, 60, 0),
+    (61, 0xff, OUTSIDE, 0, 40, 0),
     // The section of their names: 0, 1, 6, 261, one whose table ends at 10, and one that ends past the file.
     (62, 0, BAD_SECTION, 0, 62, 0),
     (62, 1, BAD_SECTION, 0, 62, 0),
@@ -170,7 +170,7 @@ fn reports_the_first_broken_check(rt: HostRuntime) -> Result<(), Fail> {
 }
 
 /// Every kind that is linked, in runs: the first number, and the last.
-const KINDS: &[(u32, u32)] = &[(0, 2), (16, 40), (43, 45), (51, 57)];
+const KINDS: &[(u32, u32)] = &[(0, 2), (16, 40), (43, 45), (51, 57), (59, 59)];
 
 #[test]
 fn reads_each_kind_and_no_other(rt: HostRuntime) -> Result<(), Fail> {
@@ -272,6 +272,108 @@ fn reads_common_symbols(rt: HostRuntime) -> Result<(), Fail> {
     let head = read_head(rt.alloc(), bytes.as_slice())?;
     assert_eq!(rt; head.symbols.len(), 3);
     assert_eq!(rt; head.symbols[1].place, Place::Common);
+    Ok(())
+}
+
+/// Bytes, what they become, and the flaw's kind, section and place. Section 0 has its size at 288 and its link at 296.
+type Numbered = (&'static [Change], Option<(DefectKind, u32, u64)>);
+
+/// Section 2 as a table of section indexes: its words are those at 80, so symbol 1 has the word at 84, and symbol 2 that at 88.
+const INDEXES: [Change; 5] = [(388, 18), (416, 12), (440, 4), (84, 1), (88, 1)];
+
+const NUMBERED: &[Numbered] = &[
+    // Six sections; their names in section 5.
+    (&[(60, 0), (288, 6)], None),
+    (&[(62, 255), (63, 255), (296, 5)], None),
+    (&[(60, 0), (288, 6), (62, 255), (63, 255), (296, 5)], None),
+    // Seven, 2^28, one more, and 2^32.
+    (&[(60, 0), (288, 7)], Some((OUTSIDE, 0, 40))),
+    (&[(60, 0), (291, 16)], Some((OUTSIDE, 0, 40))),
+    (&[(60, 0), (288, 1), (291, 16)], Some((LIMIT, 0, 60))),
+    (&[(60, 0), (292, 1)], Some((LIMIT, 0, 60))),
+    // Section 0 ends a byte past the file.
+    (&[(60, 0), (40, 65), (41, 2)], Some((OUTSIDE, 0, 40))),
+    // Names in section 0, in section 6 and in .strtab's.
+    (&[(62, 255), (63, 255)], Some((BAD_SECTION, 0, 62))),
+    (
+        &[(62, 255), (63, 255), (296, 6)],
+        Some((BAD_SECTION, 0, 62)),
+    ),
+    (&[(62, 255), (63, 255), (296, 4)], Some((BAD_NAME, 3, 448))),
+    // An index that stands elsewhere, where there is no elsewhere; indexes that are reserved.
+    (&[(158, 255), (159, 255)], Some((BAD_SYMBOL, 3, 152))),
+    (&[(158, 5), (159, 255)], Some((BAD_SYMBOL, 3, 152))),
+    (&[(158, 0), (159, 255)], Some((BAD_SYMBOL, 3, 152))),
+];
+
+/// With section 2 as a table of section indexes.
+const INDEXED: &[Numbered] = &[
+    (&[], None),
+    (&[(158, 255), (159, 255)], None),
+    (&[(182, 255), (183, 255)], None),
+    // Words that name none: 0, 6 and 2^16 + 1.
+    (
+        &[(158, 255), (159, 255), (84, 0)],
+        Some((BAD_SYMBOL, 3, 152)),
+    ),
+    (
+        &[(158, 255), (159, 255), (84, 6)],
+        Some((BAD_SYMBOL, 3, 152)),
+    ),
+    (
+        &[(158, 255), (159, 255), (86, 1)],
+        Some((BAD_SYMBOL, 3, 152)),
+    ),
+    // A value past the end of the section in the word; the other symbol's word.
+    (
+        &[(158, 255), (159, 255), (160, 17)],
+        Some((BAD_SYMBOL, 3, 152)),
+    ),
+    (
+        &[(182, 255), (183, 255), (88, 0)],
+        Some((BAD_SYMBOL, 3, 176)),
+    ),
+    // Entries of 8 bytes, two words, 13 bytes, links to nothing, to a string table and past the sections.
+    (&[(440, 8)], Some((BAD_SECTION, 2, 384))),
+    (&[(416, 8)], Some((BAD_SECTION, 2, 384))),
+    (&[(416, 13)], Some((BAD_SECTION, 2, 384))),
+    (&[(424, 0)], Some((BAD_SECTION, 2, 384))),
+    (&[(424, 4)], Some((BAD_SECTION, 2, 384))),
+    (&[(424, 6)], Some((BAD_SECTION, 2, 384))),
+    // A second one, after .text as the first, and a symbol table that is unsound itself.
+    (
+        &[(324, 18), (352, 12), (360, 3), (376, 4)],
+        Some((BAD_SECTION, 2, 384)),
+    ),
+    (&[(504, 23)], Some((BAD_SECTION, 3, 448))),
+];
+
+/// Whether each row ends as it should, after some bytes are changed in all.
+fn are_numbered(alloc: Global, before: &[Change], rows: &[Numbered]) -> Result<bool, AllocError> {
+    for row in rows {
+        let (changes, broken) = *row;
+        let mut bytes = altered(alloc, before)?;
+        alter(bytes.as_mut_slice(), changes);
+        let wanted = match broken {
+            Some((kind, section, place)) => Some(Flaw {
+                kind,
+                section,
+                place,
+                other: 0,
+            }),
+            None => None,
+        };
+        if flaw_in(alloc, bytes.as_slice()) != wanted {
+            return Ok(false);
+        }
+    }
+    Ok(true)
+}
+
+#[test]
+fn reads_numbers_that_have_no_room(rt: HostRuntime) -> Result<(), Fail> {
+    assert!(rt; are_numbered(rt.alloc(), &[], NUMBERED)?);
+    assert!(rt; are_numbered(rt.alloc(), &INDEXES, INDEXED)?);
     Ok(())
 }
 

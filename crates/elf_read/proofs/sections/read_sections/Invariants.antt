@@ -3,7 +3,7 @@ use Rattle.std.specs.List.{range_with_len}
 use Rattle.lk_tables.specs.Checks.{passes, from_on}
 use Rattle.lk_tables.specs.FileHeader.{section_count}
 use Rattle.lk_tables.specs.Heads.{all_section_checks}
-use Rattle.lk_tables.specs.Sections.{section_of, section_checks, symtab_before, names_from, names_size}
+use Rattle.lk_tables.specs.Sections.{section_of, section_checks, symtab_before, index_table_before, names_from, names_size}
 use Rattle.elf_read.specs.Names.{IsLast}
 use Rattle.elf_read.proofs.sections.read_sections.Given as goal
 
@@ -14,4 +14,5 @@ invariant-loop-index l = record {
   items : l.list.items ≡ map (section_of l.file.bytes.now) (range_with_len 0 l.index);
   last_is : IsLast l.file.bytes.now (names_from l.file.bytes.now) (names_size l.file.bytes.now) l.last;
   symtab_is : l.symtab ≡ symtab_before l.file.bytes.now l.index;
+  index_table_is : l.index_table ≡ index_table_before l.file.bytes.now l.index;
 }
