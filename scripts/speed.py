@@ -10,6 +10,8 @@ Usage: scripts/speed.py MODE [RVLD] [--runs 5] [--peers lld,mold,ld] [--threads 
   strings    250,000, 500,000 and 1,000,000 strings in 100 files, of which half repeat
   string     the same in one file
   functions  500, 1,000 and 2,000 objects of 30 functions with two calls each
+  links      a chain of 8,000 functions of equal bytes, and of 16,000, 32,000 and 64,000, with --icf=all
+  cycles     two cycles of such functions, 1,003 and 1,005 long, and 10,003 and 10,005
   all        all of these
   plots      all of these at four or five sizes each, with 1 and 4 workers, and with pictures in docs/figures
   draw       measures nothing: makes the pictures anew from the figures that are kept beside them
@@ -171,6 +173,51 @@ def functions(folder, count):
     return [write(os.path.join(place, 'c%d.o' % k), call_object(k, count)) for k in range(count)]
 
 
+def led_object(first, end, leads):
+    """Functions `first` on and before `end`, of equal bytes and in a section each, with one call: of the function to which each leads; None calls none."""
+    names = Texts()
+    symbols = [bytes(24)]
+    others = {}
+    rows = []
+    count = end - first
+    at_symtab = 2 * count + 1
+    for k in range(first, end):
+        symbols.append(symbol(names.add('f%d' % k), GLOBAL, FUNC, 2 * (k - first) + 1, 0, 12))
+    if not first:
+        symbols.append(symbol(names.add('_start'), GLOBAL, FUNC, 1, 0, 12))
+    for k in range(first, end):
+        called = leads(k)
+        row = b''
+        if called is not None:
+            if not first <= called < end and called not in others:
+                others[called] = len(symbols)
+                symbols.append(symbol(names.add('f%d' % called), GLOBAL, NOTYPE, UNDEF))
+            row = entry(0, others[called] if called in others else called - first + 1, R_CALL_PLT)
+        rows.append(('.text.f%d' % k, PROGBITS, ALLOC | EXECINSTR, CALL + RETURN, 0, 0, 4, 0))
+        rows.append(('.rela.text.f%d' % k, RELA, INFO_LINK, row, at_symtab, 2 * (k - first) + 1, 8, 24))
+    rows.append(('.symtab', SYMTAB, 0, b''.join(symbols), at_symtab + 1, 1, 8, 24))
+    rows.append(('.strtab', STRTAB, 0, names.bytes(), 0, 0, 1, 0))
+    return relocatable(rows)
+
+
+def led(folder, name, count, leads):
+    """Objects of at most 1,000 of these functions."""
+    place = os.path.join(folder, '%s-%d' % (name, count))
+    os.makedirs(place, exist_ok=True)
+    return [write(os.path.join(place, 'l%d.o' % first), led_object(first, min(first + 1000, count), leads)) for first in range(0, count, 1000)]
+
+
+def links(folder, count):
+    """A chain: each function calls the next, and the last one none, so that no two are alike."""
+    return led(folder, 'links', count, lambda k: k + 1 if k + 1 < count else None)
+
+
+def cycles(folder, count):
+    """Two cycles, one of two functions more than the other, so that all are alike: of odd counts the lengths have no common factor."""
+    one = count // 2 - 1
+    return led(folder, 'cycles', count, lambda k: (k + 1) % one if k < one else one + (k - one + 1) % (count - one))
+
+
 def write(path, contents):
     with open(path, 'wb') as file:
         file.write(contents)
@@ -208,7 +255,11 @@ MODES = {
     'string': (lambda folder, count: string_files(folder, count, 1), 'strings', (250000, 500000, 1000000), (125000, 250000, 500000, 1000000),
                'Strings in one file, of which half repeat'),
     'functions': (functions, 'objects', (500, 1000, 2000), (250, 500, 1000, 2000), 'Objects of 30 functions with two calls each'),
+    'links': (links, 'functions', (8000, 16000, 32000, 64000), (8000, 16000, 32000, 64000), 'Functions of equal bytes in a chain, folded with `--icf all`: none is alike'),
+    'cycles': (cycles, 'functions', (2008, 20008), (1004, 2008, 4008, 20008), 'Functions of equal bytes in two cycles, folded with `--icf all`: all are alike'),
 }
+# the modes that ask for folding, which GNU ld does not have
+FOLDED = ('links', 'cycles')
 
 
 def commands(rvld, peers, threads):
@@ -496,6 +547,7 @@ def main():
     try:
         for mode in MODES if words.mode in ('all', 'plots') else [words.mode]:
             make, counted, sizes, more_sizes, _ = MODES[mode]
+            asked = [(linker, n, words + ['--icf=all']) for linker, n, words in rows if linker != 'ld'] if mode in FOLDED else rows
             before, noted = {}, []
             print('%-16s %-5s %7s %9s %9s %8s %8s %8s %7s' %
                   (mode, 'by', 'workers', 'median ms', 'least ms', 'MB', 'ms / MB', 'to rvld', 'growth'))
@@ -503,7 +555,7 @@ def main():
                 size //= 100 if words.small else 1
                 what = '%d %s' % (size, counted)
                 files = made_apart(make, folder, size)
-                found, megabytes, gone = measure(what, files, rows, words.runs, words.limit, os.path.join(folder, 'out'))
+                found, megabytes, gone = measure(what, files, asked, words.runs, words.limit, os.path.join(folder, 'out'))
                 passed += len(found)
                 failed += len(gone)
                 for (linker, workers), (median, least, peak) in found.items():

@@ -6,7 +6,7 @@ use Rattle.std.proofs.lemmas.List.{ext_get_or, get_or-map, length-map}
 use Rattle.std.proofs.lemmas.List.FromFn.{get_or-range_with_len, length-range_with_len}
 use Rattle.std.proofs.lemmas.List.Sums.{AllPass-from_list_all, list_all-from_AllPass}
 use Rattle.icf_part.specs.Numbered.{IsNumbering, IsStable}
-use Rattle.icf_part.specs.Signatures.{agrees_at, are_alike, leads_as_first, round_words}
+use Rattle.icf_part.specs.Signatures.{agrees_at, are_alike, end_classes, leads_as_first, round_words}
 
 -- a test that all numbers below one pass, at one of them, and from all
 at_each : (p : ℕ → Bool) (n k : ℕ) → list_all p (range_with_len 0 n) ≡ true → k < n → p k ≡ true
@@ -64,13 +64,17 @@ module _ (ends : List (List ℕ)) (c : List ℕ) where
   unfolding leads_as_first row_of
   first_says a e = alike_says c (get_or ends a []) (get_or ends (get_or c a 0) []) e
 
-  pub steady : list_all (leads_as_first c ends) (range_with_len 0 (length ends)) ≡ true → IsStable (round_words c ends) (length ends) c
+  row_is : (a : ℕ) → row_of a ≡ end_classes c ends a
+  unfolding row_of class_list end_classes
+  row_is a = refl
+
+  pub steady : list_all (leads_as_first c ends) (range_with_len 0 (length ends)) ≡ true → IsStable ends c
   steady all = record {
     stays = λ a b la lb e.
         let one = first_told a (at_each (leads_as_first c ends) (length ends) a all la) in
         let two = first_told b (at_each (leads_as_first c ends) (length ends) b all lb) in
         let rows : row_of a ≡ row_of b = one ∙ ap row_of e ∙ sym two in
-        words_of a ∙ ap (λ k. k ∷ row_of a) e ∙ ap (λ l. get_or c b 0 ∷ l) rows ∙ sym (words_of b);
+        sym (row_is a) ∙ rows ∙ row_is b;
   }
 
   -- a round gives other classes where some do not lead so

@@ -1,18 +1,21 @@
 -- All of folding together, over plain lists.
-use Rattle.std.proofs.Common.{◌≡◌, ℕ, ◌<◌, ◌≤◌, All, List, length, get_or, map, sym, ap, ◌∙◌, subst}
+use Rattle.std.proofs.Common.{◌≡◌, ℕ, ◌+◌, ◌-◌, ◌<◌, ◌≤◌, ◌==◌, All, List, length, get_or, map, refl, sym, ap, ◌∙◌, subst, inl, inr, arith}
 use Rattle.std.specs.List.Sorted.{IsStrictlyIncreasing}
+use Rattle.std.proofs.lemmas.Bool.{cases_lt, eq-eqb}
 use Rattle.std.proofs.lemmas.List.{length-map}
 use Rattle.link_sections.specs.declared.fold_items.FoldItem.{FoldItem as LentItem}
 use Rattle.link_sections.specs.FoldItems.{FoldItem, item_view, item_views, sections_of}
 use Rattle.name_numbers.specs.Texts.{text_numbers}
+use Rattle.icf_part.specs.Counts.{key_count, leader_count}
 use Rattle.icf_part.specs.Folding.{AreLeaders, HoldsAll, IsCongruence, classes}
 use Rattle.icf_part.specs.Leaders.{leaders_of}
-use Rattle.icf_part.specs.Numbered.{AreFirsts, IsNumbering, IsRefining, IsStable, shape}
-use Rattle.icf_part.specs.Signatures.{AreRows, all_places, bytes_of, output_of, round_words, shape_at}
+use Rattle.icf_part.specs.Numbered.{AreFirsts, IsNumbering, IsRefined, IsRefining, IsStable, key}
+use Rattle.icf_part.specs.Signatures.{AreRows, all_places, bytes_of, key_at, output_of, rest_at}
+use Rattle.icf_part.proofs.Counting.{counted, leads_fewer, most}
 use Rattle.icf_part.proofs.LeadersOf.{leaders_are, leaders_at_most, leaders_own, leaders_within}
-use Rattle.icf_part.proofs.Loop.{places_wide}
+use Rattle.icf_part.proofs.PlacesWide.{places_wide}
 use Rattle.icf_part.proofs.NumberedRows.{numbering, numbers_wide}
-use Rattle.icf_part.proofs.Refined.{firsts_of, refining_first, stable_fits, stable_leads}
+use Rattle.icf_part.proofs.Refined.{firsts_of, keys_counted, keys_fewer, refining_first, refining_last, stable_fits, stable_leads}
 use Rattle.icf_part.proofs.Targets.{sections_wide}
 
 pub views_wide : (items : List LentItem) → length (item_views items) ≡ length items
@@ -27,22 +30,61 @@ all_ends items ends is = ap length is ∙ places_wide (item_views items) ∙ vie
 pub all_numbers : (f : FoldItem → List ℕ) (items : List LentItem) (list : List ℕ) → list ≡ text_numbers (map f (item_views items)) → length list ≡ length items
 all_numbers f items list is = ap length is ∙ numbers_wide (map f (item_views items)) ∙ length-map (item_views items) f ∙ views_wide items
 
--- the first classes
-pub first_numbers : (items : List LentItem) (bytes outputs : List ℕ) (rows : List (List ℕ)) (start : List ℕ) →
+-- the numbers of keys
+pub key_numbers : (items : List LentItem) (bytes outputs : List ℕ) (rows : List (List ℕ)) (keys : List ℕ) →
     bytes ≡ text_numbers (map bytes_of (item_views items)) → outputs ≡ text_numbers (map output_of (item_views items)) →
-    AreRows (shape_at (item_views items) bytes outputs) (length items) rows → start ≡ text_numbers rows →
-    IsNumbering (shape (item_views items)) (length items) start
-first_numbers items bytes outputs rows start eb eo are is =
+    AreRows (key_at (item_views items) bytes outputs) (length items) rows → keys ≡ text_numbers rows →
+    IsNumbering (key (item_views items)) (length items) keys
+key_numbers items bytes outputs rows keys eb eo are is =
     let views = item_views items in
-    let P : List ℕ → Type 0 = λ b. AreRows (shape_at views b outputs) (length items) rows in
-    let Q : List ℕ → Type 0 = λ o. AreRows (shape_at views (text_numbers (map bytes_of views)) o) (length items) rows in
-    numbering (shape views) (length items) rows (subst Q eo (subst P eb are)) start is
+    let P : List ℕ → Type 0 = λ b. AreRows (key_at views b outputs) (length items) rows in
+    let Q : List ℕ → Type 0 = λ o. AreRows (key_at views (text_numbers (map bytes_of views)) o) (length items) rows in
+    numbering (key views) (length items) rows (subst Q eo (subst P eb are)) keys is
 
-pub first_firsts : (items : List LentItem) (ends : List (List ℕ)) (start : List ℕ) → ends ≡ all_places (item_views items) →
-    IsNumbering (shape (item_views items)) (length items) start → AreFirsts (length ends) start
-first_firsts items ends start is step =
-    let P : ℕ → Type 0 = λ n. AreFirsts n start in
-    subst P (sym (all_ends items ends is)) (firsts_of (shape (item_views items)) (length items) start step)
+-- the first classes
+pub record AreFirst (items : List LentItem) (keys start : List ℕ) : Type 0 where
+  pub by_key : IsNumbering (key (item_views items)) (length (item_views items)) keys
+  pub by_rest : IsNumbering (rest_at (item_views items) keys (all_places (item_views items))) (length (item_views items)) start
+
+pub first_classes : (items : List LentItem) (keys lent : List ℕ) (ends rows : List (List ℕ)) (start : List ℕ) →
+    IsNumbering (key (item_views items)) (length items) keys → lent ≡ keys → ends ≡ all_places (item_views items) →
+    AreRows (rest_at (item_views items) lent ends) (length items) rows → start ≡ text_numbers rows → AreFirst items keys start
+first_classes items keys lent ends rows start by same is are numbers =
+    let views = item_views items in
+    let P : List ℕ → Type 0 = λ k. AreRows (rest_at views k ends) (length items) rows in
+    let Q : List (List ℕ) → Type 0 = λ e. AreRows (rest_at views keys e) (length items) rows in
+    let R : ℕ → Type 0 = λ n. IsNumbering (key views) n keys in
+    let S : ℕ → Type 0 = λ n. IsNumbering (rest_at views keys (all_places views)) n start in
+    record {
+      by_key = subst R (sym (views_wide items)) by;
+      by_rest = subst S (sym (views_wide items)) (numbering (rest_at views keys (all_places views)) (length items) rows (subst Q is (subst P same are)) start numbers);
+    }
+
+pub first_firsts : (items : List LentItem) (keys start : List ℕ) (ends : List (List ℕ)) → ends ≡ all_places (item_views items) → AreFirst items keys start → AreFirsts (length ends) start
+first_firsts items keys start ends is first =
+    let views = item_views items in
+    let P : List (List ℕ) → Type 0 = λ e. AreFirsts (length e) start in
+    let Q : ℕ → Type 0 = λ n. AreFirsts n start in
+    subst P (sym is) (subst Q (sym (places_wide views)) (firsts_of (rest_at views keys (all_places views)) (length views) start first.by_rest))
+
+-- the last classes are no fewer than those of equal keys
+pub last_fewer : (items : List LentItem) (keys start last : List ℕ) (ends : List (List ℕ)) → ends ≡ all_places (item_views items) → AreFirst items keys start →
+    IsRefined ends start last → leader_count keys ≤ leader_count last
+last_fewer items keys start last ends is first refined =
+    let views = item_views items in
+    let P : List (List ℕ) → Type 0 = λ e. IsRefined e start last in
+    let by = subst P is refined in
+    let more = keys_fewer views keys start first.by_key first.by_rest in
+    let firsts = firsts_of (rest_at views keys (all_places views)) (length views) start first.by_rest in
+    let Q : ℕ → Type 0 = λ n. AreFirsts n start in
+    let also = leads_fewer (length (all_places views)) start last (subst Q (sym (places_wide views)) firsts) by.firsts by.finer in
+    omega (arith, more, also)
+
+-- so many classes were split from those of equal keys on
+pub all_steps : (items : List LentItem) (keys start last : List ℕ) (old new : ℕ) → AreFirst items keys start → leader_count keys ≤ leader_count last →
+    new ≡ old + (leader_count last - leader_count keys) → new + key_count (item_views items) ≡ old + leader_count last
+all_steps items keys start last old new are le is =
+    omega (arith, is, le, keys_counted (item_views items) keys are.by_key)
 
 -- the last ones
 pub record IsFolded (items : List LentItem) (l : List ℕ) : Type 0 where
@@ -54,11 +96,29 @@ pub record IsFolded (items : List LentItem) (l : List ℕ) : Type 0 where
   pub own : (a : ℕ) → get_or l (get_or l a 0) 0 ≡ get_or l a 0
   pub least : (a : ℕ) → get_or l a 0 ≤ a
 
-last_folded : (items : List LentItem) (last : List ℕ) → IsRefining (item_views items) last →
-    IsStable (round_words last (all_places (item_views items))) (length (item_views items)) last → IsFolded items last
-last_folded items last refined stable =
+-- at most one less than there are items
+pub few_steps : (items : List LentItem) (keys start last : List ℕ) (old new : ℕ) → AreFirst items keys start → IsFolded items last →
+    new + key_count (item_views items) ≡ old + leader_count last → new ≤ old + (length items - 1)
+few_steps items keys start last old new are folded steps =
     let views = item_views items in
-    let are = stable_leads views last refined stable in
+    let wide = folded.leaders.count ∙ views_wide items in
+    let high = most (λ a. get_or last a 0 == a) (length last) in
+    elim (cases_lt 0 (length items)) [
+      | inl some ↦
+          let firsts = firsts_of (key views) (length views) keys are.by_key in
+          let inside : 0 < length views = omega (arith, some, views_wide items) in
+          let low = firsts.least 0 0 inside inside refl in
+          let count = counted (λ a. get_or keys a 0 == a) (length keys) 0 (omega (arith, firsts.wide, inside)) (eq-eqb (get_or keys 0 0) 0 (omega (arith, low))) in
+          let same = keys_counted views keys are.by_key in
+          omega (arith, some, count, same, steps, wide, high)
+      | inr empty ↦ omega (arith, empty, steps, wide, high)
+    ]
+
+last_folded : (items : List LentItem) (last : List ℕ) → AreFirsts (length (item_views items)) last → IsRefining (item_views items) last →
+    IsStable (all_places (item_views items)) last → IsFolded items last
+last_folded items last firsts refined stable =
+    let views = item_views items in
+    let are = stable_leads views last firsts refined stable in
     let P : ℕ → Type 0 = λ n. All (λ p. p < n) last in
     record {
       value = leaders_are views last are;
@@ -70,16 +130,11 @@ last_folded items last refined stable =
       least = leaders_at_most views last are;
     }
 
-pub folded : (items : List LentItem) (bytes outputs : List ℕ) (rows ends : List (List ℕ)) (start last : List ℕ) →
-    bytes ≡ text_numbers (map bytes_of (item_views items)) → outputs ≡ text_numbers (map output_of (item_views items)) →
-    AreRows (shape_at (item_views items) bytes outputs) (length items) rows → start ≡ text_numbers rows →
-    IsStrictlyIncreasing (sections_of (item_views items)) → ends ≡ all_places (item_views items) → IsStable (round_words last ends) (length ends) last →
-    ((views : List FoldItem) → IsStrictlyIncreasing (sections_of views) → ends ≡ all_places views → IsRefining views start → IsRefining views last) →
-    IsFolded items last
-folded items bytes outputs rows ends start last eb eo are numbers order is stays keeps =
+pub folded : (items : List LentItem) (keys start last : List ℕ) (ends : List (List ℕ)) → IsStrictlyIncreasing (sections_of (item_views items)) →
+    ends ≡ all_places (item_views items) → AreFirst items keys start → IsRefined ends start last → IsFolded items last
+folded items keys start last ends order is first refined =
     let views = item_views items in
-    let P : ℕ → Type 0 = λ n. IsNumbering (shape views) n start in
-    let first = refining_first views order start (subst P (sym (views_wide items)) (first_numbers items bytes outputs rows start eb eo are numbers)) in
-    let Q : List (List ℕ) → Type 0 = λ e. IsStable (round_words last e) (length e) last in
-    let R : ℕ → Type 0 = λ n. IsStable (round_words last (all_places views)) n last in
-    last_folded items last (keeps views order is first) (subst R (places_wide views) (subst Q is stays))
+    let P : List (List ℕ) → Type 0 = λ e. IsRefined e start last in
+    let by = subst P is refined in
+    let Q : ℕ → Type 0 = λ n. AreFirsts n last in
+    last_folded items last (subst Q (places_wide views) by.firsts) (refining_last views order start last (refining_first views order keys start first.by_key first.by_rest) by) by.stable

@@ -1,3 +1,4 @@
+pub mod Counts
 pub mod Folding
 pub mod Leaders
 pub mod Numbered

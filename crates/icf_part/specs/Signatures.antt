@@ -45,16 +45,25 @@ abbrev pub flag_of : Bool → ℕ
 flag_of true = 1
 flag_of false = 0
 
-unfoldable pub reloc_words : (sections : List ℕ) → FoldReloc → List ℕ
-reloc_words sections r = r.offset ∷ r.kind ∷ flag_of r.is_section_symbol ∷ (signed_words r.addend ++ target_words sections r.target)
+unfoldable pub site_words : FoldReloc → List ℕ
+site_words r = r.offset ∷ r.kind ∷ flag_of r.is_section_symbol ∷ signed_words r.addend
 
--- all that is compared of an item before the first round; `bytes` and `output` are the numbers of its contents and its output section
-unfoldable pub shape_words : (sections : List ℕ) → (bytes output : ℕ) → FoldItem → List ℕ
-shape_words sections bytes output i =
-    bytes ∷ output ∷ i.flags ∷ i.sh_type ∷ i.align ∷ flat_map (reloc_words sections) i.relocs
+-- what must be equal of two items, whatever is folded; `bytes` and `output` are the numbers of an item's contents and its output section
+unfoldable pub key_words : (bytes output : ℕ) → FoldItem → List ℕ
+key_words bytes output i = bytes ∷ output ∷ i.flags ∷ i.sh_type ∷ i.align ∷ flat_map site_words i.relocs
 
-abbrev pub shape_at : List FoldItem → (bytes outputs : List ℕ) → (a : ℕ) → List ℕ
-shape_at items bytes outputs a = shape_words (sections_of items) (slice_index bytes a) (slice_index outputs a) (item_at items a)
+abbrev pub key_at : List FoldItem → (bytes outputs : List ℕ) → (a : ℕ) → List ℕ
+key_at items bytes outputs a = key_words (slice_index bytes a) (slice_index outputs a) (item_at items a)
+
+-- and what else is compared before the first turn: the number of an item's key, to how many items it leads, and its targets
+abbrev pub rest_words_of : (sections : List ℕ) → FoldReloc → List ℕ
+rest_words_of sections r = target_words sections r.target
+
+unfoldable pub rest_words : (sections : List ℕ) → (key count : ℕ) → FoldItem → List ℕ
+rest_words sections key count i = key ∷ count ∷ flat_map (rest_words_of sections) i.relocs
+
+abbrev pub rest_at : List FoldItem → (keys : List ℕ) → (ends : List (List ℕ)) → (a : ℕ) → List ℕ
+rest_at items keys ends a = rest_words (sections_of items) (slice_index keys a) (length (slice_index_or ends a [])) (item_at items a)
 
 -- the places of the items for which an item's relocations stand, in order
 abbrev pub place_list : Option ℕ → List ℕ
@@ -86,6 +95,10 @@ places_from sections items start end = map (λ a. places sections (item_at items
 -- what is found for a piece: the places of its items, in parts
 abbrev pub IsPlacesPart : (sections : List ℕ) → List FoldItem → Range ℕ → Result (Vec (List (List ℕ))) LinkStop → Type 0
 IsPlacesPart sections items piece r = IfOk r (λ parts. flat_map (λ part. part) parts.items ≡ places_from sections items piece.start piece.end)
+
+-- the classes of the items to which an item leads
+unfoldable pub end_classes : (classes : List ℕ) → (ends : List (List ℕ)) → (a : ℕ) → List ℕ
+end_classes classes ends a = map (slice_index classes) (slice_index_or ends a [])
 
 -- what a round compares: an item's class, and those of the items to which it leads
 unfoldable pub round_words : (classes : List ℕ) → (ends : List (List ℕ)) → (a : ℕ) → List ℕ

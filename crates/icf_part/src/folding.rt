@@ -1,18 +1,26 @@
 //! The leaders of all items.
 
-ghost use Rattle.std.specs.Prelude.{◌≡◌, ℕ, ◌<◌, ◌≤◌, ◌^◌, All, length, slice_index, IfOk};
+ghost use Rattle.std.specs.Prelude.{◌≡◌, ℕ, ◌+◌, ◌-◌, ◌<◌, ◌≤◌, ◌^◌, All, length, slice_index, IfOk};
 ghost use Rattle.std.specs.List.Sorted.{IsStrictlyIncreasing};
 ghost use Rattle.link_sections.specs.FoldItems.{item_views, sections_of};
+ghost use Rattle.work_split.specs.Pieces.{Tiles};
+ghost use Rattle.icf_part.specs.Counts.{key_count, leader_count};
 ghost use Rattle.icf_part.specs.Folding.{AreLeaders, HoldsAll, IsCongruence, classes};
 ghost use Rattle.icf_part.specs.Leaders.{leaders_of};
+ghost use Rattle.icf_part.specs.Numbered.{IsNumbering, key};
 
+use crate::keys::all_keys;
 use crate::numbering::{number_contents, number_outputs, number_rows};
 use crate::parts::pieces_of;
 use crate::places::{all_places, sections_of};
 use crate::refining::refine;
-use crate::shapes::all_shapes;
+use crate::rests::all_rests;
+use crate::steps::Steps;
+use crate::walks::count_leaders;
 use link_sections::FoldItem;
 use std::alloc::{AllocError, Global};
+use std::ops::Range;
+use std::sync::ledger::Ledger;
 use std::thread::Threads;
 use work_split::Gate;
 
@@ -22,12 +30,13 @@ const ITEM_END: usize = 1 << 31;
 /// For each item the place of its leader: the least item that can stand for it. Items are given in order of their sections' numbers. The
 /// answer is the same whatever the number of workers; each makes what is compared of one piece of the items, and more than one number rows by
 /// threads, eight or as many as there are processors. The only error is out of memory, which 2^31 items or more are answered with.
-pub fn fold<R: Threads + Sync, G: Gate>(
+pub fn fold<R: Threads + Sync, G: Gate, L: Ledger>(
     rt: &R,
     alloc: Global,
     items: &[FoldItem],
     workers: u32,
     gate: &G,
+    steps: &mut Steps<L>,
 ) -> Result<Vec<u32>, AllocError>
     requires some { 1 ≤ workers }
     requires most { workers ≤ 64 }
@@ -39,20 +48,23 @@ pub fn fold<R: Threads + Sync, G: Gate>(
     ensures places { IfOk result (λ l. All (λ p. p < length items.now) l.items) }
     ensures own { IfOk result (λ l. (a : ℕ) → slice_index l.items (slice_index l.items a) ≡ slice_index l.items a) }
     ensures least { IfOk result (λ l. (a : ℕ) → slice_index l.items a ≤ a) }
+    ensures steps { IfOk result (λ l. steps.new + key_count (item_views items.now) ≡ steps.old + leader_count l.items) }
+    ensures bound { IfOk result (λ l. steps.new ≤ steps.old + (length items.now - 1)) }
 {
     if items.len() >= ITEM_END {
         return Err(AllocError);
     }
-    fold_few(rt, alloc, items, workers, gate)
+    fold_few(rt, alloc, items, workers, gate, steps)
 }
 
 /// That of fewer items.
-fn fold_few<R: Threads + Sync, G: Gate>(
+fn fold_few<R: Threads + Sync, G: Gate, L: Ledger>(
     rt: &R,
     alloc: Global,
     items: &[FoldItem],
     workers: u32,
     gate: &G,
+    steps: &mut Steps<L>,
 ) -> Result<Vec<u32>, AllocError>
     requires some { 1 ≤ workers }
     requires most { workers ≤ 64 }
@@ -65,6 +77,8 @@ fn fold_few<R: Threads + Sync, G: Gate>(
     ensures places { IfOk result (λ l. All (λ p. p < length items.now) l.items) }
     ensures own { IfOk result (λ l. (a : ℕ) → slice_index l.items (slice_index l.items a) ≡ slice_index l.items a) }
     ensures least { IfOk result (λ l. (a : ℕ) → slice_index l.items a ≤ a) }
+    ensures steps { IfOk result (λ l. steps.new + key_count (item_views items.now) ≡ steps.old + leader_count l.items) }
+    ensures bound { IfOk result (λ l. steps.new ≤ steps.old + (length items.now - 1)) }
 {
     let sections = sections_of(alloc, items)?;
     let pieces = pieces_of(alloc, items.len(), workers)?;
@@ -76,19 +90,50 @@ fn fold_few<R: Threads + Sync, G: Gate>(
         pieces.as_slice(),
         gate,
     )?;
-    let bytes = number_contents(rt, alloc, items, workers)?;
-    let outputs = number_outputs(rt, alloc, items)?;
-    let parts = all_shapes(
+    let keys = number_keys(rt, alloc, items, pieces.as_slice(), workers, gate)?;
+    let parts = all_rests(
         rt,
         alloc,
         items,
         sections.as_slice(),
-        bytes.as_slice(),
-        outputs.as_slice(),
+        keys.as_slice(),
+        &ends,
         pieces.as_slice(),
         gate,
     )?;
     let start = number_rows(rt, alloc, parts.as_slice(), workers)?;
     let leaders = refine(rt, alloc, &ends, start, workers, pieces.as_slice(), gate)?;
+    let first = count_leaders(keys.as_slice());
+    let last = count_leaders(leaders.as_slice());
+    steps.add(last - first);
     Ok(leaders)
+}
+
+/// The numbers of the keys of items.
+fn number_keys<R: Threads + Sync, G: Gate>(
+    rt: &R,
+    alloc: Global,
+    items: &[FoldItem],
+    pieces: &[Range<usize>],
+    workers: u32,
+    gate: &G,
+) -> Result<Vec<u32>, AllocError>
+    requires few { length items.now < 2 ^ 31 }
+    requires tiles { Tiles 0 (length items.now) pieces.now }
+    requires most { length pieces.now ≤ 64 }
+    ensures { IfOk result (λ keys. IsNumbering (key (item_views items.now)) (length items.now) keys.items) }
+{
+    let bytes = number_contents(rt, alloc, items, workers)?;
+    let outputs = number_outputs(rt, alloc, items)?;
+    let parts = all_keys(
+        rt,
+        alloc,
+        items,
+        bytes.as_slice(),
+        outputs.as_slice(),
+        pieces,
+        gate,
+    )?;
+    let keys = number_rows(rt, alloc, parts.as_slice(), workers)?;
+    Ok(keys)
 }

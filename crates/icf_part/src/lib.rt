@@ -7,13 +7,17 @@
 #![tactic(auto)]
 
 mod folding;
+mod keys;
 mod numbering;
 mod parts;
 mod places;
 mod refining;
+mod rests;
 mod rounds;
-mod shapes;
 mod stable;
+mod steps;
+mod walks;
 mod words;
 
 pub use folding::fold;
+pub use steps::Steps;

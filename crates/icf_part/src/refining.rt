@@ -1,11 +1,8 @@
 //! Rounds, until one splits no class.
 
-ghost use Rattle.std.specs.Prelude.{◌≡◌, ◌<◌, ◌≤◌, ◌^◌, List, length, IfOk};
-ghost use Rattle.std.specs.List.Sorted.{IsStrictlyIncreasing};
-ghost use Rattle.link_sections.specs.FoldItems.{FoldItem, sections_of};
+ghost use Rattle.std.specs.Prelude.{◌<◌, ◌≤◌, ◌^◌, length, IfOk};
 ghost use Rattle.work_split.specs.Pieces.{Tiles};
-ghost use Rattle.icf_part.specs.Numbered.{AreFirsts, IsRefining, IsStable};
-ghost use Rattle.icf_part.specs.Signatures as spec;
+ghost use Rattle.icf_part.specs.Numbered.{AreFirsts, IsRefined};
 
 use crate::rounds::round;
 use crate::stable::is_stable;
@@ -29,8 +26,7 @@ pub fn refine<R: Threads + Sync, G: Gate>(
     requires most { length pieces.now ≤ 64 }
     requires few { length ends.now < 2 ^ 31 }
     requires firsts { AreFirsts (length ends.now) start.items }
-    ensures stable { IfOk result (λ last. IsStable (spec.round_words last.items ends.now) (length ends.now) last.items) }
-    ensures refining { IfOk result (λ last. (items : List FoldItem) → IsStrictlyIncreasing (sections_of items) → ends.now ≡ spec.all_places items → IsRefining items start.items → IsRefining items last.items) }
+    ensures { IfOk result (λ last. IsRefined ends.now start.items last.items) }
 {
     let mut classes = start;
     'rounds: loop {

@@ -2,6 +2,7 @@
 
 ghost use Rattle.std.specs.Prelude.{◌≡◌, ◌++◌, ◌∷◌, [], OnOk};
 ghost use Rattle.icf_part.specs.Signatures.{AllFit, row_bytes, word_bytes};
+ghost use Rattle.icf_part.specs.Signatures as spec;
 
 use flat_rows::Rows;
 use std::alloc::AllocError;
@@ -42,4 +43,14 @@ fn push_word(bytes: &mut Vec<u8>, word: u64) -> Result<(), AllocError>
     }
     bytes.push(255)?;
     bytes.extend_from_slice(&word.to_le_bytes())
+}
+
+/// A number with its sign.
+pub fn signed_words(number: i64) -> [u64; 2]
+    ensures { result ≡ spec.signed_words number }
+{
+    if number < 0 {
+        return [1, (-(number + 1)) as u64];
+    }
+    [0, number as u64]
 }

@@ -1,13 +1,17 @@
 //! The link of one command, pass after pass.
 
-ghost use Rattle.std.specs.Prelude.{◌≡◌, ◌<◌, ◌≤◌, ◌^◌, ◌∷◌, [], true, if◌then◌else◌, IfOk};
+ghost use Rattle.std.specs.Prelude.{◌≡◌, ℕ, ◌<◌, ◌≤◌, ◌^◌, ◌∷◌, [], true, if◌then◌else◌, All, length, slice_index, IfOk};
+ghost use Rattle.std.specs.List.Sorted.{IsStrictlyIncreasing};
 ghost use Rattle.call_reach.specs.Reach.{AreAlike, CallsReach};
 ghost use Rattle.comdat.specs.Discarded.{discarded};
 ghost use Rattle.elf_out.specs.Standing.{HasHeaderRoom};
 ghost use Rattle.file_live.specs.Live.{IsLive};
+ghost use Rattle.icf_part.specs.Folding.{AreLeaders as ItemLeaders};
+ghost use Rattle.icf_part.specs.Leaders.{leaders_of};
 ghost use Rattle.layout.specs.Items.{AreLeaders};
 ghost use Rattle.layout.specs.Layout.{layout_defects};
 ghost use Rattle.link_command.specs.Command.{asks, generated_of};
+ghost use Rattle.link_sections.specs.FoldItems.{item_views, sections_of};
 ghost use Rattle.link_sections.specs.GotView.{entries_of};
 ghost use Rattle.link_sections.specs.LaidOut.{layout_view, with_contents};
 ghost use Rattle.link_sections.specs.Merging.{pools_of};
@@ -46,10 +50,10 @@ use call_reach::calls_reach;
 use comdat::discard;
 use elf_out::write_executable;
 use file_live::live;
-use icf_part::fold;
+use icf_part::{Steps, fold};
 use layout::place;
 use link_command::{Command, IcfMode, Wanted};
-use link_sections::{Got, Layout, Pools, View, all_kept, fold_leaders, own_leaders};
+use link_sections::{FoldItem, Got, Layout, Pools, View, all_kept, fold_leaders, own_leaders};
 use lk_base::{Limits, LinkStop, SecNo, check_count};
 use lk_tables::{Binding, NameNumbers, Tables, Uppers};
 use map_file::map_text;
@@ -58,6 +62,8 @@ use relax::sizes;
 use sec_gc::{keep, roots};
 use sec_graph::{edges, items};
 use std::alloc::{AllocError, Global};
+use std::marker::Brand;
+use std::sync::ledger::{Blank, Ledger};
 use std::thread::{Threads, join_mut};
 use str_merge::{piece_bound, piece_count};
 use sym_resolve::bind;
@@ -241,9 +247,40 @@ pub fn find_leaders<R: Threads + Sync, G: Gate>(
         return Ok(leaders);
     }
     let items = items(alloc, tables, binding, pools, kept)?;
-    let places = fold(rt, alloc, items.as_slice(), workers, gate)?;
+    let places = fold_items::<R, G, Brand>(
+        rt,
+        alloc,
+        items.as_slice(),
+        workers,
+        gate,
+        Blank::new(1),
+    )?;
     fold_leaders(&mut leaders, items.as_slice(), places.as_slice());
     Ok(leaders)
+}
+
+/// The leaders of items. How many classes became two is counted and not asked for.
+fn fold_items<R: Threads + Sync, G: Gate, L: Ledger>(
+    rt: &R,
+    alloc: Global,
+    items: &[FoldItem],
+    workers: u32,
+    gate: &G,
+    blank: Blank,
+) -> Result<Vec<u32>, AllocError>
+    requires some { 1 ≤ workers }
+    requires most { workers ≤ 64 }
+    requires order { IsStrictlyIncreasing (sections_of (item_views items.now)) }
+    requires name { blank.name ≡ L.name }
+    requires parts { blank.parts ≡ L.parts }
+    requires part { 0 < L.parts }
+    ensures value { IfOk result (λ l. l.items ≡ leaders_of (item_views items.now)) }
+    ensures leaders { IfOk result (λ l. ItemLeaders (item_views items.now) l.items) }
+    ensures places { IfOk result (λ l. All (λ p. p < length items.now) l.items) }
+    ensures own { IfOk result (λ l. (a : ℕ) → slice_index l.items (slice_index l.items a) ≡ slice_index l.items a) }
+{
+    let mut steps: Steps<L> = Steps::open(blank);
+    fold(rt, alloc, items, workers, gate, &mut steps)
 }
 
 /// Where everything stands, given what is merged, which sections are written and what the linker's table has.

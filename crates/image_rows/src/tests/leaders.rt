@@ -1,13 +1,15 @@
-//! The leaders of items, the same by one worker, by two and by 64.
+//! The leaders of items and the steps that they took, the same by one worker, by two, by three and by 64.
 
 ghost use Rattle.std.specs.Prelude.{◌≡◌, ◌+◌, ◌<◌, ◌≤◌, ◌^◌, length, OnOk};
 ghost use Rattle.std.specs.List.{range_with_len};
 ghost use Rattle.link_sections.specs.FoldItems.{item_views, sections_of};
 
-use icf_part::fold;
+use icf_part::{Steps, fold};
 use link_sections::{FoldItem, FoldReloc, Target};
 use lk_base::SecNo;
 use std::alloc::{AllocError, Global};
+use std::marker::Brand;
+use std::sync::ledger::{Blank, Ledger};
 use std::test::Fail;
 use std::thread::Threads;
 use work_split::OpenGate;
@@ -49,12 +51,36 @@ fn add<'a>(
     Ok(())
 }
 
-/// Whether so many workers find these leaders.
-fn leads_by<R: Threads + Sync>(
+/// Whether so many workers find these leaders, in so many steps.
+fn leads_by<R: Threads + Sync, L: Ledger>(
     rt: &R,
     alloc: Global,
     items: &[FoldItem],
     leaders: &[u32],
+    count: u64,
+    workers: u32,
+    blank: Blank,
+) -> Result<bool, AllocError>
+    requires some { 1 ≤ workers }
+    requires most { workers ≤ 64 }
+    requires few { length items.now < 2 ^ 31 }
+    requires numbered { sections_of (item_views items.now) ≡ range_with_len 0 (length items.now) }
+    requires name { blank.name ≡ L.name }
+    requires parts { blank.parts ≡ L.parts }
+    requires part { 0 < L.parts }
+{
+    let mut steps: Steps<L> = Steps::open(blank);
+    let found = fold(rt, alloc, items, workers, &OpenGate, &mut steps)?;
+    Ok(found.as_slice() == leaders && steps.taken() == count)
+}
+
+/// The same in a ledger of its own.
+fn leads_in<R: Threads + Sync>(
+    rt: &R,
+    alloc: Global,
+    items: &[FoldItem],
+    leaders: &[u32],
+    count: u64,
     workers: u32,
 ) -> Result<bool, AllocError>
     requires some { 1 ≤ workers }
@@ -62,27 +88,29 @@ fn leads_by<R: Threads + Sync>(
     requires few { length items.now < 2 ^ 31 }
     requires numbered { sections_of (item_views items.now) ≡ range_with_len 0 (length items.now) }
 {
-    Ok(fold(rt, alloc, items, workers, &OpenGate)?.as_slice() == leaders)
+    leads_by::<R, Brand>(rt, alloc, items, leaders, count, workers, Blank::new(1))
 }
 
-/// Whether one worker, two and 64 find these leaders.
+/// Whether one worker, two, three and 64 find these leaders, each in so many steps.
 fn leads<R: Threads + Sync>(
     rt: &R,
     alloc: Global,
     items: &[FoldItem],
     leaders: &[u32],
+    count: u64,
 ) -> Result<bool, AllocError>
     requires few { length items.now < 2 ^ 31 }
     requires numbered { sections_of (item_views items.now) ≡ range_with_len 0 (length items.now) }
 {
     Ok(
-        leads_by(rt, alloc, items, leaders, 1)?
-            && leads_by(rt, alloc, items, leaders, 2)?
-            && leads_by(rt, alloc, items, leaders, 64)?,
+        leads_in(rt, alloc, items, leaders, count, 1)?
+            && leads_in(rt, alloc, items, leaders, count, 2)?
+            && leads_in(rt, alloc, items, leaders, count, 3)?
+            && leads_in(rt, alloc, items, leaders, count, 64)?,
     )
 }
 
-// Two pairs of functions that call each other.
+// Two pairs of functions that call each other: no class is split.
 #[test]
 fn pairs_that_call_each_other(rt: HostRuntime) -> Result<(), Fail> {
     let alloc = rt.alloc();
@@ -91,7 +119,7 @@ fn pairs_that_call_each_other(rt: HostRuntime) -> Result<(), Fail> {
     add(&mut items, alloc, b"g", 0)?;
     add(&mut items, alloc, b"f", 3)?;
     add(&mut items, alloc, b"g", 2)?;
-    assert!(rt; leads(&rt, alloc, items.as_slice(), &[0, 1, 0, 1])?);
+    assert!(rt; leads(&rt, alloc, items.as_slice(), &[0, 1, 0, 1], 0)?);
     Ok(())
 }
 
@@ -102,22 +130,22 @@ fn a_function_that_calls_itself(rt: HostRuntime) -> Result<(), Fail> {
     let mut items = Vec::new(alloc);
     add(&mut items, alloc, b"f", 0)?;
     add(&mut items, alloc, b"f", 0)?;
-    assert!(rt; leads(&rt, alloc, items.as_slice(), &[0, 0])?);
+    assert!(rt; leads(&rt, alloc, items.as_slice(), &[0, 0], 0)?);
     Ok(())
 }
 
-// Each of a thousand functions calls the next one, and the last has other bytes: no two are one.
+// Each of a thousand functions calls the next one, and the last one that has other bytes: no two are one, and their class is split 999 times.
 #[test]
 fn a_chain_is_not_folded(rt: HostRuntime) -> Result<(), Fail> {
     let alloc = rt.alloc();
     let mut items = Vec::new(alloc);
     let mut leaders = Vec::new(alloc);
-    for n in 0..999u32 {
+    for n in 0..1000u32 {
         add(&mut items, alloc, b"f", n + 1)?;
         leaders.push(n)?;
     }
-    add(&mut items, alloc, b"end", 999)?;
-    leaders.push(999)?;
-    assert!(rt; leads_by(&rt, alloc, items.as_slice(), leaders.as_slice(), 2)?);
+    add(&mut items, alloc, b"end", 1000)?;
+    leaders.push(1000)?;
+    assert!(rt; leads_in(&rt, alloc, items.as_slice(), leaders.as_slice(), 999, 2)?);
     Ok(())
 }

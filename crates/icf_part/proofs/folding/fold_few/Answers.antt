@@ -2,28 +2,26 @@ use Rattle.std.proofs.Common.{ℕ, List, length, flat_map, sym, ap, ◌∙◌, s
 use Rattle.link_sections.specs.FoldItems.{item_views}
 use Rattle.name_numbers.specs.Texts.{text_numbers}
 use Rattle.work_split.specs.Pieces.{Tiles}
-use Rattle.icf_part.specs.Signatures.{bytes_of, output_of, shape_at}
+use Rattle.icf_part.specs.Counts.{leader_count}
+use Rattle.icf_part.specs.Signatures.{rest_at}
 use Rattle.icf_part.proofs.RowSteps.{all_rows}
-use Rattle.icf_part.proofs.Whole.{all_sections, all_ends, all_numbers, first_numbers, first_firsts, folded}
+use Rattle.icf_part.proofs.Whole.{all_sections, all_ends, all_steps, few_steps, first_classes, first_firsts, folded, last_fewer}
 use Rattle.icf_part.proofs.folding.fold_few.Goals as goal
 
 pub all_places-requires-clause-few : goal.all_places-requires-clause-few
 all_places-requires-clause-few g c =
     omega (arith, c.requires.few, c.as_slice.ensures.len, all_sections c.args.items.now c.as_slice.result.now (c.as_slice.ensures.value ∙ c.in_ok-sections.ensures))
 
-pub all_shapes-requires-clause-few : goal.all_shapes-requires-clause-few
-all_shapes-requires-clause-few g c =
-    omega (arith, c.requires.few, all_sections c.args.items.now c.as_slice-3.result.now (c.as_slice-3.ensures.value ∙ c.in_ok-sections.ensures))
+pub all_rests-requires-clause-few : goal.all_rests-requires-clause-few
+all_rests-requires-clause-few g c =
+    omega (arith, c.requires.few, all_sections c.args.items.now c.as_slice-4.result.now (c.as_slice-4.ensures.value ∙ c.in_ok-sections.ensures))
 
-pub all_shapes-requires-clause-bytes : goal.all_shapes-requires-clause-bytes
-all_shapes-requires-clause-bytes g c κs within = all_numbers bytes_of c.args.items.now c.as_slice-4.result.now (c.as_slice-4.ensures.value ∙ c.in_ok-bytes.ensures)
-
-pub all_shapes-requires-clause-outputs : goal.all_shapes-requires-clause-outputs
-all_shapes-requires-clause-outputs g c κs within = all_numbers output_of c.args.items.now c.as_slice-5.result.now (c.as_slice-5.ensures.value ∙ c.in_ok-outputs.ensures)
+pub all_rests-requires-clause-keys : goal.all_rests-requires-clause-keys
+all_rests-requires-clause-keys g c κs within = ap length c.as_slice-5.ensures.value ∙ c.in_ok-keys.ensures.wide
 
 pub number_rows-requires-after_bounds : goal.number_rows-requires-after_bounds
 number_rows-requires-after_bounds g c κs within =
-    omega (arith, c.requires.few, ap (λ (p : List (List (List ℕ))). length (flat_map (λ part. part) p)) c.as_slice-7.ensures.value, all_rows (shape_at (item_views c.args.items.now) c.as_slice-4.result.now c.as_slice-5.result.now) (length c.args.items.now) (flat_map (λ part. part) c.in_ok-parts.parts.items) c.in_ok-parts.ensures)
+    omega (arith, c.requires.few, ap (λ (p : List (List (List ℕ))). length (flat_map (λ part. part) p)) c.as_slice-7.ensures.value, all_rows (rest_at (item_views c.args.items.now) c.as_slice-5.result.now c.in_ok-ends.ends) (length c.args.items.now) (flat_map (λ part. part) c.in_ok-parts.parts.items) c.in_ok-parts.ensures)
 
 pub refine-requires-clause-few : goal.refine-requires-clause-few
 refine-requires-clause-few g c κs within = omega (arith, c.requires.few, all_ends c.args.items.now c.in_ok-ends.ends c.in_ok-ends.ensures)
@@ -35,55 +33,80 @@ refine-requires-clause-tiles g c κs within =
 
 pub refine-requires-clause-firsts : goal.refine-requires-clause-firsts
 refine-requires-clause-firsts g c κs within =
-    first_firsts c.args.items.now c.in_ok-ends.ends c.in_ok-start.start.items c.in_ok-ends.ensures
-    (first_numbers c.args.items.now c.as_slice-4.result.now c.as_slice-5.result.now (flat_map (λ part. part) c.in_ok-parts.parts.items) c.in_ok-start.start.items
-    (c.as_slice-4.ensures.value ∙ c.in_ok-bytes.ensures) (c.as_slice-5.ensures.value ∙ c.in_ok-outputs.ensures) c.in_ok-parts.ensures (c.in_ok-start.ensures ∙ ap (λ (p : List (List (List ℕ))). text_numbers (flat_map (λ part. part) p)) c.as_slice-7.ensures.value))
+    let first = first_classes c.args.items.now c.in_ok-keys.keys.items c.as_slice-5.result.now c.in_ok-ends.ends (flat_map (λ part. part) c.in_ok-parts.parts.items) c.in_ok-start.start.items
+    c.in_ok-keys.ensures c.as_slice-5.ensures.value c.in_ok-ends.ensures c.in_ok-parts.ensures (c.in_ok-start.ensures ∙ ap (λ (p : List (List (List ℕ))). text_numbers (flat_map (λ part. part) p)) c.as_slice-7.ensures.value) in
+    first_firsts c.args.items.now c.in_ok-keys.keys.items c.in_ok-start.start.items c.in_ok-ends.ends c.in_ok-ends.ensures first
 
 pub returns-clause-value : goal.returns-clause-value
 returns-clause-value g c =
-    let all = folded c.args.items.now c.as_slice-4.result.now c.as_slice-5.result.now (flat_map (λ part. part) c.in_ok-parts.parts.items) c.in_ok-ends.ends c.in_ok-start.start.items c.in_ok-leaders.leaders.items
-    (c.as_slice-4.ensures.value ∙ c.in_ok-bytes.ensures) (c.as_slice-5.ensures.value ∙ c.in_ok-outputs.ensures) c.in_ok-parts.ensures (c.in_ok-start.ensures ∙ ap (λ (p : List (List (List ℕ))). text_numbers (flat_map (λ part. part) p)) c.as_slice-7.ensures.value)
-    c.requires.order c.in_ok-ends.ensures c.in_ok-leaders.ensures.stable c.in_ok-leaders.ensures.refining in
+    let first = first_classes c.args.items.now c.in_ok-keys.keys.items c.as_slice-5.result.now c.in_ok-ends.ends (flat_map (λ part. part) c.in_ok-parts.parts.items) c.in_ok-start.start.items
+    c.in_ok-keys.ensures c.as_slice-5.ensures.value c.in_ok-ends.ensures c.in_ok-parts.ensures (c.in_ok-start.ensures ∙ ap (λ (p : List (List (List ℕ))). text_numbers (flat_map (λ part. part) p)) c.as_slice-7.ensures.value) in
+    let all = folded c.args.items.now c.in_ok-keys.keys.items c.in_ok-start.start.items c.in_ok-leaders.leaders.items c.in_ok-ends.ends c.requires.order c.in_ok-ends.ensures first c.in_ok-leaders.ensures in
     all.value
 
 pub returns-clause-leaders : goal.returns-clause-leaders
 returns-clause-leaders g c =
-    let all = folded c.args.items.now c.as_slice-4.result.now c.as_slice-5.result.now (flat_map (λ part. part) c.in_ok-parts.parts.items) c.in_ok-ends.ends c.in_ok-start.start.items c.in_ok-leaders.leaders.items
-    (c.as_slice-4.ensures.value ∙ c.in_ok-bytes.ensures) (c.as_slice-5.ensures.value ∙ c.in_ok-outputs.ensures) c.in_ok-parts.ensures (c.in_ok-start.ensures ∙ ap (λ (p : List (List (List ℕ))). text_numbers (flat_map (λ part. part) p)) c.as_slice-7.ensures.value)
-    c.requires.order c.in_ok-ends.ensures c.in_ok-leaders.ensures.stable c.in_ok-leaders.ensures.refining in
+    let first = first_classes c.args.items.now c.in_ok-keys.keys.items c.as_slice-5.result.now c.in_ok-ends.ends (flat_map (λ part. part) c.in_ok-parts.parts.items) c.in_ok-start.start.items
+    c.in_ok-keys.ensures c.as_slice-5.ensures.value c.in_ok-ends.ensures c.in_ok-parts.ensures (c.in_ok-start.ensures ∙ ap (λ (p : List (List (List ℕ))). text_numbers (flat_map (λ part. part) p)) c.as_slice-7.ensures.value) in
+    let all = folded c.args.items.now c.in_ok-keys.keys.items c.in_ok-start.start.items c.in_ok-leaders.leaders.items c.in_ok-ends.ends c.requires.order c.in_ok-ends.ensures first c.in_ok-leaders.ensures in
     all.leaders
 
 pub returns-clause-congruence : goal.returns-clause-congruence
 returns-clause-congruence g c =
-    let all = folded c.args.items.now c.as_slice-4.result.now c.as_slice-5.result.now (flat_map (λ part. part) c.in_ok-parts.parts.items) c.in_ok-ends.ends c.in_ok-start.start.items c.in_ok-leaders.leaders.items
-    (c.as_slice-4.ensures.value ∙ c.in_ok-bytes.ensures) (c.as_slice-5.ensures.value ∙ c.in_ok-outputs.ensures) c.in_ok-parts.ensures (c.in_ok-start.ensures ∙ ap (λ (p : List (List (List ℕ))). text_numbers (flat_map (λ part. part) p)) c.as_slice-7.ensures.value)
-    c.requires.order c.in_ok-ends.ensures c.in_ok-leaders.ensures.stable c.in_ok-leaders.ensures.refining in
+    let first = first_classes c.args.items.now c.in_ok-keys.keys.items c.as_slice-5.result.now c.in_ok-ends.ends (flat_map (λ part. part) c.in_ok-parts.parts.items) c.in_ok-start.start.items
+    c.in_ok-keys.ensures c.as_slice-5.ensures.value c.in_ok-ends.ensures c.in_ok-parts.ensures (c.in_ok-start.ensures ∙ ap (λ (p : List (List (List ℕ))). text_numbers (flat_map (λ part. part) p)) c.as_slice-7.ensures.value) in
+    let all = folded c.args.items.now c.in_ok-keys.keys.items c.in_ok-start.start.items c.in_ok-leaders.leaders.items c.in_ok-ends.ends c.requires.order c.in_ok-ends.ensures first c.in_ok-leaders.ensures in
     all.congruence
 
 pub returns-clause-greatest : goal.returns-clause-greatest
 returns-clause-greatest g c =
-    let all = folded c.args.items.now c.as_slice-4.result.now c.as_slice-5.result.now (flat_map (λ part. part) c.in_ok-parts.parts.items) c.in_ok-ends.ends c.in_ok-start.start.items c.in_ok-leaders.leaders.items
-    (c.as_slice-4.ensures.value ∙ c.in_ok-bytes.ensures) (c.as_slice-5.ensures.value ∙ c.in_ok-outputs.ensures) c.in_ok-parts.ensures (c.in_ok-start.ensures ∙ ap (λ (p : List (List (List ℕ))). text_numbers (flat_map (λ part. part) p)) c.as_slice-7.ensures.value)
-    c.requires.order c.in_ok-ends.ensures c.in_ok-leaders.ensures.stable c.in_ok-leaders.ensures.refining in
+    let first = first_classes c.args.items.now c.in_ok-keys.keys.items c.as_slice-5.result.now c.in_ok-ends.ends (flat_map (λ part. part) c.in_ok-parts.parts.items) c.in_ok-start.start.items
+    c.in_ok-keys.ensures c.as_slice-5.ensures.value c.in_ok-ends.ensures c.in_ok-parts.ensures (c.in_ok-start.ensures ∙ ap (λ (p : List (List (List ℕ))). text_numbers (flat_map (λ part. part) p)) c.as_slice-7.ensures.value) in
+    let all = folded c.args.items.now c.in_ok-keys.keys.items c.in_ok-start.start.items c.in_ok-leaders.leaders.items c.in_ok-ends.ends c.requires.order c.in_ok-ends.ensures first c.in_ok-leaders.ensures in
     all.greatest
 
 pub returns-clause-places : goal.returns-clause-places
 returns-clause-places g c =
-    let all = folded c.args.items.now c.as_slice-4.result.now c.as_slice-5.result.now (flat_map (λ part. part) c.in_ok-parts.parts.items) c.in_ok-ends.ends c.in_ok-start.start.items c.in_ok-leaders.leaders.items
-    (c.as_slice-4.ensures.value ∙ c.in_ok-bytes.ensures) (c.as_slice-5.ensures.value ∙ c.in_ok-outputs.ensures) c.in_ok-parts.ensures (c.in_ok-start.ensures ∙ ap (λ (p : List (List (List ℕ))). text_numbers (flat_map (λ part. part) p)) c.as_slice-7.ensures.value)
-    c.requires.order c.in_ok-ends.ensures c.in_ok-leaders.ensures.stable c.in_ok-leaders.ensures.refining in
+    let first = first_classes c.args.items.now c.in_ok-keys.keys.items c.as_slice-5.result.now c.in_ok-ends.ends (flat_map (λ part. part) c.in_ok-parts.parts.items) c.in_ok-start.start.items
+    c.in_ok-keys.ensures c.as_slice-5.ensures.value c.in_ok-ends.ensures c.in_ok-parts.ensures (c.in_ok-start.ensures ∙ ap (λ (p : List (List (List ℕ))). text_numbers (flat_map (λ part. part) p)) c.as_slice-7.ensures.value) in
+    let all = folded c.args.items.now c.in_ok-keys.keys.items c.in_ok-start.start.items c.in_ok-leaders.leaders.items c.in_ok-ends.ends c.requires.order c.in_ok-ends.ensures first c.in_ok-leaders.ensures in
     all.places
 
 pub returns-clause-own : goal.returns-clause-own
 returns-clause-own g c =
-    let all = folded c.args.items.now c.as_slice-4.result.now c.as_slice-5.result.now (flat_map (λ part. part) c.in_ok-parts.parts.items) c.in_ok-ends.ends c.in_ok-start.start.items c.in_ok-leaders.leaders.items
-    (c.as_slice-4.ensures.value ∙ c.in_ok-bytes.ensures) (c.as_slice-5.ensures.value ∙ c.in_ok-outputs.ensures) c.in_ok-parts.ensures (c.in_ok-start.ensures ∙ ap (λ (p : List (List (List ℕ))). text_numbers (flat_map (λ part. part) p)) c.as_slice-7.ensures.value)
-    c.requires.order c.in_ok-ends.ensures c.in_ok-leaders.ensures.stable c.in_ok-leaders.ensures.refining in
+    let first = first_classes c.args.items.now c.in_ok-keys.keys.items c.as_slice-5.result.now c.in_ok-ends.ends (flat_map (λ part. part) c.in_ok-parts.parts.items) c.in_ok-start.start.items
+    c.in_ok-keys.ensures c.as_slice-5.ensures.value c.in_ok-ends.ensures c.in_ok-parts.ensures (c.in_ok-start.ensures ∙ ap (λ (p : List (List (List ℕ))). text_numbers (flat_map (λ part. part) p)) c.as_slice-7.ensures.value) in
+    let all = folded c.args.items.now c.in_ok-keys.keys.items c.in_ok-start.start.items c.in_ok-leaders.leaders.items c.in_ok-ends.ends c.requires.order c.in_ok-ends.ensures first c.in_ok-leaders.ensures in
     all.own
 
 pub returns-clause-least : goal.returns-clause-least
 returns-clause-least g c =
-    let all = folded c.args.items.now c.as_slice-4.result.now c.as_slice-5.result.now (flat_map (λ part. part) c.in_ok-parts.parts.items) c.in_ok-ends.ends c.in_ok-start.start.items c.in_ok-leaders.leaders.items
-    (c.as_slice-4.ensures.value ∙ c.in_ok-bytes.ensures) (c.as_slice-5.ensures.value ∙ c.in_ok-outputs.ensures) c.in_ok-parts.ensures (c.in_ok-start.ensures ∙ ap (λ (p : List (List (List ℕ))). text_numbers (flat_map (λ part. part) p)) c.as_slice-7.ensures.value)
-    c.requires.order c.in_ok-ends.ensures c.in_ok-leaders.ensures.stable c.in_ok-leaders.ensures.refining in
+    let first = first_classes c.args.items.now c.in_ok-keys.keys.items c.as_slice-5.result.now c.in_ok-ends.ends (flat_map (λ part. part) c.in_ok-parts.parts.items) c.in_ok-start.start.items
+    c.in_ok-keys.ensures c.as_slice-5.ensures.value c.in_ok-ends.ensures c.in_ok-parts.ensures (c.in_ok-start.ensures ∙ ap (λ (p : List (List (List ℕ))). text_numbers (flat_map (λ part. part) p)) c.as_slice-7.ensures.value) in
+    let all = folded c.args.items.now c.in_ok-keys.keys.items c.in_ok-start.start.items c.in_ok-leaders.leaders.items c.in_ok-ends.ends c.requires.order c.in_ok-ends.ensures first c.in_ok-leaders.ensures in
     all.least
+
+pub overflow_sub-last : goal.overflow_sub-last
+overflow_sub-last g c =
+    let first = first_classes c.args.items.now c.in_ok-keys.keys.items c.as_slice-5.result.now c.in_ok-ends.ends (flat_map (λ part. part) c.in_ok-parts.parts.items) c.in_ok-start.start.items
+    c.in_ok-keys.ensures c.as_slice-5.ensures.value c.in_ok-ends.ensures c.in_ok-parts.ensures (c.in_ok-start.ensures ∙ ap (λ (p : List (List (List ℕ))). text_numbers (flat_map (λ part. part) p)) c.as_slice-7.ensures.value) in
+    let le = last_fewer c.args.items.now c.in_ok-keys.keys.items c.in_ok-start.start.items c.in_ok-leaders.leaders.items c.in_ok-ends.ends c.in_ok-ends.ensures first c.in_ok-leaders.ensures in
+    omega (arith, le, c.count_leaders-first.ensures, c.count_leaders-last.ensures, ap leader_count c.as_slice-9.ensures.value, ap leader_count c.as_slice-10.ensures.value)
+
+pub returns-clause-steps : goal.returns-clause-steps
+returns-clause-steps g c =
+    let first = first_classes c.args.items.now c.in_ok-keys.keys.items c.as_slice-5.result.now c.in_ok-ends.ends (flat_map (λ part. part) c.in_ok-parts.parts.items) c.in_ok-start.start.items
+    c.in_ok-keys.ensures c.as_slice-5.ensures.value c.in_ok-ends.ensures c.in_ok-parts.ensures (c.in_ok-start.ensures ∙ ap (λ (p : List (List (List ℕ))). text_numbers (flat_map (λ part. part) p)) c.as_slice-7.ensures.value) in
+    let le = last_fewer c.args.items.now c.in_ok-keys.keys.items c.in_ok-start.start.items c.in_ok-leaders.leaders.items c.in_ok-ends.ends c.in_ok-ends.ensures first c.in_ok-leaders.ensures in
+    all_steps c.args.items.now c.in_ok-keys.keys.items c.in_ok-start.start.items c.in_ok-leaders.leaders.items c.args.steps.now c.add.new.self first le
+    (omega (arith, le, c.add.ensures, c.count_leaders-first.ensures, c.count_leaders-last.ensures, ap leader_count c.as_slice-9.ensures.value, ap leader_count c.as_slice-10.ensures.value))
+
+pub returns-clause-bound : goal.returns-clause-bound
+returns-clause-bound g c =
+    let first = first_classes c.args.items.now c.in_ok-keys.keys.items c.as_slice-5.result.now c.in_ok-ends.ends (flat_map (λ part. part) c.in_ok-parts.parts.items) c.in_ok-start.start.items
+    c.in_ok-keys.ensures c.as_slice-5.ensures.value c.in_ok-ends.ensures c.in_ok-parts.ensures (c.in_ok-start.ensures ∙ ap (λ (p : List (List (List ℕ))). text_numbers (flat_map (λ part. part) p)) c.as_slice-7.ensures.value) in
+    let le = last_fewer c.args.items.now c.in_ok-keys.keys.items c.in_ok-start.start.items c.in_ok-leaders.leaders.items c.in_ok-ends.ends c.in_ok-ends.ensures first c.in_ok-leaders.ensures in
+    let all = folded c.args.items.now c.in_ok-keys.keys.items c.in_ok-start.start.items c.in_ok-leaders.leaders.items c.in_ok-ends.ends c.requires.order c.in_ok-ends.ensures first c.in_ok-leaders.ensures in
+    let steps = all_steps c.args.items.now c.in_ok-keys.keys.items c.in_ok-start.start.items c.in_ok-leaders.leaders.items c.args.steps.now c.add.new.self first le
+    (omega (arith, le, c.add.ensures, c.count_leaders-first.ensures, c.count_leaders-last.ensures, ap leader_count c.as_slice-9.ensures.value, ap leader_count c.as_slice-10.ensures.value)) in
+    few_steps c.args.items.now c.in_ok-keys.keys.items c.in_ok-start.start.items c.in_ok-leaders.leaders.items c.args.steps.now c.add.new.self first all steps

@@ -1,6 +1,6 @@
 use Rattle.std.proofs.Common.{ℕ, List, length, ap, ◌∙◌, sym}
 use Rattle.std.specs.List.{list_all, range_with_len}
-use Rattle.icf_part.proofs.Loop.{step_of, way_next}
+use Rattle.icf_part.proofs.Loop.{step_of, way_last, way_next}
 use Rattle.icf_part.proofs.Measure.{falls}
 use Rattle.icf_part.proofs.Refined.{firsts_of}
 use Rattle.icf_part.proofs.Steady.{steady, unsteady}
@@ -23,12 +23,9 @@ rounds-smaller g c =
     falls (length ends) ends now next c.rounds.invariant.firsts (firsts_of (round_words now ends) (length ends) next step) step
     (unsteady ends now next (sym test ∙ sym c.is_stable.ensures ∙ c.if-is_stable.false) step)
 
-pub returns-then-is_stable-clause-stable : goal.returns-then-is_stable-clause-stable
-returns-then-is_stable-clause-stable g c =
+pub returns-then-is_stable : goal.returns-then-is_stable
+returns-then-is_stable g c =
     let ends = c.args.ends.now in
     let now = c.rounds.classes.items in
     let test = ap (λ (l : List ℕ). list_all (leads_as_first l ends) (range_with_len 0 (length ends))) c.as_slice.ensures.value in
-    steady ends now (sym test ∙ sym c.is_stable.ensures ∙ c.if-is_stable.true)
-
-pub returns-then-is_stable-clause-refining : goal.returns-then-is_stable-clause-refining
-returns-then-is_stable-clause-refining g c = c.rounds.invariant.refining
+    way_last ends c.args.start.items now c.rounds.invariant (steady ends now (sym test ∙ sym c.is_stable.ensures ∙ c.if-is_stable.true))

@@ -1,4 +1,4 @@
-//! What is compared of items before the first round.
+//! What is compared of the targets of items of one key, but for the classes of those that are items.
 
 ghost use Rattle.std.specs.Prelude.{◌≡◌, ◌<◌, ◌≤◌, ◌^◌, ◌++◌, length, flat_map, IfOk, OnOk};
 ghost use Rattle.std.specs.List.Sorted.{IsStrictlyIncreasing};
@@ -8,35 +8,34 @@ ghost use Rattle.icf_part.specs.Signatures as spec;
 
 use crate::parts::one_part;
 use crate::places::place_of;
-use crate::words::push_row;
+use crate::words::{push_row, signed_words};
 use flat_rows::Rows;
-use link_sections::{FoldItem, FoldReloc, Target};
+use link_sections::{FoldItem, Target};
 use lk_base::{LinkStop, SecNo};
 use std::alloc::{AllocError, Global};
 use std::ops::Range;
 use std::thread::Threads;
 use work_split::{Gate, over_shares};
 
-/// A row for each item, in parts; `bytes` and `outputs` are the numbers of their contents and of their output sections. The workers make
-/// one part each.
-pub fn all_shapes<R: Threads + Sync, G: Gate>(
+/// A row for each item, in parts; `keys` are the numbers of their keys, and `ends` has the items to which they lead. The workers make one
+/// part each.
+pub fn all_rests<R: Threads + Sync, G: Gate>(
     rt: &R,
     alloc: Global,
     items: &[FoldItem],
     sections: &[SecNo],
-    bytes: &[u32],
-    outputs: &[u32],
+    keys: &[u32],
+    ends: &Rows<u32>,
     pieces: &[Range<usize>],
     gate: &G,
 ) -> Result<Vec<Rows<u8>>, AllocError>
     requires order { IsStrictlyIncreasing sections.now }
     requires few { length sections.now < 2 ^ 31 }
     requires sections { sections.now ≡ sections_of (item_views items.now) }
-    requires bytes { length bytes.now ≡ length items.now }
-    requires outputs { length outputs.now ≡ length items.now }
+    requires keys { length keys.now ≡ length items.now }
     requires tiles { Tiles 0 (length items.now) pieces.now }
     requires most { length pieces.now ≤ 64 }
-    ensures { IfOk result (λ parts. spec.AreRows (spec.shape_at (item_views items.now) bytes.now outputs.now) (length items.now) (flat_map (λ part. part) parts.items)) }
+    ensures { IfOk result (λ parts. spec.AreRows (spec.rest_at (item_views items.now) keys.now ends.now) (length items.now) (flat_map (λ part. part) parts.items)) }
 {
     let found = over_shares(
         rt,
@@ -47,12 +46,11 @@ pub fn all_shapes<R: Threads + Sync, G: Gate>(
             requires order { IsStrictlyIncreasing sections.now }
             requires few { length sections.now < 2 ^ 31 }
             requires sections { sections.now ≡ sections_of (item_views items.now) }
-            requires bytes { length bytes.now ≡ length items.now }
-            requires outputs { length outputs.now ≡ length items.now }
+            requires keys { length keys.now ≡ length items.now }
             requires ordered { piece.start ≤ piece.end }
             requires within { piece.end ≤ length items.now }
-            ensures { spec.IsRowsPart (spec.shape_at (item_views items.entry.now) bytes.entry.now outputs.entry.now) piece result }
-        { Ok(shape_rows(alloc, items, sections, bytes, outputs, piece)?) },
+            ensures { spec.IsRowsPart (spec.rest_at (item_views items.entry.now) keys.entry.now ends.entry.now) piece result }
+        { Ok(rest_rows(alloc, items, sections, keys, ends, piece)?) },
     );
     match found {
         Ok(parts) => Ok(parts),
@@ -61,28 +59,27 @@ pub fn all_shapes<R: Threads + Sync, G: Gate>(
 }
 
 /// The rows of a run of items, as one part.
-fn shape_rows(
+fn rest_rows(
     alloc: Global,
     items: &[FoldItem],
     sections: &[SecNo],
-    bytes: &[u32],
-    outputs: &[u32],
+    keys: &[u32],
+    ends: &Rows<u32>,
     piece: Range<usize>,
 ) -> Result<Vec<Rows<u8>>, AllocError>
     requires order { IsStrictlyIncreasing sections.now }
     requires few { length sections.now < 2 ^ 31 }
     requires sections { sections.now ≡ sections_of (item_views items.now) }
-    requires bytes { length bytes.now ≡ length items.now }
-    requires outputs { length outputs.now ≡ length items.now }
+    requires keys { length keys.now ≡ length items.now }
     requires ordered { piece.start ≤ piece.end }
     requires within { piece.end ≤ length items.now }
-    ensures { IfOk result (λ parts. spec.AreRowsFrom (spec.shape_at (item_views items.now) bytes.now outputs.now) piece.start piece.end (flat_map (λ part. part) parts.items)) }
+    ensures { IfOk result (λ parts. spec.AreRowsFrom (spec.rest_at (item_views items.now) keys.now ends.now) piece.start piece.end (flat_map (λ part. part) parts.items)) }
 {
     let mut rows = Rows::empty(alloc)?;
     let mut words = Vec::new(alloc);
     let mut row = Vec::new(alloc);
     for a in piece.start..piece.end {
-        put_shape(&mut words, &items[a], sections, bytes[a], outputs[a])?;
+        put_rest(&mut words, &items[a], sections, keys[a], ends.row(a))?;
         push_row(&mut rows, &mut row, words.as_slice())?;
     }
     let parts = one_part(alloc, rows)?;
@@ -90,62 +87,24 @@ fn shape_rows(
 }
 
 /// Puts what is compared of one item into a list, whatever stands there.
-#[tactic(auto, unfolding(crate::specs::Signatures::shape_words))]
-fn put_shape(
+#[tactic(auto, unfolding(crate::specs::Signatures::rest_words))]
+fn put_rest(
     words: &mut Vec<u64>,
     item: &FoldItem,
     sections: &[SecNo],
-    bytes: u32,
-    output: u32,
+    key: u32,
+    ends: &[u32],
 ) -> Result<(), AllocError>
     requires order { IsStrictlyIncreasing sections.now }
     requires few { length sections.now < 2 ^ 31 }
-    ensures { OnOk result (words.new.items ≡ spec.shape_words sections.now bytes output (item_view item.now)) }
+    ensures { OnOk result (words.new.items ≡ spec.rest_words sections.now key (length ends.now) (item_view item.now)) }
 {
     words.clear();
-    words.extend_from_slice(&[
-        bytes as u64,
-        output as u64,
-        item.flags,
-        item.sh_type as u64,
-        item.align,
-    ])?;
+    words.extend_from_slice(&[key as u64, ends.len() as u64])?;
     for k in 0..item.relocs.len() {
-        push_reloc(words, &item.relocs[k], sections)?;
+        push_target(words, item.relocs[k].target, sections)?;
     }
     Ok(())
-}
-
-/// Adds what is compared of a relocation.
-#[tactic(auto, unfolding(crate::specs::Signatures::reloc_words))]
-fn push_reloc(words: &mut Vec<u64>, reloc: &FoldReloc, sections: &[SecNo]) -> Result<(), AllocError>
-    requires order { IsStrictlyIncreasing sections.now }
-    requires few { length sections.now < 2 ^ 31 }
-    ensures { OnOk result (words.new.items ≡ words.old.items ++ spec.reloc_words sections.now reloc.now) }
-{
-    words.extend_from_slice(&[
-        reloc.offset,
-        reloc.kind as u64,
-        flag_of(reloc.is_section_symbol),
-    ])?;
-    words.extend_from_slice(&signed_words(reloc.addend))?;
-    push_target(words, reloc.target, sections)
-}
-
-fn flag_of(holds: bool) -> u64
-    ensures { result ≡ spec.flag_of holds }
-{
-    if holds { 1 } else { 0 }
-}
-
-/// A number with its sign.
-fn signed_words(number: i64) -> [u64; 2]
-    ensures { result ≡ spec.signed_words number }
-{
-    if number < 0 {
-        return [1, (-(number + 1)) as u64];
-    }
-    [0, number as u64]
 }
 
 /// Adds what is compared of a target.

@@ -1,7 +1,0 @@
-use Rattle.std.proofs.Common.{◌≤◌}
-use Rattle.link_sections.specs.FoldItems.{item_views}
-use Rattle.icf_part.specs.Signatures.{AreRowsFrom, shape_at}
-use Rattle.icf_part.proofs.shapes.shape_rows.Given as goal
-
-abbrev pub invariant-loop-a : goal.invariant-loop-a
-invariant-loop-a l = (l.fn.piece.start ≤ l.a) × AreRowsFrom (shape_at (item_views l.items) l.bytes l.outputs) l.fn.piece.start l.a l.rows
