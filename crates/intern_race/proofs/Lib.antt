@@ -1,0 +1,12 @@
+pub mod Apart
+pub mod Few
+pub mod Firsts
+pub mod Grows
+pub mod Holes
+pub mod Keeps
+pub mod Rows
+pub mod Seats
+pub mod Shown
+pub mod Sitting
+pub mod Walks
+pub mod Words
