@@ -1,19 +1,22 @@
 -- Laws of Link's own words, which hold at every end of a run.
 use Rattle.std.proofs.Common.{◌≡◌, ℕ, ◌<◌, ◌^◌, Bool, true, false, List, [], ◌∷◌, length, map, refl, ap, ◌∙◌, arith}
-use Rattle.std.specs.Prelude.{if◌then◌else◌}
+use Rattle.std.specs.Prelude.{Some, if◌then◌else◌}
 use Rattle.std.specs.List.{range_with_len, sum}
 use Rattle.std.proofs.lemmas.List.FromFn.{length-map-range_with_len}
 use Rattle.comdat.specs.Discarded.{discarded}
 use Rattle.file_live.specs.Live.{IsLive}
 use Rattle.file_live.proofs.Pulling.{pull_within}
 use Rattle.file_live.proofs.Rounds.{live_of_least}
+use Rattle.lk_base.specs.declared.defects.Defect.{Defect}
+use Rattle.lk_base.specs.Limits.{standard}
 use Rattle.lk_tables.specs.Files.{File, symbol_total}
 use Rattle.sym_resolve.specs.Law.{IsLawful}
 use Rattle.sym_resolve.proofs.Lawful.{lawful}
 use Rattle.link_command.specs.Command.{Asked}
-use Rattle.link_driver.specs.Laws.{AreCounted, AreLeast}
-use Rattle.link_driver.specs.Link.{bound_names}
-use Rattle.link_driver.specs.Sources.{Source, files_in, has_body, headed, heads_in, live_in, opened, opened_files, with_body}
+use Rattle.link_driver.specs.Given.{contents_for}
+use Rattle.link_driver.specs.Laws.{AreCounted, AreLeast, with_workers}
+use Rattle.link_driver.specs.Link.{bound_names, defects_in, executable_in, line_of_defect, link, link_with, map_in, report_in}
+use Rattle.link_driver.specs.Sources.{Source, files_in, has_body, headed, heads_in, live_in, opened, opened_files, sources, with_body}
 use Rattle.link_driver.proofs.Opened.{how_many}
 
 -- a body adds no symbol
@@ -61,3 +64,14 @@ module _ (ss : List Source) (few : AreCounted ss) where
 
 pub are_least : (asked : Asked) (ss : List Source) → AreCounted ss → AreLeast asked ss
 are_least asked ss few = record { taking_part = least_files ss few; bound = least_offers ss few asked.entry }
+
+-- no definition of Link reads the number of workers
+same_line : (asked : Asked) (inputs : List (List ℕ)) (n : ℕ) (ds : List Defect) → link_with (with_workers n asked) inputs ds ≡ link_with asked inputs ds
+unfolding executable_in map_in report_in line_of_defect
+same_line asked inputs n [] = refl
+same_line asked inputs n (d ∷ ds) = refl
+
+pub link_of_any : (asked : Asked) (given : List (List ℕ)) (n : ℕ) → link (Some (with_workers n asked)) given ≡ link (Some asked) given
+unfolding link defects_in
+link_of_any asked given n =
+    same_line asked (contents_for asked given) n (defects_in standard asked (sources standard (contents_for asked given)))

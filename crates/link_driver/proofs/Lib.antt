@@ -11,6 +11,7 @@ pub mod Keeping
 pub mod LaidOrder
 pub mod Laws
 pub mod Leading
+pub mod OneLine
 pub mod Opened
 pub mod Passing
 pub mod PhaseOrder

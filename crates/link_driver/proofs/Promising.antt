@@ -10,7 +10,7 @@ use Rattle.link_driver.specs.Laws.{sources_for}
 use Rattle.link_driver.specs.Link.{link}
 use Rattle.link_driver.specs.Ends.{Accepts, Ends, links, finds_defect, refuses, cannot_read_input, cannot_write_output, cannot_write_map, cannot_say, lacks_memory}
 use Rattle.link_driver.specs.Promises.{IsGiven, IsFaultless, Promises}
-use Rattle.link_driver.proofs.Laws.{are_least}
+use Rattle.link_driver.proofs.Laws.{are_least, link_of_any}
 
 -- told files have one list of contents
 one_content : (files : Option Files) (names a b : List (List ℕ)) → IsSome files → AreContents files names a → AreContents files names b → a ≡ b
@@ -177,6 +177,7 @@ module _ (words : List (List ℕ)) (before after : Store) (say say' : Output) (s
     sound = sound_end ends;
     only_sound = only_sound_end ends;
     missing = missing_end ends;
-    least = λ asked inputs given few. are_least asked (sources_for asked inputs) few;
+    least = λ asked given few. are_least asked (sources_for asked given) few;
+    any_workers = link_of_any;
     begun = begun_end ends;
   }

@@ -31,20 +31,20 @@ told_line Done = []
 told_line Memory = []
 told_line Refused = bad_command
 told_line Unreported = cannot_report
-told_line (Defective line) = line.items
-told_line (Unread line) = line.items
-told_line (Unwritten line) = line.items
+told_line (Defective line) = line.bytes.items
+told_line (Unread line) = line.bytes.items
+told_line (Unwritten line) = line.bytes.items
 
 -- a defect is told with this line, or memory ran out
 abbrev pub TellsDefect : List ℕ → Ending → Type 0
 TellsDefect line Memory = Unit {0}
-TellsDefect line (Defective told) = told.items ≡ line
+TellsDefect line (Defective told) = told.bytes.items ≡ line
 TellsDefect line _ = ⊥
 
 -- an input that could not be read is told with this line, or memory ran out
 abbrev pub TellsUnread : List ℕ → Ending → Type 0
 TellsUnread line Memory = Unit {0}
-TellsUnread line (Unread told) = told.items ≡ line
+TellsUnread line (Unread told) = told.bytes.items ≡ line
 TellsUnread line _ = ⊥
 
 -- why there is no link
@@ -71,15 +71,15 @@ AfterReport report before after Unreported =
     Rose before.faults after.faults × ((size : ℕ) × (size < length report) × (after.written ≡ told_said (take size report) before.written))
 AfterReport report before after _ = ⊥
 
--- the line about the map, where one is asked
+-- the line about the map, without a name where none is asked
 abbrev pub map_line : Option (List ℕ) → List ℕ
-map_line None = []
+map_line None = cannot_write []
 map_line (Some name) = cannot_write name
 
 -- the lines for files that may fail
 pub record AreLines (asked : Asked) (lines : Lines) : Type 0 where
-  pub output : lines.output.items ≡ cannot_write asked.output
-  pub map : lines.map.items ≡ map_line asked.map
+  pub output : lines.output.bytes.items ≡ cannot_write asked.output
+  pub map : lines.map.bytes.items ≡ map_line asked.map
 
 -- since the store `before`, the inputs were loaded, and nothing else was done
 pub record AreLoaded (asked : Asked) (before now : Store) (inputs : List (List ℕ)) : Type 0 where

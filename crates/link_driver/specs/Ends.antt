@@ -1,5 +1,6 @@
 -- The ends of a run: each with its status, its cause, what it leaves and its line.
 use Rattle.std.specs.Prelude.{◌≡◌, ℕ, ◌<◌, ◌≤◌, ◌⊎◌, List, [], length, take, Option, Some, None}
+use Rattle.lk_base.specs.Lines.{IsOneLine}
 use Rattle.lk_depot.specs.declared.kinds.FileKind.{FileKind}
 use Rattle.lk_depot.specs.declared.kinds.FileKind.TheVariants.{Executable, Plain}
 use Rattle.lk_depot.specs.Faults.{Rose}
@@ -164,6 +165,8 @@ pub data IsTold (line : List ℕ) (err err' : Output) : Type 0 where
 pub record EndsSo (words : List (List ℕ)) (before after : Store) (say say' err err' : Output) (status : ℕ) : Type 0 where
   pub line : List ℕ
   pub ends : Ends (asked_of words) before after say say' status line
+  -- there is none at 0 and 4, and else one: bytes that a terminal shows, and a newline
+  pub one_line : (line ≡ []) ⊎ IsOneLine line
   pub told : IsTold line err err'
   -- where there is no line, nothing was asked of the standard error
   pub silent : line ≡ [] → err' ≡ err

@@ -19,6 +19,21 @@ use Rattle.sym_resolve.specs.Law.{IsLawful}
 abbrev pub sources_for : Asked → List (List ℕ) → List Source
 sources_for asked given = sources standard (contents_for asked given)
 
+-- the same command with another number of workers
+abbrev pub with_workers : ℕ → Asked → Asked
+with_workers n asked = record {
+  output = asked.output;
+  map = asked.map;
+  entry = asked.entry;
+  threads = n;
+  gc = asked.gc;
+  icf = asked.icf;
+  relax = asked.relax;
+  strip = asked.strip;
+  generated = asked.generated;
+  inputs = asked.inputs;
+}
+
 -- no more files and symbols than a link may have
 pub record AreCounted (ss : List Source) : Type 0 where
   pub files : length ss ≤ standard.files

@@ -6,6 +6,7 @@ pub mod Ends
 pub mod Given
 pub mod Laws
 pub mod Link
+pub mod OneLine
 pub mod Phases
 pub mod Placing
 pub mod Promises

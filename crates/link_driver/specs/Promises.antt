@@ -5,7 +5,7 @@ use Rattle.lk_depot.specs.Store.{Store}
 use Rattle.lk_depot.specs.Output.{Output}
 use Rattle.lk_depot.specs.Loading.{AreContents, IsFirstLacking}
 use Rattle.link_command.specs.Command.{Asked, asked_of}
-use Rattle.link_driver.specs.Laws.{AreCounted, AreLeast, sources_for}
+use Rattle.link_driver.specs.Laws.{AreCounted, AreLeast, sources_for, with_workers}
 use Rattle.link_driver.specs.Link.{link}
 
 -- an accepted command over a store that tells its files, with these contents as its inputs
@@ -37,9 +37,10 @@ module _ (words : List (List ℕ)) (before after : Store) (say say' : Output) (s
     -- where an input is missing, 3 and 4 are the only ends
     pub missing : (asked : Asked) (index : ℕ) → asked_of words ≡ Some asked → IsFirstLacking before.files asked.inputs index
         → (status ≡ 3) ⊎ (status ≡ 4)
-    -- whatever the end, of inputs with no more files and symbols than a link may have: the files that take part are the least set that is
+    -- laws of Link's own words. Of inputs with no more files and symbols than a link may have, the files that take part are the least set that is
     -- closed, and each name is bound to its least offer
-    pub least : (asked : Asked) (inputs : List (List ℕ)) → IsGiven words before asked inputs → AreCounted (sources_for asked inputs)
-        → AreLeast asked (sources_for asked inputs)
+    pub least : (asked : Asked) (given : List (List ℕ)) → AreCounted (sources_for asked given) → AreLeast asked (sources_for asked given)
+    -- and Link is the same for every number of workers
+    pub any_workers : (asked : Asked) (given : List (List ℕ)) (n : ℕ) → link (Some (with_workers n asked)) given ≡ link (Some asked) given
     -- nothing is begun before the defects are known: at 1, 2 and 4 no file was
     pub begun : (status ≡ 1) ⊎ ((status ≡ 2) ⊎ (status ≡ 4)) → after.begun ≡ before.begun

@@ -1,6 +1,8 @@
 //! What is reported: the line of a defect, and the lines about inputs and files.
 
-ghost use Rattle.std.specs.Prelude.{◌≡◌, IfOk};
+ghost use Rattle.std.specs.Prelude.{◌≡◌, true, IfOk};
+ghost use Rattle.std.specs.List.{list_all};
+ghost use Rattle.lk_base.specs.Lines.{is_shown};
 ghost use Rattle.link_command.specs.Command.{asks};
 ghost use Rattle.link_driver.specs.Contents.{input_contents, input_names, sources_of};
 ghost use Rattle.link_driver.specs.Endings.{AreLines, map_line};
@@ -9,6 +11,7 @@ ghost use Rattle.link_driver.specs.Given.{names_for};
 ghost use Rattle.link_driver.specs.Sources.{source_at};
 
 use crate::inputs::Inputs;
+use crate::line::Line;
 use crate::shown::shown_file;
 use crate::sources::Source;
 use crate::symbol_names::symbol_name;
@@ -17,38 +20,43 @@ use lk_base::{Defect, FileNo, line_of, push_escaped};
 use std::alloc::{AllocError, Global};
 
 /// `text`, a name and a newline.
-pub fn line_about(alloc: Global, text: &[u8], name: &str) -> Result<Vec<u8>, AllocError>
-    ensures { IfOk result (λ line. line.items ≡ about text.now name.now) }
+pub fn line_about(alloc: Global, text: &[u8], name: &[u8]) -> Result<Line, AllocError>
+    requires { list_all is_shown text.now ≡ true }
+    ensures { IfOk result (λ line. line.bytes.items ≡ about text.now name.now) }
 {
-    let mut line = Vec::from_slice(alloc, text)?;
-    push_escaped(&mut line, name.as_bytes())?;
-    line.push(b'\n')?;
-    Ok(line)
+    let mut bytes = Vec::from_slice(alloc, text)?;
+    push_escaped(&mut bytes, name)?;
+    bytes.push(b'\n')?;
+    Ok(Line { bytes })
 }
 
-/// The lines for files that may fail, made before the first is begun.
+/// The lines for files that may fail, made before the first is begun. Where no map is asked, its line has no name.
 #[derive(Drop)]
 pub struct Lines {
-    pub output: Vec<u8>,
-    pub map: Vec<u8>,
+    pub output: Line,
+    pub map: Line,
 }
 
-/// The line for the map, empty where none is asked.
+/// The line for the map.
 #[tactic(auto, unfolding(crate::specs::Link::cannot_write))]
-fn line_for_map(alloc: Global, command: &Command) -> Result<Vec<u8>, AllocError>
-    ensures { IfOk result (λ line. line.items ≡ map_line (asks command.now).map) }
+fn line_for_map(alloc: Global, command: &Command) -> Result<Line, AllocError>
+    ensures { IfOk result (λ line. line.bytes.items ≡ map_line (asks command.now).map) }
 {
     let Some(map) = &command.map else {
-        return Ok(Vec::new(alloc));
+        return line_about(alloc, b"rvld: cannot write ", b"");
     };
-    line_about(alloc, b"rvld: cannot write ", map.as_str())
+    line_about(alloc, b"rvld: cannot write ", map.as_str().as_bytes())
 }
 
 #[tactic(auto, unfolding(crate::specs::Link::cannot_write))]
 pub fn lines_for(alloc: Global, command: &Command) -> Result<Lines, AllocError>
     ensures { IfOk result (λ lines. AreLines (asks command.now) lines) }
 {
-    let output = line_about(alloc, b"rvld: cannot write ", command.output.as_str())?;
+    let output = line_about(
+        alloc,
+        b"rvld: cannot write ",
+        command.output.as_str().as_bytes(),
+    )?;
     let map = line_for_map(alloc, command)?;
     Ok(Lines { output, map })
 }
@@ -99,12 +107,13 @@ pub fn line_for(
     inputs: &Inputs,
     sources: &[Source],
     defect: &Defect,
-) -> Result<Vec<u8>, AllocError>
+) -> Result<Line, AllocError>
     requires { input_names inputs.now ≡ names_for (asks command.now) }
-    ensures { IfOk result (λ line. line.items ≡ line_in (asks command.now) (input_contents inputs.now) (sources_of sources.now) defect.now) }
+    ensures { IfOk result (λ line. line.bytes.items ≡ line_in (asks command.now) (input_contents inputs.now) (sources_of sources.now) defect.now) }
 {
     let file = shown_file(alloc, inputs, sources, defect.file as u64)?;
     let other = shown_file(alloc, inputs, sources, defect.other)?;
     let name = name_for(alloc, command, sources, defect)?;
-    line_of(alloc, defect, file.as_slice(), name, other.as_slice())
+    let bytes = line_of(alloc, defect, file.as_slice(), name, other.as_slice())?;
+    Ok(Line { bytes })
 }

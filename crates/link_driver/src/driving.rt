@@ -1,6 +1,7 @@
 //! The top call: a command from its words to its files, its report and its line.
 
-ghost use Rattle.std.specs.Prelude.{◌≡◌, ℕ, List, ◌≤◌, ◌<◌, [], ◌∷◌, ◌++◌, take, length, slice_index_or, IfOk, OnOk, OnErr, None, Some};
+ghost use Rattle.std.specs.Prelude.{◌≡◌, ℕ, List, ◌⊎◌, ◌≤◌, ◌<◌, [], ◌∷◌, ◌++◌, take, length, slice_index_or, IfOk, OnOk, OnErr, None, Some};
+ghost use Rattle.lk_base.specs.Lines.{IsOneLine};
 ghost use Rattle.lk_depot.specs.Faults.{HasCause, Rises};
 ghost use Rattle.lk_depot.specs.Files.{told_put};
 ghost use Rattle.lk_depot.specs.Loading.{name_at};
@@ -17,6 +18,7 @@ ghost use Rattle.link_driver.specs.Endings.{status_of, told_line, TellsDefect, T
 use crate::diagnostics::{Lines, line_about, line_for, lines_for};
 use crate::finding::find_sources;
 use crate::inputs::{Inputs, generated_inputs, inputs_of};
+use crate::line::Line;
 use crate::linking::{Linked, link_with_tables};
 use link_command::{Command, Wanted, command_of};
 use lk_base::{Defect, Limits, LinkStop};
@@ -34,11 +36,11 @@ enum Ending {
     Refused,
     Unreported,
     /// The inputs have a defect.
-    Defective { line: Vec<u8> },
+    Defective { line: Line },
     /// An input could not be read.
-    Unread { line: Vec<u8> },
+    Unread { line: Line },
     /// A file could not be written.
-    Unwritten { line: Vec<u8> },
+    Unwritten { line: Line },
 }
 
 /// Begins a file and writes it.
@@ -77,7 +79,7 @@ fn blame_input(alloc: Global, command: &Command, index: usize) -> Ending
     ensures { TellsUnread (cannot_read (name_at (asks command.now).inputs index)) result }
 {
     let name = command.inputs.names()[index].as_str();
-    let Ok(line) = line_about(alloc, b"rvld: cannot read ", name) else {
+    let Ok(line) = line_about(alloc, b"rvld: cannot read ", name.as_bytes()) else {
         return Ending::Memory;
     };
     Ending::Unread { line }
@@ -307,16 +309,17 @@ fn status(ending: &Ending) -> u8
 /// The line of an ending.
 #[tactic(auto, unfolding(crate::specs::Link::bad_command, crate::specs::Link::cannot_report))]
 fn line(ending: &Ending) -> &[u8]
-    ensures { result.now ≡ told_line ending.now }
+    ensures value { result.now ≡ told_line ending.now }
+    ensures one { (told_line ending.now ≡ []) ⊎ IsOneLine (told_line ending.now) }
 {
     match ending {
         Ending::Done => &[],
         Ending::Memory => &[],
         Ending::Refused => b"rvld: bad command\n",
         Ending::Unreported => b"rvld: cannot report\n",
-        Ending::Defective { line } => line.as_slice(),
-        Ending::Unread { line } => line.as_slice(),
-        Ending::Unwritten { line } => line.as_slice(),
+        Ending::Defective { line } => line.bytes.as_slice(),
+        Ending::Unread { line } => line.bytes.as_slice(),
+        Ending::Unwritten { line } => line.bytes.as_slice(),
     }
 }
 

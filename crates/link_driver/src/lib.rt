@@ -17,6 +17,7 @@ mod driving;
 mod finding;
 mod heads;
 mod inputs;
+mod line;
 mod linking;
 mod numbering;
 mod placing;

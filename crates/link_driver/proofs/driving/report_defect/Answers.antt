@@ -7,5 +7,5 @@ use Rattle.link_driver.proofs.driving.report_defect.Goals as goal
 pub returns : goal.returns
 returns c =
     let found = rw c.standard.ensures at c.in-Ok.ensures in
-    line_is (asks c.args.command.now) (input_contents c.args.inputs.now) (sources_of c.as_slice.result.now) c.args.defect.now c.in-Ok-line_for.line.items
+    line_is (asks c.args.command.now) (input_contents c.args.inputs.now) (sources_of c.as_slice.result.now) c.args.defect.now c.in-Ok-line_for.line.bytes.items
     (ap sources_of c.as_slice.ensures.value ∙ found) c.in-Ok-line_for.ensures
