@@ -141,4 +141,5 @@ def main():
     print(f'twice: {one[0]} statements with {one[1]} copies too many, {two[0]} functions with {two[1]}')
 
 
-main()
+if __name__ == '__main__':
+    main()
