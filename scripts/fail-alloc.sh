@@ -1,7 +1,8 @@
 #!/usr/bin/env bash
 # Each allocation of a link made to fail in turn, until one is asked for that the link does not come to. Each run has to end
 # with 0 and the whole executable, or with 4 and no file, and with nothing on either stream. Linked are the sample a.o, and
-# with one worker and with four the program of many files, and with --gc-sections the one in C++.
+# with one worker and with four the program of many files, and with --gc-sections the one in C++ and an object of 3,000 sections,
+# one of which leads to so many that workers share what they lead to.
 # Usage: scripts/fail-alloc.sh [RVLD]     RVLD: the program; else crates/rvld/out/rvld, built first if it is not there
 # shellcheck disable=SC1091,SC2154
 set -u
@@ -45,6 +46,19 @@ each_fails() {
 
 cp "$top/samples/first/a.o" .
 each_fails a.o "$top/samples/first/a.out" a.o
+
+if there "sections that workers share" python3; then
+    python3 - "$top/scripts" <<'END' || { say "star.o is not made"; end; }
+import sys
+sys.path.insert(0, sys.argv[1])
+from speed import led_data, write
+write('star.o', led_data(0, 3001, lambda k: range(1, 1501) if k == 0 else [k + 1500] if k <= 1500 else []))
+END
+    links star.out --gc-sections star.o || end
+    for threads in 1 4; do
+        each_fails "3,001 sections, workers: $threads" star.out --gc-sections --threads "$threads" star.o
+    done
+fi
 
 there "the program of many files" clang riscv64-linux-gnu-readelf qemu-riscv64 || end
 files=()

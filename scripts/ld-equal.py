@@ -530,6 +530,33 @@ class Tests:
             took = time.process_time() - began
             print('ld-equal: %d bytes of libc.a are looked through in %.3f s' % (os.path.getsize(libc), took))
             self.check('a libc.a costs at most 0.2 s', took < 0.2, took)
+            self.hello()
+
+    def hello(self):
+        """How long `gcc -static hello.c` takes, with rvld-ld as install.sh leaves it, and with an ld.lld that shortens calls: the least of some runs."""
+        lld = next(filter(None, map(shutil.which, ['ld.lld-%d' % n for n in range(21, 14, -1)])), None)
+        if lld is None:
+            print('ld-equal: skipped the time of a hello (ld.lld 15 or later is not there)')
+            return
+        put('hello.c', b'#include <stdio.h>\nint main(void) { printf("hello, %d\\n", 42); return 0; }\n')
+        for folder in ('by-rvld', 'by-lld'):
+            os.makedirs(folder, exist_ok=True)
+        os.symlink(lld, 'by-lld/ld')
+        shutil.copytree(os.path.join(HERE, 'rvld_ld'), 'by-rvld/rvld_ld', ignore=shutil.ignore_patterns('__pycache__'))
+        put('by-rvld/ld', b'#!%s -IS\n' % os.fsencode(sys.executable) + read(LD).partition(b'\n')[2])
+        os.chmod('by-rvld/ld', 0o755)
+        self.run(sys.executable, '-m', 'compileall', '-q', 'by-rvld/rvld_ld')
+        took, good = {'by-rvld': [], 'by-lld': []}, True
+        for _ in range(15):
+            for folder, times in took.items():
+                began = time.monotonic()
+                good &= self.run('riscv64-linux-gnu-gcc', '-static', '-B', folder, '-o', 'hello', 'hello.c') == (0, '', '')
+                times.append(time.monotonic() - began)
+        ours, theirs = (min(times) for times in took.values())
+        idle = os.getloadavg()[0] < (os.cpu_count() or 1) / 2
+        print('ld-equal: gcc -static hello.c takes %.3f s with rvld-ld, %.3f s with %s: %.2f times%s' % (
+            ours, theirs, os.path.basename(lld), ours / theirs, '' if idle else '; the machine has other work, so that says little'))
+        self.check('gcc -static hello.c', good and (not idle or ours <= 1.3 * theirs), ours / theirs)
 
 
 def put(path, data):

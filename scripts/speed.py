@@ -1,7 +1,7 @@
 #!/usr/bin/env python3
 """Times rvld beside ld.lld, mold and GNU ld, each where it is there, on objects and archives made for it.
 
-Usage: scripts/speed.py MODE [RVLD] [--runs 5] [--peers lld,mold,ld] [--threads 1,2,4] [--keep DIR] [--figures DIR]
+Usage: scripts/speed.py MODE [RVLD] [--before RVLD] [--runs 5] [--peers lld,mold,ld] [--threads 1,2,4] [--keep DIR] [--figures DIR]
 
   objects    1000, 4000 and 16000 small objects that call each other in a binary tree
   symbols    one object of 100,000 symbols and 300,000 relocations, and one of twice as many
@@ -12,6 +12,12 @@ Usage: scripts/speed.py MODE [RVLD] [--runs 5] [--peers lld,mold,ld] [--threads 
   functions  500, 1,000 and 2,000 objects of 30 functions with two calls each
   links      a chain of 8,000 functions of equal bytes, and of 16,000, 32,000 and 64,000, with --icf=all
   cycles     two cycles of such functions, 1,003 and 1,005 long, and 10,003 and 10,005
+  shapes     50,000 and 100,000 functions of 1,000 shapes, each calling one of another shape, with --icf=all
+  unlike     30,000 and 60,000 functions of which no two have equal bytes, with --icf=all
+  chain      100,000 sections each of which leads to the next, and 200,000, with --gc-sections
+  star       the same, where the first section leads to all others
+  layers     400 layers of 500 sections with ten addresses of the next layer each, and 800, with --gc-sections
+  random     100,000 sections with three addresses of others each, and 200,000, with --gc-sections
   all        all of these
   plots      all of these at four or five sizes each, with 1 and 4 workers, and with pictures in docs/figures
   draw       measures nothing: makes the pictures anew from the figures that are kept beside them
@@ -21,7 +27,7 @@ The linkers take turns, run by run. A row has the median time, the fastest, the 
 megabyte of input; then its ratio to rvld with as many workers, and how both grew from the size before.
 With --figures (docs/figures for `plots` and `draw`) the folder gets MODE.tsv, the figures; pictures (SVG) of time and memory against size; and
 README.md, the page of all of them.
-RVLD is crates/rvld/out/rvld where it is not named; `none` leaves it out.
+RVLD is crates/rvld/out/rvld where it is not named; `none` leaves it out. --before names another rvld, such as one built from an earlier commit.
 """
 import argparse
 import hashlib
@@ -173,8 +179,8 @@ def functions(folder, count):
     return [write(os.path.join(place, 'c%d.o' % k), call_object(k, count)) for k in range(count)]
 
 
-def led_object(first, end, leads):
-    """Functions `first` on and before `end`, of equal bytes and in a section each, with one call: of the function to which each leads; None calls none."""
+def led_object(first, end, leads, body=lambda k: CALL + RETURN):
+    """Functions `first` on and before `end`, in a section each and of equal bytes if `body` gives none, with one call: of the function to which each leads; None calls none."""
     names = Texts()
     symbols = [bytes(24)]
     others = {}
@@ -182,9 +188,9 @@ def led_object(first, end, leads):
     count = end - first
     at_symtab = 2 * count + 1
     for k in range(first, end):
-        symbols.append(symbol(names.add('f%d' % k), GLOBAL, FUNC, 2 * (k - first) + 1, 0, 12))
+        symbols.append(symbol(names.add('f%d' % k), GLOBAL, FUNC, 2 * (k - first) + 1, 0, len(body(k))))
     if not first:
-        symbols.append(symbol(names.add('_start'), GLOBAL, FUNC, 1, 0, 12))
+        symbols.append(symbol(names.add('_start'), GLOBAL, FUNC, 1, 0, len(body(0))))
     for k in range(first, end):
         called = leads(k)
         row = b''
@@ -193,18 +199,18 @@ def led_object(first, end, leads):
                 others[called] = len(symbols)
                 symbols.append(symbol(names.add('f%d' % called), GLOBAL, NOTYPE, UNDEF))
             row = entry(0, others[called] if called in others else called - first + 1, R_CALL_PLT)
-        rows.append(('.text.f%d' % k, PROGBITS, ALLOC | EXECINSTR, CALL + RETURN, 0, 0, 4, 0))
+        rows.append(('.text.f%d' % k, PROGBITS, ALLOC | EXECINSTR, body(k), 0, 0, 4, 0))
         rows.append(('.rela.text.f%d' % k, RELA, INFO_LINK, row, at_symtab, 2 * (k - first) + 1, 8, 24))
     rows.append(('.symtab', SYMTAB, 0, b''.join(symbols), at_symtab + 1, 1, 8, 24))
     rows.append(('.strtab', STRTAB, 0, names.bytes(), 0, 0, 1, 0))
     return relocatable(rows)
 
 
-def led(folder, name, count, leads):
+def led(folder, name, count, leads, **more):
     """Objects of at most 1,000 of these functions."""
     place = os.path.join(folder, '%s-%d' % (name, count))
     os.makedirs(place, exist_ok=True)
-    return [write(os.path.join(place, 'l%d.o' % first), led_object(first, min(first + 1000, count), leads)) for first in range(0, count, 1000)]
+    return [write(os.path.join(place, 'l%d.o' % first), led_object(first, min(first + 1000, count), leads, **more)) for first in range(0, count, 1000)]
 
 
 def links(folder, count):
@@ -216,6 +222,72 @@ def cycles(folder, count):
     """Two cycles, one of two functions more than the other, so that all are alike: of odd counts the lengths have no common factor."""
     one = count // 2 - 1
     return led(folder, 'cycles', count, lambda k: (k + 1) % one if k < one else one + (k - one + 1) % (count - one))
+
+
+def led_data(first, end, leads):
+    """Sections of data `first` on and before `end`, each with the addresses of those to which it leads."""
+    names = Texts()
+    symbols = [bytes(24)]
+    others = {}
+    rows = []
+    addresses = []
+    for k in range(first, end):
+        symbols.append(symbol(names.add('d%d' % k if k else '_start'), GLOBAL, NOTYPE, k - first + 1))
+    for k in range(first, end):
+        ends = leads(k)
+        for other in ends:
+            if not first <= other < end and other not in others:
+                others[other] = len(symbols)
+                symbols.append(symbol(names.add('d%d' % other if other else '_start'), GLOBAL, NOTYPE, UNDEF))
+        rows.append(('.data.d%d' % k, PROGBITS, ALLOC | WRITE, bytes(8 * max(1, len(ends))), 0, 0, 8, 0))
+        if ends:
+            addresses.append((k - first + 1, b''.join(entry(8 * i, others[other] if other in others else other - first + 1, R_64)
+                                                      for i, other in enumerate(ends))))
+    at_symtab = len(rows) + len(addresses) + 1
+    rows += [('.rela', RELA, INFO_LINK, row, at_symtab, target, 8, 24) for target, row in addresses]
+    rows.append(('.symtab', SYMTAB, 0, b''.join(symbols), at_symtab + 1, 1, 8, 24))
+    rows.append(('.strtab', STRTAB, 0, names.bytes(), 0, 0, 1, 0))
+    return relocatable(rows)
+
+
+def graph(folder, name, count, leads):
+    """Objects of at most 20,000 sections."""
+    place = os.path.join(folder, '%s-%d' % (name, count))
+    os.makedirs(place, exist_ok=True)
+    return [write(os.path.join(place, 'd%d.o' % first), led_data(first, min(first + 20000, count), leads)) for first in range(0, count, 20000)]
+
+
+def layers(folder, count):
+    """The first section leads to all 500 of the first layer, and each of a layer to ten of the next."""
+    chance = random.Random(count)
+
+    def leads(k):
+        if k == 0:
+            return list(range(1, 501))
+        after = 1 + ((k - 1) // 500 + 1) * 500
+        return [after + chance.randrange(500) for _ in range(10)] if after < 1 + 500 * count else []
+    return graph(folder, 'layers', 1 + 500 * count, leads)
+
+
+def at_random(folder, count):
+    chance = random.Random(count)
+    return graph(folder, 'random', count, lambda k: [chance.randrange(count) for _ in range(3)])
+
+
+def numbered(k):
+    """A function's bytes with a number of its own: `lui a1, K`."""
+    return CALL + (k << 12 | 11 << 7 | 0x37).to_bytes(4, 'little') + RETURN
+
+
+def shapes(folder, count):
+    """A thousand shapes, each calling one of another shape: there are as many classes."""
+    each = max(count // 1000, 1)
+    return led(folder, 'shapes', count, lambda k: ((7 * k + 1) % 1000 + 1000 * ((k // 1000 + 13) % each)) % count, body=lambda k: numbered(k % 1000))
+
+
+def unlike(folder, count):
+    """Functions that all differ, each calling the next."""
+    return led(folder, 'unlike', count, lambda k: (k + 1) % count, body=numbered)
 
 
 def write(path, contents):
@@ -256,18 +328,26 @@ MODES = {
                'Strings in one file, of which half repeat'),
     'functions': (functions, 'objects', (500, 1000, 2000), (250, 500, 1000, 2000), 'Objects of 30 functions with two calls each'),
     'links': (links, 'functions', (8000, 16000, 32000, 64000), (8000, 16000, 32000, 64000), 'Functions of equal bytes in a chain, folded with `--icf all`: none is alike'),
+    'shapes': (shapes, 'functions', (50000, 100000), (25000, 50000, 100000), 'Functions of 1,000 shapes, folded with `--icf all`'),
+    'unlike': (unlike, 'functions', (30000, 60000), (15000, 30000, 60000), 'Functions of which no two are alike, with `--icf all`'),
     'cycles': (cycles, 'functions', (2008, 20008), (1004, 2008, 4008, 20008), 'Functions of equal bytes in two cycles, folded with `--icf all`: all are alike'),
+    'chain': (lambda folder, count: graph(folder, 'chain', count, lambda k: [k + 1] if k + 1 < count else []), 'sections', (100000, 200000),
+              (50000, 100000, 200000), 'Sections in a chain, with `--gc-sections`'),
+    'star': (lambda folder, count: graph(folder, 'star', count, lambda k: [] if k else range(1, count)), 'sections', (100000, 200000),
+             (50000, 100000, 200000), 'Sections to all of which one leads, with `--gc-sections`'),
+    'layers': (layers, 'layers', (400, 800), (200, 400, 800), 'Layers of 500 sections with ten addresses of the next layer each, with `--gc-sections`'),
+    'random': (at_random, 'sections', (100000, 200000), (50000, 100000, 200000), 'Sections with three addresses of others each, with `--gc-sections`'),
 }
-# the modes that ask for folding, which GNU ld does not have
-FOLDED = ('links', 'cycles')
+# what modes ask for beside: folding, which GNU ld does not have, or collection
+FOLDED = ('links', 'cycles', 'shapes', 'unlike')
+COLLECTED = ('chain', 'star', 'layers', 'random')
 
 
-def commands(rvld, peers, threads):
+def commands(rvld, before, peers, threads):
     """(linker, workers, words before the files): all link statically, without relaxing, and strip."""
     rows = []
     for n in threads:
-        if rvld:
-            rows.append(('rvld', n, [rvld, '-s', '--no-relax', '--threads', str(n)]))
+        rows += [(name, n, [program, '-s', '--no-relax', '--threads', str(n)]) for name, program in (('rvld', rvld), ('before', before)) if program]
         if 'lld' in peers and shutil.which('ld.lld'):
             rows.append(('lld', n, ['ld.lld', '-static', '-s', '--no-relax', '--threads=%d' % n]))
         if 'mold' in peers and shutil.which('mold'):
@@ -362,8 +442,8 @@ def measure(what, files, rows, runs, limit, out):
 # ------------------------------------------------------------------------------------------------------------------ pictures
 
 HERE = os.path.dirname(os.path.abspath(__file__))
-NAMES = {'rvld': 'rvld', 'lld': 'ld.lld', 'mold': 'mold', 'ld': 'GNU ld'}
-COLOURS = {'rvld': '#c2410c', 'lld': '#1d4ed8', 'mold': '#15803d', 'ld': '#6b7280'}
+NAMES = {'rvld': 'rvld', 'before': 'rvld before', 'lld': 'ld.lld', 'mold': 'mold', 'ld': 'GNU ld'}
+COLOURS = {'rvld': '#c2410c', 'before': '#d97706', 'lld': '#1d4ed8', 'mold': '#15803d', 'ld': '#6b7280'}
 WIDTH, HEIGHT, LEFT, RIGHT, TOP, BOTTOM = 640, 380, 64, 92, 58, 48
 
 
@@ -515,6 +595,7 @@ def main():
     reader = argparse.ArgumentParser(usage=__doc__)
     reader.add_argument('mode', choices=list(MODES) + ['all', 'plots', 'draw'])
     reader.add_argument('rvld', nargs='?')
+    reader.add_argument('--before', help='another rvld')
     reader.add_argument('--runs', type=int, default=5)
     reader.add_argument('--peers', default='lld,mold,ld')
     reader.add_argument('--threads')
@@ -537,7 +618,7 @@ def main():
         sys.exit('speed: no program at ' + rvld)
     else:
         rvld = os.path.abspath(rvld)
-    rows = commands(rvld, words.peers.split(','), [int(n) for n in words.threads.split(',')])
+    rows = commands(rvld, words.before and os.path.abspath(words.before), words.peers.split(','), [int(n) for n in words.threads.split(',')])
     for peer, program in (('lld', 'ld.lld'), ('mold', 'mold'), ('ld', 'riscv64-linux-gnu-ld')):
         if peer in words.peers.split(',') and not shutil.which(program):
             print('speed: skipped %s (%s is not there)' % (peer, program))
@@ -547,7 +628,11 @@ def main():
     try:
         for mode in MODES if words.mode in ('all', 'plots') else [words.mode]:
             make, counted, sizes, more_sizes, _ = MODES[mode]
-            asked = [(linker, n, words + ['--icf=all']) for linker, n, words in rows if linker != 'ld'] if mode in FOLDED else rows
+            asked = rows
+            if mode in FOLDED:
+                asked = [(linker, n, words + ['--icf=all']) for linker, n, words in rows if linker != 'ld']
+            elif mode in COLLECTED:
+                asked = [(linker, n, words + ['--gc-sections']) for linker, n, words in rows]
             before, noted = {}, []
             print('%-16s %-5s %7s %9s %9s %8s %8s %8s %7s' %
                   (mode, 'by', 'workers', 'median ms', 'least ms', 'MB', 'ms / MB', 'to rvld', 'growth'))

@@ -2,10 +2,12 @@
 # Builds rvld optimized and with NOTHING PROVED, for a first look, or to measure a change before its proof. The toolchain's `rt try` compiles without a
 # proof, at -O0 and with a memory checker, and takes its program away; here it finds a folder of links to the toolchain in which the compiler is called
 # with -O3 and without the checker, and what was linked is kept. Each index and sum is tested still, so times are about double those of the proved program.
-# Usage: scripts/unproved.sh FILE     FILE: where the program goes, outside crates/
+# Usage: scripts/unproved.sh [--quick] FILE     FILE: where the program goes, outside crates/; --quick: -O1, to try what it does and not how fast
 set -eu
+level=-O3
+[ "${1:-}" != --quick ] || { level=-O1; shift; }
 top=$(cd "$(dirname "${BASH_SOURCE[0]}")/.." && pwd)
-[ $# = 1 ] || { echo "usage: scripts/unproved.sh FILE"; exit 2; }
+[ $# = 1 ] || { echo "usage: scripts/unproved.sh [--quick] FILE"; exit 2; }
 to=$(realpath -m "$1")
 case $to in "$top"/crates/*) echo "unproved: $1 is in crates/, where proved programs stand"; exit 2;; esac
 kit=$(dirname "$(rt doc)")
@@ -29,7 +31,7 @@ cat > "$work/kit/toolchain/bin/clang" <<WRAP
 #!/usr/bin/env bash
 words=()
 for word; do
-    case \$word in -O0) words+=(-O3);; -fsanitize=address) ;; *) words+=("\$word");; esac
+    case \$word in -O0) words+=($level);; -fsanitize=address) ;; *) words+=("\$word");; esac
 done
 exec "$kit/toolchain/bin/clang" "\${words[@]}"
 WRAP

@@ -22,7 +22,7 @@ def mapped(path):
     """The bytes of a regular file; none where it is no such file, is empty or can't be read."""
     try:
         with open(path if os.path.isfile(path) else '', 'rb', 0) as file:
-            return memoryview(mmap.mmap(file.fileno(), 0, mmap.MAP_PRIVATE, mmap.PROT_READ))
+            return memoryview(mmap.mmap(file.fileno(), 0, mmap.MAP_PRIVATE | mmap.MAP_POPULATE, mmap.PROT_READ))
     except (OSError, ValueError):
         return memoryview(b'')
 

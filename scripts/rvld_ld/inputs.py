@@ -1,6 +1,5 @@
 """The inputs of a link: files of the command, and what is handed to rvld in their place, in memory."""
 import os
-import resource
 
 from . import equal, objects
 from .words import shown
@@ -26,8 +25,9 @@ class Inputs:
 
     def make(self, name, parts):
         """A new file of these bytes, in memory, and its path; lines have `name` for it."""
-        hard = resource.getrlimit(resource.RLIMIT_NOFILE)[1]
-        resource.setrlimit(resource.RLIMIT_NOFILE, (hard, hard))    # each holds a file open, here and in rvld
+        if len(self.names) > 8:    # each holds a file open, here and in rvld
+            import resource
+            resource.setrlimit(resource.RLIMIT_NOFILE, 2 * resource.getrlimit(resource.RLIMIT_NOFILE)[1:])
         fd = os.memfd_create('rvld-ld', 0)
         path = '/proc/self/fd/%d' % fd
         self.names[path] = shown(name)

@@ -2,13 +2,12 @@
 import _signal as signal    # see rvld-ld
 import errno
 import os
-import resource
 import sys
 import time
 
-from . import messages, objects
+from . import objects
 from .inputs import Input, Inputs
-from .words import QUESTIONS, Link, Refused, expand, refuse, table_of
+from .words import QUESTIONS, TOLD, Link, Refused, expand, refuse, table_of
 
 VERSION = 'rvld-ld 1.0.0 (compatible with GNU ld 2.40)\n'
 ROOM = 32 << 20    # of the stack: the kernel gives a program's words a quarter of it, and 6 MB at most
@@ -37,10 +36,12 @@ def program():
 
 def start(words, **more):
     """Starts a program with as many words as the system takes, and returns its number."""
-    size, (soft, hard) = sum(map(len, words)), resource.getrlimit(resource.RLIMIT_STACK)
-    most = ROOM if hard == resource.RLIM_INFINITY else min(ROOM, hard)
-    if size + 9 * len(words) > 1 << 20 and soft != resource.RLIM_INFINITY and soft < most:
-        resource.setrlimit(resource.RLIMIT_STACK, (most, hard))
+    size = sum(map(len, words))
+    if size + 9 * len(words) > 1 << 20:
+        import resource    # here, as all that few links need: a twentieth of a link of hello would go into loading it
+        soft, hard = resource.getrlimit(resource.RLIMIT_STACK)    # -1 where there is none
+        if soft % 2**64 < min(ROOM, hard % 2**64):
+            resource.setrlimit(resource.RLIMIT_STACK, (min(ROOM, hard % 2**64), hard))
     try:    # Python ignores SIGXFSZ
         return os.posix_spawnp(words[0], words, os.environ, setsigdef=[signal.SIGXFSZ], **more)
     except OSError as fault:
@@ -87,28 +88,32 @@ def linked(link):
     given, words = link.words()
     rvld, inputs, runs, started, again = program(), Inputs(words), 0, time.monotonic(), True
     made_inputs(link, inputs)
-    for file in inputs.files:    # the member of glibc 2.36 that rvld has to refuse, and that is in almost each program
-        if os.path.basename(file.path) == 'libc.a':
-            inputs.mend_file(file, b'libc-tls.o')
+    for file in (it for it in inputs.files if os.path.basename(it.path) == 'libc.a'):
+        inputs.mend_file(file, b'libc-tls.o')    # the member of glibc 2.36 that rvld has to refuse, and that is in almost each program
     while again:
         # the map is read here, or has names of made files
-        if link.on.keys() & messages.TOLD or link.lists['trace-symbol'] or 'Map' in link.values and inputs.names:
+        if link.on.keys() & TOLD or link.lists['trace-symbol'] or 'Map' in link.values and inputs.names:
             inputs.map = inputs.map or inputs.make(link.values.get('Map', 'map'), [])
             given = ['--Map=' + inputs.map] + [word for word in given if not word.startswith('--Map=')]
         words = [rvld] + given + [file.path for file in inputs.files]
         status, said = run(words)
-        runs, said = runs + 1, inputs.original(said)
-        defect = messages.defect_of(said) if status == 1 else None
+        runs, said, defect = runs + 1, inputs.original(said), None
+        if status == 1:
+            from . import messages
+            defect = messages.defect_of(said)
         if 'verbose' in link.on:
             say(''.join('rvld-ld: %s\n' % note for note in inputs.notes + ['ran ' + ' '.join(words)]), 2)
         inputs.notes = []
         again = defect is not None and inputs.mend(defect)
     say(said, 2)
-    if status == 0:
-        messages.report(link, inputs, say)
-    if not os.environ.get('RVLD_PLAIN'):
-        say(messages.after(link, inputs, status, said, defect), 2)
+    if status != 0 or inputs.map or any('c++' in it.name for it in inputs.files):
+        from . import messages
+        if status == 0 and inputs.map:
+            messages.report(link, inputs, say)
+        if not os.environ.get('RVLD_PLAIN'):
+            say(messages.after(link, inputs, status, said, defect), 2)
     if 'stats' in link.on:
+        import resource
         used = resource.getrusage(resource.RUSAGE_CHILDREN)
         say('rvld-ld: %d inputs, %d files made here; rvld ran %d times; %.3f s, %.3f s of processors, %d KB at most\n' % (
             len(inputs.files), len(inputs.names), runs, time.monotonic() - started, used.ru_utime + used.ru_stime, used.ru_maxrss), 2)

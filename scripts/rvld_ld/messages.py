@@ -9,7 +9,6 @@ from .words import Refused, shown, table_of
 
 TEXTS = {keys.split(' ')[0] + other: text.replace('|', '\n') for keys, text in table_of('sentences.txt') for other in keys.split(' ')[1:] or ['']}
 KINDS = ['of kind %d' % i if name == '-' else 'R_RISCV_' + name for i, name in enumerate(TEXTS['kinds'].split())]
-TOLD = {'print-map', 'trace', 'print-gc-sections', 'print-memory-usage'}
 MOST, FILE_AT = 2**31 - 2**20, {'input': 3, 'folded': 2, 'dropped': 1, 'discarded': 1}    # bytes of an image; which word of a line of the map is a file
 
 
@@ -171,8 +170,6 @@ def traced(link, inputs, lines):
 
 def report(link, inputs, say):
     """Writes what was asked for, to the standard output, and the map to its file."""
-    if inputs.map is None:
-        return
     with open(inputs.map, 'rb') as file:
         text, path = inputs.original(os.fsdecode(file.read())), link.values.get('Map')
     try:

@@ -7,8 +7,6 @@ WRITE, ALLOC, EXECINSTR, MERGE, COMPRESSED, RETAIN, EXCLUDE = 1, 2, 4, 0x10, 0x8
 GLOBAL, WEAK, NOTYPE, OBJECT, FUNC, FILE, TLS, IFUNC = 0x10, 0x20, 0, 1, 2, 4, 6, 10
 UNDEF, ABS, COMMON, R_NONE, R_CALL_PLT = 0, 0xfff1, 0xfff2, 0, 19
 HEADER, SYMBOL, ENTRY = struct.Struct('<IIQQQQIIQQ'), struct.Struct('<IBBHQQ'), struct.Struct('<QIIQ')
-
-
 FAULTS = (struct.error, IndexError, ValueError, OverflowError, StopIteration, AttributeError)    # of damaged files
 
 

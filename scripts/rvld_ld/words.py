@@ -21,6 +21,7 @@ OFF, SHORT, SHORT_VALUE = (dict(pair.split('=') for pair in TABLE[key]) for key 
 KIND = {name.partition('=')[0]: key for key in 'over over-value over-maybe given value on off'.split() for name in TABLE[key]}
 WARNINGS = ('warn-', 'no-warn-')    # so start words that change nothing, unless they are refused
 QUESTIONS, STATIC = {'v', 'verbose', 'version', 'help'}, {'static', 'Bstatic', 'non_shared', 'dn'}
+TOLD = {'print-map', 'trace', 'print-gc-sections', 'print-memory-usage'}    # of the map, by messages.report
 FLAGS = {'strip-all': '-s', 'gc-sections': '--gc-sections', 'no-relax': '--no-relax'}    # of rvld
 
 

@@ -10,7 +10,7 @@ use Rattle.lk_base.specs.Arithmetic.{up}
 use Rattle.lk_base.proofs.Multiples.{up_below, up_least}
 use Rattle.link_sections.specs.declared.members.Member.{Member}
 use Rattle.link_sections.specs.Cuts.{Cut}
-use Rattle.layout.specs.declared.order.Row.{Row}
+use Rattle.output_sections.specs.declared.rows.Row.{Row}
 use Rattle.layout.specs.declared.walk.Cursor.{Cursor}
 use Rattle.layout.specs.Walk.{after, beside, is_empty, member_at, members_along, members_from, members_in, past, runs, size_at, start_of}
 

@@ -17,22 +17,20 @@ use Rattle.link_sections.specs.Leaders.{leader_at, leads}
 use Rattle.link_sections.specs.PoolViews.{Merged}
 use Rattle.link_sections.specs.Sound.{IsSound}
 use Rattle.layout.specs.Cutting.{is_short, laid_cuts}
-use Rattle.layout.specs.Items.{AreLeaders, Item, items}
-use Rattle.layout.specs.Order.{orders_of}
+use Rattle.output_sections.specs.Items.{AreLeaders, Item, items}
+use Rattle.output_sections.specs.Order.{members_in, orders_of}
 use Rattle.layout.proofs.Trails.{all_members}
 use Rattle.relax.specs.declared.calls.Call.{Call}
-use Rattle.relax.specs.declared.members.Member.{Member}
+use Rattle.output_sections.specs.declared.rows.Row.{Row}
 use Rattle.relax.specs.CallSizes.{all_cuts, call_rows, is_safe}
-use Rattle.relax.specs.ItemViews.{rooms_of}
-use Rattle.relax.specs.Members.{members}
 use Rattle.relax.specs.Placing.{IsOneSize}
 
 module _ (tables : Tables) (b : Bindings) (pools : List Pool) (merged : List (Option Merged)) (words : ℕ) (leaders : List (Option ℕ)) (laid : LaidOut) (sizes : List (List Cut)) (z : List ℕ) where
-  abbrev pub the_members : List Member
-  the_members = members (files_of tables) b (rooms_of pools) leaders
+  abbrev pub the_members : List Row
+  the_members = members_in (orders_of (items (files_of tables) b pools words leaders))
 
   abbrev pub the_rows : List (List Call)
-  the_rows = call_rows (files_of tables) b merged leaders (members (files_of tables) b (rooms_of pools) leaders) true
+  the_rows = call_rows (files_of tables) b merged leaders (members_in (orders_of (items (files_of tables) b pools words leaders))) true
 
   abbrev pub the_items : List Item
   the_items = items (files_of tables) b pools words leaders

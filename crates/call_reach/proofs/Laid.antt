@@ -29,21 +29,18 @@ use Rattle.link_sections.specs.Leaders.{leads}
 use Rattle.link_sections.specs.PoolViews.{PoolsView, pools_view}
 use Rattle.link_sections.specs.Sound.{IsSound}
 use Rattle.layout.specs.Cutting.{is_short, laid_cuts, short_defect, short_defects}
-use Rattle.layout.specs.Items.{AreLeaders, HaveFirsts, IsStaying, Item, items}
+use Rattle.output_sections.specs.Items.{AreLeaders, HaveFirsts, IsStaying, Item, items}
 use Rattle.layout.specs.Layout.{bounds_of, cut_defects, cuts_of as laid_cuts_of, laid_by, laid_of, layout_defects, layout_of, limit_defects, no_trail, trail_of}
-use Rattle.layout.specs.Order.{orders_of}
+use Rattle.output_sections.specs.Order.{members_in, orders_of}
 use Rattle.layout.specs.Spots.{HaveAlignments}
-use Rattle.layout.proofs.ItemFacts.{stays_of}
-use Rattle.layout.proofs.Sized.{all_sound, modest}
+use Rattle.output_sections.proofs.ItemFacts.{stays_of}
+use Rattle.output_sections.proofs.Sized.{all_sound, modest}
 use Rattle.layout.proofs.Trails.{all_members, trail_members}
 use Rattle.relax.specs.declared.calls.Call.{Call}
-use Rattle.relax.specs.declared.members.Member.{Member}
+use Rattle.output_sections.specs.declared.rows.Row.{Row}
 use Rattle.relax.specs.CallSizes.{IsLeastSafe, all_calls, all_cuts, call_no, call_rows, calls_of, cuts_by, cuts_of, is_safe, is_size, least_sizes, place_in, reloc_of, row_at, size_in}
-use Rattle.relax.specs.ItemViews.{rooms_of}
 use Rattle.relax.specs.Jumps.{size_at}
-use Rattle.relax.specs.Members.{Room, members}
 use Rattle.relax.specs.Placing.{IsOneSize}
-use Rattle.relax.proofs.MemberFacts.{rooms_are}
 use Rattle.reloc_apply.specs.Relocated.{reloc_defects}
 use Rattle.call_reach.specs.Reach.{AreAlike, CallsReach}
 use Rattle.call_reach.proofs.Defects.{none_defect}
@@ -53,7 +50,7 @@ use Rattle.call_reach.proofs.Reached.{reached}
 use Rattle.call_reach.proofs.Shortened.{cuts_before, placed_call, row_is, safe_fits, short_call}
 
 -- safe sizes are one for each call, each of two, four or eight bytes
-safe_count : (ms : List Member) (rows : List (List Call)) (z : List ℕ) → is_safe ms rows z ≡ true → length z ≡ length (all_calls rows)
+safe_count : (ms : List Row) (rows : List (List Call)) (z : List ℕ) → is_safe ms rows z ≡ true → length z ≡ length (all_calls rows)
 unfolding is_safe
 safe_count ms rows z is = eqb-true (length z) (length (all_calls rows)) (and_parts (length z == length (all_calls rows)) _ is).0
 
@@ -63,7 +60,7 @@ one_size least s is = elim (or_cases (s == 2) (s == 4 || s == 8) (and_parts (nat
   | inr more ↦ elim (or_cases (s == 4) (s == 8) more) [ inl four ↦ inr (inl (eqb-true s 4 four)) | inr eight ↦ inr (inr (eqb-true s 8 eight)) ]
 ]
 
-safe_sizes : (ms : List Member) (rows : List (List Call)) (z : List ℕ) → is_safe ms rows z ≡ true → All IsOneSize z
+safe_sizes : (ms : List Row) (rows : List (List Call)) (z : List ℕ) → is_safe ms rows z ≡ true → All IsOneSize z
 safe_sizes ms rows z is k d lt =
     let own = one_size (call_no rows k).least (size_at z k) (safe_fits ms rows z k is (omega (arith, lt, safe_count ms rows z is))).0 in
     subst IsOneSize (get_or_default z k 8 d lt) own
@@ -167,11 +164,11 @@ module _ (tables : Tables) (b : Bindings) (pools : List Pool) (words : ℕ) (lea
   abbrev laid : LaidOut
   laid = with_contents (layout_of (files_of tables) b pools words leaders sizes) view table
 
-  abbrev ms : List Member
-  ms = members (files_of tables) b (rooms_of pools) leaders
+  abbrev ms : List Row
+  ms = members_in (orders_of (items (files_of tables) b pools words leaders))
 
   abbrev rows : Bool → List (List Call)
-  rows on = call_rows (files_of tables) b view.merged leaders (members (files_of tables) b (rooms_of pools) leaders) on
+  rows on = call_rows (files_of tables) b view.merged leaders (members_in (orders_of (items (files_of tables) b pools words leaders))) on
 
   short_at : (n : ℕ) → n < section_total files → All (λ c. is_short c ≡ false) (cuts_at laid n)
   short_at n lt =
@@ -240,26 +237,22 @@ module _ (tables : Tables) (b : Bindings) (pools : List Pool) (words : ℕ) (lea
   by_on true z safe sizes_are = calls_on z safe sizes_are
   by_on false z safe sizes_are = calls_off z sizes_are
 
--- the rooms of pools are those of their views
 pub calls_reach : (tables : Tables) (b : Bindings) (held : Pools) (words : ℕ) (leaders : List (Option ℕ)) (table : List GotEntry) (limits : Limits) (sizes : List (List Cut)) (on : Bool) (laid : LaidOut)
     → AreFew (files_of tables) → IsBindingOf (files_of tables) b → AreLeaders (files_of tables) b leaders → AreAlike (files_of tables) b leaders → HaveFirsts (files_of tables) b held.pools.items
-    → sizes ≡ cuts_of (files_of tables) b (pools_view (files_of tables) held) leaders on → IsLeastSafe (files_of tables) b (pools_view (files_of tables) held) leaders on
+    → sizes ≡ cuts_of (files_of tables) b (pools_view (files_of tables) held).merged leaders (members_in (orders_of (items (files_of tables) b held.pools.items words leaders))) on
+    → IsLeastSafe (files_of tables) b (pools_view (files_of tables) held).merged leaders (members_in (orders_of (items (files_of tables) b held.pools.items words leaders))) on
     → laid ≡ layout_of (files_of tables) b held.pools.items words leaders sizes
     → IsSound (files_of tables) b leaders (with_contents laid (pools_view (files_of tables) held) table) → HaveAlignments (files_of tables) b laid
     → layout_defects limits (files_of tables) laid ≡ []
     → CallsReach (files_of tables) b leaders (with_contents laid (pools_view (files_of tables) held) table)
 unfolding cuts_of
-calls_reach tables b held words leaders table limits sizes on plain few bound are alike firsts sizes_are least laid_is sound aligned none =
+calls_reach tables b held words leaders table limits sizes on _ few bound are alike firsts sizes_are least laid_is sound aligned none =
     let files = files_of tables in
     let view = pools_view files held in
     let pools = held.pools.items in
-    let room = rooms_are files held in
-    let z : List Room → List ℕ = λ l. least_sizes (members files b l leaders) (call_rows files b view.merged leaders (members files b l leaders) on) in
-    let S : List Room → Type 0 = λ l. is_safe (members files b l leaders) (call_rows files b view.merged leaders (members files b l leaders) on) (z l) ≡ true in
-    let C : List Room → Type 0 = λ l. sizes ≡ all_cuts files (members files b l leaders) (call_rows files b view.merged leaders (members files b l leaders) on) (z l) in
-    let safe : S (rooms_of pools) = subst S room least.safe in
-    let cuts : C (rooms_of pools) = subst C room sizes_are in
+    let ms : List Row = members_in (orders_of (items files b pools words leaders)) in
+    let rows : List (List Call) = call_rows files b view.merged leaders ms on in
     let L : LaidOut → Type 0 = λ l. CallsReach files b leaders (with_contents l view table) in
     let U : LaidOut → Type 0 = λ l. IsSound files b leaders (with_contents l view table) in
     subst L (sym laid_is) (by_on tables b pools words leaders view table limits sizes few bound are alike firsts (subst U laid_is sound) (subst (HaveAlignments files b) laid_is aligned)
-    (subst (λ l. layout_defects limits files l ≡ []) laid_is none) on (z (rooms_of pools)) safe cuts)
+    (subst (λ l. layout_defects limits files l ≡ []) laid_is none) on (least_sizes ms rows) least.safe sizes_are)

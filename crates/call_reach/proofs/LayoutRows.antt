@@ -11,7 +11,7 @@ use Rattle.std.proofs.lemmas.Slice.Eq.{bytes_eq-Decides}
 use Rattle.lk_base.proofs.StableElements.{all_stable, any_stable}
 use Rattle.lk_tables.specs.declared.classes.Class.{Class}
 use Rattle.lk_tables.specs.Binding.{Bindings}
-use Rattle.lk_tables.specs.Classes.{output_rank}
+use Rattle.lk_tables.specs.Classes.{is_in, output_rank}
 use Rattle.lk_tables.specs.Files.{File, section_total}
 use Rattle.lk_tables.specs.OutputNames.{output_name, priority_of}
 use Rattle.link_sections.specs.declared.members.Content.{Content}
@@ -20,10 +20,10 @@ use Rattle.link_sections.specs.declared.pools.Pool.{Pool}
 use Rattle.link_sections.specs.InputSections.{InputSection, input_at}
 use Rattle.link_sections.specs.Leaders.{leads}
 use Rattle.link_sections.specs.Sound.{is_section}
-use Rattle.layout.specs.declared.order.Head.{Head}
-use Rattle.layout.specs.declared.order.Row.{Row}
-use Rattle.layout.specs.Items.{Item, got_item, items, items_at, own_item, pool_at, pool_item, section_item}
-use Rattle.layout.specs.Order.{goes_to, head_after, head_from, head_of, is_of, key_of, no_head, order_of, own_row, row_in, rows_from, rows_of, with_item}
+use Rattle.output_sections.specs.declared.heads.Head.{Head}
+use Rattle.output_sections.specs.declared.rows.Row.{Row}
+use Rattle.output_sections.specs.Items.{Item, got_item, items, items_at, own_item, pool_at, pool_item, section_item}
+use Rattle.output_sections.specs.Order.{goes_to, head_after, head_from, head_of, is_of, key_of, no_head, order_of, own_row, row_in, rows_from, rows_of, with_item}
 use Rattle.call_reach.proofs.Orders.{Later, Pairs, pairs_append, pairs_order}
 
 -- what a row has of its item and of its output section
@@ -448,14 +448,13 @@ number_in Got = 0
 abbrev pub no_row : Row
 no_row = record { number = 0; content = Got; group = 0; rank = 0; priority = 0; sh_type = 0; flags = 0; size = 0; align = 1 }
 
--- the row of a section that leads itself, in the class that it has
-pub record SectionRow (class : Class) (its : List Item) (n : ℕ) (s : InputSection) : Type 0 where
-  pub place : ℕ
+-- the row of a section that leads itself, at a place among those of its class
+pub record SectionRow (class : Class) (its : List Item) (n : ℕ) (s : InputSection) (place : ℕ) : Type 0 where
   pub low : place < length (order_of class its)
   pub is : IsRowOf class its (get_or (order_of class its) place no_row)
   pub content : (get_or (order_of class its) place no_row).content ≡ Section n
+  pub of : is_in class s.sh_type s.flags ≡ true
   pub name : is.item.name ≡ s.name
-  pub priority : (get_or (order_of class its) place no_row).priority ≡ priority_of s.name
   pub size : (get_or (order_of class its) place no_row).size ≡ s.size
   pub align : (get_or (order_of class its) place no_row).align ≡ s.align
 
@@ -491,26 +490,31 @@ module _ (files : List File) (b : Bindings) (pools : List Pool) (words : ℕ) (l
       let here = any_flat t (items_at files b pools leaders) 0 (section_total files) n lt (ap (λ k. list_any t (items_at files b pools leaders k)) e ∙ own_listed class n leader of) in
       list_any-append t (flat_map (items_at files b pools leaders) (range_with_len 0 (section_total files))) (got_item words ∷ []) ∙ ap (λ c. c || list_any t (got_item words ∷ [])) here
 
+  -- the row of a class that is one of a section
+  pub row_at : (class : Class) (n place : ℕ) → place < length (order_of class (items files b pools words leaders))
+      → (get_or (order_of class (items files b pools words leaders)) place no_row).content ≡ Section n → SectionRow class (items files b pools words leaders) n (input_at files b n) place
+  row_at class n place low content =
+      let its : List Item = items files b pools words leaders in
+      let r : Row = get_or (order_of class its) place no_row in
+      let is : IsRowOf class its r = rows_are class its place no_row low in
+      let item : is.item ≡ section_item n (input_at files b n) =
+      item_is is.item n (subst (IsItem files b pools words leaders) (is.at is.item) ((items_are files b pools words leaders few).all is.number is.item is.low)) (sym is.has.content ∙ content) in
+      record {
+        low = low;
+        is = is;
+        content = content;
+        of = sym (ap (is_of class) item) ∙ is.of;
+        name = ap (λ (x : Item). x.name) item;
+        size = is.has.size ∙ ap (λ (x : Item). x.size) item;
+        align = is.has.align ∙ ap (λ (x : Item). x.align) item;
+      }
+
   pub section_row : (class : Class) (n : ℕ) → n < section_total files → leads leaders n ≡ true → is_of class (section_item n (input_at files b n)) ≡ true
-      → SectionRow class (items files b pools words leaders) n (input_at files b n)
+      → (place : ℕ) × SectionRow class (items files b pools words leaders) n (input_at files b n) place
   section_row class n lt leader of =
       let its : List Item = items files b pools words leaders in
       let t : Row → Bool = λ r. is_section n r.content in
       let some : list_any t (order_of class its) ≡ true =
       any_stable t key_of (rows_of class its) ∙ rows_any class (head_of class its) (is_section n) 0 its ∙ listed class n lt leader of in
       let at = any_place t (order_of class its) no_row some in
-      let r : Row = get_or (order_of class its) at.0 no_row in
-      let is : IsRowOf class its r = rows_are class its at.0 no_row at.1 in
-      let content : r.content ≡ Section n = section_is n r.content at.2 in
-      let item : is.item ≡ section_item n (input_at files b n) =
-      item_is is.item n (subst (IsItem files b pools words leaders) (is.at is.item) ((items_are files b pools words leaders few).all is.number is.item is.low)) (sym is.has.content ∙ content) in
-      record {
-        place = at.0;
-        low = at.1;
-        is = is;
-        content = content;
-        name = ap (λ (x : Item). x.name) item;
-        priority = is.has.priority ∙ ap (λ (x : Item). priority_of x.name) item;
-        size = is.has.size ∙ ap (λ (x : Item). x.size) item;
-        align = is.has.align ∙ ap (λ (x : Item). x.align) item;
-      }
+      (at.0, row_at class n at.0 at.1 (section_is n (get_or (order_of class its) at.0 no_row).content at.2))

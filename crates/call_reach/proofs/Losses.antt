@@ -22,7 +22,7 @@ use Rattle.layout.proofs.CutsPassed.{AreFrom, apart_from}
 use Rattle.layout.proofs.LaidCuts.{laid_are, laid_rest}
 use Rattle.layout.proofs.RelocsLie.{low_from}
 use Rattle.relax.specs.declared.calls.Call.{Call}
-use Rattle.relax.specs.declared.members.Member.{Member}
+use Rattle.output_sections.specs.declared.rows.Row.{Row}
 use Rattle.relax.specs.CallSizes.{call_at, cut_of, cuts_by, first_call, is_cut, reloc_of, row_at, size_in, sized, upper_offset}
 use Rattle.relax.specs.Jumps.{size_at}
 use Rattle.relax.specs.Placing.{IsOneSize}
@@ -184,7 +184,7 @@ cut_terms sizes relocs o one =
     ∙ sum_same (λ k. if is_cut (sizes k) (r k) then call_loss o (cut_of (sizes k) (r k)) else 0) (term sizes relocs o) all (λ k. one_term (sizes k) o (r k) (one k))
 
 -- the calls of a row, one relocation after the other
-module _ (files : List File) (b : Bindings) (merged : List (Option Merged)) (leaders : List (Option ℕ)) (ms : List Member) (rows : List (List Call)) (z : List ℕ) (i n : ℕ)
+module _ (files : List File) (b : Bindings) (merged : List (Option Merged)) (leaders : List (Option ℕ)) (ms : List Row) (rows : List (List Call)) (z : List ℕ) (i n : ℕ)
     (row_is : row_at rows i ≡ flat_map (call_at files b merged leaders ms i n) (range_with_len 0 (length (relocs_of files n)))) where
   abbrev relocs : List Reloc
   relocs = relocs_of files n

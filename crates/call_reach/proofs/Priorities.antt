@@ -1,13 +1,9 @@
--- Priorities are small; the sections that stand beside the linker's table have none.
-use Rattle.std.proofs.Common.{◌≡◌, ℕ, zero, suc, ◌+◌, ◌-◌, ◌*◌, ◌<◌, ◌≤◌, ◌^◌, ◌&&◌, ◌||◌, not, Bool, true, false, if◌then◌else◌, Option, Some, None, List, [], ◌∷◌, length, drop, refl, sym, ap, ◌∙◌, arith}
-use Rattle.std.specs.Prelude.{All, codes, nat_le, unwrap_or}
-use Rattle.std.specs.List.{list_all}
-use Rattle.std.specs.Str.{bytes_eq}
-use Rattle.std.proofs.lemmas.Bool.{false≢true, and_parts, leb-true}
+-- Priorities are small.
+use Rattle.std.proofs.Common.{◌≡◌, ℕ, zero, suc, ◌+◌, ◌-◌, ◌*◌, ◌<◌, ◌≤◌, ◌^◌, ◌&&◌, ◌||◌, Bool, true, false, if◌then◌else◌, Option, Some, None, List, [], ◌∷◌, length, drop, refl, arith}
+use Rattle.std.specs.Prelude.{codes, nat_le, unwrap_or}
+use Rattle.std.proofs.lemmas.Bool.{and_parts, leb-true}
 use Rattle.std.proofs.lemmas.List.{length-drop}
-use Rattle.std.proofs.lemmas.List.Elements.{All-nil, All-cons}
-use Rattle.std.proofs.lemmas.Slice.Eq.{bytes_eq-Decides}
-use Rattle.lk_tables.specs.OutputNames.{gathered, is_numbered, is_under, number_of, output_name, prefixes, priority_of}
+use Rattle.lk_tables.specs.OutputNames.{is_numbered, is_under, number_of, priority_of}
 
 -- the greatest number of so many more digits
 abbrev most_of : (digits n : ℕ) → ℕ
@@ -57,40 +53,3 @@ priority_low name = by (is_numbered name) refl
         let few = length-drop 12 name in
         unwrap_most (number_of (drop 12 name) 0) (λ m found. omega (arith, number_most (drop 12 name) 0 m 5 (omega (arith, few, long)) found, most_five))
     by false is = omega arith
-
--- a name that is gathered to another one than these fits none of them
-fits_none : (ps : List (List ℕ)) (name g : List ℕ) → list_all (λ p. not (bytes_eq p g)) ps ≡ true → gathered ps name ≡ g → All (λ p. is_under p name ≡ false) ps
-unfolding gathered
-fits_none [] name g others is = All-nil (λ (p : List ℕ). is_under p name ≡ false)
-fits_none (p ∷ ps) name g others is =
-    let parts = and_parts (not (bytes_eq p g)) (list_all (λ (q : List ℕ). not (bytes_eq q g)) ps) others in
-    by (is_under p name) refl is parts.0 (λ more. fits_none ps name g parts.1 more)
-  where
-    by : (b : Bool) → is_under p name ≡ b → (if b then p else gathered ps name) ≡ g → not (bytes_eq p g) ≡ true
-        → (gathered ps name ≡ g → All (λ (q : List ℕ). is_under q name ≡ false) ps) → All (λ (q : List ℕ). is_under q name ≡ false) (p ∷ ps)
-    by true under is other rest = let d = bytes_eq-Decides p g in absurd (false≢true (sym (ap not (d.1 is)) ∙ other))
-    by false under is other rest = All-cons (λ (q : List ℕ). is_under q name ≡ false) p ps under (rest is)
-
-not_numbered : (name : List ℕ) → is_under (codes ".init_array") name ≡ false → is_under (codes ".fini_array") name ≡ false → is_numbered name ≡ false
-not_numbered name one other = ap (λ b. (b || is_under (codes ".fini_array") name) && (nat_le 13 (length name) && nat_le (length name) 17)) one
-    ∙ ap (λ b. b && (nat_le 13 (length name) && nat_le (length name) 17)) other
-
-pub beside_table : (name : List ℕ) → output_name name ≡ codes ".got" → priority_of name ≡ 65536
-unfolding output_name priority_of
-beside_table name is = by (bytes_eq name (codes "COMMON")) is
-  where
-    by : (b : Bool) → (if b then codes ".bss" else gathered prefixes name) ≡ codes ".got" → (if is_numbered name then unwrap_or (number_of (drop 12 name) 0) 65536 else 65536) ≡ 65536
-    by true is = let wrong : false ≡ true = ap (λ t. bytes_eq t (codes ".got")) is in absurd (false≢true wrong)
-    by false is =
-        let none = fits_none prefixes name (codes ".got") refl is in
-        let one = none 11 [] (omega arith) in
-        let other = none 12 [] (omega arith) in
-        ap (λ b. if b then unwrap_or (number_of (drop 12 name) 0) 65536 else 65536) (not_numbered name one other)
-
-pub table_name : output_name (codes ".got") ≡ codes ".got"
-unfolding output_name gathered is_under
-table_name = refl
-
-pub table_priority : priority_of (codes ".got") ≡ 65536
-unfolding priority_of is_under
-table_priority = refl

@@ -1,5 +1,5 @@
 -- A shortened call reaches its target: the distance is even, and within what its size allows.
-use Rattle.std.proofs.Common.{◌≡◌, ◌≢◌, ℕ, ◌+◌, ◌-◌, ◌/◌, ◌<◌, ◌≤◌, ◌%◌, ◌⊎◌, ◌==◌, ◌&&◌, Bool, true, false, if◌then◌else◌, Option, Some, List, length, get_or, refl, sym, ap, ◌∙◌, subst, arith, inl, inr, nat_lt, pos}
+use Rattle.std.proofs.Common.{◌≡◌, ◌≢◌, ℕ, ◌+◌, ◌-◌, ◌/◌, ◌<◌, ◌≤◌, ◌%◌, ◌^◌, ◌⊎◌, ◌==◌, ◌&&◌, Bool, true, false, if◌then◌else◌, Option, Some, List, length, get_or, refl, sym, ap, ◌∙◌, subst, arith, inl, inr, nat_lt, pos}
 use Rattle.std.specs.Prelude.{nat_le, unwrap_or}
 use Rattle.std.proofs.lemmas.Bool.{and_parts, cases_lt, eq-eqb, eqb-true, false≢true, le-leb, le-ltb, leb-true, lt-leb, lt-ltb, ne_eqb}
 use Rattle.std.proofs.lemmas.Nat.{div-add-mod'}
@@ -27,20 +27,18 @@ use Rattle.link_sections.specs.PoolViews.{Merged}
 use Rattle.link_sections.specs.Sound.{IsSectionMember, is_section}
 use Rattle.layout.proofs.CutsPassed.{AreFrom, apart_from}
 use Rattle.relax.specs.declared.calls.Call.{Call}
-use Rattle.relax.specs.declared.members.Member.{Member}
+use Rattle.output_sections.specs.declared.rows.Row.{Row}
 use Rattle.relax.specs.CallSizes.{all_calls, call_no, cuts_by, distance, first_call, goes_forwards, is_near, member_at, place_in, reloc_of, size_in, upper_offset, upper_place}
-use Rattle.relax.specs.ItemViews.{rooms_of}
 use Rattle.relax.specs.Jumps.{allows, reach, size_at}
-use Rattle.relax.specs.Members as relax
 use Rattle.relax.specs.Placing.{IsOneSize}
 use Rattle.relax.proofs.CutSteps.{size_one}
 use Rattle.relax.proofs.Fitting.{call_width, cuts_apart, end_is, size_is, sound_of}
 use Rattle.relax.proofs.PointSteps.{first_most}
-use Rattle.call_reach.proofs.ClassNumbers.{HasBits, class_bits, class_is, class_same, class_some}
+use Rattle.call_reach.proofs.Classes.{HasBits, class_bits, class_some}
 use Rattle.call_reach.proofs.Evens.{times_even}
 use Rattle.call_reach.proofs.Given.{IsGiven, the_members, the_rows}
 use Rattle.call_reach.proofs.LayoutRows.{any_place, section_is}
-use Rattle.call_reach.proofs.RelaxMembers as ours
+use Rattle.call_reach.proofs.Members.{Stands, at_place, class_of, stands}
 use Rattle.call_reach.proofs.Sections.{align_even, call_even, cuts_are, has_bits, has_call, i_low, no_nearer, rises, rows_are_sound, stays_even}
 use Rattle.call_reach.proofs.Shortened.{numbered_call, one_call, safe_fits, short_call}
 use Rattle.call_reach.proofs.Spans.{IsSpan, span}
@@ -64,7 +62,7 @@ small_allows size bytes forwards is allowed = elim is [
 forwards_by : (c : Call) (from to : ℕ) → c.from ≡ from → c.to ≡ to → goes_forwards c ≡ (if from == to then nat_le c.offset c.target else nat_lt from to)
 forwards_by c from to f t = ap (λ n. if n == c.to then nat_le c.offset c.target else nat_lt n c.to) f ∙ ap (λ n. if from == n then nat_le c.offset c.target else nat_lt from n) t
 
-module _ (ms : List Member) (rows : List (List Call)) (z : List ℕ) (c : Call) (i j : ℕ) (from : c.from ≡ i) (to : c.to ≡ j) where
+module _ (ms : List Row) (rows : List (List Call)) (z : List ℕ) (c : Call) (i j : ℕ) (from : c.from ≡ i) (to : c.to ≡ j) where
   distance_ahead : goes_forwards c ≡ true → distance ms rows z c ≡ upper_place ms rows z j c.target - upper_place ms rows z i c.offset
   unfolding distance
   distance_ahead ahead =
@@ -78,19 +76,19 @@ module _ (ms : List Member) (rows : List (List Call)) (z : List ℕ) (c : Call) 
       ∙ ap (λ n. upper_place ms rows z c.from c.offset - upper_place ms rows z n c.target) to ∙ ap (λ n. upper_place ms rows z n c.offset - upper_place ms rows z j c.target) from
 
 -- offsets of one member
-one_member : (ms : List Member) (rows : List (List Call)) (z : List ℕ) (i x y : ℕ) → upper_place ms rows z i y + upper_offset ms rows z i x ≡ upper_place ms rows z i x + upper_offset ms rows z i y
+one_member : (ms : List Row) (rows : List (List Call)) (z : List ℕ) (i x y : ℕ) → upper_place ms rows z i y + upper_offset ms rows z i x ≡ upper_place ms rows z i x + upper_offset ms rows z i y
 unfolding upper_place
 one_member ms rows z i x y = omega arith
 
 -- what is near
-record AreNear (ms : List Member) (i j offset : ℕ) : Type 0 where
+record AreNear (ms : List Row) (i j offset : ℕ) : Type 0 where
   low : j < length ms
   group : (member_at ms i).group ≡ (member_at ms j).group
   one : 2 ≤ (member_at ms i).align
   other : 2 ≤ (member_at ms j).align
   even : offset % 2 ≡ 0
 
-near_parts : (ms : List Member) (i j offset : ℕ) → is_near ms i j offset ≡ true → AreNear ms i j offset
+near_parts : (ms : List Row) (i j offset : ℕ) → is_near ms i j offset ≡ true → AreNear ms i j offset
 unfolding is_near
 near_parts ms i j offset is =
     let mi = member_at ms i in
@@ -124,6 +122,9 @@ address_by : (leaders : List (Option ℕ)) (laid : LaidOut) (section offset m : 
 unfolding address_in
 address_by leaders laid section offset m is = ap (λ k. start_at laid k + new_offset (cuts_at laid k) offset) is
 
+section_same : (n m : ℕ) → Section n ≡ Section m → n ≡ m
+section_same n m e = cc
+
 -- where a call and its target stand, and how far apart
 record IsApart (a p far : ℕ) (forwards : Bool) : Type 0 where
   ahead : forwards ≡ true → (p ≤ a) × (a - p ≤ far)
@@ -134,11 +135,14 @@ module _ (tables : Tables) (b : Bindings) (pools : List Pool) (merged : List (Op
   abbrev files : List File
   files = files_of tables
 
-  abbrev ms : List Member
+  abbrev ms : List Row
   ms = the_members tables b pools merged words leaders laid sizes z
 
   abbrev rows : List (List Call)
   rows = the_rows tables b pools merged words leaders laid sizes z
+
+  few : section_total files ≤ 2 ^ 28
+  few = given.few.section_count_is
 
   abbrev here : (n o : ℕ) → ℕ
   here n o = start_at laid n + new_offset (cuts_at laid n) o
@@ -158,23 +162,13 @@ module _ (tables : Tables) (b : Bindings) (pools : List Pool) (merged : List (Op
     i_in : place_in ms n < length ms
     i_in = i_low tables b pools merged words leaders laid sizes z given n n_low leader
 
-    at : ((member_at ms (place_in ms n)).is_section ≡ true) × ((member_at ms (place_in ms n)).section ≡ n)
-    at = ours.at_place files b (rooms_of pools) leaders n i_in
+    at : (member_at ms (place_in ms n)).content ≡ Section n
+    at = at_place ms n i_in
 
-    member_is : member_at ms (place_in ms n) ≡ relax.member_of (relax.items files b (rooms_of pools) leaders) (relax.section_item n (input_at files b n))
-    member_is =
-        let own = ours.section_member files b (rooms_of pools) leaders (place_in ms n) i_in at.0 in
-        own.is ∙ ap (λ k. relax.member_of (relax.items files b (rooms_of pools) leaders) (relax.section_item k (input_at files b k))) at.1
-
-    record IsListed (k : ℕ) : Type 0 where
-      place : ℕ
-      place_less : place < length (relax.items files b (rooms_of pools) leaders)
-      item : get_or (relax.items files b (rooms_of pools) leaders) place (relax.section_item k (input_at files b k)) ≡ relax.section_item k (input_at files b k)
-
-    listed : IsListed n
-    listed =
-        let own = ours.section_member files b (rooms_of pools) leaders (place_in ms n) i_in at.0 in
-        subst IsListed at.1 (record { place = own.place; place_less = own.place_less; item = own.item })
+    align_of : (class : Class) → is_in class (input_at files b n).sh_type (input_at files b n).flags ≡ true → (member_at ms (place_in ms n)).align ≡ (input_at files b n).align
+    align_of class of =
+        let own : Stands files b pools words leaders few class n (place_in ms n) = stands files b pools words leaders few class n (place_in ms n) i_in at of in
+        ap (λ (r : Row). r.align) own.same ∙ own.row.align
 
     plain_from : AreFrom 0 (cuts_by (size_in rows z (place_in ms n)) (relocs_of files n))
     plain_from =
@@ -188,15 +182,6 @@ module _ (tables : Tables) (b : Bindings) (pools : List Pool) (merged : List (Op
     even_at even o o_even =
         let moved = stays_even tables b pools merged words leaders laid sizes z given n n_low leader plain_from even o o_even in
         omega (arith, even, moved)
-
-  one_class : (n m : ℕ) (n_low : n < section_total files) (m_low : m < section_total files) (n_leads : leads leaders n ≡ true) (m_leads : leads leaders m ≡ true)
-      → (member_at ms (place_in ms n)).group ≡ (member_at ms (place_in ms m)).group
-      → relax.class_no (input_at files b n).sh_type (input_at files b n).flags ≡ relax.class_no (input_at files b m).sh_type (input_at files b m).flags
-  one_class n m n_low m_low n_leads m_leads near =
-      let one = listed n n_low n_leads in
-      let other = listed m m_low m_leads in
-      (ours.same_group files b (rooms_of pools) leaders (relax.section_item n (input_at files b n)) (relax.section_item m (input_at files b m)) one.place other.place one.place_less one.item other.place_less other.item
-      (sym (ap (λ (x : Member). x.group) (member_is n n_low n_leads)) ∙ near ∙ ap (λ (x : Member). x.group) (member_is m m_low m_leads))).0
 
   module _ (n m : ℕ) (n_low : n < section_total files) (m_low : m < section_total files) (n_leads : leads leaders n ≡ true) (m_leads : leads leaders m ≡ true)
       (class : Class) (bits : HasBits class) (n_of : is_in class (input_at files b n).sh_type (input_at files b n).flags ≡ true) (m_of : is_in class (input_at files b m).sh_type (input_at files b m).flags ≡ true)
@@ -247,7 +232,7 @@ module _ (tables : Tables) (b : Bindings) (pools : List Pool) (merged : List (Op
 
     same_of : i ≡ j → IsDone
     same_of same =
-        let numbers : n ≡ m = sym (at n n_low n_leads).1 ∙ ap (λ k. (member_at ms k).section) same ∙ (at m m_low m_leads).1 in
+        let numbers : n ≡ m = section_same n m (sym (at n n_low n_leads) ∙ ap (λ k. (member_at ms k).content) same ∙ at m m_low m_leads) in
         let m_start : start_at laid m % (input_at files b m).align ≡ 0 = subst (λ k. start_at laid k % (input_at files b k).align ≡ 0) numbers n_start in
         let f : goes_forwards c ≡ nat_le c.offset c.target = forwards_by c i j from to ∙ ap (λ t. if t then nat_le c.offset c.target else nat_lt i j) (eq-eqb i j same) in
         let target_is : here m c.target ≡ here n c.target = ap (λ k. here k c.target) (sym numbers) in
@@ -345,8 +330,7 @@ module _ (tables : Tables) (b : Bindings) (pools : List Pool) (merged : List (Op
       let classes = class_some (input_at files b n).sh_type (input_at files b n).flags in
       let class : Class = classes.0 in
       let has_bytes = class_bits class (input_at files b n).sh_type (input_at files b n).flags classes.1 bits in
-      let m_of = class_same class (input_at files b m).sh_type (input_at files b m).flags
-      (sym (one_class n m n_low m_low n_leads m_leads near.group) ∙ class_is class (input_at files b n).sh_type (input_at files b n).flags classes.1) in
+      let m_of = class_of files b pools words leaders few class n m (place_in ms n) (place_in ms m) i_is (i_in m m_low m_leads) (at n n_low n_leads) (at m m_low m_leads) near.group classes.1 in
       let file = file_at files (place_of files n).file in
       let s = section_at file (place_of files n).index in
       let whole = sound_of tables n n_low in
@@ -358,8 +342,8 @@ module _ (tables : Tables) (b : Bindings) (pools : List Pool) (merged : List (Op
       let n_start = start_aligned n n_low n_leads bits (omega (arith, o_in)) in
       let done = any_of n m n_low m_low n_leads m_leads class has_bytes classes.1 m_of near.group c lands.from lands.to (omega (arith, o_in)) (omega (arith, within, alike)) (omega (arith, o_in)) n_start in
       let far = far_by (size_at z q) (here m c.target) (here n c.offset) (distance ms rows z c) (goes_forwards c) is_small done.apart most in
-      let align_n : (member_at ms (place_in ms n)).align ≡ (input_at files b n).align = ap (λ (x : Member). x.align) (member_is n n_low n_leads) in
-      let align_m : (member_at ms (place_in ms m)).align ≡ (input_at files b m).align = ap (λ (x : Member). x.align) (member_is m m_low m_leads) in
+      let align_n : (member_at ms (place_in ms n)).align ≡ (input_at files b n).align = align_of n n_low n_leads class classes.1 in
+      let align_m : (member_at ms (place_in ms m)).align ≡ (input_at files b m).align = align_of m m_low m_leads class m_of in
       let two_n = near.one in
       let two_m = near.other in
       let even_n = align_even tables b pools merged words leaders laid sizes z given n n_low n_leads class has_bytes classes.1 (omega (arith, two_n, align_n)) in

@@ -27,6 +27,7 @@ use Rattle.lk_tables.proofs.Owners.{place_of_number}
 use Rattle.lk_tables.proofs.SoundFiles.{inside_body, sound_file}
 use Rattle.link_sections.specs.declared.pools.Pool.{Pool}
 use Rattle.link_sections.specs.Calls.{is_call}
+use Rattle.link_sections.specs.declared.members.Content.TheVariants.{Section}
 use Rattle.link_sections.specs.Cuts.{AreApart, Cut, new_offset}
 use Rattle.link_sections.specs.InputSections.{input_at}
 use Rattle.link_sections.specs.LaidOut.{LaidOut, cuts_at, start_at}
@@ -35,25 +36,24 @@ use Rattle.link_sections.specs.PoolViews.{Merged}
 use Rattle.link_sections.proofs.CutSums.{new_rises}
 use Rattle.layout.specs.Cutting.{is_short, laid_cuts}
 use Rattle.layout.proofs.CutsPassed.{AreFrom, apart_from}
-use Rattle.layout.proofs.ItemFacts.{stays_of}
+use Rattle.output_sections.specs.Order.{is_content, number_in}
+use Rattle.output_sections.proofs.ItemFacts.{members_known, stays_of}
 use Rattle.layout.proofs.SizeBounds.{apart_at}
 use Rattle.relax.specs.declared.calls.Call.{Call}
-use Rattle.relax.specs.declared.members.Member.{Member}
+use Rattle.output_sections.specs.declared.rows.Row.{Row}
 use Rattle.relax.specs.CallSizes.{call_at, calls_in, cut_of, cuts_by, first_call, is_cut, is_plain, member_at, place_in, reloc_of, row_at, size_in, upper_offset}
-use Rattle.relax.specs.ItemViews.{rooms_of}
 use Rattle.relax.specs.Jumps.{size_at}
 use Rattle.relax.specs.Placing.{IsOneSize}
 use Rattle.relax.specs.Points.{AreSoundRows}
 use Rattle.relax.specs.Sizes.{has_nops}
 use Rattle.relax.proofs.CutSteps.{size_one}
 use Rattle.relax.proofs.Fitting.{call_plain, call_width, live_from}
-use Rattle.relax.proofs.MemberFacts.{members_known}
 use Rattle.relax.proofs.RowFacts.{rows_sound}
-use Rattle.call_reach.proofs.ClassNumbers.{HasBits}
+use Rattle.call_reach.proofs.Classes.{HasBits}
 use Rattle.call_reach.proofs.Evens.{MayBeEven, laid_even, offset_even, power_even}
 use Rattle.call_reach.proofs.Given.{IsGiven, the_members, the_rows}
 use Rattle.call_reach.proofs.Losses.{lower, nearer}
-use Rattle.call_reach.proofs.RelaxMembers.{at_place, place_low}
+use Rattle.call_reach.proofs.Members.{at_place, place_low}
 use Rattle.call_reach.proofs.Shortened.{IsLanded, all_kept, calls_are, cuts_before, landed, placed_call, row_is}
 
 align_width : (r : Reloc) → is_alignment r ≡ true → place_width r ≡ unsigned_abs r.addend
@@ -185,14 +185,14 @@ module _ (tables : Tables) (b : Bindings) (pools : List Pool) (merged : List (Op
   abbrev files : List File
   files = files_of tables
 
-  abbrev ms : List Member
+  abbrev ms : List Row
   ms = the_members tables b pools merged words leaders laid sizes z
 
   abbrev rows : List (List Call)
   rows = the_rows tables b pools merged words leaders laid sizes z
 
   pub rows_are_sound : AreSoundRows ms rows
-  rows_are_sound = rows_sound tables b merged leaders ms true (members_known files b (rooms_of pools) leaders)
+  rows_are_sound = rows_sound tables b merged leaders ms true (members_known files b pools words leaders given.are)
 
   pub few_sizes : (k : ℕ) → size_at z k ≤ 8
   few_sizes k = elim (cases_lt k (length z)) [
@@ -209,17 +209,16 @@ module _ (tables : Tables) (b : Bindings) (pools : List Pool) (merged : List (Op
     i = place_in (the_members tables b pools merged words leaders laid sizes z) n
 
     pub i_low : place_in (the_members tables b pools merged words leaders laid sizes z) n < length (the_members tables b pools merged words leaders laid sizes z)
-    i_low = place_low files b (rooms_of pools) leaders n n_low leader
+    i_low = place_low files b pools words leaders given.few.section_count_is n n_low leader
 
-    at : ((member_at ms i).is_section ≡ true) × ((member_at ms i).section ≡ n)
-    at = at_place files b (rooms_of pools) leaders n i_low
+    at : (member_at ms i).content ≡ Section n
+    at = at_place ms n i_low
 
     pub own_row : row_at rows i ≡ flat_map (call_at files b merged leaders ms i n) (range_with_len 0 (length (relocs_of files n)))
     unfolding calls_in
     own_row =
         row_is files b merged leaders ms true i i_low
-        ∙ ap (λ t. if true && t then calls_in files b merged leaders ms i (member_at ms i).section else []) at.0
-        ∙ ap (calls_in files b merged leaders ms i) at.1
+        ∙ ap (λ c. if true && is_content c then calls_in files b merged leaders ms i (number_in c) else []) at
 
     abbrev own_sizes : ℕ → ℕ
     own_sizes k = size_in rows z i k

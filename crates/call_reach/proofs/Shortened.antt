@@ -27,7 +27,8 @@ use Rattle.link_sections.specs.PoolViews.{Merged}
 use Rattle.layout.specs.Cutting.{kept_at, laid_cut, laid_cuts}
 use Rattle.layout.proofs.LaidHold.{laid_hold}
 use Rattle.relax.specs.declared.calls.Call.{Call}
-use Rattle.relax.specs.declared.members.Member.{Member}
+use Rattle.output_sections.specs.declared.rows.Row.{Row}
+use Rattle.output_sections.specs.Order.{is_section, own_section}
 use Rattle.relax.specs.CallSizes.{all_calls, all_cuts, call_at, call_no, call_of, call_rows, calls_in, calls_of, cut_of, cuts_by, distance, first_call, fits, goes_forwards, is_candidate, is_cut, is_near, is_plain, is_safe, is_size, lands, least_of, bytes_at, file_of, member_at, place_in, reaches, reloc_of, row_at, size_in}
 use Rattle.relax.specs.Jumps.{allows, size_at}
 use Rattle.relax.specs.Sizes.{has_nops}
@@ -160,7 +161,7 @@ one_call tables n k j lt k_low j_low k_call j_call same =
         omega (arith, before, end_is contents r rk, rw_is, same)
 
 -- where a call goes
-pub record IsLanded (files : List File) (b : Bindings) (merged : List (Option Merged)) (leaders : List (Option ℕ)) (ms : List Member) (i n k : ℕ) (c : Call) : Type 0 where
+pub record IsLanded (files : List File) (b : Bindings) (merged : List (Option Merged)) (leaders : List (Option ℕ)) (ms : List Row) (i n k : ℕ) (c : Call) : Type 0 where
   pub section : ℕ
   pub rest : ℤ
   pub leader : ℕ
@@ -182,7 +183,7 @@ plain_of : (files : List File) (n k : ℕ) → is_candidate files n k ≡ true �
 unfolding is_candidate
 plain_of files n k is = (and_parts (is_plain (reloc_of files n k)) _ is).0
 
-module _ (files : List File) (b : Bindings) (merged : List (Option Merged)) (leaders : List (Option ℕ)) (ms : List Member) (i n k : ℕ) (c : Call) where
+module _ (files : List File) (b : Bindings) (merged : List (Option Merged)) (leaders : List (Option ℕ)) (ms : List Row) (i n k : ℕ) (c : Call) where
   abbrev first_call_of : Call
   first_call_of = call_of i (reloc_of files n k) k (least_of (file_of files n) (bytes_at files n k))
 
@@ -236,7 +237,7 @@ module _ (files : List File) (b : Bindings) (merged : List (Option Merged)) (lea
       by false candidate is = no_cons c is
 
 -- the call of a row that has a relocation
-module _ (files : List File) (b : Bindings) (merged : List (Option Merged)) (leaders : List (Option ℕ)) (ms : List Member) (i n : ℕ) where
+module _ (files : List File) (b : Bindings) (merged : List (Option Merged)) (leaders : List (Option ℕ)) (ms : List Row) (i n : ℕ) where
   abbrev IsCallAt : Call → Type 0
   IsCallAt c = (k : ℕ) → c.reloc ≡ k → call_at files b merged leaders ms i n k ≡ c ∷ []
 
@@ -309,7 +310,7 @@ numbered_call rows i p d lt less =
     ∙ flat_at (row_at rows) 0 (length rows) i p d lt (omega (arith, less, ap (λ k. length (row_at rows k)) e)) ∙ ap (λ k. get_or (row_at rows k) p d) e
 
 -- safe sizes fit
-pub safe_fits : (ms : List Member) (rows : List (List Call)) (z : List ℕ) (q : ℕ) → is_safe ms rows z ≡ true → q < length (all_calls rows)
+pub safe_fits : (ms : List Row) (rows : List (List Call)) (z : List ℕ) (q : ℕ) → is_safe ms rows z ≡ true → q < length (all_calls rows)
     → (is_size (call_no rows q).least (size_at z q) ≡ true) × (allows (size_at z q) (goes_forwards (call_no rows q)) (distance ms rows z (call_no rows q)) ≡ true)
 unfolding is_safe fits
 safe_fits ms rows z q is lt =
@@ -320,13 +321,13 @@ safe_fits ms rows z q is lt =
     and_parts (is_size (call_no rows q).least (size_at z q)) (allows (size_at z q) (goes_forwards (call_no rows q)) (distance ms rows z (call_no rows q))) here
 
 -- the cuts of a section before it is laid
-pub cuts_before : (files : List File) (ms : List Member) (rows : List (List Call)) (z : List ℕ) (n : ℕ) → n < section_total files
+pub cuts_before : (files : List File) (ms : List Row) (rows : List (List Call)) (z : List ℕ) (n : ℕ) → n < section_total files
     → get_or (all_cuts files ms rows z) n [] ≡ cuts_by (size_in rows z (place_in ms n)) (relocs_of files n)
 unfolding all_cuts
 cuts_before files ms rows z n lt = get_or-map-range_with_len (λ m. cuts_by (size_in rows z (place_in ms m)) (relocs_of files m)) 0 (section_total files) n n [] lt (omega arith)
 
 -- the row of a member
-pub row_is : (files : List File) (b : Bindings) (merged : List (Option Merged)) (leaders : List (Option ℕ)) (ms : List Member) (on : Bool) (i : ℕ) → i < length ms
-    → row_at (call_rows files b merged leaders ms on) i ≡ (if on && (member_at ms i).is_section then calls_in files b merged leaders ms i (member_at ms i).section else [])
+pub row_is : (files : List File) (b : Bindings) (merged : List (Option Merged)) (leaders : List (Option ℕ)) (ms : List Row) (on : Bool) (i : ℕ) → i < length ms
+    → row_at (call_rows files b merged leaders ms on) i ≡ (if on && is_section (member_at ms i) then calls_in files b merged leaders ms i (own_section (member_at ms i)) else [])
 unfolding call_rows calls_of
 row_is files b merged leaders ms on i lt = get_or-map-range_with_len (calls_of files b merged leaders ms on) 0 (length ms) i i [] lt (omega arith)

@@ -1,10 +1,7 @@
 -- Two sections of one output section: the bytes between two of their offsets are at most those of the upper places.
-use Rattle.std.proofs.Common.{◌≡◌, ℕ, ◌+◌, ◌-◌, ◌*◌, ◌<◌, ◌≤◌, ◌%◌, ◌^◌, ◌&&◌, Bool, true, false, if◌then◌else◌, Option, List, [], ◌++◌, length, get_or, refl, sym, ap, ◌∙◌, subst, arith, inl, inr, nat_lt}
-use Rattle.std.specs.Prelude.{All, codes}
+use Rattle.std.proofs.Common.{◌≡◌, ℕ, ◌+◌, ◌-◌, ◌<◌, ◌≤◌, ◌%◌, ◌^◌, ◌&&◌, true, false, if◌then◌else◌, Option, List, [], ◌++◌, length, get_or, refl, sym, ap, ◌∙◌, subst, arith}
+use Rattle.std.specs.Prelude.{All}
 use Rattle.std.specs.List.{range_with_len, sum_by}
-use Rattle.std.specs.Str.{bytes_eq}
-use Rattle.std.proofs.lemmas.Bool.{and_parts, cases_lt, ltb-true}
-use Rattle.std.proofs.lemmas.List.{get_or_default}
 use Rattle.std.proofs.lemmas.List.Sums.{sum_by-cons}
 use Rattle.lk_tables.specs.declared.classes.Class.{Class}
 use Rattle.lk_tables.specs.declared.classes.Class.TheVariants.{R, Rx, TlsBits, TlsNobits, RwBits, RwNobits}
@@ -12,7 +9,6 @@ use Rattle.lk_tables.specs.declared.tables.Tables.{Tables}
 use Rattle.lk_tables.specs.Binding.{Bindings}
 use Rattle.lk_tables.specs.Classes.{is_in}
 use Rattle.lk_tables.specs.Files.{File, section_total}
-use Rattle.lk_tables.specs.OutputNames.{output_name, priority_of}
 use Rattle.lk_tables.specs.TablesView.{files_of}
 use Rattle.link_sections.specs.declared.layouts.Bounds.{Bounds}
 use Rattle.link_sections.specs.declared.members.Content.{Content}
@@ -20,45 +16,33 @@ use Rattle.link_sections.specs.declared.members.Content.TheVariants.{Section, Po
 use Rattle.link_sections.specs.declared.members.Member.{Member as LaidMember}
 use Rattle.link_sections.specs.declared.pools.Pool.{Pool}
 use Rattle.link_sections.specs.Cuts.{Cut, new_offset}
-use Rattle.link_sections.specs.InputSections.{InputSection, input_at}
+use Rattle.link_sections.specs.InputSections.{input_at}
 use Rattle.link_sections.specs.LaidOut.{LaidOut, cuts_at, start_at}
 use Rattle.link_sections.specs.Leaders.{leads}
 use Rattle.link_sections.specs.PoolViews.{Merged}
 use Rattle.link_sections.specs.Sound.{IsSectionMember}
-use Rattle.layout.specs.declared.order.Head.{Head}
-use Rattle.layout.specs.declared.order.Row.{Row}
+use Rattle.output_sections.specs.declared.rows.Row.{Row}
 use Rattle.layout.specs.declared.walk.Cursor.{Cursor}
-use Rattle.layout.specs.Items.{Item, got_item}
+use Rattle.output_sections.specs.Items.{Item}
 use Rattle.layout.specs.Layout.{tls_cursor}
-use Rattle.layout.specs.Order.{Orders, head_of, is_of, key_of, order_of, orders_of, row_in}
+use Rattle.output_sections.specs.Order.{Orders, is_content, number_in, order_of, orders_of, own_section}
 use Rattle.layout.specs.Walk.{cursor_at, member_at, members_along, runs, size_at}
-use Rattle.layout.proofs.ClassSums.{all_order}
-use Rattle.layout.proofs.PlacedMembers.{size_plain}
+use Rattle.output_sections.proofs.ClassSums.{all_order}
+use Rattle.output_sections.proofs.ItemFacts.{members_known}
+use Rattle.layout.proofs.PlacedMembers.{size_plain, whole_size}
 use Rattle.layout.proofs.Trails.{all_members}
 use Rattle.relax.specs.declared.calls.Call.{Call}
-use Rattle.relax.specs.declared.members.Member.{Member}
-use Rattle.relax.specs.CallSizes.{calls_in, member_at as relax_member_at, place_in, room, row_at, upper_offset, upper_place}
-use Rattle.relax.specs.ItemViews.{rooms_of}
-use Rattle.relax.specs.Members as relax
-use Rattle.call_reach.proofs.Between.{rooms_between, upper}
+use Rattle.relax.specs.CallSizes.{calls_in, first_call, member_at as own_member, no_member, place_in, room, row_at, sized, upper_offset, upper_place}
 use Rattle.call_reach.proofs.Chain.{split_all}
-use Rattle.call_reach.proofs.ClassNumbers.{HasBits, class_is, class_same}
-use Rattle.call_reach.proofs.Gains.{gain, gains, order_gain}
+use Rattle.call_reach.proofs.Classes.{HasBits}
 use Rattle.call_reach.proofs.Given.{IsGiven, the_items, the_members, the_rows}
-use Rattle.call_reach.proofs.LayoutRows.{IsRowOf, SectionRow, fields_of, key_is, no_row, same_groups, same_names, seat, section_row, texts_same}
-use Rattle.call_reach.proofs.NearRows.{AreClose, between, close, most, pairs_all, row_gain, spot}
-use Rattle.call_reach.proofs.Orders.{Later, pair_at, sum_split}
-use Rattle.call_reach.proofs.Priorities.{beside_table, table_name}
-use Rattle.call_reach.proofs.RelaxMembers as ours
+use Rattle.call_reach.proofs.Flat.{sum_numbered}
+use Rattle.call_reach.proofs.Members.{Stands, at_place, class_of, member_is, member_low, place_is, stands, start}
+use Rattle.call_reach.proofs.LayoutRows.{fields_of, no_row, same_groups, same_names}
+use Rattle.call_reach.proofs.NearRows.{AreClose, close, most}
+use Rattle.call_reach.proofs.Orders.{sum_split}
 use Rattle.call_reach.proofs.Sections.{i_low, no_higher, no_nearer, rises}
 use Rattle.call_reach.proofs.Shortened.{row_is}
-
-zero_if : (t : Bool) (v : ℕ) → (t ≡ true → ⊥) → (if t then v else 0) ≤ 0
-zero_if true v never = absurd (never refl)
-zero_if false v never = omega arith
-
-no_content : (n : ℕ) (c : Content) → c ≡ Section n → (d : Content) → d ≡ c → ((m : ℕ) → d ≡ Section m → ⊥) → ⊥
-no_content n c is d same never = never n (same ∙ is)
 
 -- the members of a class with bytes
 class_part : (P : LaidMember → Type 0) (sizes : List (List Cut)) (list : List Item) (bounds : Bounds) (class : Class) → HasBits class → All P (all_members sizes (orders_of list) bounds)
@@ -106,7 +90,7 @@ module _ (tables : Tables) (b : Bindings) (pools : List Pool) (merged : List (Op
   abbrev its : List Item
   its = the_items tables b pools merged words leaders laid sizes z
 
-  abbrev ms : List Member
+  abbrev ms : List Row
   ms = the_members tables b pools merged words leaders laid sizes z
 
   abbrev rows : List (List Call)
@@ -122,7 +106,12 @@ module _ (tables : Tables) (b : Bindings) (pools : List Pool) (merged : List (Op
   all_laid : All P (all_members sizes (orders_of its) given.bounds)
   all_laid = subst (All P) given.placed (λ k d lt. (given.sound.sections k d lt, given.aligned k d lt))
 
-  fits_by : (at : ℕ) (r : Row) (c : Content) → r.content ≡ c → P (member_at sizes at r) → size_at sizes at r ≤ most (upper files b (rooms_of pools) leaders rows z) c r.size
+  -- the most bytes of a section
+  abbrev upper : ℕ → ℕ
+  upper n = upper_offset (the_members tables b pools merged words leaders laid sizes z) (the_rows tables b pools merged words leaders laid sizes z) z
+      (place_in (the_members tables b pools merged words leaders laid sizes z) n) (input_at (files_of tables) b n).size
+
+  fits_by : (at : ℕ) (r : Row) (c : Content) → r.content ≡ c → P (member_at sizes at r) → size_at sizes at r ≤ most upper c r.size
   fits_by at r (Section n) is p =
       let own = p.0 n is in
       let higher = no_higher tables b pools merged words leaders laid sizes z given n own.number own.own (input_at files b n).size in
@@ -136,28 +125,37 @@ module _ (tables : Tables) (b : Bindings) (pools : List Pool) (merged : List (Op
       no_table : (n : ℕ) → Got ≡ Section n → ⊥
       no_table n e = cc
 
-  fits : (at : ℕ) (r : Row) → P (member_at sizes at r) → size_at sizes at r ≤ most (upper files b (rooms_of pools) leaders rows z) r.content r.size
+  fits : (at : ℕ) (r : Row) → P (member_at sizes at r) → size_at sizes at r ≤ most upper r.content r.size
   fits at r p = fits_by at r r.content refl p
 
   aligned_rows : (class : Class) → All (λ (r : Row). 1 ≤ r.align) (order_of class its)
   aligned_rows class = all_order (λ (r : Row). 1 ≤ r.align) (λ (item : Item). 1 ≤ item.align) class its (λ h n item le. omega (arith, le, (fields_of class h n item).align)) given.some
 
-  -- the row of a member that is no section
-  plain_row : (k : ℕ) → k < length ms → (relax_member_at ms k).is_section ≡ false → row_at rows k ≡ []
-  plain_row k lt plain =
+  -- what a member takes at most is its room
+  plain_room : (k : ℕ) → k < length ms → is_content (own_member ms k).content ≡ false → upper_offset ms rows z k (own_member ms k).size ≡ (own_member ms k).size
+  unfolding upper_offset
+  plain_room k lt plain =
+      let none : row_at rows k ≡ [] =
       row_is files b merged leaders ms true k lt
-      ∙ ap (λ t. if true && t then calls_in files b merged leaders ms k (relax_member_at ms k).section else []) plain
+      ∙ ap (λ t. if true && t then calls_in files b merged leaders ms k (own_section (own_member ms k)) else []) plain in
+      ap (λ l. new_offset (sized z (first_call rows k) l) (own_member ms k).size) none ∙ whole_size (own_member ms k).size
+
+  most_by : (k : ℕ) → k < length ms → (c : Content) → (own_member ms k).content ≡ c → most upper c (own_member ms k).size ≡ upper_offset ms rows z k (own_member ms k).size
+  most_by k lt (Section n) is =
+      let place = place_is files b pools words leaders few k n lt is in
+      let known = members_known files b pools words leaders given.are k no_member lt in
+      let size : (own_member ms k).size ≡ (input_at files b n).size = known.size (ap is_content is) ∙ ap (λ c. (input_at files b (number_in c)).size) is in
+      ap (λ p. upper_offset ms rows z p (input_at files b n).size) place ∙ ap (upper_offset ms rows z k) (sym size)
+  most_by k lt (IsPool p) is = sym (plain_room k lt (ap is_content is))
+  most_by k lt Got is = sym (plain_room k lt (ap is_content is))
+
+  most_room : (k : ℕ) → k < length ms → ((own_member ms k).align - 1) + most upper (own_member ms k).content (own_member ms k).size ≡ room ms rows z k
+  most_room k lt = ap (λ n. ((own_member ms k).align - 1) + n) (most_by k lt (own_member ms k).content refl)
 
   module _ (class : Class) (bits : HasBits class) (n m : ℕ) (n_low : n < section_total files) (m_low : m < section_total files) (n_leads : leads leaders n ≡ true) (m_leads : leads leaders m ≡ true)
       (n_of : is_in class (input_at files b n).sh_type (input_at files b n).flags ≡ true)
-      (near : (relax_member_at ms (place_in ms n)).group ≡ (relax_member_at ms (place_in ms m)).group) (less : place_in ms n < place_in ms m)
+      (near : (own_member ms (place_in ms n)).group ≡ (own_member ms (place_in ms m)).group) (less : place_in ms n < place_in ms m)
       (some : 0 < (input_at files b n).size + (input_at files b m).size) where
-    abbrev s : InputSection
-    s = input_at files b n
-
-    abbrev t : InputSection
-    t = input_at files b m
-
     abbrev i : ℕ
     i = place_in ms n
 
@@ -170,53 +168,17 @@ module _ (tables : Tables) (b : Bindings) (pools : List Pool) (merged : List (Op
     j_in : j < length ms
     j_in = i_low tables b pools merged words leaders laid sizes z given m m_low m_leads
 
-    at_i : ((relax_member_at ms i).is_section ≡ true) × ((relax_member_at ms i).section ≡ n)
-    at_i = ours.at_place files b (rooms_of pools) leaders n i_in
+    m_of : is_in class (input_at files b m).sh_type (input_at files b m).flags ≡ true
+    m_of = class_of files b pools words leaders few class n m i j i_in j_in (at_place ms n i_in) (at_place ms m j_in) near n_of
 
-    at_j : ((relax_member_at ms j).is_section ≡ true) × ((relax_member_at ms j).section ≡ m)
-    at_j = ours.at_place files b (rooms_of pools) leaders m j_in
+    x : Stands files b pools words leaders few class n i
+    x = stands files b pools words leaders few class n i i_in (at_place ms n i_in) n_of
 
-    abbrev xs : List relax.Item
-    xs = relax.items files b (rooms_of pools) leaders
+    y : Stands files b pools words leaders few class m j
+    y = stands files b pools words leaders few class m j j_in (at_place ms m j_in) m_of
 
-    abbrev xi : relax.Item
-    xi = relax.section_item n s
-
-    abbrev xj : relax.Item
-    xj = relax.section_item m t
-
-    member_i : relax_member_at ms i ≡ relax.member_of xs xi
-    member_i = let own = ours.section_member files b (rooms_of pools) leaders i i_in at_i.0 in own.is ∙ ap (λ k. relax.member_of xs (relax.section_item k (input_at files b k))) at_i.1
-
-    member_j : relax_member_at ms j ≡ relax.member_of xs xj
-    member_j = let own = ours.section_member files b (rooms_of pools) leaders j j_in at_j.0 in own.is ∙ ap (λ k. relax.member_of xs (relax.section_item k (input_at files b k))) at_j.1
-
-    record IsListed (k : ℕ) : Type 0 where
-      place : ℕ
-      place_less : place < length xs
-      item : get_or xs place (relax.section_item k (input_at files b k)) ≡ relax.section_item k (input_at files b k)
-
-    listed : (k p : ℕ) → p < length ms → ((relax_member_at ms p).is_section ≡ true) × ((relax_member_at ms p).section ≡ k) → IsListed k
-    listed k p lt at =
-        let own = ours.section_member files b (rooms_of pools) leaders p lt at.0 in
-        subst IsListed at.1 (record { place = own.place; place_less = own.place_less; item = own.item })
-
-    -- so they have one class and one name
-    both : (xi.class ≡ xj.class) × (xi.name ≡ xj.name)
-    both =
-        let one = listed n i i_in at_i in
-        let other = listed m j j_in at_j in
-        ours.same_group files b (rooms_of pools) leaders xi xj one.place other.place one.place_less one.item other.place_less other.item
-        (sym (ap (λ (x : Member). x.group) member_i) ∙ near ∙ ap (λ (x : Member). x.group) member_j)
-
-    pub m_of : is_in class (input_at files b m).sh_type (input_at files b m).flags ≡ true
-    m_of = class_same class t.sh_type t.flags (sym both.0 ∙ class_is class s.sh_type s.flags n_of)
-
-    x : SectionRow class its n s
-    x = section_row files b pools words leaders few class n n_low n_leads n_of
-
-    y : SectionRow class its m t
-    y = section_row files b pools words leaders few class m m_low m_leads m_of
+    abbrev first_of : ℕ
+    first_of = start files b pools words leaders few class
 
     abbrev xr : Row
     xr = get_or (order_of class its) x.place no_row
@@ -224,105 +186,50 @@ module _ (tables : Tables) (b : Bindings) (pools : List Pool) (merged : List (Op
     abbrev yr : Row
     yr = get_or (order_of class its) y.place no_row
 
-    names : output_name x.is.item.name ≡ output_name y.is.item.name
-    names = ap output_name x.name ∙ both.1 ∙ sym (ap output_name y.name)
+    groups : xr.group ≡ yr.group
+    groups = sym (ap (λ (r : Row). r.group) x.same) ∙ near ∙ ap (λ (r : Row). r.group) y.same
 
-    groups : (xr.group ≡ yr.group) × (xr.rank ≡ yr.rank)
-    groups = same_groups class its xr yr x.is y.is names
-
-    -- the first member is the first row
-    keys : relax.key_of (relax_member_at ms i) ≤ relax.key_of (relax_member_at ms j)
-    keys = elim (pair_at (Later relax.key_of ours.Behind) ms i j (record { section = 0; is_section = false; group = 0; priority = 0; size = 0; align = 1 }) (ours.in_order files b (rooms_of pools) leaders) less j_in) [
-      | inl up ↦ omega (arith, up)
-      | inr (tie, bit) ↦ omega (arith, tie)
-    ]
-
-    spots : priority_of s.name * 2 ^ 32 + n ≤ priority_of t.name * 2 ^ 32 + m
-    spots =
-        let a = ours.key_is (relax_member_at ms i) in
-        let c = ours.key_is (relax_member_at ms j) in
-        let pi = ap (λ (k : Member). k.priority) member_i in
-        let pj = ap (λ (k : Member). k.priority) member_j in
-        let si = at_i.1 in
-        let sj = at_j.1 in
-        omega (arith, keys, a, c, near, pi, pj, si, sj)
+    ranks : xr.rank ≡ yr.rank
+    ranks = (same_groups class its xr yr x.row.is y.row.is (same_names class its xr yr x.row.is y.row.is groups)).1
 
     order_is : x.place < y.place
-    order_is = elim (cases_lt x.place y.place) [
-      | inl first ↦ first
-      | inr upto ↦ elim (cases_lt y.place x.place) [
-        | inl other ↦
-            let g = groups.0 in
-            let r = groups.1 in
-            elim (pair_at (Later key_of (λ (e f : Row). seat pools e.content < seat pools f.content)) (order_of class its) y.place x.place no_row (pairs_all files b pools words leaders few class n m s t x y n_low m_low both.1) other x.low) [
-              | inl up ↦ absurd (omega (arith, up, key_is yr, key_is xr, g, r, x.priority, y.priority, spots, n_low, m_low, few))
-              | inr (tie, seated) ↦
-                  absurd (omega (arith, tie, seated, key_is yr, key_is xr, g, r, x.priority, y.priority, spots, ap (seat pools) x.content, ap (seat pools) y.content))
-            ]
-        | inr le ↦
-            let same : x.place ≡ y.place = omega (arith, upto, le) in
-            let numbers : n ≡ m = section_same (sym x.content ∙ ap (λ k. (get_or (order_of class its) k no_row).content) same ∙ y.content) in
-            absurd (omega (arith, less, ap (place_in ms) numbers))
-      ]
-    ]
-      where
-        section_same : Section n ≡ Section m → n ≡ m
-        section_same e = cc
+    order_is = let xi = x.is in let yi = y.is in omega (arith, less, xi, yi)
 
-    abbrev up : ℕ → ℕ
-    up = upper files b (rooms_of pools) leaders rows z
+    full : 0 < xr.size + yr.size
+    full = let xs = x.row.size in let ys = y.row.size in omega (arith, some, xs, ys)
 
     part : (c : Cursor) × All P (members_along sizes c (runs (order_of class its)))
     part = class_part P sizes its given.bounds class bits all_laid
 
-    closed : AreClose files b pools words leaders few class n m s t x y n_low m_low both.1 P sizes part.0 up (aligned_rows class) some fits part.1
-    closed = close files b pools words leaders few class n m s t x y n_low m_low both.1 P sizes part.0 up (aligned_rows class) some fits part.1 order_is
+    closed : AreClose files b pools words leaders few class x.place y.place order_is y.row.low groups ranks P sizes part.0 upper (aligned_rows class) full fits part.1
+    closed = close files b pools words leaders few class x.place y.place order_is y.row.low groups ranks P sizes part.0 upper (aligned_rows class) full fits part.1
 
-    abbrev low : ℕ
-    low = spot (priority_of s.name) (2 * n)
-
-    abbrev high : ℕ
-    high = spot (priority_of t.name) (2 * m)
-
-    abbrev name : List ℕ
-    name = output_name s.name
-
-    -- the table is not between them
-    no_table : gain pools class name low high up (got_item words) ≤ 0
-    no_table = zero_if (is_of class (got_item words) && (bytes_eq (output_name (codes ".got")) name && between low high (priority_of (codes ".got")) (2 ^ 33))) _ (λ is.
-        let parts = and_parts (bytes_eq (output_name (codes ".got")) name) (between low high (priority_of (codes ".got")) (2 ^ 33)) (and_parts (is_of class (got_item words)) (bytes_eq (output_name (codes ".got")) name && between low high (priority_of (codes ".got")) (2 ^ 33)) is).1 in
-        let own : output_name t.name ≡ codes ".got" = sym both.1 ∙ sym (texts_same (output_name (codes ".got")) name parts.0) ∙ table_name in
-        let less = ltb-true (spot (priority_of (codes ".got")) (2 ^ 33)) high (and_parts (nat_lt low (spot (priority_of (codes ".got")) (2 ^ 33))) (nat_lt (spot (priority_of (codes ".got")) (2 ^ 33)) high) parts.1).1 in
-        omega (arith, less, beside_table t.name own, beside_table (codes ".got") table_name, m_low, few))
-
-    named : (k : ℕ) (d : Item) → k < length its → is_of class (get_or its k d) ≡ true → (head_of class its (output_name (get_or its k d).name)).group ≡ xr.group → output_name (get_or its k d).name ≡ name
-    named k d lt of group =
-        let item : Item = get_or its k d in
-        let h : Head = head_of class its (output_name item.name) in
-        let r : Row = row_in class h k item in
-        let is : IsRowOf class its r = record { item = item; number = k; low = lt; at = λ e. default k e d lt; of = of; has = fields_of class h k item } in
-        same_names class its r xr is x.is ((fields_of class h k item).group ∙ group) ∙ ap output_name x.name
-      where
-        default : (k : ℕ) (e d : Item) → k < length its → get_or its k e ≡ get_or its k d
-        default k e d lt = get_or_default its k e d lt
+    -- the rows between are the members between
+    mid_room : (k : ℕ) → k < length closed.mid → ((get_or closed.mid k no_row).align - 1) + most upper (get_or closed.mid k no_row).content (get_or closed.mid k no_row).size ≤ room ms rows z (i + 1 + k)
+    mid_room k lt =
+        let q : ℕ = x.place + 1 + k in
+        let long = closed.long in
+        let y_low = y.row.low in
+        let q_low : q < length (order_of class its) = omega (arith, lt, long, y_low) in
+        let xi = x.is in
+        let e : i + 1 + k ≡ first_of + q = omega (arith, xi) in
+        let low = member_low files b pools words leaders few class q q_low in
+        let same : get_or closed.mid k no_row ≡ own_member ms (i + 1 + k) = closed.at k lt ∙ sym (member_is files b pools words leaders few class q q_low) ∙ ap (own_member ms) (sym e) in
+        let whole = most_room (i + 1 + k) (omega (arith, low, e)) in
+        omega (arith, ap (λ (r : Row). (r.align - 1) + most upper r.content r.size) same, whole)
 
     -- the bytes between are no more than the rooms between
-    between_most : sum_by (row_gain files b pools words leaders few class n m s t x y n_low m_low both.1 up) (order_of class its) ≤ sum_by (room ms rows z) (range_with_len (i + 1) (j - (i + 1)))
+    between_most : sum_by (λ (r : Row). (r.align - 1) + most upper r.content r.size) closed.mid ≤ sum_by (room ms rows z) (range_with_len (i + 1) (j - (i + 1)))
     between_most =
-        let g : ℕ = relax.group_of xs xi in
-        let gi : (relax_member_at ms i).group ≡ g = ap (λ (k : Member). k.group) member_i in
-        let pi = ap (λ (k : Member). k.priority) member_i in
-        let pj = ap (λ (k : Member). k.priority) member_j in
-        let si = at_i.1 in
-        let sj = at_j.1 in
-        let one = order_gain pools class name low high up its xr.group named in
-        let two = gains pools class name low high up files b words leaders xi (class_is class s.sh_type s.flags n_of) refl no_table in
-        let three = rooms_between files b (rooms_of pools) leaders rows z g low high i j less j_in gi (sym near ∙ gi) at_i.0 at_j.0 (omega (arith, pi, si)) (omega (arith, pj, sj)) plain_row in
-        omega (arith, one, two, three)
+        let long = closed.long in
+        let xi = x.is in
+        let yi = y.is in
+        let e : length closed.mid ≡ j - (i + 1) = omega (arith, long, xi, yi) in
+        omega (arith, sum_numbered (λ (r : Row). (r.align - 1) + most upper r.content r.size) (room ms rows z) no_row closed.mid (i + 1) mid_room, ap (λ k. sum_by (room ms rows z) (range_with_len (i + 1) k)) e)
 
     -- the upper places
     places : (o p : ℕ) → upper_place ms rows z j p + upper_offset ms rows z i o
-        ≡ upper_place ms rows z i o + (upper_offset ms rows z i (relax_member_at ms i).size + (sum_by (room ms rows z) (range_with_len (i + 1) (j - (i + 1))) + (((relax_member_at ms j).align - 1) + upper_offset ms rows z j p)))
+        ≡ upper_place ms rows z i o + (upper_offset ms rows z i (own_member ms i).size + (sum_by (room ms rows z) (range_with_len (i + 1) (j - (i + 1))) + (((own_member ms j).align - 1) + upper_offset ms rows z j p)))
     unfolding upper_place
     places o p =
         let f : ℕ → ℕ = room ms rows z in
@@ -349,22 +256,22 @@ module _ (tables : Tables) (b : Bindings) (pools : List Pool) (merged : List (Op
     pub span : (o p : ℕ) → o ≤ (input_at files b n).size → IsSpan o p
     span o p o_in =
         let c = closed in
-        let one = c.one.0 n x.content in
-        let other = c.other.0 m y.content in
+        let one = c.one.0 n x.row.content in
+        let other = c.other.0 m y.row.content in
         let first : c.first ≡ start_at laid n = one.start in
         let second : c.second ≡ start_at laid m = other.start in
-        let size : size_at sizes c.first xr ≡ new_offset (cuts_at laid n) s.size = one.size in
-        let rise = rises tables b pools merged words leaders laid sizes z given n n_low n_leads o s.size o_in in
-        let nearer = no_nearer tables b pools merged words leaders laid sizes z given n n_low n_leads o s.size o_in in
+        let size : size_at sizes c.first xr ≡ new_offset (cuts_at laid n) (input_at files b n).size = one.size in
+        let rise = rises tables b pools merged words leaders laid sizes z given n n_low n_leads o (input_at files b n).size o_in in
+        let nearer = no_nearer tables b pools merged words leaders laid sizes z given n n_low n_leads o (input_at files b n).size o_in in
         let higher = no_higher tables b pools merged words leaders laid sizes z given m m_low m_leads p in
-        let si = ap (λ (k : Member). k.size) member_i in
-        let aj = ap (λ (k : Member). k.align) member_j in
+        let si = ap (λ (k : Row). k.size) x.same ∙ x.row.size in
+        let aj = ap (λ (k : Row). k.align) y.same in
         let up_size = ap (upper_offset ms rows z i) si in
-        let a1 = c.one.1 n x.content in
-        let a2 = c.other.1 m y.content in
+        let a1 = c.one.1 n x.row.content in
+        let a2 = c.other.1 m y.row.content in
         record {
           after = omega (arith, c.after_first, first, second, size, rise);
-          most = omega (arith, c.near, first, second, size, nearer, higher, between_most, places o p, up_size, aj, y.align);
+          most = omega (arith, c.near, first, second, size, nearer, higher, between_most, places o p, up_size, aj);
           low_aligned = subst (λ k. k % (input_at files b n).align ≡ 0) first a1;
           high_aligned = subst (λ k. k % (input_at files b m).align ≡ 0) second a2;
         }

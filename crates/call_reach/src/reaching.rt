@@ -7,10 +7,11 @@ ghost use Rattle.lk_tables.specs.TablesView.{files_of};
 ghost use Rattle.link_sections.specs.GotEntries.{word_count};
 ghost use Rattle.link_sections.specs.GotView.{entries_of};
 ghost use Rattle.link_sections.specs.LaidOut.{layout_view, with_contents};
-ghost use Rattle.link_sections.specs.PoolViews.{pools_view};
+ghost use Rattle.link_sections.specs.PoolViews.{merged_views, pools_view};
+ghost use Rattle.output_sections.specs.Order.{members_in, orders_of};
 ghost use Rattle.link_sections.specs.SizesView.{sizes_of};
 ghost use Rattle.link_sections.specs.Sound.{IsSound};
-ghost use Rattle.layout.specs.Items.{AreLeaders, HaveFirsts};
+ghost use Rattle.output_sections.specs.Items.{AreLeaders, HaveFirsts, items};
 ghost use Rattle.layout.specs.Layout.{layout_defects, layout_of};
 ghost use Rattle.layout.specs.Spots.{HaveAlignments};
 ghost use Rattle.relax.specs.CallSizes.{IsLeastSafe, cuts_of};
@@ -19,6 +20,7 @@ ghost use Rattle.call_reach.specs.Reach as spec;
 use link_sections::{Got, Layout, Pools, Sizes};
 use lk_base::{Limits, SecNo};
 use lk_tables::{Binding, Tables};
+use output_sections::OutputSections;
 
 /// That each shortened call reaches its target, where `sizes` are those of `relax::sizes` and the layout is that of `layout::place` over
 /// them, of a link that it does not refuse: its relocation is neither odd nor out of range. A section has as many bytes as the one that is
@@ -29,6 +31,7 @@ pub fn calls_reach(
     pools: &Pools,
     got: &Got,
     leaders: &[Option<SecNo>],
+    sections: &OutputSections,
     sizes: &Sizes,
     layout: &Layout,
     limits: &Limits,
@@ -38,8 +41,9 @@ pub fn calls_reach(
     requires leaders { AreLeaders (files_of tables.now) (binding_view binding.now) leaders.now }
     requires alike { spec.AreAlike (files_of tables.now) (binding_view binding.now) leaders.now }
     requires pools { HaveFirsts (files_of tables.now) (binding_view binding.now) pools.now.pools.items }
-    requires sizes { sizes_of sizes.now ≡ cuts_of (files_of tables.now) (binding_view binding.now) (pools_view (files_of tables.now) pools.now) leaders.now on }
-    requires safe { IsLeastSafe (files_of tables.now) (binding_view binding.now) (pools_view (files_of tables.now) pools.now) leaders.now on }
+    requires order { sections.now.rows ≡ orders_of (items (files_of tables.now) (binding_view binding.now) pools.now.pools.items (word_count (entries_of got.now)) leaders.now) }
+    requires sizes { sizes_of sizes.now ≡ cuts_of (files_of tables.now) (binding_view binding.now) (merged_views pools.now) leaders.now (members_in sections.now.rows) on }
+    requires safe { IsLeastSafe (files_of tables.now) (binding_view binding.now) (merged_views pools.now) leaders.now (members_in sections.now.rows) on }
     requires layout { layout_view layout.now ≡ layout_of (files_of tables.now) (binding_view binding.now) pools.now.pools.items (word_count (entries_of got.now)) leaders.now (sizes_of sizes.now) }
     requires sound { IsSound (files_of tables.now) (binding_view binding.now) leaders.now (with_contents (layout_view layout.now) (pools_view (files_of tables.now) pools.now) (entries_of got.now)) }
     requires aligned { HaveAlignments (files_of tables.now) (binding_view binding.now) (layout_view layout.now) }

@@ -8,7 +8,7 @@ mod merged;
 mod symbols;
 
 use link_examples::{Files, Store, Stores, shared_files};
-use link_runs::{is_linked_by_any, is_refused_by_any};
+use link_runs::{each_is_refused, each_links};
 use std::alloc::{AllocError, Global};
 use std::test::Fail;
 
@@ -29,133 +29,61 @@ impl Stores for OwnStores {
 }
 
 #[test]
-fn a_string_stands_once(rt: HostRuntime) -> Result<(), Fail> {
-    for (index, link) in merged::STRINGS_OF_FILES.iter().enumerate() {
-        assert!(rt;
-            is_linked_by_any(&rt, rt.alloc(), &OwnStores, link)?,
-            "example {index}"
-        );
-    }
-    Ok(())
+fn equal_strings_of_files_are_merged(rt: HostRuntime) -> Result<(), Fail> {
+    each_links!(rt; &OwnStores, merged::STRINGS_OF_FILES)
 }
 
 #[test]
 fn pieces_are_constants_and_strings(rt: HostRuntime) -> Result<(), Fail> {
-    for (index, link) in merged::PIECES.iter().enumerate() {
-        assert!(rt;
-            is_linked_by_any(&rt, rt.alloc(), &OwnStores, link)?,
-            "example {index}"
-        );
-    }
-    Ok(())
+    each_links!(rt; &OwnStores, merged::PIECES)
 }
 
 #[test]
 fn equal_functions_are_folded_together(rt: HostRuntime) -> Result<(), Fail> {
-    for (index, link) in folded::TOGETHER.iter().enumerate() {
-        assert!(rt;
-            is_linked_by_any(&rt, rt.alloc(), &OwnStores, link)?,
-            "example {index}"
-        );
-    }
-    Ok(())
+    each_links!(rt; &OwnStores, folded::TOGETHER)
 }
 
 #[test]
 fn what_differs_is_not_folded(rt: HostRuntime) -> Result<(), Fail> {
-    for (index, link) in folded::EQUAL.iter().enumerate() {
-        assert!(rt;
-            is_linked_by_any(&rt, rt.alloc(), &OwnStores, link)?,
-            "example {index}"
-        );
-    }
-    Ok(())
+    each_links!(rt; &OwnStores, folded::EQUAL)
 }
 
 #[test]
-fn alignments_stay(rt: HostRuntime) -> Result<(), Fail> {
-    for (index, link) in aligned::STAYING.iter().enumerate() {
-        assert!(rt;
-            is_linked_by_any(&rt, rt.alloc(), &OwnStores, link)?,
-            "example {index}"
-        );
-    }
-    Ok(())
+fn alignments_keep_the_nops_that_they_need(rt: HostRuntime) -> Result<(), Fail> {
+    each_links!(rt; &OwnStores, aligned::STAYING)
 }
 
 #[test]
-fn alignments_need_their_bytes(rt: HostRuntime) -> Result<(), Fail> {
-    for (index, refusal) in aligned::SHORTAGES.iter().enumerate() {
-        assert!(rt;
-            is_refused_by_any(&rt, rt.alloc(), &OwnStores, refusal)?,
-            "example {index}"
-        );
-    }
-    Ok(())
+fn alignments_short_of_nops_are_refused(rt: HostRuntime) -> Result<(), Fail> {
+    each_is_refused!(rt; &OwnStores, aligned::SHORTAGES)
 }
 
 #[test]
 fn each_symbol_has_its_entry(rt: HostRuntime) -> Result<(), Fail> {
-    for (index, link) in symbols::LISTED.iter().enumerate() {
-        assert!(rt;
-            is_linked_by_any(&rt, rt.alloc(), &OwnStores, link)?,
-            "example {index}"
-        );
-    }
-    Ok(())
+    each_links!(rt; &OwnStores, symbols::LISTED)
 }
 
 #[test]
-fn what_is_not_written_has_no_entry(rt: HostRuntime) -> Result<(), Fail> {
-    for (index, link) in symbols::CHOSEN.iter().enumerate() {
-        assert!(rt;
-            is_linked_by_any(&rt, rt.alloc(), &OwnStores, link)?,
-            "example {index}"
-        );
-    }
-    Ok(())
+fn symbols_that_are_not_written_have_no_entry(rt: HostRuntime) -> Result<(), Fail> {
+    each_links!(rt; &OwnStores, symbols::CHOSEN)
 }
 
 #[test]
 fn a_map_has_what_is_written(rt: HostRuntime) -> Result<(), Fail> {
-    for (index, link) in maps::WRITTEN.iter().enumerate() {
-        assert!(rt;
-            is_linked_by_any(&rt, rt.alloc(), &OwnStores, link)?,
-            "example {index}"
-        );
-    }
-    Ok(())
+    each_links!(rt; &OwnStores, maps::WRITTEN)
 }
 
 #[test]
 fn a_map_has_what_is_left_out(rt: HostRuntime) -> Result<(), Fail> {
-    for (index, link) in maps::LEFT_OUT.iter().enumerate() {
-        assert!(rt;
-            is_linked_by_any(&rt, rt.alloc(), &OwnStores, link)?,
-            "example {index}"
-        );
-    }
-    Ok(())
+    each_links!(rt; &OwnStores, maps::LEFT_OUT)
 }
 
 #[test]
 fn a_map_has_pools(rt: HostRuntime) -> Result<(), Fail> {
-    for (index, link) in maps::POOLS.iter().enumerate() {
-        assert!(rt;
-            is_linked_by_any(&rt, rt.alloc(), &OwnStores, link)?,
-            "example {index}"
-        );
-    }
-    Ok(())
+    each_links!(rt; &OwnStores, maps::POOLS)
 }
 
 #[test]
-fn a_map_shows_names(rt: HostRuntime) -> Result<(), Fail> {
-    for (index, link) in maps::NAMES.iter().enumerate() {
-        assert!(rt;
-            is_linked_by_any(&rt, rt.alloc(), &OwnStores, link)?,
-            "example {index}"
-        );
-    }
-    Ok(())
+fn a_map_escapes_names(rt: HostRuntime) -> Result<(), Fail> {
+    each_links!(rt; &OwnStores, maps::NAMES)
 }

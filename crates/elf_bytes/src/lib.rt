@@ -5,9 +5,10 @@
 mod abi;
 mod archive;
 mod image;
+mod macros;
 mod numbers;
 mod object;
 
 pub use archive::{ARCHIVE, Archive, Contents, Member, THIN, archive_of};
 pub use image::{Image, Listed, image_of};
-pub use object::{ELSEWHERE, Object, Reloc, Section, SectionLink, Symbol, object_of};
+pub use object::{ELSEWHERE, NO_SECTION, Object, Reloc, Section, SectionLink, Symbol, object_of};

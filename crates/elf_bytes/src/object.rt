@@ -46,6 +46,21 @@ pub struct Section<'a> {
     pub entsize: u64,
 }
 
+/// No section: no name, no bytes, and zeros.
+pub const NO_SECTION: Section = Section {
+    name: b"",
+    sort: 0,
+    flags: 0,
+    align: 0,
+    size: 0,
+    zeros: 0,
+    bytes: b"",
+    relocs: &[],
+    link: SectionLink::Number(0),
+    info: 0,
+    entsize: 0,
+};
+
 /// In a symbol's section: its number stands in the table of section indexes.
 pub const ELSEWHERE: u64 = 1 << 32;
 

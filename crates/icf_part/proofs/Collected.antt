@@ -1,7 +1,9 @@
 -- Loops over a list that collect something of each element.
-use Rattle.std.proofs.Common.{◌≡◌, ℕ, ◌+◌, ◌<◌, ◌≤◌, List, [], ◌∷◌, ◌++◌, length, map, take, flat_map, get_or, refl, sym, ap, ◌∙◌, append_assoc}
+use Rattle.std.proofs.Common.{◌≡◌, ℕ, ◌+◌, ◌<◌, ◌≤◌, Bool, cond, List, [], ◌∷◌, ◌++◌, length, map, take, flat_map, get_or, refl, sym, ap, ◌∙◌, append_assoc}
 use Rattle.std.proofs.lemmas.List.{append-nil, map-append, take_all, take_more}
 use Rattle.std.proofs.lemmas.Grind.{flat_map-append}
+use Rattle.std.specs.List.{filter}
+use Rattle.std.proofs.lemmas.List.Elements.{filter-append}
 use Rattle.link_sections.specs.declared.fold_items.FoldItem.{FoldItem as LentItem}
 use Rattle.link_sections.specs.FoldItems.{FoldItem, item_view, item_views}
 
@@ -50,3 +52,11 @@ viewed f (i ∷ items) = ap (λ l. f (item_view i) ∷ l) (viewed f items)
 pub mapped_views : {Y : Type 0} (f : FoldItem → Y) (items : List LentItem) (i : ℕ) (list : List Y) → length items ≤ i →
     list ≡ map (λ (x : LentItem). f (item_view x)) (take i items) → list ≡ map f (item_views items)
 mapped_views f items i list le held = mapped_all (λ (x : LentItem). f (item_view x)) items i list le held ∙ viewed f items
+
+pub filtered_more : (p : ℕ → Bool) (xs : List ℕ) (i : ℕ) (old new : List ℕ) → i < length xs → old ≡ filter p (take i xs) →
+    new ≡ old ++ cond (p (get_or xs i 0)) (get_or xs i 0 ∷ []) [] → new ≡ filter p (take (i + 1) xs)
+filtered_more p xs i old new lt held push =
+    push ∙ ap (λ l. l ++ cond (p (get_or xs i 0)) (get_or xs i 0 ∷ []) []) held ∙ sym (filter-append p (take i xs) (get_or xs i 0 ∷ [])) ∙ ap (filter p) (sym (take_more xs i 0 lt))
+
+pub filtered_all : (p : ℕ → Bool) (xs : List ℕ) (i : ℕ) (list : List ℕ) → length xs ≤ i → list ≡ filter p (take i xs) → list ≡ filter p xs
+filtered_all p xs i list le held = held ∙ ap (filter p) (take_all i xs le)

@@ -50,7 +50,7 @@ cond_from : {X : Type 0} (b : Bool) (x y : X) (xs : List X) → Contains (cond b
 cond_from true x y xs has = has
 cond_from false x y xs has = in_tail x y xs has
 
-from_filter : {X : Type 0} (p : X → Bool) (xs : List X) (x : X) → Contains (filter p xs) x → Contains xs x
+pub from_filter : {X : Type 0} (p : X → Bool) (xs : List X) (x : X) → Contains (filter p xs) x → Contains xs x
 from_filter p [] x has = has
 from_filter p (y ∷ xs) x has = ⊎_elim
     (λ (here : y ≡ x). (0, omega arith, here))
@@ -64,12 +64,12 @@ in_flat {X} {Y} h (z ∷ xs) x y at has = ⊎_elim
     (λ (later : Contains xs x). Contains-append_right (h z) (flat_map h xs) y (in_flat h xs x y later has))
     (head_or_tail z x xs at)
 
-record FromPart {X Y : Type 0} (h : X → List Y) (xs : List X) (y : Y) : Type 0 where
-  x : X
-  listed : Contains xs x
-  part : Contains (h x) y
+pub record FromPart {X Y : Type 0} (h : X → List Y) (xs : List X) (y : Y) : Type 0 where
+  pub x : X
+  pub listed : Contains xs x
+  pub part : Contains (h x) y
 
-from_flat : {X Y : Type 0} (h : X → List Y) (xs : List X) (y : Y) → Contains (flat_map h xs) y → FromPart h xs y
+pub from_flat : {X Y : Type 0} (h : X → List Y) (xs : List X) (y : Y) → Contains (flat_map h xs) y → FromPart h xs y
 from_flat h [] y (k, lt, is) = absurd (omega arith)
 from_flat h (x ∷ xs) y has = ⊎_elim
     (λ (here : Contains (h x) y). record { x = x; listed = (0, omega arith, refl); part = here })

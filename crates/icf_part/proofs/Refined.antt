@@ -7,13 +7,14 @@ use Rattle.name_numbers.specs.Texts.{text_at, text_numbers}
 use Rattle.icf_part.specs.Folding.{AreFolded, AreLeaders, IsCongruence, Key, Pair, classes, item_at, key_of, no_item, no_reloc, pair, site_of}
 use Rattle.icf_part.specs.Counts.{key_count, leader_count}
 use Rattle.icf_part.specs.Leaders.{same_key}
-use Rattle.icf_part.specs.Numbered.{AreCarried, AreFirsts, IsNumbering, IsRefined, IsRefining, IsStable, Joins, key}
+use Rattle.icf_part.specs.Numbered.{AreCarried, AreEnds, AreFirsts, IsNumbering, IsRefined, IsRefining, IsStable, Joins, key}
 use Rattle.icf_part.specs.Signatures.{all_places, bytes_of, end_classes, key_words, output_of, places, reloc_places, rest_at, rest_words, rest_words_of, site_words}
 use Rattle.icf_part.proofs.Counting.{leads_fewer, news_lead}
 use Rattle.icf_part.proofs.Deciding.{key_Decides, key_from}
 use Rattle.icf_part.proofs.NumberedRows.{numbers_same, numbers_tell}
 use Rattle.icf_part.proofs.Paired.{classes_have, classes_tell}
 use Rattle.icf_part.proofs.PlacesWide.{places_wide}
+use Rattle.icf_part.proofs.PlacesWithin.{places_within}
 use Rattle.icf_part.proofs.Relocs.{along, alike, same_words, sites_told, spread}
 use Rattle.icf_part.proofs.Targets.{agrees_matched, matched_places, matched_words}
 
@@ -143,6 +144,14 @@ module _ (items : List FoldItem) where
         rests = λ a b la lb e. r.rests a b la lb (is.finer a b (omega (arith, la, wide)) (omega (arith, lb, wide)) e);
         outer = λ pairs a b congr has. is.outer pairs (carried order pairs congr) (λ x y got. r.outer pairs x y congr got) a b has;
       }
+
+  -- where the items lead
+  pub ends_of : (keys c : List ℕ) → IsNumbering (rest_at items keys (all_places items)) (length items) c → AreEnds (all_places items) c
+  unfolding rest_words
+  ends_of keys c is = record {
+    within = λ a k lt. omega (arith, places_within items a k lt, places_wide items);
+    alike = λ a b la lb e. ap (λ l. get_or l 1 0) (is.tells a b (omega (arith, la, places_wide items)) (omega (arith, lb, places_wide items)) e);
+  }
 
   -- classes of which each leads to one class in each place are a congruence
   pub stable_fits : (c : List ℕ) → IsRefining items c → IsStable (all_places items) c → IsCongruence items (classes c)

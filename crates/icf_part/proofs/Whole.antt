@@ -9,13 +9,13 @@ use Rattle.name_numbers.specs.Texts.{text_numbers}
 use Rattle.icf_part.specs.Counts.{key_count, leader_count}
 use Rattle.icf_part.specs.Folding.{AreLeaders, HoldsAll, IsCongruence, classes}
 use Rattle.icf_part.specs.Leaders.{leaders_of}
-use Rattle.icf_part.specs.Numbered.{AreFirsts, IsNumbering, IsRefined, IsRefining, IsStable, key}
+use Rattle.icf_part.specs.Numbered.{AreEnds, AreFirsts, IsNumbering, IsRefined, IsRefining, IsStable, key}
 use Rattle.icf_part.specs.Signatures.{AreRows, all_places, bytes_of, key_at, output_of, rest_at}
-use Rattle.icf_part.proofs.Counting.{counted, leads_fewer, most}
+use Rattle.icf_part.proofs.Counting.{counted, most}
 use Rattle.icf_part.proofs.LeadersOf.{leaders_are, leaders_at_most, leaders_own, leaders_within}
 use Rattle.icf_part.proofs.PlacesWide.{places_wide}
 use Rattle.icf_part.proofs.NumberedRows.{numbering, numbers_wide}
-use Rattle.icf_part.proofs.Refined.{firsts_of, keys_counted, keys_fewer, refining_first, refining_last, stable_fits, stable_leads}
+use Rattle.icf_part.proofs.Refined.{ends_of, firsts_of, keys_counted, keys_fewer, refining_first, refining_last, stable_fits, stable_leads}
 use Rattle.icf_part.proofs.Targets.{sections_wide}
 
 pub views_wide : (items : List LentItem) → length (item_views items) ≡ length items
@@ -67,24 +67,21 @@ first_firsts items keys start ends is first =
     let Q : ℕ → Type 0 = λ n. AreFirsts n start in
     subst P (sym is) (subst Q (sym (places_wide views)) (firsts_of (rest_at views keys (all_places views)) (length views) start first.by_rest))
 
--- the last classes are no fewer than those of equal keys
-pub last_fewer : (items : List LentItem) (keys start last : List ℕ) (ends : List (List ℕ)) → ends ≡ all_places (item_views items) → AreFirst items keys start →
-    IsRefined ends start last → leader_count keys ≤ leader_count last
-last_fewer items keys start last ends is first refined =
-    let views = item_views items in
-    let P : List (List ℕ) → Type 0 = λ e. IsRefined e start last in
-    let by = subst P is refined in
-    let more = keys_fewer views keys start first.by_key first.by_rest in
-    let firsts = firsts_of (rest_at views keys (all_places views)) (length views) start first.by_rest in
-    let Q : ℕ → Type 0 = λ n. AreFirsts n start in
-    let also = leads_fewer (length (all_places views)) start last (subst Q (sym (places_wide views)) firsts) by.firsts by.finer in
-    omega (arith, more, also)
+pub first_ends : (items : List LentItem) (keys start : List ℕ) (ends : List (List ℕ)) → ends ≡ all_places (item_views items) → AreFirst items keys start → AreEnds ends start
+first_ends items keys start ends is first =
+    let P : List (List ℕ) → Type 0 = λ e. AreEnds e start in
+    subst P (sym is) (ends_of (item_views items) keys start first.by_rest)
 
--- so many classes were split from those of equal keys on
-pub all_steps : (items : List LentItem) (keys start last : List ℕ) (old new : ℕ) → AreFirst items keys start → leader_count keys ≤ leader_count last →
-    new ≡ old + (leader_count last - leader_count keys) → new + key_count (item_views items) ≡ old + leader_count last
-all_steps items keys start last old new are le is =
-    omega (arith, is, le, keys_counted (item_views items) keys are.by_key)
+-- the first classes are no fewer than those of equal keys
+pub start_fewer : (items : List LentItem) (keys start : List ℕ) → AreFirst items keys start → leader_count keys ≤ leader_count start
+start_fewer items keys start first = keys_fewer (item_views items) keys start first.by_key first.by_rest
+
+-- so many classes were split from those of equal keys on: those of the first classes, and then those of turns
+pub all_steps : (items : List LentItem) (keys start last : List ℕ) (old mid new : ℕ) → AreFirst items keys start → mid ≡ old + (leader_count start - leader_count keys) →
+    new + leader_count start ≡ mid + leader_count last → new + key_count (item_views items) ≡ old + leader_count last
+all_steps items keys start last old mid new are one two =
+    let le = start_fewer items keys start are in
+    omega (arith, one, two, le, keys_counted (item_views items) keys are.by_key)
 
 -- the last ones
 pub record IsFolded (items : List LentItem) (l : List ℕ) : Type 0 where

@@ -1,5 +1,5 @@
 -- Classes of items that are equal in what is compared: a class's number is the place of its first item.
-use Rattle.std.specs.Prelude.{◌≡◌, ℕ, ◌<◌, ◌≤◌, List, length, map, flat_map, slice_index, Contains}
+use Rattle.std.specs.Prelude.{◌≡◌, ℕ, ◌<◌, ◌≤◌, List, [], length, map, flat_map, slice_index, slice_index_or, Contains}
 use Rattle.link_sections.specs.FoldItems.{FoldItem, sections_of}
 use Rattle.name_numbers.specs.Texts.{text_numbers}
 use Rattle.icf_part.specs.Folding.{HoldsAll, Pair, item_at, pair}
@@ -53,3 +53,20 @@ pub record IsRefined (ends : List (List ℕ)) (start last : List ℕ) : Type 0 w
   pub finer : (a b : ℕ) → a < length ends → b < length ends → slice_index last a ≡ slice_index last b → slice_index start a ≡ slice_index start b
   pub stable : IsStable ends last
   pub outer : (pairs : List Pair) → AreCarried ends pairs → Joins pairs start → Joins pairs last
+
+-- where the items lead: to items, and those of one class to equally many
+pub record AreEnds (ends : List (List ℕ)) (start : List ℕ) : Type 0 where
+  pub within : (a k : ℕ) → k < length (slice_index_or ends a []) → slice_index (slice_index_or ends a []) k < length ends
+  pub alike : (a b : ℕ) → a < length ends → b < length ends → slice_index start a ≡ slice_index start b → length (slice_index_or ends a []) ≡ length (slice_index_or ends b [])
+
+-- by label, the first of the items from one on that has it
+pub record AreFirstBy (labels : List ℕ) (from : ℕ) (firsts : List ℕ) : Type 0 where
+  pub within : (a : ℕ) → from ≤ a → a < length labels → slice_index firsts (slice_index labels a) < length labels
+  pub least : (a : ℕ) → from ≤ a → a < length labels → slice_index firsts (slice_index labels a) ≤ a
+  pub own : (a : ℕ) → from ≤ a → a < length labels → slice_index labels (slice_index firsts (slice_index labels a)) ≡ slice_index labels a
+
+-- labels by their first items
+pub record AreFirstItems (n : ℕ) (labels last : List ℕ) : Type 0 where
+  pub firsts : AreFirsts n last
+  pub same : (a b : ℕ) → a < n → b < n → slice_index labels a ≡ slice_index labels b → slice_index last a ≡ slice_index last b
+  pub tells : (a b : ℕ) → a < n → b < n → slice_index last a ≡ slice_index last b → slice_index labels a ≡ slice_index labels b

@@ -1,8 +1,8 @@
 -- What the passes over items compare: rows of numbers, as bytes.
-use Rattle.std.specs.Prelude.{◌≡◌, ℕ, ◌<◌, ◌≤◌, ◌-◌, ◌==◌, ◌&&◌, ◌^◌, ℤ, pos, negsuc, Bool, true, false, Option, Some, None, List, [], ◌∷◌, ◌++◌, length, map, flat_map, find, slice_index, slice_index_or, nat_lt, if◌then◌else◌, All, Result, IfOk}
+use Rattle.std.specs.Prelude.{◌≡◌, ℕ, ◌<◌, ◌≤◌, ◌-◌, ◌==◌, ◌^◌, ℤ, pos, negsuc, Bool, true, false, Option, Some, None, List, [], ◌∷◌, ◌++◌, length, map, flat_map, find, slice_index, slice_index_or, nat_lt, if◌then◌else◌, All, Result, IfOk}
 use Rattle.std.specs.Int.{w32, w64, to_le_bytes}
 use Rattle.std.specs.Global.{Vec}
-use Rattle.std.specs.List.{list_all, range_with_len}
+use Rattle.std.specs.List.{range_with_len}
 use Rattle.std.specs.declared.ops.Range.{Range}
 use Rattle.lk_base.specs.declared.defects.LinkStop.{LinkStop}
 use Rattle.link_sections.specs.declared.targets.Target.{Target}
@@ -99,21 +99,6 @@ IsPlacesPart sections items piece r = IfOk r (λ parts. flat_map (λ part. part)
 -- the classes of the items to which an item leads
 unfoldable pub end_classes : (classes : List ℕ) → (ends : List (List ℕ)) → (a : ℕ) → List ℕ
 end_classes classes ends a = map (slice_index classes) (slice_index_or ends a [])
-
--- what a round compares: an item's class, and those of the items to which it leads
-unfoldable pub round_words : (classes : List ℕ) → (ends : List (List ℕ)) → (a : ℕ) → List ℕ
-round_words classes ends a = slice_index classes a ∷ map (slice_index classes) (slice_index_or ends a [])
-
--- what stands at one place of two lists has one class
-abbrev pub agrees_at : (classes ones others : List ℕ) → (k : ℕ) → Bool
-agrees_at classes ones others k = slice_index classes (slice_index ones k) == slice_index classes (slice_index others k)
-
-unfoldable pub are_alike : (classes ones others : List ℕ) → Bool
-are_alike classes ones others = length ones == length others && list_all (agrees_at classes ones others) (range_with_len 0 (length ones))
-
--- an item leads to the classes to which the first of its class leads
-unfoldable pub leads_as_first : (classes : List ℕ) → (ends : List (List ℕ)) → (a : ℕ) → Bool
-leads_as_first classes ends a = are_alike classes (slice_index_or ends a []) (slice_index_or ends (slice_index classes a) [])
 
 -- numbers as bytes: one byte of a number below 254, four bytes after 254, eight after 255
 unfoldable pub word_bytes : ℕ → List ℕ

@@ -102,10 +102,10 @@ fn fold_few<R: Threads + Sync, G: Gate, L: Ledger>(
         gate,
     )?;
     let start = number_rows(rt, alloc, parts.as_slice(), workers)?;
-    let leaders = refine(rt, alloc, &ends, start, workers, pieces.as_slice(), gate)?;
     let first = count_leaders(keys.as_slice());
-    let last = count_leaders(leaders.as_slice());
-    steps.add(last - first);
+    let next = count_leaders(start.as_slice());
+    steps.add(next - first);
+    let leaders = refine(alloc, &ends, start, steps)?;
     Ok(leaders)
 }
 

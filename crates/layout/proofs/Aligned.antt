@@ -15,13 +15,15 @@ use Rattle.link_sections.specs.declared.pools.Pool.{Pool}
 use Rattle.link_sections.specs.Cuts.{Cut}
 use Rattle.link_sections.specs.InputSections.{InputSection, input_at}
 use Rattle.link_sections.specs.Leaders.{leads}
-use Rattle.layout.specs.declared.order.Head.{Head}
-use Rattle.layout.specs.declared.order.Row.{Row}
-use Rattle.layout.specs.Items.{Item, got_item, items, items_at, own_item, pool_at, pool_item, section_item}
+use Rattle.lk_tables.specs.declared.classes.Class.TheVariants.{TlsNobits, RwNobits}
+use Rattle.output_sections.specs.declared.heads.Head.{Head}
+use Rattle.output_sections.specs.declared.rows.Row.{Row}
+use Rattle.output_sections.specs.Items.{Item, got_item, items, items_at, own_item, pool_at, pool_item, section_item}
 use Rattle.layout.specs.Layout.{after_tls_bits, no_trail, trail_of}
-use Rattle.layout.specs.Order.{Orders, orders_of, row_in}
+use Rattle.output_sections.specs.Order.{Orders, orders_of, row_in, rows_in}
 use Rattle.layout.specs.Walk.{cursor_at, member_at}
-use Rattle.layout.proofs.ItemFacts.{EachClass, all_flat, each_class, same_section}
+use Rattle.output_sections.proofs.ClassSums.{each_class}
+use Rattle.output_sections.proofs.ItemFacts.{all_flat, same_section}
 use Rattle.layout.proofs.MemberFacts.{each_member, each_of}
 use Rattle.layout.proofs.Trails.{all_members, trail_zeros}
 
@@ -71,7 +73,7 @@ row_has : (files : List File) (b : Bindings) (class : Class) (h : Head) (n : ℕ
 unfolding row_in
 row_has files b class h n item is = is
 
-pub align_rows : (files : List File) (b : Bindings) (pools : List Pool) (words : ℕ) (leaders : List (Option ℕ)) → EachClass (RowAlign files b) (orders_of (items files b pools words leaders))
+pub align_rows : (files : List File) (b : Bindings) (pools : List Pool) (words : ℕ) (leaders : List (Option ℕ)) → ((class : Class) → All (RowAlign files b) (rows_in (orders_of (items files b pools words leaders)) class))
 align_rows files b pools words leaders =
     each_class (RowAlign files b) (λ item. HasAlign files b item.content item.align) (items files b pools words leaders) (row_has files b) (items_have files b pools words leaders)
 
@@ -83,13 +85,13 @@ module _ (files : List File) (b : Bindings) (sizes : List (List Cut)) where
   aligned_one : (c : ℕ) (row : Row) → RowAlign files b row → IsAligned files b (member_at sizes (up c row.align) row)
   aligned_one c row is = λ n same. subst (λ k. up c row.align % k ≡ 0) (is n same) (up_multiple c row.align)
 
-  pub aligned_members : (o : Orders) (bounds : Bounds) → EachClass (RowAlign files b) o → All (IsAligned files b) (all_members sizes o bounds)
+  pub aligned_members : (o : Orders) (bounds : Bounds) → ((class : Class) → All (RowAlign files b) (rows_in o class)) → All (IsAligned files b) (all_members sizes o bounds)
   aligned_members o bounds all = each_member (RowAlign files b) (IsAligned files b) sizes aligned_one o bounds all
 
   -- and those without bytes in the file
-  pub aligned_zeros : (parts : List Item) (o : Orders) (bounds : Bounds) (sections pools : ℕ) → EachClass (RowAlign files b) o
+  pub aligned_zeros : (parts : List Item) (o : Orders) (bounds : Bounds) (sections pools : ℕ) → ((class : Class) → All (RowAlign files b) (rows_in o class))
       → All (IsAligned files b) (trail_of sizes parts o bounds (no_trail sections pools)).zeros
   aligned_zeros parts o bounds sections pools all =
       rw (trail_zeros sizes parts o bounds sections pools)
-      (All-append (IsAligned files b) _ _ (each_of (RowAlign files b) (IsAligned files b) sizes aligned_one (after_tls_bits sizes o bounds.rw_start bounds.tls_align) o.tls_nobits all.tls_nobits)
-      (each_of (RowAlign files b) (IsAligned files b) sizes aligned_one (cursor_at bounds.bits_end) o.rw_nobits all.rw_nobits))
+      (All-append (IsAligned files b) _ _ (each_of (RowAlign files b) (IsAligned files b) sizes aligned_one (after_tls_bits sizes o bounds.rw_start bounds.tls_align) (rows_in o TlsNobits) (all TlsNobits))
+      (each_of (RowAlign files b) (IsAligned files b) sizes aligned_one (cursor_at bounds.bits_end) (rows_in o RwNobits) (all RwNobits)))

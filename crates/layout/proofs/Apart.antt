@@ -7,11 +7,11 @@ use Rattle.lk_tables.specs.declared.classes.Class.TheVariants.{R, Rx, TlsBits, T
 use Rattle.link_sections.specs.declared.layouts.Bounds.{Bounds}
 use Rattle.link_sections.specs.Cuts.{Cut}
 use Rattle.link_sections.specs.LaidOut.{OutputSection}
-use Rattle.layout.specs.declared.order.Row.{Row}
+use Rattle.output_sections.specs.declared.rows.Row.{Row}
 use Rattle.layout.specs.declared.walk.Cursor.{Cursor}
-use Rattle.layout.specs.Items.{Item}
+use Rattle.output_sections.specs.Items.{Item}
 use Rattle.layout.specs.Layout.{after_tls_bits, last_end, no_trail, tls_cursor, trail_of, with_bits, with_zeros}
-use Rattle.layout.specs.Order.{Orders}
+use Rattle.output_sections.specs.Order.{Orders, rows_in}
 use Rattle.layout.specs.Spots.{AreApart, AreRising, IsWithinClass, bytes_end, class_end, class_start, is_tls_nobits, without_tls_zeros}
 use Rattle.layout.specs.Walk.{after, cursor_at, end_along, is_empty, past, runs, section_in, section_of, sections_along, start_of}
 use Rattle.layout.proofs.Chain.{AreBounds}
@@ -22,12 +22,12 @@ use Rattle.layout.proofs.Runs.{EachRun, each_run}
 
 -- the output sections of each class, one class after the other
 abbrev pub all_sections : List (List Cut) → List Item → Orders → Bounds → List OutputSection
-all_sections sizes parts o b = sections_along sizes parts R (cursor_at b.headers_end) (runs o.r)
-    ++ (sections_along sizes parts Rx (cursor_at b.rx_start) (runs o.rx)
-    ++ (sections_along sizes parts TlsBits (tls_cursor sizes o b.rw_start b.tls_align) (runs o.tls_bits)
-    ++ (sections_along sizes parts TlsNobits (after_tls_bits sizes o b.rw_start b.tls_align) (runs o.tls_nobits)
-    ++ (sections_along sizes parts RwBits (cursor_at b.tls_bits_end) (runs o.rw_bits)
-    ++ sections_along sizes parts RwNobits (cursor_at b.bits_end) (runs o.rw_nobits)))))
+all_sections sizes parts o b = sections_along sizes parts R (cursor_at b.headers_end) (runs (rows_in o R))
+    ++ (sections_along sizes parts Rx (cursor_at b.rx_start) (runs (rows_in o Rx))
+    ++ (sections_along sizes parts TlsBits (tls_cursor sizes o b.rw_start b.tls_align) (runs (rows_in o TlsBits))
+    ++ (sections_along sizes parts TlsNobits (after_tls_bits sizes o b.rw_start b.tls_align) (runs (rows_in o TlsNobits))
+    ++ (sections_along sizes parts RwBits (cursor_at b.tls_bits_end) (runs (rows_in o RwBits))
+    ++ sections_along sizes parts RwNobits (cursor_at b.bits_end) (runs (rows_in o RwNobits))))))
 
 pub trail_outputs : (sizes : List (List Cut)) (parts : List Item) (o : Orders) (b : Bounds) (sections pools : ℕ)
     → (trail_of sizes parts o b (no_trail sections pools)).outputs ≡ all_sections sizes parts o b
@@ -94,26 +94,26 @@ drop_along sizes parts c (o ∷ os) later =
 pub outputs_apart : (sizes : List (List Cut)) (parts : List Item) (o : Orders) (b : Bounds) → AllFit sizes o → AreBounds sizes o b → AreRising b
     → AreApart b.headers_end (without_tls_zeros (all_sections sizes parts o b))
 outputs_apart sizes parts o b fit is rises =
-    let tn : List OutputSection = sections_along sizes parts TlsNobits (after_tls_bits sizes o b.rw_start b.tls_align) (runs o.tls_nobits) in
-    let wb : List OutputSection = sections_along sizes parts RwBits (cursor_at b.tls_bits_end) (runs o.rw_bits) in
-    let wn : List OutputSection = sections_along sizes parts RwNobits (cursor_at b.bits_end) (runs o.rw_nobits) in
-    let x : List OutputSection = sections_along sizes parts Rx (cursor_at b.rx_start) (runs o.rx) in
-    let tb : List OutputSection = sections_along sizes parts TlsBits (tls_cursor sizes o b.rw_start b.tls_align) (runs o.tls_bits) in
-    let r : List OutputSection = sections_along sizes parts R (cursor_at b.headers_end) (runs o.r) in
+    let tn : List OutputSection = sections_along sizes parts TlsNobits (after_tls_bits sizes o b.rw_start b.tls_align) (runs (rows_in o TlsNobits)) in
+    let wb : List OutputSection = sections_along sizes parts RwBits (cursor_at b.tls_bits_end) (runs (rows_in o RwBits)) in
+    let wn : List OutputSection = sections_along sizes parts RwNobits (cursor_at b.bits_end) (runs (rows_in o RwNobits)) in
+    let x : List OutputSection = sections_along sizes parts Rx (cursor_at b.rx_start) (runs (rows_in o Rx)) in
+    let tb : List OutputSection = sections_along sizes parts TlsBits (tls_cursor sizes o b.rw_start b.tls_align) (runs (rows_in o TlsBits)) in
+    let r : List OutputSection = sections_along sizes parts R (cursor_at b.headers_end) (runs (rows_in o R)) in
     let last : without_tls_zeros wn ≡ wn ++ [] =
-    ap without_tls_zeros (sym (append-nil wn)) ∙ keep_along sizes parts RwNobits (cursor_at b.bits_end) (runs o.rw_nobits) [] refl in
+    ap without_tls_zeros (sym (append-nil wn)) ∙ keep_along sizes parts RwNobits (cursor_at b.bits_end) (runs (rows_in o RwNobits)) [] refl in
     let whole : without_tls_zeros (all_sections sizes parts o b) ≡ r ++ (x ++ (tb ++ (wb ++ (wn ++ [])))) =
-    keep_along sizes parts R (cursor_at b.headers_end) (runs o.r) (x ++ (tb ++ (tn ++ (wb ++ wn)))) refl
-    ∙ ap (λ l. r ++ l) (keep_along sizes parts Rx (cursor_at b.rx_start) (runs o.rx) (tb ++ (tn ++ (wb ++ wn))) refl
-    ∙ ap (λ l. x ++ l) (keep_along sizes parts TlsBits (tls_cursor sizes o b.rw_start b.tls_align) (runs o.tls_bits) (tn ++ (wb ++ wn)) refl
-    ∙ ap (λ l. tb ++ l) (drop_along sizes parts (after_tls_bits sizes o b.rw_start b.tls_align) (runs o.tls_nobits) (wb ++ wn)
-    ∙ keep_along sizes parts RwBits (cursor_at b.tls_bits_end) (runs o.rw_bits) wn refl ∙ ap (λ l. wb ++ l) last))) in
+    keep_along sizes parts R (cursor_at b.headers_end) (runs (rows_in o R)) (x ++ (tb ++ (tn ++ (wb ++ wn)))) refl
+    ∙ ap (λ l. r ++ l) (keep_along sizes parts Rx (cursor_at b.rx_start) (runs (rows_in o Rx)) (tb ++ (tn ++ (wb ++ wn))) refl
+    ∙ ap (λ l. x ++ l) (keep_along sizes parts TlsBits (tls_cursor sizes o b.rw_start b.tls_align) (runs (rows_in o TlsBits)) (tn ++ (wb ++ wn)) refl
+    ∙ ap (λ l. tb ++ l) (drop_along sizes parts (after_tls_bits sizes o b.rw_start b.tls_align) (runs (rows_in o TlsNobits)) (wb ++ wn)
+    ∙ keep_along sizes parts RwBits (cursor_at b.tls_bits_end) (runs (rows_in o RwBits)) wn refl ∙ ap (λ l. wb ++ l) last))) in
     rw whole
-    (along sizes parts R (cursor_at b.headers_end) b.headers_end (runs o.r) _ (omega arith) (each_run (RowFits sizes) o.r fit.r)
-    (λ f a. along sizes parts Rx (cursor_at b.rx_start) f (runs o.rx) _ (omega (arith, a, is.r_end, rises.rx_rounded)) (each_run (RowFits sizes) o.rx fit.rx)
-    (λ f' a'. along sizes parts TlsBits (tls_cursor sizes o b.rw_start b.tls_align) f' (runs o.tls_bits) _ (omega (arith, a', is.rx_end, rises.rw_rounded)) (each_run (RowFits sizes) o.tls_bits fit.tls_bits)
-    (λ f'' a''. along sizes parts RwBits (cursor_at b.tls_bits_end) f'' (runs o.rw_bits) _ (omega (arith, a'', is.tls_bits_end)) (each_run (RowFits sizes) o.rw_bits fit.rw_bits)
-    (λ g c. along sizes parts RwNobits (cursor_at b.bits_end) g (runs o.rw_nobits) [] (omega (arith, c, is.bits_end)) (each_run (RowFits sizes) o.rw_nobits fit.rw_nobits)
+    (along sizes parts R (cursor_at b.headers_end) b.headers_end (runs (rows_in o R)) _ (omega arith) (each_run (RowFits sizes) (rows_in o R) (fit R))
+    (λ f a. along sizes parts Rx (cursor_at b.rx_start) f (runs (rows_in o Rx)) _ (omega (arith, a, is.r_end, rises.rx_rounded)) (each_run (RowFits sizes) (rows_in o Rx) (fit Rx))
+    (λ f' a'. along sizes parts TlsBits (tls_cursor sizes o b.rw_start b.tls_align) f' (runs (rows_in o TlsBits)) _ (omega (arith, a', is.rx_end, rises.rw_rounded)) (each_run (RowFits sizes) (rows_in o TlsBits) (fit TlsBits))
+    (λ f'' a''. along sizes parts RwBits (cursor_at b.tls_bits_end) f'' (runs (rows_in o RwBits)) _ (omega (arith, a'', is.tls_bits_end)) (each_run (RowFits sizes) (rows_in o RwBits) (fit RwBits))
+    (λ g c. along sizes parts RwNobits (cursor_at b.bits_end) g (runs (rows_in o RwNobits)) [] (omega (arith, c, is.bits_end)) (each_run (RowFits sizes) (rows_in o RwNobits) (fit RwNobits))
     (λ _ _. tt))))))
 
 -- within its class
@@ -170,26 +170,26 @@ pub outputs_within : (sizes : List (List Cut)) (parts : List Item) (o : Orders) 
 outputs_within sizes parts o b fit is rises =
     let P : OutputSection → Type 0 = IsWithinClass b in
     let file : b.file_end ≡ last_end o b.r_end b.rx_end b.tls_bits_end b.bits_end = is.file_end in
-    let counts = last_counts (is_empty o.rw_bits) (is_empty o.tls_bits) (is_empty o.rx) b.r_end b.rx_end b.tls_bits_end b.bits_end
+    let counts = last_counts (is_empty (rows_in o RwBits)) (is_empty (rows_in o TlsBits)) (is_empty (rows_in o Rx)) b.r_end b.rx_end b.tls_bits_end b.bits_end
     (omega (arith, rises.rw_rounded, rises.tls_bits)) rises.bits in
     let extra : b.tls_align ≤ ALIGN_MAX = omega (arith, is.tls_align, tls_most sizes o fit) in
     let moves = class_moves sizes o b fit is in
-    let image : b.image_end ≡ (if not (is_empty o.rw_nobits) then b.nobits_end else b.file_end) = is.image_end in
-    let r : All P (sections_along sizes parts R (cursor_at b.headers_end) (runs o.r)) =
-    within_class (is_empty o.r) sizes b parts R (cursor_at b.headers_end) o.r refl (omega arith) (omega arith) (omega (arith, is.r_end)) (λ full. rises.file_least) fit.r in
-    let x : All P (sections_along sizes parts Rx (cursor_at b.rx_start) (runs o.rx)) =
-    within_class (is_empty o.rx) sizes b parts Rx (cursor_at b.rx_start) o.rx refl (omega arith) (omega arith) (omega (arith, is.rx_end))
-    (λ full. omega (arith, file, counts.0 full)) fit.rx in
-    let tb : All P (sections_along sizes parts TlsBits (tls_cursor sizes o b.rw_start b.tls_align) (runs o.tls_bits)) =
-    within_class (is_empty o.tls_bits) sizes b parts TlsBits (tls_cursor sizes o b.rw_start b.tls_align) o.tls_bits refl extra (omega arith) (omega (arith, is.tls_bits_end))
-    (λ full. omega (arith, file, counts.1.0 full)) fit.tls_bits in
-    let tn : All P (sections_along sizes parts TlsNobits (after_tls_bits sizes o b.rw_start b.tls_align) (runs o.tls_nobits)) =
-    within_class (is_empty o.tls_nobits) sizes b parts TlsNobits (after_tls_bits sizes o b.rw_start b.tls_align) o.tls_nobits refl moves.tls_bits.extra
-    (omega (arith, is.tls_bits_end)) (omega (arith, is.tls_end)) (λ full. omega arith) fit.tls_nobits in
-    let wb : All P (sections_along sizes parts RwBits (cursor_at b.tls_bits_end) (runs o.rw_bits)) =
-    within_class (is_empty o.rw_bits) sizes b parts RwBits (cursor_at b.tls_bits_end) o.rw_bits refl (omega arith) (omega arith) (omega (arith, is.bits_end))
-    (λ full. omega (arith, file, counts.1.1 full)) fit.rw_bits in
-    let wn : All P (sections_along sizes parts RwNobits (cursor_at b.bits_end) (runs o.rw_nobits)) =
-    within_class (is_empty o.rw_nobits) sizes b parts RwNobits (cursor_at b.bits_end) o.rw_nobits refl (omega arith) (omega arith) (omega (arith, is.nobits_end))
-    (λ full. omega (arith, image, nobits_by (is_empty o.rw_nobits) b.file_end b.nobits_end full)) fit.rw_nobits in
+    let image : b.image_end ≡ (if not (is_empty (rows_in o RwNobits)) then b.nobits_end else b.file_end) = is.image_end in
+    let r : All P (sections_along sizes parts R (cursor_at b.headers_end) (runs (rows_in o R))) =
+    within_class (is_empty (rows_in o R)) sizes b parts R (cursor_at b.headers_end) (rows_in o R) refl (omega arith) (omega arith) (omega (arith, is.r_end)) (λ full. rises.file_least) (fit R) in
+    let x : All P (sections_along sizes parts Rx (cursor_at b.rx_start) (runs (rows_in o Rx))) =
+    within_class (is_empty (rows_in o Rx)) sizes b parts Rx (cursor_at b.rx_start) (rows_in o Rx) refl (omega arith) (omega arith) (omega (arith, is.rx_end))
+    (λ full. omega (arith, file, counts.0 full)) (fit Rx) in
+    let tb : All P (sections_along sizes parts TlsBits (tls_cursor sizes o b.rw_start b.tls_align) (runs (rows_in o TlsBits))) =
+    within_class (is_empty (rows_in o TlsBits)) sizes b parts TlsBits (tls_cursor sizes o b.rw_start b.tls_align) (rows_in o TlsBits) refl extra (omega arith) (omega (arith, is.tls_bits_end))
+    (λ full. omega (arith, file, counts.1.0 full)) (fit TlsBits) in
+    let tn : All P (sections_along sizes parts TlsNobits (after_tls_bits sizes o b.rw_start b.tls_align) (runs (rows_in o TlsNobits))) =
+    within_class (is_empty (rows_in o TlsNobits)) sizes b parts TlsNobits (after_tls_bits sizes o b.rw_start b.tls_align) (rows_in o TlsNobits) refl moves.tls_bits.extra
+    (omega (arith, is.tls_bits_end)) (omega (arith, is.tls_end)) (λ full. omega arith) (fit TlsNobits) in
+    let wb : All P (sections_along sizes parts RwBits (cursor_at b.tls_bits_end) (runs (rows_in o RwBits))) =
+    within_class (is_empty (rows_in o RwBits)) sizes b parts RwBits (cursor_at b.tls_bits_end) (rows_in o RwBits) refl (omega arith) (omega arith) (omega (arith, is.bits_end))
+    (λ full. omega (arith, file, counts.1.1 full)) (fit RwBits) in
+    let wn : All P (sections_along sizes parts RwNobits (cursor_at b.bits_end) (runs (rows_in o RwNobits))) =
+    within_class (is_empty (rows_in o RwNobits)) sizes b parts RwNobits (cursor_at b.bits_end) (rows_in o RwNobits) refl (omega arith) (omega arith) (omega (arith, is.nobits_end))
+    (λ full. omega (arith, image, nobits_by (is_empty (rows_in o RwNobits)) b.file_end b.nobits_end full)) (fit RwNobits) in
     All-append P _ _ r (All-append P _ _ x (All-append P _ _ tb (All-append P _ _ tn (All-append P _ _ wb wn))))

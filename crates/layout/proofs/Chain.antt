@@ -5,7 +5,8 @@ use Rattle.lk_base.specs.Arithmetic.{up}
 use Rattle.link_sections.specs.declared.layouts.Bounds.{Bounds}
 use Rattle.link_sections.specs.Cuts.{Cut}
 use Rattle.layout.specs.declared.walk.Cursor.{Cursor}
-use Rattle.layout.specs.Order.{Orders}
+use Rattle.lk_tables.specs.declared.classes.Class.TheVariants.{R, Rx, TlsNobits, RwBits, RwNobits}
+use Rattle.output_sections.specs.Order.{Orders, rows_in}
 use Rattle.layout.specs.Walk.{cursor_at, end_along, is_empty, runs}
 use Rattle.layout.specs.Layout.{after_tls_bits, bits_end_of, bounds_of, file_end_of, has_rw, has_rx, has_tls, has_tls_bits, headers_end_of, headers_of, image_end_of, last_end, nobits_end_of, r_end_of, rw_start_of, rx_end_of, rx_start_of, tls_align_of, tls_bits_end_of, tls_end_of, tls_start_of}
 
@@ -17,18 +18,18 @@ pub record AreBounds (sizes : List (List Cut)) (o : Orders) (b : Bounds) : Type 
   pub tls_bits_is : b.has_tls_bits ≡ has_tls_bits o
   pub headers : b.headers ≡ headers_of o
   pub headers_end : b.headers_end ≡ IMAGE_BASE + (EHDR_SIZE + PHDR_SIZE * b.headers)
-  pub r_end : b.r_end ≡ (end_along sizes (cursor_at b.headers_end) (runs o.r)).at
+  pub r_end : b.r_end ≡ (end_along sizes (cursor_at b.headers_end) (runs (rows_in o R))).at
   pub rx_start : b.rx_start ≡ up b.r_end PAGE
-  pub rx_end : b.rx_end ≡ (end_along sizes (cursor_at b.rx_start) (runs o.rx)).at
+  pub rx_end : b.rx_end ≡ (end_along sizes (cursor_at b.rx_start) (runs (rows_in o Rx))).at
   pub rw_start : b.rw_start ≡ up b.rx_end PAGE
   pub tls_align : b.tls_align ≡ tls_align_of o
   pub tls_start : b.tls_start ≡ (if has_tls o then up b.rw_start b.tls_align else 0)
   pub tls_bits_end : b.tls_bits_end ≡ (after_tls_bits sizes o b.rw_start b.tls_align).at
-  pub tls_end : b.tls_end ≡ (end_along sizes (after_tls_bits sizes o b.rw_start b.tls_align) (runs o.tls_nobits)).at
-  pub bits_end : b.bits_end ≡ (end_along sizes (cursor_at b.tls_bits_end) (runs o.rw_bits)).at
-  pub nobits_end : b.nobits_end ≡ (end_along sizes (cursor_at b.bits_end) (runs o.rw_nobits)).at
+  pub tls_end : b.tls_end ≡ (end_along sizes (after_tls_bits sizes o b.rw_start b.tls_align) (runs (rows_in o TlsNobits))).at
+  pub bits_end : b.bits_end ≡ (end_along sizes (cursor_at b.tls_bits_end) (runs (rows_in o RwBits))).at
+  pub nobits_end : b.nobits_end ≡ (end_along sizes (cursor_at b.bits_end) (runs (rows_in o RwNobits))).at
   pub file_end : b.file_end ≡ last_end o b.r_end b.rx_end b.tls_bits_end b.bits_end
-  pub image_end : b.image_end ≡ (if not (is_empty o.rw_nobits) then b.nobits_end else b.file_end)
+  pub image_end : b.image_end ≡ (if not (is_empty (rows_in o RwNobits)) then b.nobits_end else b.file_end)
 
 pub bounds_are : (sizes : List (List Cut)) (o : Orders) → AreBounds sizes o (bounds_of sizes o)
 unfolding bounds_of headers_end_of r_end_of rx_start_of rx_end_of rw_start_of tls_start_of tls_bits_end_of tls_end_of bits_end_of nobits_end_of file_end_of image_end_of
@@ -67,9 +68,9 @@ bounds_is sizes o b is =
     let k = bounds_are sizes o in
     let headers : b.headers ≡ a.headers = is.headers ∙ sym k.headers in
     let headers_end : b.headers_end ≡ a.headers_end = is.headers_end ∙ ap (λ x. IMAGE_BASE + (EHDR_SIZE + PHDR_SIZE * x)) headers ∙ sym k.headers_end in
-    let r_end : b.r_end ≡ a.r_end = is.r_end ∙ ap (λ x. (end_along sizes (cursor_at x) (runs o.r)).at) headers_end ∙ sym k.r_end in
+    let r_end : b.r_end ≡ a.r_end = is.r_end ∙ ap (λ x. (end_along sizes (cursor_at x) (runs (rows_in o R))).at) headers_end ∙ sym k.r_end in
     let rx_start : b.rx_start ≡ a.rx_start = is.rx_start ∙ ap (λ x. up x PAGE) r_end ∙ sym k.rx_start in
-    let rx_end : b.rx_end ≡ a.rx_end = is.rx_end ∙ ap (λ x. (end_along sizes (cursor_at x) (runs o.rx)).at) rx_start ∙ sym k.rx_end in
+    let rx_end : b.rx_end ≡ a.rx_end = is.rx_end ∙ ap (λ x. (end_along sizes (cursor_at x) (runs (rows_in o Rx))).at) rx_start ∙ sym k.rx_end in
     let rw_start : b.rw_start ≡ a.rw_start = is.rw_start ∙ ap (λ x. up x PAGE) rx_end ∙ sym k.rw_start in
     let tls_align : b.tls_align ≡ a.tls_align = is.tls_align ∙ sym k.tls_align in
     let tls_start : b.tls_start ≡ a.tls_start = is.tls_start ∙ ap (λ x. if has_tls o then up x b.tls_align else 0) rw_start
@@ -77,13 +78,13 @@ bounds_is sizes o b is =
     let after_bits : after_tls_bits sizes o b.rw_start b.tls_align ≡ after_tls_bits sizes o a.rw_start a.tls_align =
     ap (λ x. after_tls_bits sizes o x b.tls_align) rw_start ∙ ap (λ x. after_tls_bits sizes o a.rw_start x) tls_align in
     let tls_bits_end : b.tls_bits_end ≡ a.tls_bits_end = is.tls_bits_end ∙ ap (λ (x : Cursor). x.at) after_bits ∙ sym k.tls_bits_end in
-    let tls_end : b.tls_end ≡ a.tls_end = is.tls_end ∙ ap (λ x. (end_along sizes x (runs o.tls_nobits)).at) after_bits ∙ sym k.tls_end in
-    let bits_end : b.bits_end ≡ a.bits_end = is.bits_end ∙ ap (λ x. (end_along sizes (cursor_at x) (runs o.rw_bits)).at) tls_bits_end ∙ sym k.bits_end in
-    let nobits_end : b.nobits_end ≡ a.nobits_end = is.nobits_end ∙ ap (λ x. (end_along sizes (cursor_at x) (runs o.rw_nobits)).at) bits_end ∙ sym k.nobits_end in
+    let tls_end : b.tls_end ≡ a.tls_end = is.tls_end ∙ ap (λ x. (end_along sizes x (runs (rows_in o TlsNobits))).at) after_bits ∙ sym k.tls_end in
+    let bits_end : b.bits_end ≡ a.bits_end = is.bits_end ∙ ap (λ x. (end_along sizes (cursor_at x) (runs (rows_in o RwBits))).at) tls_bits_end ∙ sym k.bits_end in
+    let nobits_end : b.nobits_end ≡ a.nobits_end = is.nobits_end ∙ ap (λ x. (end_along sizes (cursor_at x) (runs (rows_in o RwNobits))).at) bits_end ∙ sym k.nobits_end in
     let file_end : b.file_end ≡ a.file_end = is.file_end ∙ ap (λ x. last_end o x b.rx_end b.tls_bits_end b.bits_end) r_end
     ∙ ap (λ x. last_end o a.r_end x b.tls_bits_end b.bits_end) rx_end ∙ ap (λ x. last_end o a.r_end a.rx_end x b.bits_end) tls_bits_end
     ∙ ap (λ x. last_end o a.r_end a.rx_end a.tls_bits_end x) bits_end ∙ sym k.file_end in
-    let image_end : b.image_end ≡ a.image_end = is.image_end ∙ ap (λ x. if not (is_empty o.rw_nobits) then x else b.file_end) nobits_end
-    ∙ ap (λ x. if not (is_empty o.rw_nobits) then a.nobits_end else x) file_end ∙ sym k.image_end in
+    let image_end : b.image_end ≡ a.image_end = is.image_end ∙ ap (λ x. if not (is_empty (rows_in o RwNobits)) then x else b.file_end) nobits_end
+    ∙ ap (λ x. if not (is_empty (rows_in o RwNobits)) then a.nobits_end else x) file_end ∙ sym k.image_end in
     same_bounds b a (is.rx_is ∙ sym k.rx_is) (is.rw_is ∙ sym k.rw_is) (is.tls_is ∙ sym k.tls_is) (is.tls_bits_is ∙ sym k.tls_bits_is) headers headers_end r_end rx_start
     rx_end rw_start tls_start tls_bits_end tls_end tls_align bits_end nobits_end file_end image_end

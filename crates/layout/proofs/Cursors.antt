@@ -7,7 +7,7 @@ use Rattle.lk_base.specs.declared.abi.TheConstants.{ALIGN_MAX}
 use Rattle.lk_base.specs.Arithmetic.{up}
 use Rattle.lk_base.proofs.Multiples.{up_below, up_least}
 use Rattle.link_sections.specs.Cuts.{Cut}
-use Rattle.layout.specs.declared.order.Row.{Row}
+use Rattle.output_sections.specs.declared.rows.Row.{Row}
 use Rattle.layout.specs.declared.walk.Cursor.{Cursor}
 use Rattle.layout.specs.Walk.{after, beside, cursor_at, end_along, greatest, is_empty, past, runs, size_at, start_of, weight}
 use Rattle.layout.proofs.Runs.{EachRun}

@@ -7,10 +7,11 @@ use Rattle.lk_base.specs.declared.abi.TheConstants.{ALIGN_MAX}
 use Rattle.link_sections.specs.declared.layouts.Bounds.{Bounds}
 use Rattle.link_sections.specs.declared.members.Member.{Member}
 use Rattle.link_sections.specs.Cuts.{Cut}
-use Rattle.layout.specs.declared.order.Row.{Row}
+use Rattle.lk_tables.specs.declared.classes.Class.TheVariants.{R, Rx, TlsBits, RwBits}
+use Rattle.output_sections.specs.declared.rows.Row.{Row}
 use Rattle.layout.specs.declared.walk.Cursor.{Cursor}
 use Rattle.layout.specs.Layout.{last_end, tls_cursor}
-use Rattle.layout.specs.Order.{Orders}
+use Rattle.output_sections.specs.Order.{Orders, rows_in}
 use Rattle.layout.specs.Spots.{AreInOrder, AreRising}
 use Rattle.layout.specs.Walk.{after, cursor_at, end_along, is_empty, members_along, members_in, runs}
 use Rattle.layout.proofs.Chain.{AreBounds}
@@ -73,30 +74,30 @@ pub members_inside : (sizes : List (List Cut)) (o : Orders) (b : Bounds) → All
 members_inside sizes o b fit is up =
     let P : Member → Type 0 = Within b.headers_end b.file_end in
     let file : b.file_end ≡ last_end o b.r_end b.rx_end b.tls_bits_end b.bits_end = is.file_end in
-    let counts = last_counts (is_empty o.rw_bits) (is_empty o.tls_bits) (is_empty o.rx) b.r_end b.rx_end b.tls_bits_end b.bits_end
+    let counts = last_counts (is_empty (rows_in o RwBits)) (is_empty (rows_in o TlsBits)) (is_empty (rows_in o Rx)) b.r_end b.rx_end b.tls_bits_end b.bits_end
     (omega (arith, up.rw_rounded, up.tls_bits)) up.bits in
     let extra : b.tls_align ≤ ALIGN_MAX = omega (arith, is.tls_align, tls_most sizes o fit) in
-    let r = in_class (is_empty o.r) sizes b.headers_end b.file_end (cursor_at b.headers_end) o.r refl (omega arith) (omega arith)
-    (λ some. omega (arith, is.r_end, up.file_least)) fit.r in
-    let x = in_class (is_empty o.rx) sizes b.headers_end b.file_end (cursor_at b.rx_start) o.rx refl (omega arith) (omega (arith, up.r, up.rx_rounded))
-    (λ some. omega (arith, is.rx_end, file, counts.0 some)) fit.rx in
-    let t = in_class (is_empty o.tls_bits) sizes b.headers_end b.file_end (tls_cursor sizes o b.rw_start b.tls_align) o.tls_bits refl extra
-    (omega (arith, up.r, up.rx_rounded, up.rx, up.rw_rounded)) (λ some. omega (arith, is.tls_bits_end, file, counts.1.0 some)) fit.tls_bits in
-    let w = in_class (is_empty o.rw_bits) sizes b.headers_end b.file_end (cursor_at b.tls_bits_end) o.rw_bits refl (omega arith)
-    (omega (arith, up.r, up.rx_rounded, up.rx, up.rw_rounded, up.tls_bits)) (λ some. omega (arith, is.bits_end, file, counts.1.1 some)) fit.rw_bits in
+    let r = in_class (is_empty (rows_in o R)) sizes b.headers_end b.file_end (cursor_at b.headers_end) (rows_in o R) refl (omega arith) (omega arith)
+    (λ some. omega (arith, is.r_end, up.file_least)) (fit R) in
+    let x = in_class (is_empty (rows_in o Rx)) sizes b.headers_end b.file_end (cursor_at b.rx_start) (rows_in o Rx) refl (omega arith) (omega (arith, up.r, up.rx_rounded))
+    (λ some. omega (arith, is.rx_end, file, counts.0 some)) (fit Rx) in
+    let t = in_class (is_empty (rows_in o TlsBits)) sizes b.headers_end b.file_end (tls_cursor sizes o b.rw_start b.tls_align) (rows_in o TlsBits) refl extra
+    (omega (arith, up.r, up.rx_rounded, up.rx, up.rw_rounded)) (λ some. omega (arith, is.tls_bits_end, file, counts.1.0 some)) (fit TlsBits) in
+    let w = in_class (is_empty (rows_in o RwBits)) sizes b.headers_end b.file_end (cursor_at b.tls_bits_end) (rows_in o RwBits) refl (omega arith)
+    (omega (arith, up.r, up.rx_rounded, up.rx, up.rw_rounded, up.tls_bits)) (λ some. omega (arith, is.bits_end, file, counts.1.1 some)) (fit RwBits) in
     All-append P _ _ r (All-append P _ _ x (All-append P _ _ t w))
 
 pub members_order : (sizes : List (List Cut)) (o : Orders) (b : Bounds) → AllFit sizes o → AreBounds sizes o b → AreRising b → AreInOrder b.headers_end (all_members sizes o b)
 members_order sizes o b fit is up =
-    let w : List Member = members_along sizes (cursor_at b.tls_bits_end) (runs o.rw_bits) in
-    let chain : AreInOrder b.headers_end (members_along sizes (cursor_at b.headers_end) (runs o.r)
-    ++ (members_along sizes (cursor_at b.rx_start) (runs o.rx)
-    ++ (members_along sizes (tls_cursor sizes o b.rw_start b.tls_align) (runs o.tls_bits)
+    let w : List Member = members_along sizes (cursor_at b.tls_bits_end) (runs (rows_in o RwBits)) in
+    let chain : AreInOrder b.headers_end (members_along sizes (cursor_at b.headers_end) (runs (rows_in o R))
+    ++ (members_along sizes (cursor_at b.rx_start) (runs (rows_in o Rx))
+    ++ (members_along sizes (tls_cursor sizes o b.rw_start b.tls_align) (runs (rows_in o TlsBits))
     ++ (w ++ [])))) =
-    order_along sizes b.headers_end (cursor_at b.headers_end) (runs o.r) _ (omega arith) (each_run (RowFits sizes) o.r fit.r)
-    (λ f r. order_along sizes f (cursor_at b.rx_start) (runs o.rx) _ (omega (arith, r, is.r_end, up.rx_rounded)) (each_run (RowFits sizes) o.rx fit.rx)
-    (λ f' x. order_along sizes f' (tls_cursor sizes o b.rw_start b.tls_align) (runs o.tls_bits) _ (omega (arith, x, is.rx_end, up.rw_rounded)) (each_run (RowFits sizes) o.tls_bits fit.tls_bits)
-    (λ f'' t. order_along sizes f'' (cursor_at b.tls_bits_end) (runs o.rw_bits) [] (omega (arith, t, is.tls_bits_end)) (each_run (RowFits sizes) o.rw_bits fit.rw_bits)
+    order_along sizes b.headers_end (cursor_at b.headers_end) (runs (rows_in o R)) _ (omega arith) (each_run (RowFits sizes) (rows_in o R) (fit R))
+    (λ f r. order_along sizes f (cursor_at b.rx_start) (runs (rows_in o Rx)) _ (omega (arith, r, is.r_end, up.rx_rounded)) (each_run (RowFits sizes) (rows_in o Rx) (fit Rx))
+    (λ f' x. order_along sizes f' (tls_cursor sizes o b.rw_start b.tls_align) (runs (rows_in o TlsBits)) _ (omega (arith, x, is.rx_end, up.rw_rounded)) (each_run (RowFits sizes) (rows_in o TlsBits) (fit TlsBits))
+    (λ f'' t. order_along sizes f'' (cursor_at b.tls_bits_end) (runs (rows_in o RwBits)) [] (omega (arith, t, is.tls_bits_end)) (each_run (RowFits sizes) (rows_in o RwBits) (fit RwBits))
     (λ _ _. tt)))) in
     rw (append-nil w) at chain
 

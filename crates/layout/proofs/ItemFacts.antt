@@ -1,107 +1,21 @@
--- What is known of each item of a link, and so of each row.
-use Rattle.std.proofs.Common.{◌≡◌, ℕ, zero, suc, ◌+◌, ◌*◌, ◌≤◌, ◌<◌, ◌==◌, Bool, true, false, if◌then◌else◌, Option, Some, None, List, [], ◌∷◌, length, flat_map, get_or, All, refl, ap, ◌∙◌, sym, arith}
-use Rattle.std.specs.List.{range_with_len}
-use Rattle.std.proofs.lemmas.Bool.Decides.{nat_tests}
-use Rattle.std.proofs.lemmas.List.Elements.{All-nil, All-cons, All-append}
+-- What is known of each item of a link, as the walk takes it, and so of each row.
+use Rattle.std.proofs.Common.{◌≡◌, ℕ, ◌+◌, ◌*◌, ◌≤◌, Option, List, [], ◌∷◌, length, get_or, All, refl, arith}
+use Rattle.std.specs.List.{sum_by}
+use Rattle.std.proofs.lemmas.List.Sums.{sum_by-cons}
+use Rattle.lk_base.specs.declared.abi.TheConstants.{ALIGN_MAX}
 use Rattle.lk_tables.specs.Binding.{Bindings}
 use Rattle.lk_tables.specs.Files.{File, section_total}
 use Rattle.lk_tables.specs.declared.classes.Class.{Class}
 use Rattle.lk_tables.specs.declared.classes.Class.TheVariants.{R, Rx, TlsBits, TlsNobits, RwBits, RwNobits}
-use Rattle.link_sections.specs.declared.members.Content.{Content}
-use Rattle.link_sections.specs.declared.members.Content.TheVariants.{Section, Pool as IsPool, Got}
 use Rattle.link_sections.specs.declared.pools.Pool.{Pool}
 use Rattle.link_sections.specs.Cuts.{Cut}
-use Rattle.link_sections.specs.InputSections.{InputSection, input_at}
-use Rattle.link_sections.specs.Leaders.{is_number, leader_at, leads}
-use Rattle.layout.specs.declared.order.Head.{Head}
-use Rattle.layout.specs.declared.order.Row.{Row}
-use Rattle.layout.specs.Items.{AreLeaders, IsSized, IsStaying, Item, got_item, items, items_at, own_item, pool_at, pool_item, section_item}
-use Rattle.layout.specs.Layout.{AreReady, FitSizes, IsThere}
-use Rattle.layout.specs.Order.{Orders, orders_of, row_in}
+use Rattle.output_sections.specs.declared.heads.Head.{Head}
+use Rattle.output_sections.specs.Items.{AreLeaders, IsSized, Item, items}
+use Rattle.output_sections.specs.Order.{orders_of, row_in, rows_in}
+use Rattle.output_sections.proofs.ClassSums.{each_class, orders_sum}
+use Rattle.output_sections.proofs.ItemFacts.{IsOf, items_are, stays_of}
+use Rattle.layout.specs.Layout.{AreReady, FitSizes, IsThere, all_weight}
 use Rattle.layout.specs.Walk.{IsReady}
-use Rattle.layout.proofs.ClassSums.{all_order}
-
--- the contents differ
-abbrev number_in : Content → ℕ
-number_in (Section n) = n
-number_in (IsPool p) = p
-number_in Got = 0
-
-pub same_section : (n m : ℕ) → Section n ≡ Section m → n ≡ m
-same_section n m is = ap number_in is
-
-same_pool : (p q : ℕ) → IsPool p ≡ IsPool q → p ≡ q
-same_pool p q is = ap number_in is
-
-pub all_flat : (P : Item → Type 0) (f : ℕ → List Item) (a n : ℕ) → ((k : ℕ) → All P (f k)) → All P (flat_map f (range_with_len a n))
-all_flat P f a zero each = All-nil P
-all_flat P f a (suc n) each = All-append P (f a) (flat_map f (range_with_len (a + 1) n)) (each a) (all_flat P f (a + 1) n each)
-
--- an item is a section that leads itself, with its size, a pool that is there, with its size, or the table
-pub record IsOfLink (files : List File) (b : Bindings) (pools : List Pool) (words : ℕ) (leaders : List (Option ℕ)) (content : Content) (size : ℕ) : Type 0 where
-  pub leads_is : (n : ℕ) → content ≡ Section n → leads leaders n ≡ true
-  pub sized : (n : ℕ) → content ≡ Section n → size ≡ (input_at files b n).size
-  pub pool : (p : ℕ) → content ≡ IsPool p → p < length pools
-  pub pooled : (p : ℕ) → content ≡ IsPool p → (d : Pool) → size ≡ (get_or pools p d).size
-  pub table : content ≡ Got → size ≡ 8 * words
-
-module _ (files : List File) (b : Bindings) (pools : List Pool) (words : ℕ) (leaders : List (Option ℕ)) where
-  abbrev pub IsOf : Item → Type 0
-  IsOf item = IsOfLink files b pools words leaders item.content item.size
-
-  own_is : (n : ℕ) → All IsOf (own_item leaders n (input_at files b n))
-  unfolding own_item
-  own_is n = by (leads leaders n) refl
-    where
-      by : (t : Bool) → leads leaders n ≡ t → All IsOf (if t then section_item n (input_at files b n) ∷ [] else [])
-      by true is = All-cons IsOf (section_item n (input_at files b n)) [] (record {
-        leads_is = λ m same. ap (leads leaders) (sym (same_section n m same)) ∙ is;
-        sized = λ m same. ap (λ k. (input_at files b k).size) (same_section n m same);
-        pool = λ p same. cc;
-        pooled = λ p same d. cc;
-        table = λ same. cc;
-      }) (All-nil IsOf)
-      by false is = All-nil IsOf
-
-  pool_is : (p : ℕ) (rest : List Pool) (n : ℕ) (s : InputSection) → p + length rest ≤ length pools → ((i : ℕ) (d : Pool) → i < length rest → get_or rest i d ≡ get_or pools (p + i) d)
-      → All IsOf (pool_at p rest n s)
-  unfolding pool_at
-  pool_is p [] n s le those = All-nil IsOf
-  pool_is p (pool ∷ rest) n s le those =
-      by (pool.first == n) (pool_is (p + 1) rest n s (omega (arith, le))
-      (λ i d lt. let e : p + suc i ≡ (p + 1) + i = omega arith in those (suc i) d (omega (arith, lt)) ∙ ap (λ k. get_or pools k d) e))
-    where
-      by : (t : Bool) → All IsOf (pool_at (p + 1) rest n s) → All IsOf (if t then pool_item p pool.size s ∷ [] else pool_at (p + 1) rest n s)
-      by true later = All-cons IsOf (pool_item p pool.size s) [] (record {
-        leads_is = λ m same. cc;
-        sized = λ m same. cc;
-        pool = λ q same. let e : p ≡ q = same_pool p q same in omega (arith, e, le);
-        pooled = λ q same d. let e : p + 0 ≡ q = omega (arith, same_pool p q same) in ap (λ (x : Pool). x.size) (those 0 d (omega arith) ∙ ap (λ k. get_or pools k d) e);
-        table = λ same. cc;
-      }) (All-nil IsOf)
-      by false later = later
-
-  at_is : (n : ℕ) → All IsOf (items_at files b pools leaders n)
-  unfolding items_at
-  at_is n =
-      All-append IsOf (own_item leaders n (input_at files b n)) (pool_at 0 pools n (input_at files b n))
-      (own_is n) (pool_is 0 pools n (input_at files b n) (omega arith) (λ i d lt. let e : i ≡ 0 + i = omega arith in ap (λ k. get_or pools k d) e))
-
-  pub items_are : All IsOf (items files b pools words leaders)
-  unfolding items
-  items_are =
-      All-append IsOf (flat_map (items_at files b pools leaders) (range_with_len 0 (section_total files))) (got_item words ∷ [])
-      (all_flat IsOf (items_at files b pools leaders) 0 (section_total files) at_is)
-      (All-cons IsOf (got_item words) [] (record { leads_is = λ m same. cc; sized = λ m same. cc; pool = λ q same. cc; pooled = λ q same d. cc; table = λ same. refl })
-      (All-nil IsOf))
-
--- a section that leads itself may stay
-leader_is : (l : Option ℕ) (n : ℕ) → is_number l n ≡ true → l ≡ Some n
-leader_is None n is = cc
-leader_is (Some m) n is = let same : m ≡ n = grind (arith, nat_tests) in ap (λ k. Some k) same
-
-pub stays_of : (files : List File) (b : Bindings) (leaders : List (Option ℕ)) (n : ℕ) → AreLeaders files b leaders → leads leaders n ≡ true → IsStaying files b n
-stays_of files b leaders n are is = are.stay n n (leader_is (leader_at leaders n) n is)
 
 -- rows as the walk takes them
 row_ready : (sizes : List (List Cut)) (sections pools : ℕ) (class : Class) (h : Head) (number : ℕ) (item : Item) → IsThere sizes sections pools item → IsSized item
@@ -118,34 +32,14 @@ row_ready sizes sections pools class h number item there sized = record {
 both : (P Q : Item → Type 0) (list : List Item) → All P list → All Q list → All (λ item. P item × Q item) list
 both P Q list one other = λ k d lt. (one k d lt, other k d lt)
 
--- what holds of the row of each item holds of the rows of each class
-pub record EachClass (P : Row → Type 0) (o : Orders) : Type 0 where
-  pub r : All P o.r
-  pub rx : All P o.rx
-  pub tls_bits : All P o.tls_bits
-  pub tls_nobits : All P o.tls_nobits
-  pub rw_bits : All P o.rw_bits
-  pub rw_nobits : All P o.rw_nobits
-
-pub each_class : (P : Row → Type 0) (Q : Item → Type 0) (list : List Item) → ((class : Class) (h : Head) (n : ℕ) (item : Item) → Q item → P (row_in class h n item))
-    → All Q list → EachClass P (orders_of list)
-unfolding orders_of
-each_class P Q list each all = record {
-  r = all_order P Q R list (each R) all;
-  rx = all_order P Q Rx list (each Rx) all;
-  tls_bits = all_order P Q TlsBits list (each TlsBits) all;
-  tls_nobits = all_order P Q TlsNobits list (each TlsNobits) all;
-  rw_bits = all_order P Q RwBits list (each RwBits) all;
-  rw_nobits = all_order P Q RwNobits list (each RwNobits) all;
-}
-
 pub ready_rows : (sizes : List (List Cut)) (sections pools : ℕ) (list : List Item) → All (IsThere sizes sections pools) list → All IsSized list
     → AreReady sizes sections pools (orders_of list)
 ready_rows sizes sections pools list there sized =
     let Q : Item → Type 0 = λ item. IsThere sizes sections pools item × IsSized item in
-    let all = each_class (IsReady sizes sections pools) Q list (λ class h n item q. row_ready sizes sections pools class h n item q.0 q.1)
+    let all : (class : Class) → All (IsReady sizes sections pools) (rows_in (orders_of list) class) =
+    each_class (IsReady sizes sections pools) Q list (λ class h n item q. row_ready sizes sections pools class h n item q.0 q.1)
     (both (IsThere sizes sections pools) IsSized list there sized) in
-    record { r = all.r; rx = all.rx; tls_bits = all.tls_bits; tls_nobits = all.tls_nobits; rw_bits = all.rw_bits; rw_nobits = all.rw_nobits }
+    record { r = all R; rx = all Rx; tls_bits = all TlsBits; tls_nobits = all TlsNobits; rw_bits = all RwBits; rw_nobits = all RwNobits }
 
 -- the items of a link are there
 one_there : (files : List File) (b : Bindings) (pools : List Pool) (words : ℕ) (leaders : List (Option ℕ)) (sizes : List (List Cut)) (item : Item) → AreLeaders files b leaders
@@ -166,3 +60,18 @@ pub ready_of : (files : List File) (b : Bindings) (pools : List Pool) (words : �
     → AreReady sizes (section_total files) (length pools) (orders_of (items files b pools words leaders))
 ready_of files b pools words leaders sizes are fit sized =
     ready_rows sizes (section_total files) (length pools) (items files b pools words leaders) (there_of files b pools words leaders sizes are fit) sized
+
+-- the room that all rows take
+weigh_row : (class : Class) (h : Head) (n : ℕ) (item : Item) → 3 * (row_in class h n item).size + 2 * ALIGN_MAX ≡ 3 * item.size + 2 * ALIGN_MAX
+unfolding row_in
+weigh_row class h n item = refl
+
+weigh_items : (items : List Item) → sum_by (λ item. 3 * item.size + 2 * ALIGN_MAX) items ≡ 3 * sum_by (λ item. item.size) items + length items * (2 * ALIGN_MAX)
+weigh_items [] = refl
+weigh_items (item ∷ items) =
+    omega (arith, weigh_items items, sum_by-cons (λ (i : Item). 3 * i.size + 2 * ALIGN_MAX) item items, sum_by-cons (λ (i : Item). i.size) item items)
+
+pub weight_most : (items : List Item) → all_weight (orders_of items) ≤ 3 * sum_by (λ item. item.size) items + length items * (2 * ALIGN_MAX)
+weight_most items =
+    let most = orders_sum (λ row. 3 * row.size + 2 * ALIGN_MAX) (λ item. 3 * item.size + 2 * ALIGN_MAX) items weigh_row in
+    omega (arith, most, weigh_items items)

@@ -15,15 +15,15 @@ use Rattle.link_sections.specs.declared.sizes.Sizes.{Sizes}
 use Rattle.link_sections.specs.Cuts.{AreApart, Cut}
 use Rattle.link_sections.specs.LaidOut.{LaidOut, layout_view}
 use Rattle.link_sections.specs.SizesView.{sizes_of}
-use Rattle.layout.specs.declared.items.Item.{Item as HeldItem}
+use Rattle.output_sections.specs.declared.items.Item.{Item as HeldItem}
 use Rattle.layout.specs.declared.placing.Walked.{Walked}
-use Rattle.layout.specs.Items.{Item, items}
-use Rattle.layout.specs.ItemViews.{item_view, items_view}
+use Rattle.output_sections.specs.Items.{Item, items}
+use Rattle.output_sections.specs.ItemViews.{item_view, items_view}
 use Rattle.layout.specs.Layout.{AreReady, Trail, all_cuts, all_weight, bounds_of, cut_defects, laid_by, laid_of, layout_defects, layout_of, limit_defects, no_trail, trail_of, trail_view}
-use Rattle.layout.specs.Order.{Orders, orders_of}
+use Rattle.output_sections.specs.Order.{Orders, orders_of}
 use Rattle.layout.specs.Walk.{stands_view}
 use Rattle.layout.proofs.Chain.{AreBounds, bounds_are}
-use Rattle.layout.proofs.ClassSums.{weight_most}
+use Rattle.layout.proofs.ItemFacts.{weight_most}
 use Rattle.layout.proofs.Rising.{AllFit, all_fit, rising}
 use Rattle.layout.proofs.Trails.{trail_low}
 

@@ -21,14 +21,14 @@ use Rattle.link_sections.specs.InputSections.{InputSection, input_at}
 use Rattle.link_sections.specs.Leaders.{leads}
 use Rattle.link_sections.specs.Pools.{AreRising}
 use Rattle.link_sections.specs.Sound.{is_listed, is_pool, is_section, is_table}
-use Rattle.layout.specs.declared.order.Head.{Head}
-use Rattle.layout.specs.declared.order.Row.{Row}
+use Rattle.output_sections.specs.declared.heads.Head.{Head}
+use Rattle.output_sections.specs.declared.rows.Row.{Row}
 use Rattle.layout.specs.declared.walk.Cursor.{Cursor}
-use Rattle.layout.specs.Items.{Item, got_item, items, items_at, own_item, pool_at, pool_item, section_item}
+use Rattle.output_sections.specs.Items.{Item, got_item, items, items_at, own_item, pool_at, pool_item, section_item}
 use Rattle.layout.specs.Layout.{tls_cursor}
-use Rattle.layout.specs.Order.{Orders, head_of, is_of, key_of, order_of, orders_of, own_row, row_in, rows_from, rows_of}
+use Rattle.output_sections.specs.Order.{Orders, head_of, is_of, key_of, order_of, orders_of, own_row, row_in, rows_from, rows_of, rows_in}
 use Rattle.layout.specs.Walk.{after, beside, cursor_at, is_empty, members_along, members_from, members_in, runs, size_at, start_of}
-use Rattle.layout.proofs.NextPool.{pool_here}
+use Rattle.output_sections.proofs.NextPool.{pool_here}
 use Rattle.layout.proofs.Trails.{all_members}
 
 or_left : (a b : Bool) → a ≡ true → (a || b) ≡ true
@@ -238,17 +238,17 @@ is_member test list sizes bounds sh_type flags bits listed =
     let of : Member → Bool = λ m. test m.content in
     let rows : (class : Class) → is_in class sh_type flags ≡ true → list_any (row_has test) (order_of class list) ≡ true =
     λ class is. order_listed test class list (listed class is) in
-    let r : List Member = members_along sizes (cursor_at bounds.headers_end) (runs o.r) in
-    let x : List Member = members_along sizes (cursor_at bounds.rx_start) (runs o.rx) in
-    let t : List Member = members_along sizes (tls_cursor sizes o bounds.rw_start bounds.tls_align) (runs o.tls_bits) in
-    let w : List Member = members_along sizes (cursor_at bounds.tls_bits_end) (runs o.rw_bits) in
+    let r : List Member = members_along sizes (cursor_at bounds.headers_end) (runs (rows_in o R)) in
+    let x : List Member = members_along sizes (cursor_at bounds.rx_start) (runs (rows_in o Rx)) in
+    let t : List Member = members_along sizes (tls_cursor sizes o bounds.rw_start bounds.tls_align) (runs (rows_in o TlsBits)) in
+    let w : List Member = members_along sizes (cursor_at bounds.tls_bits_end) (runs (rows_in o RwBits)) in
     by_class (has test (r ++ (x ++ (t ++ w))) ≡ true) sh_type flags bits
-    (λ is. any_here of r (x ++ (t ++ w)) (class_listed test sizes (cursor_at bounds.headers_end) o.r (rows R is)))
-    (λ is. any_later of r (x ++ (t ++ w)) (any_here of x (t ++ w) (class_listed test sizes (cursor_at bounds.rx_start) o.rx (rows Rx is))))
+    (λ is. any_here of r (x ++ (t ++ w)) (class_listed test sizes (cursor_at bounds.headers_end) (rows_in o R) (rows R is)))
+    (λ is. any_later of r (x ++ (t ++ w)) (any_here of x (t ++ w) (class_listed test sizes (cursor_at bounds.rx_start) (rows_in o Rx) (rows Rx is))))
     (λ is. any_later of r (x ++ (t ++ w)) (any_later of x (t ++ w)
-    (any_here of t w (class_listed test sizes (tls_cursor sizes o bounds.rw_start bounds.tls_align) o.tls_bits (rows TlsBits is)))))
+    (any_here of t w (class_listed test sizes (tls_cursor sizes o bounds.rw_start bounds.tls_align) (rows_in o TlsBits) (rows TlsBits is)))))
     (λ is. any_later of r (x ++ (t ++ w)) (any_later of x (t ++ w)
-    (any_later of t w (class_listed test sizes (cursor_at bounds.tls_bits_end) o.rw_bits (rows RwBits is)))))
+    (any_later of t w (class_listed test sizes (cursor_at bounds.tls_bits_end) (rows_in o RwBits) (rows RwBits is)))))
 
 -- an item in its class, that passes and has bytes
 item_passes : (test : Content → Bool) (class : Class) (item : Item) → is_in class item.sh_type item.flags ≡ true → test item.content ≡ true → 0 < item.size

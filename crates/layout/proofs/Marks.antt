@@ -18,14 +18,15 @@ use Rattle.link_sections.specs.Cuts.{Cut}
 use Rattle.link_sections.specs.InputSections.{InputSection, input_at}
 use Rattle.link_sections.specs.Leaders.{leads}
 use Rattle.link_sections.specs.Sound.{is_pool, is_section, is_table}
-use Rattle.layout.specs.declared.order.Head.{Head}
-use Rattle.layout.specs.declared.order.Row.{Row}
+use Rattle.lk_tables.specs.declared.classes.Class.TheVariants.{R, Rx, TlsBits, TlsNobits, RwBits, RwNobits}
+use Rattle.output_sections.specs.declared.heads.Head.{Head}
+use Rattle.output_sections.specs.declared.rows.Row.{Row}
 use Rattle.layout.specs.declared.walk.Cursor.{Cursor}
-use Rattle.layout.specs.Items.{Item, got_item, items, items_at, own_item, pool_at, pool_item, section_item}
+use Rattle.output_sections.specs.Items.{Item, got_item, items, items_at, own_item, pool_at, pool_item, section_item}
 use Rattle.layout.specs.Layout.{after_tls_bits, tls_cursor}
-use Rattle.layout.specs.Order.{Orders, orders_of, row_in}
+use Rattle.output_sections.specs.Order.{Orders, orders_of, row_in, rows_in}
 use Rattle.layout.specs.Walk.{Stands, after, all_put, beside, cursor_at, is_empty, member_at, members_from, members_still, put, runs, size_at, stands_along, stands_in, start_of, still}
-use Rattle.layout.proofs.ClassSums.{all_sum, orders_sum}
+use Rattle.output_sections.proofs.ClassSums.{all_sum, orders_sum}
 use Rattle.layout.proofs.Trails.{all_stands}
 
 -- whether a member is this one
@@ -123,12 +124,12 @@ count_class it sizes c rows = count_along it sizes c (runs rows) ∙ count_runs 
 count_all : (it : Content) (sizes : List (List Cut)) (o : Orders) (b : Bounds) → in_members it (all_stands sizes o b) ≡ all_sum (λ row. mark it row.content) o
 count_all it sizes o b =
     let f : Member → ℕ = λ m. mark it m.content in
-    let r = stands_along sizes (cursor_at b.headers_end) (runs o.r) in
-    let x = stands_along sizes (cursor_at b.rx_start) (runs o.rx) in
-    let tb = stands_along sizes (tls_cursor sizes o b.rw_start b.tls_align) (runs o.tls_bits) in
-    let tn = stands_along sizes (after_tls_bits sizes o b.rw_start b.tls_align) (runs o.tls_nobits) in
-    let wb = stands_along sizes (cursor_at b.tls_bits_end) (runs o.rw_bits) in
-    let wn = stands_along sizes (cursor_at b.bits_end) (runs o.rw_nobits) in
+    let r = stands_along sizes (cursor_at b.headers_end) (runs (rows_in o R)) in
+    let x = stands_along sizes (cursor_at b.rx_start) (runs (rows_in o Rx)) in
+    let tb = stands_along sizes (tls_cursor sizes o b.rw_start b.tls_align) (runs (rows_in o TlsBits)) in
+    let tn = stands_along sizes (after_tls_bits sizes o b.rw_start b.tls_align) (runs (rows_in o TlsNobits)) in
+    let wb = stands_along sizes (cursor_at b.tls_bits_end) (runs (rows_in o RwBits)) in
+    let wn = stands_along sizes (cursor_at b.bits_end) (runs (rows_in o RwNobits)) in
     omega (
       arith,
       sum_by-append f r (x ++ (tb ++ (tn ++ (wb ++ wn)))),
@@ -136,12 +137,12 @@ count_all it sizes o b =
       sum_by-append f tb (tn ++ (wb ++ wn)),
       sum_by-append f tn (wb ++ wn),
       sum_by-append f wb wn,
-      count_class it sizes (cursor_at b.headers_end) o.r,
-      count_class it sizes (cursor_at b.rx_start) o.rx,
-      count_class it sizes (tls_cursor sizes o b.rw_start b.tls_align) o.tls_bits,
-      count_class it sizes (after_tls_bits sizes o b.rw_start b.tls_align) o.tls_nobits,
-      count_class it sizes (cursor_at b.tls_bits_end) o.rw_bits,
-      count_class it sizes (cursor_at b.bits_end) o.rw_nobits,
+      count_class it sizes (cursor_at b.headers_end) (rows_in o R),
+      count_class it sizes (cursor_at b.rx_start) (rows_in o Rx),
+      count_class it sizes (tls_cursor sizes o b.rw_start b.tls_align) (rows_in o TlsBits),
+      count_class it sizes (after_tls_bits sizes o b.rw_start b.tls_align) (rows_in o TlsNobits),
+      count_class it sizes (cursor_at b.tls_bits_end) (rows_in o RwBits),
+      count_class it sizes (cursor_at b.bits_end) (rows_in o RwNobits),
     )
 
 -- among the items it stands once at most: those of section m are section m, and a pool whose first section it is

@@ -12,15 +12,17 @@ use Rattle.link_sections.specs.declared.pools.Pool.{Pool}
 use Rattle.link_sections.specs.Cuts.{Cut, new_offset}
 use Rattle.link_sections.specs.InputSections.{input_at}
 use Rattle.link_sections.specs.Leaders.{leads}
-use Rattle.layout.specs.declared.order.Head.{Head}
-use Rattle.layout.specs.declared.order.Row.{Row}
+use Rattle.lk_tables.specs.declared.classes.Class.TheVariants.{R, Rx, TlsBits, TlsNobits, RwBits}
+use Rattle.output_sections.specs.declared.heads.Head.{Head}
+use Rattle.output_sections.specs.declared.rows.Row.{Row}
 use Rattle.layout.specs.declared.walk.Cursor.{Cursor}
 use Rattle.layout.specs.Cutting.{laid_cuts}
-use Rattle.layout.specs.Items.{Item, items}
+use Rattle.output_sections.specs.Items.{Item, items}
 use Rattle.layout.specs.Layout.{after_tls_bits, tls_cursor}
-use Rattle.layout.specs.Order.{Orders, orders_of, row_in}
+use Rattle.output_sections.specs.Order.{Orders, orders_of, row_in, rows_in}
 use Rattle.layout.specs.Walk.{after, cursor_at, is_empty, member_at, members_along, members_from, members_in, members_still, runs, size_at, stands_along, stands_in, start_of}
-use Rattle.layout.proofs.ItemFacts.{EachClass, IsOf, IsOfLink, each_class, items_are}
+use Rattle.output_sections.proofs.ClassSums.{each_class}
+use Rattle.output_sections.proofs.ItemFacts.{IsOf, IsOfLink, items_are}
 use Rattle.layout.proofs.PlacedMembers.{size_of_section, size_plain}
 use Rattle.layout.proofs.Runs.{EachRun, each_run}
 use Rattle.layout.proofs.Trails.{all_members, all_stands}
@@ -56,10 +58,10 @@ module _ (P : Row → Type 0) (Q : Member → Type 0) (sizes : List (List Cut)) 
   pub each_of : (c : Cursor) (rows : List Row) → All P rows → All Q (members_along sizes c (runs rows))
   each_of c rows all = each_along c (runs rows) (each_run P rows all)
 
-  pub each_member : (o : Orders) (b : Bounds) → EachClass P o → All Q (all_members sizes o b)
+  pub each_member : (o : Orders) (b : Bounds) → ((class : Class) → All P (rows_in o class)) → All Q (all_members sizes o b)
   each_member o b all =
-      All-append Q _ _ (each_of (cursor_at b.headers_end) o.r all.r) (All-append Q _ _ (each_of (cursor_at b.rx_start) o.rx all.rx)
-      (All-append Q _ _ (each_of (tls_cursor sizes o b.rw_start b.tls_align) o.tls_bits all.tls_bits) (each_of (cursor_at b.tls_bits_end) o.rw_bits all.rw_bits)))
+      All-append Q _ _ (each_of (cursor_at b.headers_end) (rows_in o R) (all R)) (All-append Q _ _ (each_of (cursor_at b.rx_start) (rows_in o Rx) (all Rx))
+      (All-append Q _ _ (each_of (tls_cursor sizes o b.rw_start b.tls_align) (rows_in o TlsBits) (all TlsBits)) (each_of (cursor_at b.tls_bits_end) (rows_in o RwBits) (all RwBits))))
 
 -- a member that is a section leads itself, and has the bytes of that section that stay where it stands; a pool and the table have all of theirs
 pub record IsMade (files : List File) (b : Bindings) (pools : List Pool) (words : ℕ) (leaders : List (Option ℕ)) (sizes : List (List Cut)) (m : Member) : Type 0 where
@@ -118,12 +120,12 @@ part_along P sizes c (o ∷ os) all =
 
 pub part_all : (P : Member → Type 0) (sizes : List (List Cut)) (o : Orders) (b : Bounds) → All P (all_stands sizes o b) → All P (all_members sizes o b)
 part_all P sizes o b all =
-    let r = split_all P (stands_along sizes (cursor_at b.headers_end) (runs o.r)) _ all in
-    let x = split_all P (stands_along sizes (cursor_at b.rx_start) (runs o.rx)) _ r.1 in
-    let t = split_all P (stands_along sizes (tls_cursor sizes o b.rw_start b.tls_align) (runs o.tls_bits)) _ x.1 in
-    let n = split_all P (stands_along sizes (after_tls_bits sizes o b.rw_start b.tls_align) (runs o.tls_nobits)) _ t.1 in
-    let w = split_all P (stands_along sizes (cursor_at b.tls_bits_end) (runs o.rw_bits)) _ n.1 in
-    All-append P _ _ (part_along P sizes (cursor_at b.headers_end) (runs o.r) r.0)
-    (All-append P _ _ (part_along P sizes (cursor_at b.rx_start) (runs o.rx) x.0)
-    (All-append P _ _ (part_along P sizes (tls_cursor sizes o b.rw_start b.tls_align) (runs o.tls_bits) t.0)
-    (part_along P sizes (cursor_at b.tls_bits_end) (runs o.rw_bits) w.0)))
+    let r = split_all P (stands_along sizes (cursor_at b.headers_end) (runs (rows_in o R))) _ all in
+    let x = split_all P (stands_along sizes (cursor_at b.rx_start) (runs (rows_in o Rx))) _ r.1 in
+    let t = split_all P (stands_along sizes (tls_cursor sizes o b.rw_start b.tls_align) (runs (rows_in o TlsBits))) _ x.1 in
+    let n = split_all P (stands_along sizes (after_tls_bits sizes o b.rw_start b.tls_align) (runs (rows_in o TlsNobits))) _ t.1 in
+    let w = split_all P (stands_along sizes (cursor_at b.tls_bits_end) (runs (rows_in o RwBits))) _ n.1 in
+    All-append P _ _ (part_along P sizes (cursor_at b.headers_end) (runs (rows_in o R)) r.0)
+    (All-append P _ _ (part_along P sizes (cursor_at b.rx_start) (runs (rows_in o Rx)) x.0)
+    (All-append P _ _ (part_along P sizes (tls_cursor sizes o b.rw_start b.tls_align) (runs (rows_in o TlsBits)) t.0)
+    (part_along P sizes (cursor_at b.tls_bits_end) (runs (rows_in o RwBits)) w.0)))

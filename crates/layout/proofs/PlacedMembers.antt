@@ -8,7 +8,7 @@ use Rattle.link_sections.specs.declared.members.Content.{Content}
 use Rattle.link_sections.specs.declared.members.Content.TheVariants.{Section, Pool as IsPool, Got}
 use Rattle.link_sections.specs.Cuts.{Cut, new_offset}
 use Rattle.link_sections.specs.CutsView.{AreCuts, IsPlacedCut, cut_view, cut_views}
-use Rattle.layout.specs.declared.order.Row.{Row}
+use Rattle.output_sections.specs.declared.rows.Row.{Row}
 use Rattle.layout.specs.Cutting.{laid_cuts}
 use Rattle.layout.specs.Walk.{cuts_in, size_at}
 

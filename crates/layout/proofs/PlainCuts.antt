@@ -8,7 +8,7 @@ use Rattle.link_sections.specs.Cuts.{Cut, new_offset}
 use Rattle.link_sections.specs.CutsView.{cut_view, cut_views}
 use Rattle.lk_tables.specs.declared.section_places.SectionPlace.{SectionPlace}
 use Rattle.link_sections.specs.Leaders.{leads}
-use Rattle.layout.specs.declared.order.Row.{Row}
+use Rattle.output_sections.specs.declared.rows.Row.{Row}
 use Rattle.layout.specs.Layout.{cuts_of}
 use Rattle.layout.specs.Walk.{size_at}
 use Rattle.layout.specs.Cutting.{is_short, kept_at, laid_cut, laid_cuts, short_defects}

@@ -21,7 +21,7 @@ use Rattle.link_sections.specs.Cuts.{AreApart, Cut, kept_before, new_offset, who
 use Rattle.link_sections.specs.InputSections.{input_at, input_of, is_own}
 use Rattle.link_sections.proofs.CutSums.{new_rises}
 use Rattle.layout.proofs.CutsPassed.{AreFrom, apart_from}
-use Rattle.layout.proofs.Sized.{AllSound, live_by, owner_below}
+use Rattle.output_sections.proofs.Sized.{AllSound, live_by, owner_below}
 
 -- a relocation that lies in a section of so many bytes
 abbrev pub Lies : (size : ℕ) → Reloc → Type 0

@@ -1,7 +1,7 @@
 -- What holds of each row holds of each row of each run.
 use Rattle.std.proofs.Common.{Bool, true, false, ◌==◌, if◌then◌else◌, List, [], ◌∷◌, All}
 use Rattle.std.proofs.lemmas.List.Elements.{All-nil, All-head, All-tail, All-cons}
-use Rattle.layout.specs.declared.order.Row.{Row}
+use Rattle.output_sections.specs.declared.rows.Row.{Row}
 use Rattle.layout.specs.Walk.{beside, runs}
 
 abbrev pub EachRun : (Row → Type 0) → List (List Row) → Type 0

@@ -7,9 +7,10 @@ use Rattle.link_sections.specs.declared.layouts.Layout.{Layout}
 use Rattle.link_sections.specs.declared.pools.Pool.{Pool}
 use Rattle.link_sections.specs.Cuts.{AreApart as AreCutsApart, Cut}
 use Rattle.link_sections.specs.LaidOut.{LaidOut, OutputSection, layout_view}
-use Rattle.layout.specs.Items.{AreLeaders, IsSized, Item, items}
+use Rattle.lk_tables.specs.declared.classes.Class.TheVariants.{TlsNobits, RwNobits}
+use Rattle.output_sections.specs.Items.{AreLeaders, IsSized, Item, items}
 use Rattle.layout.specs.Layout.{FitSizes, after_tls_bits, all_weight, bounds_of, laid_by, laid_of, layout_of, no_trail, trail_of}
-use Rattle.layout.specs.Order.{Orders, orders_of}
+use Rattle.output_sections.specs.Order.{Orders, orders_of, rows_in}
 use Rattle.layout.specs.Spots.{AreApart, AreRising, HaveAlignments, HaveSegments, HaveZeros, IsWithinClass, without_tls_zeros}
 use Rattle.layout.specs.Walk.{cursor_at, members_along, runs}
 use Rattle.layout.proofs.Aligned.{IsAligned, align_rows, aligned_members, aligned_zeros}
@@ -48,8 +49,8 @@ laws_by files b leaders sizes parts o bounds pools fit is rises members zeros =
       inside = subst Q (sym outputs) (outputs_within sizes parts o bounds fit is rises);
       aligned = record { members = members; zeros = zeros };
       zeros = record {
-        threads = members_along sizes (after_tls_bits sizes o bounds.rw_start bounds.tls_align) (runs o.tls_nobits);
-        others = members_along sizes (cursor_at bounds.bits_end) (runs o.rw_nobits);
+        threads = members_along sizes (after_tls_bits sizes o bounds.rw_start bounds.tls_align) (runs (rows_in o TlsNobits));
+        others = members_along sizes (cursor_at bounds.bits_end) (runs (rows_in o RwNobits));
         all = trail_zeros sizes parts o bounds (section_total files) pools;
         threads_order = threads.order;
         threads_end = threads.end;

@@ -8,10 +8,11 @@ use Rattle.lk_base.specs.Arithmetic.{up}
 use Rattle.lk_base.proofs.Multiples.{up_least, up_multiple}
 use Rattle.link_sections.specs.declared.layouts.Bounds.{Bounds}
 use Rattle.link_sections.specs.Cuts.{Cut}
-use Rattle.layout.specs.declared.order.Row.{Row}
+use Rattle.lk_tables.specs.declared.classes.Class.TheVariants.{Rx, TlsBits, TlsNobits, RwBits, RwNobits}
+use Rattle.output_sections.specs.declared.rows.Row.{Row}
 use Rattle.layout.specs.declared.walk.Cursor.{Cursor}
 use Rattle.layout.specs.Layout.{after_tls_bits, count_of, has_rw, has_rx, has_tls, has_tls_bits, headers_of, tls_align_of, tls_cursor}
-use Rattle.layout.specs.Order.{Orders}
+use Rattle.output_sections.specs.Order.{Orders, rows_in}
 use Rattle.layout.specs.Spots.{AreRising, HaveSegments}
 use Rattle.layout.specs.Walk.{after, cursor_at, end_along, greatest, is_empty, past, runs, start_of}
 use Rattle.layout.proofs.Chain.{AreBounds}
@@ -98,12 +99,12 @@ below_greatest : (rows : List Row) → All (λ row. row.align ≤ greatest rows)
 unfolding greatest
 below_greatest rows = each_below 1 rows
 
-tls_rows : (o : Orders) → (1 ≤ tls_align_of o) × (All (λ row. row.align ≤ tls_align_of o) o.tls_bits × All (λ row. row.align ≤ tls_align_of o) o.tls_nobits)
+tls_rows : (o : Orders) → (1 ≤ tls_align_of o) × (All (λ row. row.align ≤ tls_align_of o) (rows_in o TlsBits) × All (λ row. row.align ≤ tls_align_of o) (rows_in o TlsNobits))
 unfolding tls_align_of
 tls_rows o =
-    let bits = below_greatest o.tls_bits in
-    let nobits = below_greatest o.tls_nobits in
-    (omega (arith, greatest_some o.tls_bits), ((λ k d lt. omega (arith, bits k d lt)), (λ k d lt. omega (arith, nobits k d lt))))
+    let bits = below_greatest (rows_in o TlsBits) in
+    let nobits = below_greatest (rows_in o TlsNobits) in
+    (omega (arith, greatest_some (rows_in o TlsBits)), ((λ k d lt. omega (arith, bits k d lt)), (λ k d lt. omega (arith, nobits k d lt))))
 
 rx_by : (p q s : Bool) (r x t w : ℕ) → not s ≡ true → x ≤ t → t ≤ w → x ≤ (if not p then w else if not q then t else if not s then x else r)
 rx_by p q true r x t w some xt tw = cc
@@ -145,35 +146,35 @@ segments sizes o b fit is rises =
     let extra : b.tls_align ≤ ALIGN_MAX = omega (arith, align, tls_most sizes o fit) in
     let c : Cursor = tls_cursor sizes o b.rw_start b.tls_align in
     let moves = class_moves sizes o b fit is in
-    let bits_most : All (λ row. row.align ≤ b.tls_align) o.tls_bits = λ k d lt. omega (arith, align, tls.1.0 k d lt) in
-    let nobits_most : All (λ row. row.align ≤ b.tls_align) o.tls_nobits = λ k d lt. omega (arith, align, tls.1.1 k d lt) in
-    let in_bits : is_empty o.tls_bits ≡ false → up b.rw_start b.tls_align ≤ b.tls_bits_end =
-    λ full. omega (arith, reached sizes c o.tls_bits extra some fit.tls_bits bits_most full, is.tls_bits_end) in
-    let in_nobits : is_empty o.tls_bits ≡ true → is_empty o.tls_nobits ≡ false → up b.rw_start b.tls_align ≤ b.tls_end =
+    let bits_most : All (λ row. row.align ≤ b.tls_align) (rows_in o TlsBits) = λ k d lt. omega (arith, align, tls.1.0 k d lt) in
+    let nobits_most : All (λ row. row.align ≤ b.tls_align) (rows_in o TlsNobits) = λ k d lt. omega (arith, align, tls.1.1 k d lt) in
+    let in_bits : is_empty (rows_in o TlsBits) ≡ false → up b.rw_start b.tls_align ≤ b.tls_bits_end =
+    λ full. omega (arith, reached sizes c (rows_in o TlsBits) extra some (fit TlsBits) bits_most full, is.tls_bits_end) in
+    let in_nobits : is_empty (rows_in o TlsBits) ≡ true → is_empty (rows_in o TlsNobits) ≡ false → up b.rw_start b.tls_align ≤ b.tls_end =
     λ none full.
-    let same : after_tls_bits sizes o b.rw_start b.tls_align ≡ c = still sizes c o.tls_bits none in
-    let end : b.tls_end ≡ (end_along sizes c (runs o.tls_nobits)).at = is.tls_end ∙ ap (λ x. (end_along sizes x (runs o.tls_nobits)).at) same in
-    omega (arith, reached sizes c o.tls_nobits extra some fit.tls_nobits nobits_most full, end) in
+    let same : after_tls_bits sizes o b.rw_start b.tls_align ≡ c = still sizes c (rows_in o TlsBits) none in
+    let end : b.tls_end ≡ (end_along sizes c (runs (rows_in o TlsNobits))).at = is.tls_end ∙ ap (λ x. (end_along sizes x (runs (rows_in o TlsNobits))).at) same in
+    omega (arith, reached sizes c (rows_in o TlsNobits) extra some (fit TlsNobits) nobits_most full, end) in
     let start : b.has_tls ≡ true → b.tls_start ≡ up b.rw_start b.tls_align =
     λ has. is.tls_start ∙ ap (λ t. if t then up b.rw_start b.tls_align else 0) (sym is.tls_is ∙ has) in
-    let any : b.has_tls ≡ true → (is_empty o.tls_bits ≡ false) ⊎ ((is_empty o.tls_bits ≡ true) × (is_empty o.tls_nobits ≡ false)) =
-    λ has. either (is_empty o.tls_bits) (is_empty o.tls_nobits) (sym is.tls_is ∙ has) in
+    let any : b.has_tls ≡ true → (is_empty (rows_in o TlsBits) ≡ false) ⊎ ((is_empty (rows_in o TlsBits) ≡ true) × (is_empty (rows_in o TlsNobits) ≡ false)) =
+    λ has. either (is_empty (rows_in o TlsBits)) (is_empty (rows_in o TlsNobits)) (sym is.tls_is ∙ has) in
     let reaches : b.has_tls ≡ true → up b.rw_start b.tls_align ≤ b.tls_end =
     λ has. elim (any has) [
       | inl full ↦ omega (arith, in_bits full, rises.tls_nobits)
       | inr other ↦ in_nobits other.0 other.1
     ] in
-    let bits_full : b.has_tls_bits ≡ true → is_empty o.tls_bits ≡ false = λ has. no_bytes (is_empty o.tls_bits) (sym is.tls_bits_is ∙ has) in
+    let bits_full : b.has_tls_bits ≡ true → is_empty (rows_in o TlsBits) ≡ false = λ has. no_bytes (is_empty (rows_in o TlsBits)) (sym is.tls_bits_is ∙ has) in
     let tls_too : b.has_tls_bits ≡ true → b.has_tls ≡ true =
-    λ has. is.tls_is ∙ ap (λ p. not (p && is_empty o.tls_nobits)) (bits_full has) in
+    λ has. is.tls_is ∙ ap (λ p. not (p && is_empty (rows_in o TlsNobits))) (bits_full has) in
     record {
       headers = is.headers ∙ headers_same b.has_rx b.has_rw b.has_tls (has_rx o) (has_rw o) (has_tls o) is.rx_is is.rw_is is.tls_is;
       headers_end = is.headers_end;
-      rx = λ has. rw is.file_end (rx_by (is_empty o.rw_bits) (is_empty o.tls_bits) (is_empty o.rx) b.r_end b.rx_end b.tls_bits_end b.bits_end (sym is.rx_is ∙ has)
+      rx = λ has. rw is.file_end (rx_by (is_empty (rows_in o RwBits)) (is_empty (rows_in o TlsBits)) (is_empty (rows_in o Rx)) b.r_end b.rx_end b.tls_bits_end b.bits_end (sym is.rx_is ∙ has)
           (omega (arith, rises.rw_rounded, rises.tls_bits)) rises.bits);
       tls_bits = λ has. (
         omega (arith, start (tls_too has), in_bits (bits_full has)),
-        rw is.file_end (tls_by (is_empty o.rw_bits) (is_empty o.tls_bits) (is_empty o.rx) b.r_end b.rx_end b.tls_bits_end b.bits_end (sym is.tls_bits_is ∙ has) rises.bits),
+        rw is.file_end (tls_by (is_empty (rows_in o RwBits)) (is_empty (rows_in o TlsBits)) (is_empty (rows_in o Rx)) b.r_end b.rx_end b.tls_bits_end b.bits_end (sym is.tls_bits_is ∙ has) rises.bits),
       );
       tls = λ has. (
         omega (arith, start has, up_least b.rw_start b.tls_align some),
@@ -182,12 +183,12 @@ segments sizes o b fit is rises =
           subst (λ n. n % b.tls_align ≡ 0) (sym (start has)) (up_multiple b.rw_start b.tls_align),
         ),
       );
-      bits = λ more. rw is.file_end (bits_by (is_empty o.rw_bits) (is_empty o.tls_bits) (is_empty o.rx) b.r_end b.rx_end b.tls_bits_end b.bits_end
-          (λ none. is.bits_end ∙ ap (λ (x : Cursor). x.at) (still sizes (cursor_at b.tls_bits_end) o.rw_bits none)) more);
+      bits = λ more. rw is.file_end (bits_by (is_empty (rows_in o RwBits)) (is_empty (rows_in o TlsBits)) (is_empty (rows_in o Rx)) b.r_end b.rx_end b.tls_bits_end b.bits_end
+          (λ none. is.bits_end ∙ ap (λ (x : Cursor). x.at) (still sizes (cursor_at b.tls_bits_end) (rows_in o RwBits) none)) more);
       rw = λ has. rw (is.image_end, is.file_end)
-          (rw_by (is_empty o.rw_bits) (is_empty o.tls_bits) (is_empty o.rw_nobits) (is_empty o.rx) b.r_end b.rx_end b.tls_bits_end b.bits_end b.nobits_end (sym is.rw_is ∙ has)
-          (λ none. is.nobits_end ∙ ap (λ (x : Cursor). x.at) (still sizes (cursor_at b.bits_end) o.rw_nobits none))
-          (λ none. is.bits_end ∙ ap (λ (x : Cursor). x.at) (still sizes (cursor_at b.tls_bits_end) o.rw_bits none)));
+          (rw_by (is_empty (rows_in o RwBits)) (is_empty (rows_in o TlsBits)) (is_empty (rows_in o RwNobits)) (is_empty (rows_in o Rx)) b.r_end b.rx_end b.tls_bits_end b.bits_end b.nobits_end (sym is.rw_is ∙ has)
+          (λ none. is.nobits_end ∙ ap (λ (x : Cursor). x.at) (still sizes (cursor_at b.bits_end) (rows_in o RwNobits) none))
+          (λ none. is.bits_end ∙ ap (λ (x : Cursor). x.at) (still sizes (cursor_at b.tls_bits_end) (rows_in o RwBits) none)));
     }
   where
     headers_same : (a c d e f g : Bool) → a ≡ e → c ≡ f → d ≡ g → 2 + count_of e + count_of f + count_of g ≡ 2 + count_of a + count_of c + count_of d

@@ -9,7 +9,7 @@ use Rattle.link_sections.specs.declared.members.Content.{Content}
 use Rattle.link_sections.specs.declared.members.Content.TheVariants.{Section, Pool as IsPool, Got}
 use Rattle.link_sections.specs.Cuts.{AreApart, Cut, kept_before, new_offset}
 use Rattle.link_sections.specs.CutsView.{AreCuts, cut_views}
-use Rattle.layout.specs.declared.order.Row.{Row}
+use Rattle.output_sections.specs.declared.rows.Row.{Row}
 use Rattle.layout.specs.CutsSoFar.{all_kept}
 use Rattle.layout.specs.Cutting.{kept_at, laid_cut, laid_cuts, needed}
 use Rattle.layout.specs.Walk.{IsReady, cuts_in, size_at}

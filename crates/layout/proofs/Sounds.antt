@@ -32,14 +32,15 @@ use Rattle.link_sections.specs.PoolViews.{PoolsView}
 use Rattle.link_sections.specs.Pools.{AreRising as AreRisingPools}
 use Rattle.link_sections.specs.Sound.{IsGotMember, IsPoolMember, IsSectionMember, IsSound, is_listed, is_pool, is_table}
 use Rattle.layout.specs.Cutting.{laid_cuts, short_defects}
-use Rattle.layout.specs.Items.{AreLeaders, HaveFirsts, IsSized, Item, items}
+use Rattle.output_sections.specs.Items.{AreLeaders, HaveFirsts, IsSized, Item, items}
 use Rattle.layout.specs.Layout.{FitSizes, IsWithin, Trail, all_cuts, all_weight, bounds_of, cut_defects, cuts_of, laid_by, laid_of, layout_defects, layout_of, limit_defects, no_trail, trail_of}
-use Rattle.layout.specs.Order.{Orders, orders_of}
+use Rattle.output_sections.specs.Order.{Orders, orders_of}
 use Rattle.layout.specs.Spots.{AreRising}
 use Rattle.layout.specs.Walk.{Stands, all_put}
 use Rattle.layout.proofs.Chain.{AreBounds, bounds_are}
 use Rattle.layout.proofs.Inside.{members_inside, members_order, order_at}
-use Rattle.layout.proofs.ItemFacts.{ready_of, stays_of}
+use Rattle.output_sections.proofs.ItemFacts.{stays_of}
+use Rattle.layout.proofs.ItemFacts.{ready_of}
 use Rattle.layout.proofs.LaidCuts.{laid_apart}
 use Rattle.layout.proofs.LaidHold.{laid_hold, still_met, still_some, still_within}
 use Rattle.layout.proofs.Listed.{all_listed, has, pools_listed, table_is_listed}
@@ -49,7 +50,7 @@ use Rattle.layout.proofs.OwnCalls.{IsMet, acting_lies}
 use Rattle.layout.proofs.RelocsLie.{lies_of}
 use Rattle.layout.proofs.Rising.{AllFit, all_fit, rising}
 use Rattle.layout.proofs.RowsOfCuts.{defects_are, map_at, row_defects}
-use Rattle.layout.proofs.Sized.{AllSound}
+use Rattle.output_sections.proofs.Sized.{AllSound}
 use Rattle.layout.proofs.SizeBounds.{apart_at, nothing_apart}
 use Rattle.layout.proofs.Trails.{AllStand, IsLow, all_members, all_stands, places_low, trail_low, trail_members, trail_places, trail_stands}
 

@@ -1,11 +1,11 @@
 -- The runs of one group, one after the other.
 use Rattle.std.proofs.Common.{◌≡◌, ℕ, suc, ◌+◌, List, [], ◌∷◌, ◌++◌, length, take, drop, Bool, true, false, ◌==◌, if◌then◌else◌, refl, ap, sym, ◌∙◌, append_assoc, arith}
 use Rattle.lk_tables.specs.declared.classes.Class.{Class}
-use Rattle.layout.specs.declared.order.Row.{Row}
+use Rattle.output_sections.specs.declared.rows.Row.{Row}
 use Rattle.link_sections.specs.declared.members.Member.{Member}
 use Rattle.link_sections.specs.Cuts.{Cut}
 use Rattle.link_sections.specs.LaidOut.{OutputPlace, OutputSection}
-use Rattle.layout.specs.Items.{Item}
+use Rattle.output_sections.specs.Items.{Item}
 use Rattle.layout.specs.declared.walk.Cursor.{Cursor}
 use Rattle.layout.specs.Walk.{Stands, after, all_put, beside, end_along, members_along, members_in, place_in, places_along, put, runs, section_in, sections_along, stands_along, stands_in}
 use Rattle.std.specs.List.{prefix_len}

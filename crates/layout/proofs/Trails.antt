@@ -10,11 +10,11 @@ use Rattle.link_sections.specs.declared.members.Content.TheVariants.{Section, Po
 use Rattle.link_sections.specs.declared.members.Member.{Member}
 use Rattle.link_sections.specs.Cuts.{Cut}
 use Rattle.link_sections.specs.LaidOut.{OutputPlace}
-use Rattle.layout.specs.declared.order.Row.{Row}
+use Rattle.output_sections.specs.declared.rows.Row.{Row}
 use Rattle.layout.specs.declared.walk.Cursor.{Cursor}
-use Rattle.layout.specs.Items.{Item}
+use Rattle.output_sections.specs.Items.{Item}
 use Rattle.layout.specs.Layout.{Trail, after_tls_bits, no_trail, tls_cursor, trail_of, with_bits, with_zeros}
-use Rattle.layout.specs.Order.{Orders}
+use Rattle.output_sections.specs.Order.{Orders, rows_in}
 use Rattle.layout.specs.Spots.{AreRising}
 use Rattle.layout.specs.Walk.{Stands, after, all_put, cursor_at, end_along, members_along, place_in, place_of, places_along, put, runs, stands_along, start_of}
 use Rattle.layout.proofs.Chain.{AreBounds}
@@ -26,30 +26,30 @@ use Rattle.layout.proofs.Splitting.{put_append}
 
 -- all members, class by class
 abbrev pub all_stands : List (List Cut) → Orders → Bounds → List Member
-all_stands sizes o b = stands_along sizes (cursor_at b.headers_end) (runs o.r)
-    ++ (stands_along sizes (cursor_at b.rx_start) (runs o.rx)
-    ++ (stands_along sizes (tls_cursor sizes o b.rw_start b.tls_align) (runs o.tls_bits)
-    ++ (stands_along sizes (after_tls_bits sizes o b.rw_start b.tls_align) (runs o.tls_nobits)
-    ++ (stands_along sizes (cursor_at b.tls_bits_end) (runs o.rw_bits)
-    ++ stands_along sizes (cursor_at b.bits_end) (runs o.rw_nobits)))))
+all_stands sizes o b = stands_along sizes (cursor_at b.headers_end) (runs (rows_in o R))
+    ++ (stands_along sizes (cursor_at b.rx_start) (runs (rows_in o Rx))
+    ++ (stands_along sizes (tls_cursor sizes o b.rw_start b.tls_align) (runs (rows_in o TlsBits))
+    ++ (stands_along sizes (after_tls_bits sizes o b.rw_start b.tls_align) (runs (rows_in o TlsNobits))
+    ++ (stands_along sizes (cursor_at b.tls_bits_end) (runs (rows_in o RwBits))
+    ++ stands_along sizes (cursor_at b.bits_end) (runs (rows_in o RwNobits))))))
 
 -- those with bytes in the file, of output sections that are not empty
 abbrev pub all_members : List (List Cut) → Orders → Bounds → List Member
-all_members sizes o b = members_along sizes (cursor_at b.headers_end) (runs o.r)
-    ++ (members_along sizes (cursor_at b.rx_start) (runs o.rx)
-    ++ (members_along sizes (tls_cursor sizes o b.rw_start b.tls_align) (runs o.tls_bits)
-    ++ members_along sizes (cursor_at b.tls_bits_end) (runs o.rw_bits)))
+all_members sizes o b = members_along sizes (cursor_at b.headers_end) (runs (rows_in o R))
+    ++ (members_along sizes (cursor_at b.rx_start) (runs (rows_in o Rx))
+    ++ (members_along sizes (tls_cursor sizes o b.rw_start b.tls_align) (runs (rows_in o TlsBits))
+    ++ members_along sizes (cursor_at b.tls_bits_end) (runs (rows_in o RwBits))))
 
 pub trail_stands : (sizes : List (List Cut)) (parts : List Item) (o : Orders) (b : Bounds) (t : Trail)
     → (trail_of sizes parts o b t).stands ≡ all_put (all_stands sizes o b) t.stands
 unfolding trail_of with_bits with_zeros
 trail_stands sizes parts o b t =
-    let r = stands_along sizes (cursor_at b.headers_end) (runs o.r) in
-    let x = stands_along sizes (cursor_at b.rx_start) (runs o.rx) in
-    let tb = stands_along sizes (tls_cursor sizes o b.rw_start b.tls_align) (runs o.tls_bits) in
-    let tn = stands_along sizes (after_tls_bits sizes o b.rw_start b.tls_align) (runs o.tls_nobits) in
-    let wb = stands_along sizes (cursor_at b.tls_bits_end) (runs o.rw_bits) in
-    let wn = stands_along sizes (cursor_at b.bits_end) (runs o.rw_nobits) in
+    let r = stands_along sizes (cursor_at b.headers_end) (runs (rows_in o R)) in
+    let x = stands_along sizes (cursor_at b.rx_start) (runs (rows_in o Rx)) in
+    let tb = stands_along sizes (tls_cursor sizes o b.rw_start b.tls_align) (runs (rows_in o TlsBits)) in
+    let tn = stands_along sizes (after_tls_bits sizes o b.rw_start b.tls_align) (runs (rows_in o TlsNobits)) in
+    let wb = stands_along sizes (cursor_at b.tls_bits_end) (runs (rows_in o RwBits)) in
+    let wn = stands_along sizes (cursor_at b.bits_end) (runs (rows_in o RwNobits)) in
     sym (put_append r (x ++ (tb ++ (tn ++ (wb ++ wn)))) t.stands ∙ put_append x (tb ++ (tn ++ (wb ++ wn))) (all_put r t.stands)
     ∙ put_append tb (tn ++ (wb ++ wn)) (all_put x (all_put r t.stands)) ∙ put_append tn (wb ++ wn) (all_put tb (all_put x (all_put r t.stands)))
     ∙ put_append wb wn (all_put tn (all_put tb (all_put x (all_put r t.stands)))))
@@ -61,7 +61,7 @@ trail_members sizes parts o b sections pools = simp append_assoc
 
 -- and those without
 pub trail_zeros : (sizes : List (List Cut)) (parts : List Item) (o : Orders) (b : Bounds) (sections pools : ℕ) → (trail_of sizes parts o b (no_trail sections pools)).zeros
-    ≡ members_along sizes (after_tls_bits sizes o b.rw_start b.tls_align) (runs o.tls_nobits) ++ members_along sizes (cursor_at b.bits_end) (runs o.rw_nobits)
+    ≡ members_along sizes (after_tls_bits sizes o b.rw_start b.tls_align) (runs (rows_in o TlsNobits)) ++ members_along sizes (cursor_at b.bits_end) (runs (rows_in o RwNobits))
 unfolding trail_of with_bits with_zeros
 trail_zeros sizes parts o b sections pools = refl
 
@@ -76,36 +76,36 @@ stands_near sizes o b fit is up =
     let extra : b.tls_align ≤ ALIGN_MAX = omega (arith, is.tls_align, tls_most sizes o fit) in
     let last : ℕ = 2 ^ 63 - 2 ^ 31 in
     let P : Member → Type 0 = Near b.headers_end last in
-    let r : All P (stands_along sizes (cursor_at b.headers_end) (runs o.r)) =
-    (both_along sizes b.headers_end last (cursor_at b.headers_end) (runs o.r) (omega arith) (omega arith)
-    (omega (arith, is.r_end, up.rx_rounded, up.rx, up.rw_rounded, up.tls_bits, up.bits, up.nobits, up.room)) (each_run (RowFits sizes) o.r fit.r)).0 in
-    let x : All P (stands_along sizes (cursor_at b.rx_start) (runs o.rx)) =
-    (both_along sizes b.headers_end last (cursor_at b.rx_start) (runs o.rx) (omega arith) (omega (arith, up.r, up.rx_rounded))
-    (omega (arith, is.rx_end, up.rw_rounded, up.tls_bits, up.bits, up.nobits, up.room)) (each_run (RowFits sizes) o.rx fit.rx)).0 in
-    let tb : All P (stands_along sizes (tls_cursor sizes o b.rw_start b.tls_align) (runs o.tls_bits)) =
-    (both_along sizes b.headers_end last (tls_cursor sizes o b.rw_start b.tls_align) (runs o.tls_bits) extra (omega (arith, up.r, up.rx_rounded, up.rx, up.rw_rounded))
-    (omega (arith, is.tls_bits_end, up.bits, up.nobits, up.room)) (each_run (RowFits sizes) o.tls_bits fit.tls_bits)).0 in
-    let tn : All P (stands_along sizes (after_tls_bits sizes o b.rw_start b.tls_align) (runs o.tls_nobits)) =
-    (both_along sizes b.headers_end last (after_tls_bits sizes o b.rw_start b.tls_align) (runs o.tls_nobits) m.tls_bits.extra
+    let r : All P (stands_along sizes (cursor_at b.headers_end) (runs (rows_in o R))) =
+    (both_along sizes b.headers_end last (cursor_at b.headers_end) (runs (rows_in o R)) (omega arith) (omega arith)
+    (omega (arith, is.r_end, up.rx_rounded, up.rx, up.rw_rounded, up.tls_bits, up.bits, up.nobits, up.room)) (each_run (RowFits sizes) (rows_in o R) (fit R))).0 in
+    let x : All P (stands_along sizes (cursor_at b.rx_start) (runs (rows_in o Rx))) =
+    (both_along sizes b.headers_end last (cursor_at b.rx_start) (runs (rows_in o Rx)) (omega arith) (omega (arith, up.r, up.rx_rounded))
+    (omega (arith, is.rx_end, up.rw_rounded, up.tls_bits, up.bits, up.nobits, up.room)) (each_run (RowFits sizes) (rows_in o Rx) (fit Rx))).0 in
+    let tb : All P (stands_along sizes (tls_cursor sizes o b.rw_start b.tls_align) (runs (rows_in o TlsBits))) =
+    (both_along sizes b.headers_end last (tls_cursor sizes o b.rw_start b.tls_align) (runs (rows_in o TlsBits)) extra (omega (arith, up.r, up.rx_rounded, up.rx, up.rw_rounded))
+    (omega (arith, is.tls_bits_end, up.bits, up.nobits, up.room)) (each_run (RowFits sizes) (rows_in o TlsBits) (fit TlsBits))).0 in
+    let tn : All P (stands_along sizes (after_tls_bits sizes o b.rw_start b.tls_align) (runs (rows_in o TlsNobits))) =
+    (both_along sizes b.headers_end last (after_tls_bits sizes o b.rw_start b.tls_align) (runs (rows_in o TlsNobits)) m.tls_bits.extra
     (omega (arith, is.tls_bits_end, up.r, up.rx_rounded, up.rx, up.rw_rounded, up.tls_bits)) (omega (arith, is.tls_end, up.tls_room))
-    (each_run (RowFits sizes) o.tls_nobits fit.tls_nobits)).0 in
-    let wb : All P (stands_along sizes (cursor_at b.tls_bits_end) (runs o.rw_bits)) =
-    (both_along sizes b.headers_end last (cursor_at b.tls_bits_end) (runs o.rw_bits) (omega arith) (omega (arith, up.r, up.rx_rounded, up.rx, up.rw_rounded, up.tls_bits))
-    (omega (arith, is.bits_end, up.nobits, up.room)) (each_run (RowFits sizes) o.rw_bits fit.rw_bits)).0 in
-    let wn : All P (stands_along sizes (cursor_at b.bits_end) (runs o.rw_nobits)) =
-    (both_along sizes b.headers_end last (cursor_at b.bits_end) (runs o.rw_nobits) (omega arith)
+    (each_run (RowFits sizes) (rows_in o TlsNobits) (fit TlsNobits))).0 in
+    let wb : All P (stands_along sizes (cursor_at b.tls_bits_end) (runs (rows_in o RwBits))) =
+    (both_along sizes b.headers_end last (cursor_at b.tls_bits_end) (runs (rows_in o RwBits)) (omega arith) (omega (arith, up.r, up.rx_rounded, up.rx, up.rw_rounded, up.tls_bits))
+    (omega (arith, is.bits_end, up.nobits, up.room)) (each_run (RowFits sizes) (rows_in o RwBits) (fit RwBits))).0 in
+    let wn : All P (stands_along sizes (cursor_at b.bits_end) (runs (rows_in o RwNobits))) =
+    (both_along sizes b.headers_end last (cursor_at b.bits_end) (runs (rows_in o RwNobits)) (omega arith)
     (omega (arith, up.r, up.rx_rounded, up.rx, up.rw_rounded, up.tls_bits, up.bits)) (omega (arith, is.nobits_end, up.room))
-    (each_run (RowFits sizes) o.rw_nobits fit.rw_nobits)).0 in
+    (each_run (RowFits sizes) (rows_in o RwNobits) (fit RwNobits))).0 in
     All-append P _ _ r (All-append P _ _ x (All-append P _ _ tb (All-append P _ _ tn (All-append P _ _ wb wn))))
 
 -- where output sections are, class by class
 abbrev pub all_places : List (List Cut) → List Item → Orders → Bounds → List OutputPlace
-all_places sizes parts o b = places_along sizes parts R (cursor_at b.headers_end) (runs o.r)
-    ++ (places_along sizes parts Rx (cursor_at b.rx_start) (runs o.rx)
-    ++ (places_along sizes parts TlsBits (tls_cursor sizes o b.rw_start b.tls_align) (runs o.tls_bits)
-    ++ (places_along sizes parts TlsNobits (after_tls_bits sizes o b.rw_start b.tls_align) (runs o.tls_nobits)
-    ++ (places_along sizes parts RwBits (cursor_at b.tls_bits_end) (runs o.rw_bits)
-    ++ places_along sizes parts RwNobits (cursor_at b.bits_end) (runs o.rw_nobits)))))
+all_places sizes parts o b = places_along sizes parts R (cursor_at b.headers_end) (runs (rows_in o R))
+    ++ (places_along sizes parts Rx (cursor_at b.rx_start) (runs (rows_in o Rx))
+    ++ (places_along sizes parts TlsBits (tls_cursor sizes o b.rw_start b.tls_align) (runs (rows_in o TlsBits))
+    ++ (places_along sizes parts TlsNobits (after_tls_bits sizes o b.rw_start b.tls_align) (runs (rows_in o TlsNobits))
+    ++ (places_along sizes parts RwBits (cursor_at b.tls_bits_end) (runs (rows_in o RwBits))
+    ++ places_along sizes parts RwNobits (cursor_at b.bits_end) (runs (rows_in o RwNobits))))))
 
 pub trail_places : (sizes : List (List Cut)) (parts : List Item) (o : Orders) (b : Bounds) (sections pools : ℕ)
     → (trail_of sizes parts o b (no_trail sections pools)).places ≡ all_places sizes parts o b
@@ -132,24 +132,24 @@ pub places_low : (sizes : List (List Cut)) (parts : List Item) (o : Orders) (b :
 places_low sizes parts o b fit is up =
     let m = class_moves sizes o b fit is in
     let extra : b.tls_align ≤ ALIGN_MAX = omega (arith, is.tls_align, tls_most sizes o fit) in
-    let r : All IsLow (places_along sizes parts R (cursor_at b.headers_end) (runs o.r)) =
-    low_along sizes parts R (cursor_at b.headers_end) (runs o.r) (omega arith)
-    (omega (arith, is.r_end, up.rx_rounded, up.rx, up.rw_rounded, up.tls_bits, up.bits, up.nobits, up.room)) (each_run (RowFits sizes) o.r fit.r) in
-    let x : All IsLow (places_along sizes parts Rx (cursor_at b.rx_start) (runs o.rx)) =
-    low_along sizes parts Rx (cursor_at b.rx_start) (runs o.rx) (omega arith)
-    (omega (arith, is.rx_end, up.rw_rounded, up.tls_bits, up.bits, up.nobits, up.room)) (each_run (RowFits sizes) o.rx fit.rx) in
-    let tb : All IsLow (places_along sizes parts TlsBits (tls_cursor sizes o b.rw_start b.tls_align) (runs o.tls_bits)) =
-    low_along sizes parts TlsBits (tls_cursor sizes o b.rw_start b.tls_align) (runs o.tls_bits) extra
-    (omega (arith, is.tls_bits_end, up.bits, up.nobits, up.room)) (each_run (RowFits sizes) o.tls_bits fit.tls_bits) in
-    let tn : All IsLow (places_along sizes parts TlsNobits (after_tls_bits sizes o b.rw_start b.tls_align) (runs o.tls_nobits)) =
-    low_along sizes parts TlsNobits (after_tls_bits sizes o b.rw_start b.tls_align) (runs o.tls_nobits) m.tls_bits.extra
-    (omega (arith, is.tls_end, up.tls_room)) (each_run (RowFits sizes) o.tls_nobits fit.tls_nobits) in
-    let wb : All IsLow (places_along sizes parts RwBits (cursor_at b.tls_bits_end) (runs o.rw_bits)) =
-    low_along sizes parts RwBits (cursor_at b.tls_bits_end) (runs o.rw_bits) (omega arith)
-    (omega (arith, is.bits_end, up.nobits, up.room)) (each_run (RowFits sizes) o.rw_bits fit.rw_bits) in
-    let wn : All IsLow (places_along sizes parts RwNobits (cursor_at b.bits_end) (runs o.rw_nobits)) =
-    low_along sizes parts RwNobits (cursor_at b.bits_end) (runs o.rw_nobits) (omega arith)
-    (omega (arith, is.nobits_end, up.room)) (each_run (RowFits sizes) o.rw_nobits fit.rw_nobits) in
+    let r : All IsLow (places_along sizes parts R (cursor_at b.headers_end) (runs (rows_in o R))) =
+    low_along sizes parts R (cursor_at b.headers_end) (runs (rows_in o R)) (omega arith)
+    (omega (arith, is.r_end, up.rx_rounded, up.rx, up.rw_rounded, up.tls_bits, up.bits, up.nobits, up.room)) (each_run (RowFits sizes) (rows_in o R) (fit R)) in
+    let x : All IsLow (places_along sizes parts Rx (cursor_at b.rx_start) (runs (rows_in o Rx))) =
+    low_along sizes parts Rx (cursor_at b.rx_start) (runs (rows_in o Rx)) (omega arith)
+    (omega (arith, is.rx_end, up.rw_rounded, up.tls_bits, up.bits, up.nobits, up.room)) (each_run (RowFits sizes) (rows_in o Rx) (fit Rx)) in
+    let tb : All IsLow (places_along sizes parts TlsBits (tls_cursor sizes o b.rw_start b.tls_align) (runs (rows_in o TlsBits))) =
+    low_along sizes parts TlsBits (tls_cursor sizes o b.rw_start b.tls_align) (runs (rows_in o TlsBits)) extra
+    (omega (arith, is.tls_bits_end, up.bits, up.nobits, up.room)) (each_run (RowFits sizes) (rows_in o TlsBits) (fit TlsBits)) in
+    let tn : All IsLow (places_along sizes parts TlsNobits (after_tls_bits sizes o b.rw_start b.tls_align) (runs (rows_in o TlsNobits))) =
+    low_along sizes parts TlsNobits (after_tls_bits sizes o b.rw_start b.tls_align) (runs (rows_in o TlsNobits)) m.tls_bits.extra
+    (omega (arith, is.tls_end, up.tls_room)) (each_run (RowFits sizes) (rows_in o TlsNobits) (fit TlsNobits)) in
+    let wb : All IsLow (places_along sizes parts RwBits (cursor_at b.tls_bits_end) (runs (rows_in o RwBits))) =
+    low_along sizes parts RwBits (cursor_at b.tls_bits_end) (runs (rows_in o RwBits)) (omega arith)
+    (omega (arith, is.bits_end, up.nobits, up.room)) (each_run (RowFits sizes) (rows_in o RwBits) (fit RwBits)) in
+    let wn : All IsLow (places_along sizes parts RwNobits (cursor_at b.bits_end) (runs (rows_in o RwNobits))) =
+    low_along sizes parts RwNobits (cursor_at b.bits_end) (runs (rows_in o RwNobits)) (omega arith)
+    (omega (arith, is.nobits_end, up.room)) (each_run (RowFits sizes) (rows_in o RwNobits) (fit RwNobits)) in
     All-append IsLow _ _ r (All-append IsLow _ _ x (All-append IsLow _ _ tb (All-append IsLow _ _ tn (All-append IsLow _ _ wb wn))))
 
 -- what holds of 0 and of each start holds of each address that is put

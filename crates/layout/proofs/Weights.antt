@@ -2,7 +2,7 @@
 use Rattle.std.proofs.Common.{◌≡◌, ℕ, ◌+◌, ◌*◌, List, take, drop}
 use Rattle.std.proofs.lemmas.List.Sums.{sum_by-take-drop}
 use Rattle.lk_base.specs.declared.abi.TheConstants.{ALIGN_MAX}
-use Rattle.layout.specs.declared.order.Row.{Row}
+use Rattle.output_sections.specs.declared.rows.Row.{Row}
 use Rattle.layout.specs.Walk.{weight}
 
 pub weight_split : (rows front back : List Row) (n : ℕ) → front ≡ take n rows → back ≡ drop n rows → weight front + weight back ≡ weight rows

@@ -4,10 +4,11 @@ use Rattle.lk_base.specs.declared.abi.TheConstants.{ALIGN_MAX}
 use Rattle.link_sections.specs.declared.layouts.Bounds.{Bounds}
 use Rattle.link_sections.specs.declared.members.Member.{Member}
 use Rattle.link_sections.specs.Cuts.{Cut}
-use Rattle.layout.specs.declared.order.Row.{Row}
+use Rattle.lk_tables.specs.declared.classes.Class.TheVariants.{TlsNobits, RwNobits}
+use Rattle.output_sections.specs.declared.rows.Row.{Row}
 use Rattle.layout.specs.declared.walk.Cursor.{Cursor}
 use Rattle.layout.specs.Layout.{after_tls_bits}
-use Rattle.layout.specs.Order.{Orders}
+use Rattle.output_sections.specs.Order.{Orders, rows_in}
 use Rattle.layout.specs.Spots.{AreInOrder}
 use Rattle.layout.specs.Walk.{cursor_at, end_along, members_along, runs}
 use Rattle.layout.proofs.Chain.{AreBounds}
@@ -30,12 +31,12 @@ class_between sizes from to c rows extra least most fit =
     record { order = rw (append-nil (members_along sizes c (runs rows))) at chain; end = λ k d lt. (within k d lt).last }
 
 pub threads_between : (sizes : List (List Cut)) (o : Orders) (b : Bounds) → AllFit sizes o → AreBounds sizes o b
-    → AreBetween b.tls_bits_end b.tls_end (members_along sizes (after_tls_bits sizes o b.rw_start b.tls_align) (runs o.tls_nobits))
+    → AreBetween b.tls_bits_end b.tls_end (members_along sizes (after_tls_bits sizes o b.rw_start b.tls_align) (runs (rows_in o TlsNobits)))
 threads_between sizes o b fit is =
-    class_between sizes b.tls_bits_end b.tls_end (after_tls_bits sizes o b.rw_start b.tls_align) o.tls_nobits (class_moves sizes o b fit is).tls_bits.extra
-    (omega (arith, is.tls_bits_end)) (omega (arith, is.tls_end)) fit.tls_nobits
+    class_between sizes b.tls_bits_end b.tls_end (after_tls_bits sizes o b.rw_start b.tls_align) (rows_in o TlsNobits) (class_moves sizes o b fit is).tls_bits.extra
+    (omega (arith, is.tls_bits_end)) (omega (arith, is.tls_end)) (fit TlsNobits)
 
 pub others_between : (sizes : List (List Cut)) (o : Orders) (b : Bounds) → AllFit sizes o → AreBounds sizes o b
-    → AreBetween b.bits_end b.nobits_end (members_along sizes (cursor_at b.bits_end) (runs o.rw_nobits))
+    → AreBetween b.bits_end b.nobits_end (members_along sizes (cursor_at b.bits_end) (runs (rows_in o RwNobits)))
 others_between sizes o b fit is =
-    class_between sizes b.bits_end b.nobits_end (cursor_at b.bits_end) o.rw_nobits (omega arith) (omega arith) (omega (arith, is.nobits_end)) fit.rw_nobits
+    class_between sizes b.bits_end b.nobits_end (cursor_at b.bits_end) (rows_in o RwNobits) (omega arith) (omega arith) (omega (arith, is.nobits_end)) (fit RwNobits)

@@ -23,12 +23,12 @@ use Rattle.link_sections.specs.InputSections.{input_at}
 use Rattle.link_sections.specs.Calls.{IsOwnCall}
 use Rattle.link_sections.specs.LaidOut.{LaidOut, OutputPlace, OutputSection, no_pools, output_view, place_view}
 use Rattle.link_sections.specs.Leaders.{leads}
-use Rattle.layout.specs.declared.order.Row.{Row}
+use Rattle.output_sections.specs.declared.rows.Row.{Row}
 use Rattle.layout.specs.declared.walk.Cursor.{Cursor}
 use Rattle.layout.specs.declared.placing.Walked.{Walked}
 use Rattle.layout.specs.Cutting.{laid_cuts, short_defects}
-use Rattle.layout.specs.Items.{Item, items}
-use Rattle.layout.specs.Order.{Orders, orders_of}
+use Rattle.output_sections.specs.Items.{Item, items}
+use Rattle.output_sections.specs.Order.{Orders, orders_of, rows_in}
 use Rattle.layout.specs.Walk.{IsReady, Stands, all_put, cursor_at, end_along, greatest, is_empty, members_along, places_along, runs, sections_along, stands_along, stands_view, weight}
 
 abbrev pub count_of : Bool → ℕ
@@ -36,16 +36,16 @@ count_of test = if test then 1 else 0
 
 -- a class that is executed, written or thread-local has a segment if one of its members has a byte; thread-local bits are written
 unfoldable pub has_rx : Orders → Bool
-has_rx o = not (is_empty o.rx)
+has_rx o = not (is_empty (rows_in o Rx))
 
 unfoldable pub has_tls_bits : Orders → Bool
-has_tls_bits o = not (is_empty o.tls_bits)
+has_tls_bits o = not (is_empty (rows_in o TlsBits))
 
 unfoldable pub has_tls : Orders → Bool
-has_tls o = not (is_empty o.tls_bits && is_empty o.tls_nobits)
+has_tls o = not (is_empty (rows_in o TlsBits) && is_empty (rows_in o TlsNobits))
 
 unfoldable pub has_rw : Orders → Bool
-has_rw o = not (is_empty o.tls_bits && (is_empty o.rw_bits && is_empty o.rw_nobits))
+has_rw o = not (is_empty (rows_in o TlsBits) && (is_empty (rows_in o RwBits) && is_empty (rows_in o RwNobits)))
 
 -- the program headers: that of the first segment, those of the three above, that of the stack
 unfoldable pub headers_of : Orders → ℕ
@@ -57,25 +57,25 @@ headers_end_of o = IMAGE_BASE + (EHDR_SIZE + PHDR_SIZE * headers_of o)
 
 -- the greatest alignment of a thread-local member
 unfoldable pub tls_align_of : Orders → ℕ
-tls_align_of o = max (greatest o.tls_bits) (greatest o.tls_nobits)
+tls_align_of o = max (greatest (rows_in o TlsBits)) (greatest (rows_in o TlsNobits))
 
 -- the greatest end of the headers or of an output section that is not empty: ends grow along the walk, so it is the end of the last class
 -- that is not empty; in the file, of the last with bits
 abbrev pub last_end : Orders → (r_end rx_end tls_bits_end bits_end : ℕ) → ℕ
-last_end o r_end rx_end tls_bits_end bits_end = if not (is_empty o.rw_bits) then bits_end
-    else if not (is_empty o.tls_bits) then tls_bits_end
-    else if not (is_empty o.rx) then rx_end else r_end
+last_end o r_end rx_end tls_bits_end bits_end = if not (is_empty (rows_in o RwBits)) then bits_end
+    else if not (is_empty (rows_in o TlsBits)) then tls_bits_end
+    else if not (is_empty (rows_in o Rx)) then rx_end else r_end
 
 module _ (sizes : List (List Cut)) (o : Orders) where
   -- the chain of the classes: the cursor is rounded before RX and before the thread-local classes, and goes back after thread-local nobits
   unfoldable pub r_end_of : ℕ
-  r_end_of = (end_along sizes (cursor_at (headers_end_of o)) (runs o.r)).at
+  r_end_of = (end_along sizes (cursor_at (headers_end_of o)) (runs (rows_in o R))).at
 
   unfoldable pub rx_start_of : ℕ
   rx_start_of = up r_end_of PAGE
 
   unfoldable pub rx_end_of : ℕ
-  rx_end_of = (end_along sizes (cursor_at rx_start_of) (runs o.rx)).at
+  rx_end_of = (end_along sizes (cursor_at rx_start_of) (runs (rows_in o Rx))).at
 
   unfoldable pub rw_start_of : ℕ
   rw_start_of = up rx_end_of PAGE
@@ -85,28 +85,28 @@ module _ (sizes : List (List Cut)) (o : Orders) where
   tls_cursor rw_start tls_align = record { at = rw_start; extra = tls_align }
 
   abbrev pub after_tls_bits : (rw_start tls_align : ℕ) → Cursor
-  after_tls_bits rw_start tls_align = end_along sizes (tls_cursor rw_start tls_align) (runs o.tls_bits)
+  after_tls_bits rw_start tls_align = end_along sizes (tls_cursor rw_start tls_align) (runs (rows_in o TlsBits))
 
   unfoldable pub tls_bits_end_of : ℕ
   tls_bits_end_of = (after_tls_bits rw_start_of (tls_align_of o)).at
 
   unfoldable pub tls_end_of : ℕ
-  tls_end_of = (end_along sizes (after_tls_bits rw_start_of (tls_align_of o)) (runs o.tls_nobits)).at
+  tls_end_of = (end_along sizes (after_tls_bits rw_start_of (tls_align_of o)) (runs (rows_in o TlsNobits))).at
 
   unfoldable pub tls_start_of : ℕ
   tls_start_of = if has_tls o then up rw_start_of (tls_align_of o) else 0
 
   unfoldable pub bits_end_of : ℕ
-  bits_end_of = (end_along sizes (cursor_at tls_bits_end_of) (runs o.rw_bits)).at
+  bits_end_of = (end_along sizes (cursor_at tls_bits_end_of) (runs (rows_in o RwBits))).at
 
   unfoldable pub nobits_end_of : ℕ
-  nobits_end_of = (end_along sizes (cursor_at bits_end_of) (runs o.rw_nobits)).at
+  nobits_end_of = (end_along sizes (cursor_at bits_end_of) (runs (rows_in o RwNobits))).at
 
   unfoldable pub file_end_of : ℕ
   file_end_of = last_end o r_end_of rx_end_of tls_bits_end_of bits_end_of
 
   unfoldable pub image_end_of : ℕ
-  image_end_of = if not (is_empty o.rw_nobits) then nobits_end_of else file_end_of
+  image_end_of = if not (is_empty (rows_in o RwNobits)) then nobits_end_of else file_end_of
 
   unfoldable pub bounds_of : Bounds
   bounds_of = record {
@@ -170,12 +170,12 @@ module _ (sizes : List (List Cut)) (parts : List Item) where
 
   unfoldable pub trail_of : Orders → Bounds → Trail → Trail
   trail_of o b t =
-      with_zeros RwNobits (cursor_at b.bits_end) o.rw_nobits
-      (with_bits RwBits (cursor_at b.tls_bits_end) o.rw_bits
-      (with_zeros TlsNobits (after_tls_bits sizes o b.rw_start b.tls_align) o.tls_nobits
-      (with_bits TlsBits (tls_cursor sizes o b.rw_start b.tls_align) o.tls_bits
-      (with_bits Rx (cursor_at b.rx_start) o.rx
-      (with_bits R (cursor_at b.headers_end) o.r t)))))
+      with_zeros RwNobits (cursor_at b.bits_end) (rows_in o RwNobits)
+      (with_bits RwBits (cursor_at b.tls_bits_end) (rows_in o RwBits)
+      (with_zeros TlsNobits (after_tls_bits sizes o b.rw_start b.tls_align) (rows_in o TlsNobits)
+      (with_bits TlsBits (tls_cursor sizes o b.rw_start b.tls_align) (rows_in o TlsBits)
+      (with_bits Rx (cursor_at b.rx_start) (rows_in o Rx)
+      (with_bits R (cursor_at b.headers_end) (rows_in o R) t)))))
 
 -- before the walk: nothing stands anywhere
 abbrev pub no_trail : (sections pools : ℕ) → Trail
@@ -250,15 +250,15 @@ pub record IsThere (sizes : List (List Cut)) (sections pools : ℕ) (item : Item
 
 -- rows of each class as the walk takes them
 pub record AreReady (sizes : List (List Cut)) (sections pools : ℕ) (o : Orders) : Type 0 where
-  pub r : All (IsReady sizes sections pools) o.r
-  pub rx : All (IsReady sizes sections pools) o.rx
-  pub tls_bits : All (IsReady sizes sections pools) o.tls_bits
-  pub tls_nobits : All (IsReady sizes sections pools) o.tls_nobits
-  pub rw_bits : All (IsReady sizes sections pools) o.rw_bits
-  pub rw_nobits : All (IsReady sizes sections pools) o.rw_nobits
+  pub r : All (IsReady sizes sections pools) (rows_in o R)
+  pub rx : All (IsReady sizes sections pools) (rows_in o Rx)
+  pub tls_bits : All (IsReady sizes sections pools) (rows_in o TlsBits)
+  pub tls_nobits : All (IsReady sizes sections pools) (rows_in o TlsNobits)
+  pub rw_bits : All (IsReady sizes sections pools) (rows_in o RwBits)
+  pub rw_nobits : All (IsReady sizes sections pools) (rows_in o RwNobits)
 
 abbrev pub all_weight : Orders → ℕ
-all_weight o = weight o.r + weight o.rx + weight o.tls_bits + weight o.tls_nobits + weight o.rw_bits + weight o.rw_nobits
+all_weight o = weight (rows_in o R) + weight (rows_in o Rx) + weight (rows_in o TlsBits) + weight (rows_in o TlsNobits) + weight (rows_in o RwBits) + weight (rows_in o RwNobits)
 
 -- one list of cuts for each section; each cut has bytes and lies in its section, and meets no place that a relocation writes, but for that
 -- of its own call

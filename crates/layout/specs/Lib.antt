@@ -1,9 +1,5 @@
 pub mod Cutting
 pub mod CutsSoFar
-pub mod Items
-pub mod ItemViews
-pub mod Order
 pub mod Walk
 pub mod Layout
 pub mod Spots
-pub mod Heads

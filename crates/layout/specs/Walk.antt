@@ -11,11 +11,11 @@ use Rattle.link_sections.specs.declared.members.Content.TheVariants.{Section, Po
 use Rattle.link_sections.specs.declared.members.Member.{Member}
 use Rattle.link_sections.specs.Cuts.{Cut, new_offset}
 use Rattle.link_sections.specs.LaidOut.{OutputPlace, OutputSection}
-use Rattle.layout.specs.declared.order.Row.{Row}
+use Rattle.output_sections.specs.declared.rows.Row.{Row}
 use Rattle.layout.specs.declared.walk.Cursor.{Cursor}
 use Rattle.layout.specs.declared.places.Places.{Places}
 use Rattle.layout.specs.Cutting.{laid_cuts}
-use Rattle.layout.specs.Items.{Item}
+use Rattle.output_sections.specs.Items.{Item}
 
 -- the output sections of a class, its members being in their order: each run of one group
 abbrev pub beside : Row → List (List Row) → List (List Row)

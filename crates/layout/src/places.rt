@@ -7,8 +7,8 @@ ghost use Rattle.link_sections.specs.SizesView.{sizes_of};
 ghost use Rattle.layout.specs.Walk as spec;
 
 use crate::cutting::{has_alignment, lay_cuts};
-use crate::order::Row;
 use link_sections::{Content, Cut, Member, Sizes, new_offset};
+use output_sections::Row;
 use std::alloc::{AllocError, Global};
 
 /// The first addresses of the members of a link.

@@ -9,6 +9,7 @@ ghost use Rattle.lk_base.specs.Limits.{IsWithinStandard};
 ghost use Rattle.lk_tables.specs.BoundNames.{IsBindingOf};
 ghost use Rattle.lk_tables.specs.BindingView.{binding_view};
 ghost use Rattle.lk_tables.specs.Files.{section_total};
+ghost use Rattle.lk_tables.specs.declared.classes.Class.TheVariants.{RwNobits, TlsBits, TlsNobits};
 ghost use Rattle.lk_tables.specs.TablesView.{files_of};
 ghost use Rattle.link_sections.specs.CutsView.{cut_views};
 ghost use Rattle.link_sections.specs.GotEntries.{word_count};
@@ -17,16 +18,14 @@ ghost use Rattle.link_sections.specs.LaidOut.{layout_view, with_contents};
 ghost use Rattle.link_sections.specs.PoolViews.{pools_view};
 ghost use Rattle.link_sections.specs.SizesView.{sizes_of};
 ghost use Rattle.link_sections.specs.Sound.{IsSound};
-ghost use Rattle.layout.specs.Items.{AreLeaders, HaveFirsts, IsSized, items};
-ghost use Rattle.layout.specs.ItemViews.{item_view, items_view};
+ghost use Rattle.output_sections.specs.Items.{AreLeaders, HaveFirsts, IsSized, items};
+ghost use Rattle.output_sections.specs.ItemViews.{items_view};
 ghost use Rattle.layout.specs.Layout as spec;
-ghost use Rattle.layout.specs.Order.{orders_in, orders_of};
+ghost use Rattle.output_sections.specs.Order.{orders_of, rows_in};
 ghost use Rattle.layout.specs.Spots.{AreApart, AreRising, HaveAlignments, HaveSegments, HaveZeros, IsWithinClass, without_tls_zeros};
 ghost use Rattle.layout.specs.Walk as walk;
 
 use crate::cut_rows::lay_rows;
-use crate::items::{Item, items_of};
-use crate::order::{Ordered, Row, find_orders};
 use crate::places::Places;
 use crate::walk::{Cursor, Sources, greatest_alignment, is_empty, walk_class};
 use link_sections::{Bounds, Got, Layout, Member, Output, OutputPlace, Pools, Sizes};
@@ -34,6 +33,7 @@ use lk_base::abi::{EHDR_SIZE, IMAGE_BASE, PAGE, PHDR_SIZE};
 use lk_base::kinds::TOO_BIG;
 use lk_base::{Defect, Limits, LinkStop, SecNo, count_defect, up};
 use lk_tables::{Binding, Class, Tables};
+use output_sections::{OutputSections, Row};
 use std::alloc::{AllocError, Global};
 
 /// Lays out a link: the sections that lead themselves, the pools of merged pieces, and last the linker's global offset table. `sizes` has by
@@ -47,12 +47,14 @@ pub fn place<'a>(
     pools: &Pools,
     got: &Got,
     leaders: &[Option<SecNo>],
+    sections: &OutputSections<'a>,
     sizes: &Sizes,
     limits: &Limits,
 ) -> Result<Layout<'a>, LinkStop>
     requires bound { IsBindingOf (files_of tables.now) (binding_view binding.now) }
     requires leaders { AreLeaders (files_of tables.now) (binding_view binding.now) leaders.now }
     requires pools { HaveFirsts (files_of tables.now) (binding_view binding.now) pools.now.pools.items }
+    requires items { items_view sections.now.items.items ≡ items (files_of tables.now) (binding_view binding.now) pools.now.pools.items (word_count (entries_of got.now)) leaders.now }
     requires sizes { spec.FitSizes (files_of tables.now) (binding_view binding.now) (sizes_of sizes.now) }
     ensures goes { Goes result (spec.layout_defects limits.now (files_of tables.now) (spec.layout_of (files_of tables.now) (binding_view binding.now) pools.now.pools.items (word_count (entries_of got.now)) leaders.now (sizes_of sizes.now))) }
     ensures found { IfOk result (λ layout. layout_view layout ≡ spec.layout_of (files_of tables.now) (binding_view binding.now) pools.now.pools.items (word_count (entries_of got.now)) leaders.now (sizes_of sizes.now)) }
@@ -65,7 +67,7 @@ pub fn place<'a>(
     ensures aligned { IfOk result (λ layout. HaveAlignments (files_of tables.now) (binding_view binding.now) (layout_view layout)) }
     ensures zeros { IfOk result (λ layout. HaveZeros (layout_view layout)) }
 {
-    let layout = lay_out(alloc, tables, binding, pools, got, leaders, sizes)?;
+    let layout = lay_out(alloc, tables, binding, pools, got, leaders, sections, sizes)?;
     match check_limits(&layout, limits) {
         Ok(()) => Ok(layout),
         Err(defect) => Err(LinkStop::Defect(defect)),
@@ -80,27 +82,26 @@ fn lay_out<'a>(
     pools: &Pools,
     got: &Got,
     leaders: &[Option<SecNo>],
+    sections: &OutputSections<'a>,
     sizes: &Sizes,
 ) -> Result<Layout<'a>, LinkStop>
     requires bound { IsBindingOf (files_of tables.now) (binding_view binding.now) }
     requires leaders { AreLeaders (files_of tables.now) (binding_view binding.now) leaders.now }
     requires pools { HaveFirsts (files_of tables.now) (binding_view binding.now) pools.now.pools.items }
+    requires items { items_view sections.now.items.items ≡ items (files_of tables.now) (binding_view binding.now) pools.now.pools.items (word_count (entries_of got.now)) leaders.now }
     requires sizes { spec.FitSizes (files_of tables.now) (binding_view binding.now) (sizes_of sizes.now) }
     ensures goes { Goes result (spec.cut_defects (files_of tables.now) (spec.layout_of (files_of tables.now) (binding_view binding.now) pools.now.pools.items (word_count (entries_of got.now)) leaders.now (sizes_of sizes.now)).cuts (section_total (files_of tables.now))) }
     ensures found { IfOk result (λ layout. layout_view layout ≡ spec.layout_of (files_of tables.now) (binding_view binding.now) pools.now.pools.items (word_count (entries_of got.now)) leaders.now (sizes_of sizes.now)) }
     ensures sized { IfOk result (λ _. All IsSized (items (files_of tables.now) (binding_view binding.now) pools.now.pools.items (word_count (entries_of got.now)) leaders.now)) }
     ensures room { IfOk result (λ _. spec.all_weight (orders_of (items (files_of tables.now) (binding_view binding.now) pools.now.pools.items (word_count (entries_of got.now)) leaders.now)) + 2 ^ 32 < 2 ^ 63) }
 {
-    let items = items_of(alloc, tables, binding, pools, got, leaders)?;
-    let (walked, bounds) = walk_items(
+    let (walked, bounds) = walk_sections(
         alloc,
-        &items,
+        sections,
         sizes,
         tables.section_count(),
         pools.pools().len(),
     )?;
-    // What the walk needed is let go first: the cuts take its room over.
-    drop(items);
     let cuts = lay_rows(alloc, tables, leaders, sizes, &walked.places.starts)?;
     Ok(Layout {
         outputs: walked.outputs,
@@ -115,31 +116,27 @@ fn lay_out<'a>(
     })
 }
 
-/// The walk along items, which are sections and pools of so many.
-fn walk_items<'a>(
+/// The walk along output sections, whose members are sections and pools of so many.
+fn walk_sections<'a>(
     alloc: Global,
-    items: &[Item<'a>],
+    o: &OutputSections<'a>,
     sizes: &Sizes,
     sections: usize,
     pools: usize,
 ) -> Result<(Walked<'a>, Bounds), AllocError>
-    requires few { length items.now ≤ 2 ^ 30 }
-    requires sized { All IsSized (items_view items.now) }
-    requires bytes { sum_by (λ item. item.size) (items_view items.now) < 2 ^ 61 + 2 ^ 40 }
-    requires there { All (spec.IsThere (sizes_of sizes.now) sections pools) (items_view items.now) }
-    ensures bounds { IfOk result (λ laid. laid.1 ≡ spec.bounds_of (sizes_of sizes.now) (orders_of (items_view items.now))) }
-    ensures trail { IfOk result (λ laid. spec.trail_view laid.0 ≡ spec.trail_of (sizes_of sizes.now) (items_view items.now) (orders_of (items_view items.now)) (spec.bounds_of (sizes_of sizes.now) (orders_of (items_view items.now))) (spec.no_trail sections pools)) }
+    requires there { All (spec.IsThere (sizes_of sizes.now) sections pools) (items_view o.now.items.items) }
+    ensures bounds { IfOk result (λ laid. laid.1 ≡ spec.bounds_of (sizes_of sizes.now) (orders_of (items_view o.now.items.items))) }
+    ensures trail { IfOk result (λ laid. spec.trail_view laid.0 ≡ spec.trail_of (sizes_of sizes.now) (items_view o.now.items.items) (orders_of (items_view o.now.items.items)) (spec.bounds_of (sizes_of sizes.now) (orders_of (items_view o.now.items.items))) (spec.no_trail sections pools)) }
     ensures low { IfOk result (λ laid. All (λ start. start < 2 ^ 63) laid.0.places.starts.items) }
     ensures count { IfOk result (λ laid. length laid.0.places.starts.items ≡ sections) }
 {
-    let orders = find_orders(alloc, items)?;
     let from = Sources {
         alloc,
-        items,
+        items: &o.items,
         sizes,
     };
     let mut walked = no_walk(alloc, sections, pools)?;
-    let bounds = walk_all(&from, &orders, &mut walked)?;
+    let bounds = walk_all(&from, o, &mut walked)?;
     Ok((walked, bounds))
 }
 
@@ -275,36 +272,37 @@ fn cursor(at: u64, extra: u64) -> Cursor
 }
 
 #[tactic(auto, unfolding(crate::specs::Layout::has_rx))]
-fn has_rx(o: &Ordered) -> bool
-    ensures { result ≡ spec.has_rx (orders_in o.now) }
+fn has_rx(o: &OutputSections) -> bool
+    ensures { result ≡ spec.has_rx o.now.rows }
 {
-    !is_empty(&o.rx)
+    !is_empty(o.class(Class::Rx))
 }
 
 #[tactic(auto, unfolding(crate::specs::Layout::has_tls_bits))]
-fn has_tls_bits(o: &Ordered) -> bool
-    ensures { result ≡ spec.has_tls_bits (orders_in o.now) }
+fn has_tls_bits(o: &OutputSections) -> bool
+    ensures { result ≡ spec.has_tls_bits o.now.rows }
 {
-    !is_empty(&o.tls_bits)
+    !is_empty(o.class(Class::TlsBits))
 }
 
 #[tactic(auto, unfolding(crate::specs::Layout::has_tls))]
-fn has_tls(o: &Ordered) -> bool
-    ensures { result ≡ spec.has_tls (orders_in o.now) }
+fn has_tls(o: &OutputSections) -> bool
+    ensures { result ≡ spec.has_tls o.now.rows }
 {
-    !(is_empty(&o.tls_bits) && is_empty(&o.tls_nobits))
+    !(is_empty(o.class(Class::TlsBits)) && is_empty(o.class(Class::TlsNobits)))
 }
 
 #[tactic(auto, unfolding(crate::specs::Layout::has_rw))]
-fn has_rw(o: &Ordered) -> bool
-    ensures { result ≡ spec.has_rw (orders_in o.now) }
+fn has_rw(o: &OutputSections) -> bool
+    ensures { result ≡ spec.has_rw o.now.rows }
 {
-    !(is_empty(&o.tls_bits) && (is_empty(&o.rw_bits) && is_empty(&o.rw_nobits)))
+    !(is_empty(o.class(Class::TlsBits))
+        && (is_empty(o.class(Class::RwBits)) && is_empty(o.class(Class::RwNobits))))
 }
 
 #[tactic(auto, unfolding(crate::specs::Layout::headers_of))]
-fn headers_of(o: &Ordered) -> u64
-    ensures value { result ≡ spec.headers_of (orders_in o.now) }
+fn headers_of(o: &OutputSections) -> u64
+    ensures value { result ≡ spec.headers_of o.now.rows }
     ensures most { result ≤ 5 }
 {
     2 + count_of(has_rx(o)) + count_of(has_rw(o)) + count_of(has_tls(o))
@@ -312,14 +310,14 @@ fn headers_of(o: &Ordered) -> u64
 
 /// The greatest alignment of a thread-local member, at least 1.
 #[tactic(auto, unfolding(crate::specs::Layout::tls_align_of))]
-fn tls_align_of(o: &Ordered) -> u64
-    requires bits { All (λ row. row.align ≤ ALIGN_MAX) o.now.tls_bits.items }
-    requires nobits { All (λ row. row.align ≤ ALIGN_MAX) o.now.tls_nobits.items }
-    ensures value { result ≡ spec.tls_align_of (orders_in o.now) }
+fn tls_align_of(o: &OutputSections) -> u64
+    requires bits { All (λ row. row.align ≤ ALIGN_MAX) (rows_in o.now.rows TlsBits) }
+    requires nobits { All (λ row. row.align ≤ ALIGN_MAX) (rows_in o.now.rows TlsNobits) }
+    ensures value { result ≡ spec.tls_align_of o.now.rows }
     ensures some { 1 ≤ result }
     ensures bound { result ≤ ALIGN_MAX }
 {
-    greatest_alignment(&o.tls_bits).max(greatest_alignment(&o.tls_nobits))
+    greatest_alignment(o.class(Class::TlsBits)).max(greatest_alignment(o.class(Class::TlsNobits)))
 }
 
 /// Where the first thread-local output section that is not empty starts, or 0.
@@ -335,25 +333,25 @@ fn tls_start_of(has_tls: bool, rw_start: u64, tls_align: u64) -> u64
 }
 
 /// The end of the last class with bits that is not empty.
-fn last_end(o: &Ordered, r_end: u64, rx_end: u64, tls_bits_end: u64, bits_end: u64) -> u64
-    ensures { result ≡ spec.last_end (orders_in o.now) r_end rx_end tls_bits_end bits_end }
+fn last_end(o: &OutputSections, r_end: u64, rx_end: u64, tls_bits_end: u64, bits_end: u64) -> u64
+    ensures { result ≡ spec.last_end o.now.rows r_end rx_end tls_bits_end bits_end }
 {
-    if !is_empty(&o.rw_bits) {
+    if !is_empty(o.class(Class::RwBits)) {
         return bits_end;
     }
-    if !is_empty(&o.tls_bits) {
+    if !is_empty(o.class(Class::TlsBits)) {
         return tls_bits_end;
     }
-    if !is_empty(&o.rx) {
+    if !is_empty(o.class(Class::Rx)) {
         return rx_end;
     }
     r_end
 }
 
-fn image_end_of(o: &Ordered, file_end: u64, nobits_end: u64) -> u64
-    ensures { result ≡ (if not (walk.is_empty o.now.rw_nobits.items) then nobits_end else file_end) }
+fn image_end_of(o: &OutputSections, file_end: u64, nobits_end: u64) -> u64
+    ensures { result ≡ (if not (walk.is_empty (rows_in o.now.rows RwNobits)) then nobits_end else file_end) }
 {
-    if !is_empty(&o.rw_nobits) {
+    if !is_empty(o.class(Class::RwNobits)) {
         return nobits_end;
     }
     file_end
@@ -362,30 +360,58 @@ fn image_end_of(o: &Ordered, file_end: u64, nobits_end: u64) -> u64
 /// The walk along all classes.
 fn walk_all<'a>(
     from: &Sources<'_, 'a>,
-    o: &Ordered,
+    o: &OutputSections,
     walked: &mut Walked<'a>,
 ) -> Result<Bounds, AllocError>
-    requires ready { spec.AreReady (sizes_of from.now.sizes.now) (length walked.old.places.starts.items) (length walked.old.places.pools.items) (orders_in o.now) }
-    requires room { spec.all_weight (orders_in o.now) + 2 ^ 32 < 2 ^ 63 }
-    ensures bounds { IfOk result (λ bounds. bounds ≡ spec.bounds_of (sizes_of from.now.sizes.now) (orders_in o.now)) }
-    ensures trail { IfOk result (λ bounds. spec.trail_view walked.new ≡ spec.trail_of (sizes_of from.now.sizes.now) (items_view from.now.items.now) (orders_in o.now) bounds (spec.trail_view walked.old)) }
+    requires ready { spec.AreReady (sizes_of from.now.sizes.now) (length walked.old.places.starts.items) (length walked.old.places.pools.items) o.now.rows }
+    requires room { spec.all_weight o.now.rows + 2 ^ 32 < 2 ^ 63 }
+    ensures bounds { IfOk result (λ bounds. bounds ≡ spec.bounds_of (sizes_of from.now.sizes.now) o.now.rows) }
+    ensures trail { IfOk result (λ bounds. spec.trail_view walked.new ≡ spec.trail_of (sizes_of from.now.sizes.now) (items_view from.now.items.now) o.now.rows bounds (spec.trail_view walked.old)) }
     ensures sections { OnOk result (length walked.new.places.starts.items ≡ length walked.old.places.starts.items) }
 {
     let headers = headers_of(o);
     let headers_end = IMAGE_BASE + (EHDR_SIZE + PHDR_SIZE * headers);
-    let r_end = walk_bits(from, cursor(headers_end, 1), Class::R, &o.r, walked)?.at;
+    let r_end = walk_bits(
+        from,
+        cursor(headers_end, 1),
+        Class::R,
+        o.class(Class::R),
+        walked,
+    )?
+    .at;
     let rx_start = up(r_end, PAGE);
-    let rx_end = walk_bits(from, cursor(rx_start, 1), Class::Rx, &o.rx, walked)?.at;
+    let rx_end = walk_bits(
+        from,
+        cursor(rx_start, 1),
+        Class::Rx,
+        o.class(Class::Rx),
+        walked,
+    )?
+    .at;
     let rw_start = up(rx_end, PAGE);
     let tls_align = tls_align_of(o);
     let tls = cursor(rw_start, tls_align);
-    let tls_bits = walk_bits(from, tls, Class::TlsBits, &o.tls_bits, walked)?;
-    let tls_end = walk_zeros(from, tls_bits, Class::TlsNobits, &o.tls_nobits, walked)?.at;
+    let tls_bits = walk_bits(from, tls, Class::TlsBits, o.class(Class::TlsBits), walked)?;
+    let tls_end = walk_zeros(
+        from,
+        tls_bits,
+        Class::TlsNobits,
+        o.class(Class::TlsNobits),
+        walked,
+    )?
+    .at;
     let tls_bits_end = tls_bits.at;
     let written = cursor(tls_bits_end, 1);
-    let bits_end = walk_bits(from, written, Class::RwBits, &o.rw_bits, walked)?.at;
+    let bits_end = walk_bits(from, written, Class::RwBits, o.class(Class::RwBits), walked)?.at;
     let zeros = cursor(bits_end, 1);
-    let nobits_end = walk_zeros(from, zeros, Class::RwNobits, &o.rw_nobits, walked)?.at;
+    let nobits_end = walk_zeros(
+        from,
+        zeros,
+        Class::RwNobits,
+        o.class(Class::RwNobits),
+        walked,
+    )?
+    .at;
     let file_end = last_end(o, r_end, rx_end, tls_bits_end, bits_end);
     Ok(Bounds {
         has_rx: has_rx(o),

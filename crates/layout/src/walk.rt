@@ -6,16 +6,15 @@ ghost use Rattle.lk_base.specs.Arithmetic.{up};
 ghost use Rattle.lk_base.specs.declared.abi.TheConstants.{ALIGN_MAX, NOBITS_MAX};
 ghost use Rattle.link_sections.specs.LaidOut.{output_view, place_view};
 ghost use Rattle.link_sections.specs.SizesView.{sizes_of};
-ghost use Rattle.layout.specs.ItemViews.{items_view};
+ghost use Rattle.output_sections.specs.ItemViews.{items_view};
 ghost use Rattle.layout.specs.Walk as spec;
 
-use crate::items::Item;
-use crate::order::Row;
 use crate::places::{Places, place_row, put};
 use link_sections::{Member, Output, OutputPlace, Sizes};
 use lk_base::abi::{SHF_ALLOC, SHF_EXECINSTR, SHF_TLS, SHF_WRITE, SHT_NOBITS, SHT_PROGBITS};
 use lk_base::up;
 use lk_tables::{Class, output_name};
+use output_sections::{Item, Row};
 use std::alloc::{AllocError, Global};
 
 /// What the walk reads.

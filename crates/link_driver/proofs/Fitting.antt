@@ -5,7 +5,7 @@ use Rattle.std.specs.List.{All, range_with_len}
 use Rattle.std.proofs.lemmas.Bool.{and_parts}
 use Rattle.std.proofs.lemmas.List.Elements.{All-filter, All-map}
 use Rattle.std.proofs.lemmas.List.FromFn.{get_or-range_with_len, length-range_with_len}
-use Rattle.layout.specs.Items.{AreLeaders, HaveFirsts, IsStaying}
+use Rattle.output_sections.specs.Items.{AreLeaders, HaveFirsts, IsStaying}
 use Rattle.layout.specs.Layout.{FitSizes}
 use Rattle.lk_tables.specs.Binding.{Bindings}
 use Rattle.lk_tables.specs.Files.{File, file_at, section_count, section_no}

@@ -26,7 +26,7 @@ use Rattle.link_sections.specs.LaidOut.{LaidOut, cuts_at, with_contents}
 use Rattle.link_sections.specs.Leaders.{leads}
 use Rattle.link_sections.specs.PoolViews.{PoolsView}
 use Rattle.relax.specs.declared.calls.Call.{Call}
-use Rattle.relax.specs.declared.members.Member.{Member}
+use Rattle.output_sections.specs.declared.rows.Row.{Row}
 use Rattle.relax.specs.CallSizes as calls
 use Rattle.relax.specs.CallSizes.{cut_of, cuts_by, is_cut}
 use Rattle.reloc_apply.specs.Relocated.{misfit_defects, reloc_defect, reloc_defects, relocation_defects, section_defects, value_defects}
@@ -48,7 +48,7 @@ cuts_by_up sizes relocs up =
     up_map (AreBelow n) CutsUp (λ k. cut_of (sizes k) (get_or relocs k no_reloc))
     (λ j k lt. read_up RelocsUp relocs j k no_reloc up lt.0 lt.1) (filter test (range_with_len 0 n)) (up_filter (AreBelow n) test (range_with_len 0 n) (numbers_up n))
 
-all_cuts_up : (files : List File) (ms : List Member) (rows : List (List Call)) (z : List ℕ) → ((n : ℕ) → Up RelocsUp (relocs_of files n)) →
+all_cuts_up : (files : List File) (ms : List Row) (rows : List (List Call)) (z : List ℕ) → ((n : ℕ) → Up RelocsUp (relocs_of files n)) →
     (n : ℕ) → Up CutsUp (get_or (calls.all_cuts files ms rows z) n [])
 unfolding calls.all_cuts
 all_cuts_up files ms rows z rise n =

@@ -7,13 +7,14 @@ use Rattle.std.proofs.lemmas.List.{length-map}
 use Rattle.std.proofs.lemmas.Bool.{and_parts, cond-false, cond-true}
 use Rattle.std.proofs.lemmas.List.Elements.{All-map}
 use Rattle.icf_part.specs.Leaders.{leaders_of}
-use Rattle.layout.specs.Items.{AreLeaders}
+use Rattle.output_sections.specs.Items.{AreLeaders}
 use Rattle.layout.specs.Layout.{layout_defects, layout_of, limit_defects}
 use Rattle.lk_base.specs.declared.limits.Limits.{Limits}
 use Rattle.lk_tables.specs.Binding.{Bindings}
 use Rattle.lk_tables.specs.Files.{File, section_total}
 use Rattle.lk_tables.proofs.BoundHas.{each_flat, one_if}
 use Rattle.link_sections.specs.declared.got.GotEntry.{GotEntry}
+use Rattle.link_sections.specs.declared.pools.Pool.{Pool}
 use Rattle.link_sections.specs.declared.pools.Pools.{Pools}
 use Rattle.link_sections.specs.Cuts.{Cut}
 use Rattle.link_sections.specs.declared.fold_items.FoldItem.{FoldItem as LentItem}
@@ -26,6 +27,8 @@ use Rattle.link_sections.specs.PoolViews.{Merged, PoolsView, merged_views, pool_
 use Rattle.link_sections.proofs.Folded.{LeadItems, folded_lead}
 use Rattle.link_sections.proofs.OwnLeaders.{own_lead}
 use Rattle.link_sections.proofs.PoolHeads.{pool_heads_are}
+use Rattle.output_sections.specs.Items.{items as parts}
+use Rattle.output_sections.specs.Order.{Orders, members_in, orders_of}
 use Rattle.relax.specs.CallSizes.{cuts_of}
 use Rattle.sec_graph.specs.Foldable.{is_foldable, item_if, item_in, item_of, items}
 use Rattle.link_driver.specs.Link.{Wishes, cuts_in, laid_out, leaders_in, table_of}
@@ -65,13 +68,22 @@ module _ (w : Wishes) (files : List File) (b : Bindings) (kept : List Bool) (poo
       ∙ ap (λ (v : PoolsView). give (items files b v.merged kept) (own_leaders kept v.merged)) are ∙ sym (cond-true w.icf _ _ on)
 
   module _ (leaders : List (Option ℕ)) (lead : leaders ≡ leaders_in w files b kept) (entries : List GotEntry) (listed : entries ≡ table_of w files b kept)
-      (sizes : List (List Cut)) (cut : sizes ≡ cuts_of files b (pools_view files pools) leaders w.relax) where
+      (rows : Orders) (order : rows ≡ orders_of (parts files b pools.pools.items (word_count entries) leaders)) (sizes : List (List Cut))
+      (cut : sizes ≡ cuts_of files b (merged_views pools) leaders (members_in rows) w.relax) where
     abbrev plain : LaidOut
     plain = layout_of files b (pool_heads (pools_of files kept)) (word_count (table_of w files b kept)) (leaders_in w files b kept) (cuts_in w files b kept)
 
+    abbrev cuts_by : List (Option Merged) → List Pool → List GotEntry → List (Option ℕ) → List (List Cut)
+    cuts_by merged heads table l = cuts_of files b merged l (members_in (orders_of (parts files b heads (word_count table) l))) w.relax
+
     cuts_are : sizes ≡ cuts_in w files b kept
-    unfolding cuts_in
-    cuts_are = cut ∙ ap (λ v. cuts_of files b v leaders w.relax) are ∙ ap (λ l. cuts_of files b (pools_of files kept) l w.relax) lead
+    unfolding cuts_in pools_view
+    cuts_are =
+        cut ∙ ap (λ o. cuts_of files b (merged_views pools) leaders (members_in o) w.relax) order
+        ∙ ap (λ ps. cuts_by (merged_views pools) ps entries leaders) (sym (pool_heads_are files pools) ∙ ap pool_heads are)
+        ∙ ap (λ es. cuts_by (merged_views pools) (pool_heads (pools_of files kept)) es leaders) listed
+        ∙ ap (cuts_by (merged_views pools) (pool_heads (pools_of files kept)) (table_of w files b kept)) lead
+        ∙ ap (λ (v : PoolsView). cuts_by v.merged (pool_heads (pools_of files kept)) (table_of w files b kept) (leaders_in w files b kept)) are
 
     plain_is : layout_of files b pools.pools.items (word_count entries) leaders sizes ≡ plain
     plain_is =

@@ -36,6 +36,9 @@ use Rattle.link_driver.specs.Given.{contents_for, names_for}
 use Rattle.link_driver.specs.Reports.{report_text}
 use Rattle.link_driver.specs.Sources.{Source, files_in, shown_file, shown_files, source_at, sources}
 use Rattle.map_file.specs.MapText.{map_text}
+use Rattle.output_sections.specs.declared.rows.Row.{Row}
+use Rattle.output_sections.specs.Items.{items as parts}
+use Rattle.output_sections.specs.Order.{members_in, orders_of}
 use Rattle.relax.specs.CallSizes.{cuts_of}
 use Rattle.reloc_apply.specs.Relocated.{relocation_defects}
 use Rattle.sec_gc.specs.Kept.{reached}
@@ -88,9 +91,13 @@ module _ (w : Wishes) (files : List File) (b : Bindings) (kept : List Bool) wher
   abbrev pub table_of : List GotEntry
   table_of = got_of files leaders_in
 
+  -- the members of the output sections in order
+  abbrev pub members_of : List Row
+  members_of = members_in (orders_of (parts files b (pool_heads (pools_of files kept)) (word_count table_of) leaders_in))
+
   -- by section number, where each loses bytes before anything has a place
   unfoldable pub cuts_in : List (List Cut)
-  cuts_in = cuts_of files b (pools_of files kept) leaders_in w.relax
+  cuts_in = cuts_of files b merged_of leaders_in members_of w.relax
 
   -- where everything stands
   unfoldable pub laid_out : LaidOut

@@ -8,7 +8,7 @@ ghost use Rattle.elf_out.specs.Standing.{HasHeaderRoom};
 ghost use Rattle.file_live.specs.Live.{IsLive};
 ghost use Rattle.icf_part.specs.Folding.{AreLeaders as ItemLeaders};
 ghost use Rattle.icf_part.specs.Leaders.{leaders_of};
-ghost use Rattle.layout.specs.Items.{AreLeaders};
+ghost use Rattle.output_sections.specs.Items.{AreLeaders};
 ghost use Rattle.layout.specs.Layout.{layout_defects};
 ghost use Rattle.link_command.specs.Command.{asks, generated_of};
 ghost use Rattle.link_sections.specs.FoldItems.{item_views, sections_of};
@@ -58,6 +58,7 @@ use lk_base::{Limits, LinkStop, SecNo, check_count};
 use lk_tables::{Binding, NameNumbers, Tables, Uppers};
 use map_file::map_text;
 use name_numbers::number_names;
+use output_sections::order_sections;
 use relax::sizes;
 use sec_gc::{keep, roots};
 use sec_graph::{edges, items};
@@ -319,13 +320,18 @@ pub fn lay_out<'a, R: Threads + Sync, G: Gate>(
     ensures reach { IfOk result (λ layout. CallsReach (files_of tables.now) (binding_view binding.now) leaders.now (with_contents (layout_view layout) (pools_view (files_of tables.now) pools.now) (entries_of got.now))) }
 {
     let on = options.relax;
-    let sizes = sizes(
-        rt, alloc, tables, binding, pools, leaders, on, workers, gate,
+    let sections = order_sections(
+        rt, alloc, tables, binding, pools, got, leaders, workers, gate,
     )?;
-    match place(alloc, tables, binding, pools, got, leaders, &sizes, limits) {
+    let sizes = sizes(
+        rt, alloc, tables, binding, pools, leaders, &sections, on, workers, gate,
+    )?;
+    match place(
+        alloc, tables, binding, pools, got, leaders, &sections, &sizes, limits,
+    ) {
         Ok(layout) => {
             calls_reach(
-                tables, binding, pools, got, leaders, &sizes, &layout, limits, on,
+                tables, binding, pools, got, leaders, &sections, &sizes, &layout, limits, on,
             );
             Ok(layout)
         }

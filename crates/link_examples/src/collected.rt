@@ -1,532 +1,133 @@
 //! What `--gc-sections` keeps and drops.
 
 use crate::groups::GROUP;
-use crate::objects::{A, Input, RETURN, START, TO_SECOND, WHOLE};
+use crate::inputs;
+use crate::objects::{A, Input, RETURN, START, TO_SECOND};
 use crate::stores::{Files, objects_of, push_objects};
-use elf_bytes::{Object, Reloc, Section, SectionLink, Symbol};
+use elf_bytes::{Object, Section, SectionLink, Symbol, object, reloc, section, symbol};
 use std::alloc::{AllocError, Global};
 
 /// `.text.a` of one `ret`, in a group.
-const A_RETURNS: Section = Section {
-    name: b".text.a",
-    flags: 0x206,
-    ..RETURN
-};
+const A_RETURNS: Section = section!(RETURN => name: b".text.a", flags: 0x206);
 
 /// `.text.b` of one `ebreak`, in the same.
-const B_BREAKS: Section = Section {
-    name: b".text.b",
-    flags: 0x206,
-    bytes: b"\x73\0\x10\0",
-    ..RETURN
-};
+const B_BREAKS: Section = section!(b".text.b", 1, 0x206, 4; b"\x73\0\x10\0");
 
 /// `a` in section 2.
-const A_IN_2: Symbol = Symbol {
-    name: b"a",
-    section: 2,
-    ..START
-};
+const A_IN_2: Symbol = symbol!(b"a", 1, 2, 2, 0, 4);
 
 /// `a` in section 3.
-const A_IN_3: Symbol = Symbol {
-    name: b"a",
-    section: 3,
-    ..START
-};
+const A_IN_3: Symbol = symbol!(b"a", 1, 2, 3, 0, 4);
 
 /// `b` in section 3.
-const B_IN_3: Symbol = Symbol {
-    name: b"b",
-    section: 3,
-    ..START
-};
+const B_IN_3: Symbol = symbol!(b"b", 1, 2, 3, 0, 4);
 
 /// `_start`, and two that ask for each other.
-const RING: Object = Object {
-    flags: 0,
-    sections: &[
-        RETURN,
-        Section {
-            name: b".text.a",
-            bytes: b"\xef\0\0\0",
-            relocs: &[TO_SECOND],
-            ..RETURN
-        },
-        Section {
-            name: b".text.b",
-            bytes: b"\xef\0\0\0",
-            relocs: &[Reloc {
-                symbol: 1,
-                ..TO_SECOND
-            }],
-            ..RETURN
-        },
-    ],
-    symbols: &[A_IN_2, B_IN_3, START],
-};
+const RING: Object = object!([
+    RETURN,
+    section!(b".text.a", 1, 6, 4; b"\xef\0\0\0"; relocs: &[TO_SECOND]),
+    section!(b".text.b", 1, 6, 4; b"\xef\0\0\0"; relocs: &[reloc!(0, 17, 1, 0)]),
+]; [A_IN_2, B_IN_3, START]);
 
 /// The same, and one of them is told to stay.
-const HELD_RING: Object = Object {
-    flags: 0,
-    sections: &[
-        RETURN,
-        Section {
-            name: b".text.a",
-            flags: 0x200006,
-            bytes: b"\xef\0\0\0",
-            relocs: &[TO_SECOND],
-            ..RETURN
-        },
-        Section {
-            name: b".text.b",
-            bytes: b"\xef\0\0\0",
-            relocs: &[Reloc {
-                symbol: 1,
-                ..TO_SECOND
-            }],
-            ..RETURN
-        },
-    ],
-    symbols: &[A_IN_2, B_IN_3, START],
-};
+const HELD_RING: Object = object!([
+    RETURN,
+    section!(b".text.a", 1, 0x200006, 4; b"\xef\0\0\0"; relocs: &[TO_SECOND]),
+    section!(b".text.b", 1, 6, 4; b"\xef\0\0\0"; relocs: &[reloc!(0, 17, 1, 0)]),
+]; [A_IN_2, B_IN_3, START]);
 
 /// Code that runs before and after all else.
-const FRAMES: Object = Object {
-    flags: 0,
-    sections: &[
-        RETURN,
-        Section {
-            name: b".init",
-            bytes: b"\x73\0\x10\0",
-            ..RETURN
-        },
-        Section {
-            name: b".fini",
-            bytes: b"\x73\0\x10\0",
-            ..RETURN
-        },
-        Section {
-            name: b".init.x",
-            bytes: b"\x73\0\x10\0",
-            ..RETURN
-        },
-    ],
-    symbols: &[START],
-};
+const FRAMES: Object = object!([
+    RETURN,
+    section!(b".init", 1, 6, 4; b"\x73\0\x10\0"),
+    section!(b".fini", 1, 6, 4; b"\x73\0\x10\0"),
+    section!(b".init.x", 1, 6, 4; b"\x73\0\x10\0"),
+]; [START]);
 
 /// A note, and a section of its name that is none.
-const NOTED: Object = Object {
-    flags: 0,
-    sections: &[
-        RETURN,
-        Section {
-            name: b".note.a",
-            sort: 7,
-            flags: 2,
-            bytes: b"note",
-            ..RETURN
-        },
-        Section {
-            name: b".note.a",
-            flags: 2,
-            bytes: b"text",
-            ..RETURN
-        },
-    ],
-    symbols: &[START],
-};
+const NOTED: Object =
+    object!([RETURN, section!(b".note.a", 7, 2, 4; b"note"), section!(b".note.a", 1, 2, 4; b"text")]; [START]);
 
 /// Arrays of functions, and sections of their names that are none.
-const ARRAYS: Object = Object {
-    flags: 0,
-    sections: &[
-        RETURN,
-        Section {
-            name: b".init_array",
-            sort: 14,
-            flags: 3,
-            align: 8,
-            bytes: b"iiiiiiii",
-            ..RETURN
-        },
-        Section {
-            name: b".fini_array",
-            sort: 15,
-            flags: 3,
-            align: 8,
-            bytes: b"ffffffff",
-            ..RETURN
-        },
-        Section {
-            name: b".preinit_array",
-            sort: 16,
-            flags: 3,
-            align: 8,
-            bytes: b"pppppppp",
-            ..RETURN
-        },
-        Section {
-            name: b".init_array",
-            flags: 3,
-            align: 8,
-            bytes: b"xxxxxxxx",
-            ..RETURN
-        },
-        Section {
-            name: b".data",
-            sort: 15,
-            flags: 3,
-            align: 8,
-            bytes: b"dddddddd",
-            ..RETURN
-        },
-    ],
-    symbols: &[START],
-};
+const ARRAYS: Object = object!([
+    RETURN,
+    section!(b".init_array", 14, 3, 8; b"iiiiiiii"),
+    section!(b".fini_array", 15, 3, 8; b"ffffffff"),
+    section!(b".preinit_array", 16, 3, 8; b"pppppppp"),
+    section!(b".init_array", 1, 3, 8; b"xxxxxxxx"),
+    section!(b".data", 15, 3, 8; b"dddddddd"),
+]; [START]);
 
 /// A jump to one of two in a COMDAT group.
-const TOGETHER: Object = Object {
-    flags: 0,
-    sections: &[
-        Section {
-            bytes: b"\xef\0\0\0",
-            relocs: &[Reloc {
-                symbol: 1,
-                ..TO_SECOND
-            }],
-            ..RETURN
-        },
-        Section {
-            bytes: b"\x01\0\0\0\x03\0\0\0\x04\0\0\0",
-            ..GROUP
-        },
-        A_RETURNS,
-        B_BREAKS,
-        Section {
-            name: b".text.c",
-            bytes: b"\x73\0\x10\0",
-            ..RETURN
-        },
-    ],
-    symbols: &[A_IN_3, START],
-};
+const TOGETHER: Object = object!([
+    section!(b".text", 1, 6, 4; b"\xef\0\0\0"; relocs: &[reloc!(0, 17, 1, 0)]),
+    section!(GROUP => bytes: b"\x01\0\0\0\x03\0\0\0\x04\0\0\0"),
+    A_RETURNS,
+    B_BREAKS,
+    section!(b".text.c", 1, 6, 4; b"\x73\0\x10\0"),
+]; [A_IN_3, START]);
 
 /// The same in a group of flag word 0.
-const HELD_TOGETHER: Object = Object {
-    flags: 0,
-    sections: &[
-        Section {
-            bytes: b"\xef\0\0\0",
-            relocs: &[Reloc {
-                symbol: 1,
-                ..TO_SECOND
-            }],
-            ..RETURN
-        },
-        Section {
-            bytes: b"\0\0\0\0\x03\0\0\0\x04\0\0\0",
-            ..GROUP
-        },
-        A_RETURNS,
-        B_BREAKS,
-        Section {
-            name: b".text.c",
-            bytes: b"\x73\0\x10\0",
-            ..RETURN
-        },
-    ],
-    symbols: &[A_IN_3, START],
-};
+const HELD_TOGETHER: Object = object!([
+    section!(b".text", 1, 6, 4; b"\xef\0\0\0"; relocs: &[reloc!(0, 17, 1, 0)]),
+    section!(GROUP => bytes: b"\0\0\0\0\x03\0\0\0\x04\0\0\0"),
+    A_RETURNS,
+    B_BREAKS,
+    section!(b".text.c", 1, 6, 4; b"\x73\0\x10\0"),
+]; [A_IN_3, START]);
 
 /// A group that nothing asks for.
-const IDLE_TOGETHER: Object = Object {
-    flags: 0,
-    sections: &[
-        RETURN,
-        Section {
-            bytes: b"\x01\0\0\0\x03\0\0\0\x04\0\0\0",
-            ..GROUP
-        },
-        A_RETURNS,
-        B_BREAKS,
-    ],
-    symbols: &[A_IN_3, START],
-};
+const IDLE_TOGETHER: Object =
+    object!([RETURN, section!(GROUP => bytes: b"\x01\0\0\0\x03\0\0\0\x04\0\0\0"), A_RETURNS, B_BREAKS]; [A_IN_3, START]);
 
 /// A common that nothing asks for.
-const COMMON: Object = Object {
-    flags: 0,
-    sections: &[],
-    symbols: &[Symbol {
-        name: b"x",
-        sort: 1,
-        section: 0xfff2,
-        value: 8,
-        size: 8,
-        ..START
-    }],
-};
+const COMMON: Object = object!([]; [symbol!(b"x", 1, 1, 0xfff2, 8, 8)]);
 
 /// A word of a common.
-const ASKER_OF_X: Object = Object {
-    flags: 0,
-    sections: &[Section {
-        bytes: b"\0\0\0\0\0\0\0\0",
-        relocs: &[Reloc {
-            kind: 2,
-            symbol: 1,
-            ..TO_SECOND
-        }],
-        ..RETURN
-    }],
-    symbols: &[
-        Symbol {
-            name: b"x",
-            sort: 0,
-            section: 0,
-            size: 0,
-            ..START
-        },
-        START,
-    ],
-};
+const ASKER_OF_X: Object =
+    object!([section!(b".text", 1, 6, 4; b"\0\0\0\0\0\0\0\0"; relocs: &[reloc!(0, 2, 1, 0)])]; [symbol!(b"x", 1, 0, 0, 0, 0), START]);
 
 /// A jump to what nothing defines.
-const LACKING: Object = Object {
-    flags: 0,
-    sections: &[Section {
-        bytes: b"\xef\0\0\0",
-        relocs: &[Reloc {
-            symbol: 1,
-            ..TO_SECOND
-        }],
-        ..RETURN
-    }],
-    symbols: &[Symbol {
-        name: b"k",
-        sort: 0,
-        section: 0,
-        size: 0,
-        ..START
-    }],
-};
+const LACKING: Object =
+    object!([section!(b".text", 1, 6, 4; b"\xef\0\0\0"; relocs: &[reloc!(0, 17, 1, 0)])]; [symbol!(b"k", 1, 0, 0, 0, 0)]);
 
 /// A jump that does not reach.
-const FAR: Object = Object {
-    flags: 0,
-    sections: &[Section {
-        bytes: b"\xef\0\0\0",
-        relocs: &[Reloc {
-            symbol: 1,
-            addend: 0x200000,
-            ..TO_SECOND
-        }],
-        ..RETURN
-    }],
-    symbols: &[Symbol {
-        name: b"far",
-        ..START
-    }],
-};
+const FAR: Object =
+    object!([section!(b".text", 1, 6, 4; b"\xef\0\0\0"; relocs: &[reloc!(0, 17, 1, 0x200000)])]; [symbol!(b"far", 1, 2, 1, 0, 4)]);
 
 /// A relocation that writes nothing names one of two.
-const NAMED: Object = Object {
-    flags: 0,
-    sections: &[
-        Section {
-            relocs: &[Reloc {
-                kind: 0,
-                symbol: 1,
-                ..TO_SECOND
-            }],
-            ..RETURN
-        },
-        Section {
-            name: b".text.a",
-            bytes: b"\x73\0\x10\0",
-            ..RETURN
-        },
-        Section {
-            name: b".text.b",
-            bytes: b"\x73\0\x10\0",
-            ..RETURN
-        },
-    ],
-    symbols: &[A_IN_2, B_IN_3, START],
-};
+const NAMED: Object = object!([
+    section!(RETURN => relocs: &[reloc!(0, 0, 1, 0)]),
+    section!(b".text.a", 1, 6, 4; b"\x73\0\x10\0"),
+    section!(b".text.b", 1, 6, 4; b"\x73\0\x10\0"),
+]; [A_IN_2, B_IN_3, START]);
 
 /// Sections that go with `_start`, with what is idle, with none, and with none but told to stay.
-const ORDER: Object = Object {
-    flags: 0,
-    sections: &[
-        RETURN,
-        Section {
-            name: b".text.a",
-            bytes: b"\x73\0\x10\0",
-            ..RETURN
-        },
-        Section {
-            name: b".order",
-            flags: 0x82,
-            bytes: b"AAAA",
-            link: SectionLink::Number(1),
-            ..RETURN
-        },
-        Section {
-            name: b".order",
-            flags: 0x82,
-            bytes: b"BBBB",
-            link: SectionLink::Number(2),
-            ..RETURN
-        },
-        Section {
-            name: b".order",
-            flags: 0x82,
-            bytes: b"CCCC",
-            ..RETURN
-        },
-        Section {
-            name: b".order",
-            flags: 0x200082,
-            bytes: b"DDDD",
-            ..RETURN
-        },
-    ],
-    symbols: &[START],
-};
+const ORDER: Object = object!([
+    RETURN,
+    section!(b".text.a", 1, 6, 4; b"\x73\0\x10\0"),
+    section!(b".order", 1, 0x82, 4; b"AAAA"; link: SectionLink::Number(1)),
+    section!(b".order", 1, 0x82, 4; b"BBBB"; link: SectionLink::Number(2)),
+    section!(b".order", 1, 0x82, 4; b"CCCC"),
+    section!(b".order", 1, 0x200082, 4; b"DDDD"),
+]; [START]);
 
 /// A word of one that goes with none, and one that goes with that.
-const ORDER_ASKED: Object = Object {
-    flags: 0,
-    sections: &[
-        Section {
-            bytes: b"\0\0\0\0\0\0\0\0",
-            relocs: &[Reloc {
-                kind: 2,
-                symbol: 1,
-                ..TO_SECOND
-            }],
-            ..RETURN
-        },
-        Section {
-            name: b".order",
-            flags: 0x82,
-            bytes: b"AAAA",
-            ..RETURN
-        },
-        Section {
-            name: b".order",
-            flags: 0x82,
-            bytes: b"BBBB",
-            link: SectionLink::Number(2),
-            ..RETURN
-        },
-        Section {
-            name: b".order",
-            flags: 0x82,
-            bytes: b"CCCC",
-            ..RETURN
-        },
-    ],
-    symbols: &[
-        Symbol {
-            name: b".L0",
-            binding: 0,
-            sort: 0,
-            section: 2,
-            size: 0,
-            ..START
-        },
-        START,
-    ],
-};
+const ORDER_ASKED: Object = object!([
+    section!(b".text", 1, 6, 4; b"\0\0\0\0\0\0\0\0"; relocs: &[reloc!(0, 2, 1, 0)]),
+    section!(b".order", 1, 0x82, 4; b"AAAA"),
+    section!(b".order", 1, 0x82, 4; b"BBBB"; link: SectionLink::Number(2)),
+    section!(b".order", 1, 0x82, 4; b"CCCC"),
+]; [symbol!(b".L0", 0, 0, 2, 0, 0), START]);
 
-const FIRST_INPUTS: &[Input] = &[
-    Input {
-        name: "a.o",
-        object: A,
-        most: WHOLE,
-    },
-    Input {
-        name: "ring.o",
-        object: RING,
-        most: WHOLE,
-    },
-    Input {
-        name: "held.o",
-        object: HELD_RING,
-        most: WHOLE,
-    },
-    Input {
-        name: "frames.o",
-        object: FRAMES,
-        most: WHOLE,
-    },
-    Input {
-        name: "note.o",
-        object: NOTED,
-        most: WHOLE,
-    },
-    Input {
-        name: "arrays.o",
-        object: ARRAYS,
-        most: WHOLE,
-    },
-    Input {
-        name: "together.o",
-        object: TOGETHER,
-        most: WHOLE,
-    },
-    Input {
-        name: "zero.o",
-        object: HELD_TOGETHER,
-        most: WHOLE,
-    },
-    Input {
-        name: "idle.o",
-        object: IDLE_TOGETHER,
-        most: WHOLE,
-    },
-];
+const FIRST_INPUTS: &[Input] = inputs!(
+    "a.o" => A, "ring.o" => RING, "held.o" => HELD_RING, "frames.o" => FRAMES, "note.o" => NOTED, "arrays.o" => ARRAYS, "together.o" => TOGETHER,
+    "zero.o" => HELD_TOGETHER, "idle.o" => IDLE_TOGETHER,
+);
 
-const OTHER_INPUTS: &[Input] = &[
-    Input {
-        name: "c.o",
-        object: COMMON,
-        most: WHOLE,
-    },
-    Input {
-        name: "x.o",
-        object: ASKER_OF_X,
-        most: WHOLE,
-    },
-    Input {
-        name: "k.o",
-        object: LACKING,
-        most: WHOLE,
-    },
-    Input {
-        name: "far.o",
-        object: FAR,
-        most: WHOLE,
-    },
-    Input {
-        name: "none.o",
-        object: NAMED,
-        most: WHOLE,
-    },
-    Input {
-        name: "order.o",
-        object: ORDER,
-        most: WHOLE,
-    },
-    Input {
-        name: "asked.o",
-        object: ORDER_ASKED,
-        most: WHOLE,
-    },
-];
+const OTHER_INPUTS: &[Input] = inputs!(
+    "c.o" => COMMON, "x.o" => ASKER_OF_X, "k.o" => LACKING, "far.o" => FAR, "none.o" => NAMED, "order.o" => ORDER, "asked.o" => ORDER_ASKED,
+);
 
 /// The files that are at hand.
 pub fn files(alloc: Global) -> Result<Files, AllocError> {

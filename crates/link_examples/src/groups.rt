@@ -1,564 +1,126 @@
 //! Groups of sections (System V gABI, section groups): which copy of a COMDAT group stays, and what a link lacks without the others.
 
 use crate::libraries::Library;
-use crate::objects::{ASKER, ASKER_OF_BOTH, Input, RETURN, START, TO_SECOND, WHOLE};
+use crate::objects::{ASKER, ASKER_OF_BOTH, Input, RETURN, START, TO_SECOND};
 use crate::stores::{Files, objects_of, push_library, push_objects};
-use elf_bytes::{ARCHIVE, Archive, Contents, Member, Object, Reloc, Section, SectionLink, Symbol};
+use crate::{inputs, library, member};
+use elf_bytes::{Object, Section, SectionLink, Symbol, object, reloc, section, symbol};
 use std::alloc::{AllocError, Global};
 
 /// A COMDAT group of section 3; its signature is the name of symbol 1.
-pub const GROUP: Section = Section {
-    name: b".group",
-    sort: 17,
-    flags: 0,
-    bytes: b"\x01\0\0\0\x03\0\0\0",
-    link: SectionLink::Symtab,
-    info: 1,
-    entsize: 4,
-    ..RETURN
-};
+pub const GROUP: Section =
+    section!(b".group", 17, 0, 4; b"\x01\0\0\0\x03\0\0\0"; link: SectionLink::Symtab, info: 1, entsize: 4);
 
 /// `.text.n` of one `ret`, in a group.
-const N_RETURNS: Section = Section {
-    name: b".text.n",
-    flags: 0x206,
-    ..RETURN
-};
+const N_RETURNS: Section = section!(RETURN => name: b".text.n", flags: 0x206);
 
 /// The same of one `ebreak`.
-pub const N_BREAKS: Section = Section {
-    name: b".text.n",
-    flags: 0x206,
-    bytes: b"\x73\0\x10\0",
-    ..RETURN
-};
+pub const N_BREAKS: Section = section!(b".text.n", 1, 0x206, 4; b"\x73\0\x10\0");
 
 /// `n` in section 2.
-const N_IN_2: Symbol = Symbol {
-    name: b"n",
-    section: 2,
-    ..START
-};
+const N_IN_2: Symbol = symbol!(b"n", 1, 2, 2, 0, 4);
 
 /// `n` in section 3.
-pub const N_IN_3: Symbol = Symbol {
-    name: b"n",
-    section: 3,
-    ..START
-};
+pub const N_IN_3: Symbol = symbol!(b"n", 1, 2, 3, 0, 4);
 
 /// `k`, which another file defines.
-pub const ASKED_K: Symbol = Symbol {
-    name: b"k",
-    sort: 0,
-    section: 0,
-    size: 0,
-    ..START
-};
+pub const ASKED_K: Symbol = symbol!(b"k", 1, 0, 0, 0, 0);
 
 /// `n` of one `ret`, in a group `n`.
-const ONE: Object = Object {
-    flags: 0,
-    sections: &[
-        Section {
-            bytes: b"\x01\0\0\0\x02\0\0\0",
-            ..GROUP
-        },
-        N_RETURNS,
-    ],
-    symbols: &[N_IN_2],
-};
+const ONE: Object =
+    object!([section!(GROUP => bytes: b"\x01\0\0\0\x02\0\0\0"), N_RETURNS]; [N_IN_2]);
 
 /// A second copy: one `ebreak`.
-const TWO: Object = Object {
-    flags: 0,
-    sections: &[
-        Section {
-            bytes: b"\x01\0\0\0\x02\0\0\0",
-            ..GROUP
-        },
-        N_BREAKS,
-    ],
-    symbols: &[N_IN_2],
-};
+const TWO: Object =
+    object!([section!(GROUP => bytes: b"\x01\0\0\0\x02\0\0\0"), N_BREAKS]; [N_IN_2]);
 
 /// A weak copy of one `ebreak`.
-const WEAK_COPY: Object = Object {
-    flags: 0,
-    sections: &[
-        Section {
-            bytes: b"\x01\0\0\0\x02\0\0\0",
-            ..GROUP
-        },
-        N_BREAKS,
-    ],
-    symbols: &[Symbol {
-        name: b"n",
-        binding: 2,
-        section: 2,
-        ..START
-    }],
-};
+const WEAK_COPY: Object =
+    object!([section!(GROUP => bytes: b"\x01\0\0\0\x02\0\0\0"), N_BREAKS]; [symbol!(b"n", 2, 2, 2, 0, 4)]);
 
 /// A group of flag word 0, which has no copies: `n` of one `ret`, weak.
-const HELD_TOGETHER: Object = Object {
-    flags: 0,
-    sections: &[
-        Section {
-            bytes: b"\0\0\0\0\x02\0\0\0",
-            ..GROUP
-        },
-        N_RETURNS,
-    ],
-    symbols: &[Symbol {
-        name: b"n",
-        binding: 2,
-        section: 2,
-        ..START
-    }],
-};
+const HELD_TOGETHER: Object =
+    object!([section!(GROUP => bytes: b"\0\0\0\0\x02\0\0\0"), N_RETURNS]; [symbol!(b"n", 2, 2, 2, 0, 4)]);
 
 /// The same, strong.
-const HELD_STRONG: Object = Object {
-    flags: 0,
-    sections: &[
-        Section {
-            bytes: b"\0\0\0\0\x02\0\0\0",
-            ..GROUP
-        },
-        N_RETURNS,
-    ],
-    symbols: &[N_IN_2],
-};
+const HELD_STRONG: Object =
+    object!([section!(GROUP => bytes: b"\0\0\0\0\x02\0\0\0"), N_RETURNS]; [N_IN_2]);
 
 /// The signature is the name of a section, `.text.n`.
-const BY_SECTION: Object = Object {
-    flags: 0,
-    sections: &[
-        Section {
-            bytes: b"\x01\0\0\0\x02\0\0\0",
-            ..GROUP
-        },
-        N_RETURNS,
-    ],
-    symbols: &[
-        Symbol {
-            name: b"",
-            binding: 0,
-            sort: 3,
-            section: 2,
-            size: 0,
-            ..START
-        },
-        N_IN_2,
-    ],
-};
+const BY_SECTION: Object =
+    object!([section!(GROUP => bytes: b"\x01\0\0\0\x02\0\0\0"), N_RETURNS]; [symbol!(b"", 0, 3, 2, 0, 0), N_IN_2]);
 
 /// The signature is that of a local symbol of this name.
-const BY_LABEL: Object = Object {
-    flags: 0,
-    sections: &[
-        Section {
-            bytes: b"\x01\0\0\0\x02\0\0\0",
-            ..GROUP
-        },
-        N_BREAKS,
-    ],
-    symbols: &[
-        Symbol {
-            name: b".text.n",
-            binding: 0,
-            sort: 0,
-            section: 2,
-            size: 0,
-            ..START
-        },
-        N_IN_2,
-    ],
-};
+const BY_LABEL: Object =
+    object!([section!(GROUP => bytes: b"\x01\0\0\0\x02\0\0\0"), N_BREAKS]; [symbol!(b".text.n", 0, 0, 2, 0, 0), N_IN_2]);
 
 /// A copy with a jump to what nothing defines, and one that does not reach.
-const LOST: Object = Object {
-    flags: 0,
-    sections: &[
-        Section {
-            bytes: b"\x01\0\0\0\x02\0\0\0",
-            ..GROUP
-        },
-        Section {
-            name: b".text.n",
-            flags: 0x206,
-            bytes: b"\xef\0\0\0\xef\0\0\0",
-            relocs: &[
-                TO_SECOND,
-                Reloc {
-                    offset: 4,
-                    symbol: 1,
-                    addend: 0x200000,
-                    ..TO_SECOND
-                },
-            ],
-            ..RETURN
-        },
-    ],
-    symbols: &[
-        N_IN_2,
-        Symbol {
-            name: b"nowhere",
-            sort: 0,
-            section: 0,
-            size: 0,
-            ..START
-        },
-    ],
-};
+const LOST: Object = object!([
+    section!(GROUP => bytes: b"\x01\0\0\0\x02\0\0\0"),
+    section!(b".text.n", 1, 0x206, 4; b"\xef\0\0\0\xef\0\0\0"; relocs: &[TO_SECOND, reloc!(4, 17, 1, 0x200000)]),
+]; [N_IN_2, symbol!(b"nowhere", 1, 0, 0, 0, 0)]);
 
 /// `_start`, and a group `c`.
-const WITHOUT_K: Object = Object {
-    flags: 0,
-    sections: &[
-        RETURN,
-        GROUP,
-        Section {
-            name: b".text.c",
-            flags: 0x206,
-            bytes: b"\x73\0\x10\0",
-            ..RETURN
-        },
-    ],
-    symbols: &[
-        Symbol {
-            name: b"c",
-            section: 3,
-            ..START
-        },
-        START,
-    ],
-};
+const WITHOUT_K: Object =
+    object!([RETURN, GROUP, section!(b".text.c", 1, 0x206, 4; b"\x73\0\x10\0")]; [symbol!(b"c", 1, 2, 3, 0, 4), START]);
 
 /// A second copy of it, which has `k` too.
-const WITH_K: Object = Object {
-    flags: 0,
-    sections: &[
-        Section {
-            bytes: b"\x01\0\0\0\x02\0\0\0",
-            ..GROUP
-        },
-        Section {
-            name: b".text.c",
-            flags: 0x206,
-            bytes: b"\x73\0\x10\0\x67\x80\0\0",
-            ..RETURN
-        },
-    ],
-    symbols: &[
-        Symbol {
-            name: b"c",
-            section: 2,
-            ..START
-        },
-        Symbol {
-            name: b"k",
-            section: 2,
-            value: 4,
-            ..START
-        },
-    ],
-};
+const WITH_K: Object = object!([
+    section!(GROUP => bytes: b"\x01\0\0\0\x02\0\0\0"),
+    section!(b".text.c", 1, 0x206, 4; b"\x73\0\x10\0\x67\x80\0\0"),
+]; [symbol!(b"c", 1, 2, 2, 0, 4), symbol!(b"k", 1, 2, 2, 4, 4)]);
 
 /// A jump to `k`.
-const ASKER_OF_K: Object = Object {
-    flags: 0,
-    sections: &[Section {
-        bytes: b"\xef\0\0\0",
-        relocs: &[Reloc {
-            symbol: 1,
-            ..TO_SECOND
-        }],
-        ..RETURN
-    }],
-    symbols: &[ASKED_K],
-};
+const ASKER_OF_K: Object =
+    object!([section!(b".text", 1, 6, 4; b"\xef\0\0\0"; relocs: &[reloc!(0, 17, 1, 0)])]; [ASKED_K]);
 
 /// A jump to a local label of a group's section.
-const TO_LABEL: Object = Object {
-    flags: 0,
-    sections: &[
-        Section {
-            bytes: b"\xef\0\0\0",
-            relocs: &[Reloc {
-                symbol: 1,
-                ..TO_SECOND
-            }],
-            ..RETURN
-        },
-        Section { info: 2, ..GROUP },
-        N_RETURNS,
-    ],
-    symbols: &[
-        Symbol {
-            name: b".L0",
-            binding: 0,
-            sort: 0,
-            section: 3,
-            size: 0,
-            ..START
-        },
-        N_IN_3,
-    ],
-};
+const TO_LABEL: Object = object!([
+    section!(b".text", 1, 6, 4; b"\xef\0\0\0"; relocs: &[reloc!(0, 17, 1, 0)]),
+    section!(GROUP => info: 2),
+    N_RETURNS,
+]; [symbol!(b".L0", 0, 0, 3, 0, 0), N_IN_3]);
 
 /// A word of a group's section that is not in memory.
-const TO_SECTION: Object = Object {
-    flags: 0,
-    sections: &[
-        Section {
-            name: b".data",
-            flags: 3,
-            align: 8,
-            bytes: b"\0\0\0\0\0\0\0\0",
-            relocs: &[Reloc {
-                kind: 2,
-                symbol: 1,
-                ..TO_SECOND
-            }],
-            ..RETURN
-        },
-        Section {
-            bytes: b"\x01\0\0\0\x03\0\0\0\x04\0\0\0",
-            info: 2,
-            ..GROUP
-        },
-        Section {
-            name: b".debug_n",
-            flags: 0x200,
-            align: 1,
-            bytes: b"notes",
-            ..RETURN
-        },
-        N_RETURNS,
-    ],
-    symbols: &[
-        Symbol {
-            name: b"",
-            binding: 0,
-            sort: 3,
-            section: 3,
-            size: 0,
-            ..START
-        },
-        Symbol {
-            name: b"n",
-            section: 4,
-            ..START
-        },
-    ],
-};
+const TO_SECTION: Object = object!([
+    section!(b".data", 1, 3, 8; b"\0\0\0\0\0\0\0\0"; relocs: &[reloc!(0, 2, 1, 0)]),
+    section!(GROUP => bytes: b"\x01\0\0\0\x03\0\0\0\x04\0\0\0", info: 2),
+    section!(b".debug_n", 1, 0x200, 1; b"notes"),
+    N_RETURNS,
+]; [symbol!(b"", 0, 3, 3, 0, 0), symbol!(b"n", 1, 2, 4, 0, 4)]);
 
 /// A jump to `k`, weak.
-const TO_WEAK: Object = Object {
-    flags: 0,
-    sections: &[Section {
-        bytes: b"\0\0\0\0\0\0\0\0",
-        relocs: &[Reloc {
-            kind: 2,
-            symbol: 1,
-            ..TO_SECOND
-        }],
-        ..RETURN
-    }],
-    symbols: &[Symbol {
-        name: b"k",
-        binding: 2,
-        sort: 0,
-        section: 0,
-        size: 0,
-        ..START
-    }],
-};
+const TO_WEAK: Object =
+    object!([section!(b".text", 1, 6, 4; b"\0\0\0\0\0\0\0\0"; relocs: &[reloc!(0, 2, 1, 0)])]; [symbol!(b"k", 2, 0, 0, 0, 0)]);
 
 /// So many zero bytes, told to stay, that an executable has two blocks.
-const WIDE: Object = Object {
-    flags: 0,
-    sections: &[Section {
-        name: b".rodata",
-        sort: 8,
-        flags: 0x200002,
-        align: 8,
-        size: 0x11000,
-        bytes: b"",
-        ..RETURN
-    }],
-    symbols: &[],
-};
+const WIDE: Object = object!([section!(b".rodata", 8, 0x200002, 8; b""; size: 0x11000)]; []);
 
 /// A group that lists a section twice.
-const TWICE: Object = Object {
-    flags: 0,
-    sections: &[
-        RETURN,
-        Section {
-            bytes: b"\x01\0\0\0\x03\0\0\0\x03\0\0\0",
-            ..GROUP
-        },
-        N_BREAKS,
-    ],
-    symbols: &[N_IN_3, START],
-};
+const TWICE: Object =
+    object!([RETURN, section!(GROUP => bytes: b"\x01\0\0\0\x03\0\0\0\x03\0\0\0"), N_BREAKS]; [N_IN_3, START]);
 
 /// `m`, and a copy of group `n` of one `ret`.
-const PAIR: Object = Object {
-    flags: 0,
-    sections: &[RETURN, GROUP, N_RETURNS],
-    symbols: &[
-        N_IN_3,
-        Symbol {
-            name: b"m",
-            ..START
-        },
-    ],
-};
+const PAIR: Object = object!([RETURN, GROUP, N_RETURNS]; [N_IN_3, symbol!(b"m", 1, 2, 1, 0, 4)]);
 
 /// A group of flag word 2.
-const WRONG: Object = Object {
-    flags: 0,
-    sections: &[
-        RETURN,
-        Section {
-            bytes: b"\x02\0\0\0\x03\0\0\0",
-            ..GROUP
-        },
-        N_RETURNS,
-    ],
-    symbols: &[Symbol {
-        name: b"bad",
-        section: 3,
-        ..START
-    }],
-};
+const WRONG: Object =
+    object!([RETURN, section!(GROUP => bytes: b"\x02\0\0\0\x03\0\0\0"), N_RETURNS]; [symbol!(b"bad", 1, 2, 3, 0, 4)]);
 
 const LIBRARIES: &[Library] = &[
-    Library {
-        name: "lib.a",
-        archive: Archive {
-            magic: ARCHIVE,
-            index: None,
-            members: &[Member {
-                name: b"pair.o",
-                contents: Contents::Built(PAIR, WHOLE),
-            }],
-        },
-        tail: b"",
-    },
-    Library {
-        name: "wrong.a",
-        archive: Archive {
-            magic: ARCHIVE,
-            index: None,
-            members: &[Member {
-                name: b"bad.o",
-                contents: Contents::Built(WRONG, WHOLE),
-            }],
-        },
-        tail: b"",
-    },
+    library!("lib.a"; member!(b"pair.o", PAIR)),
+    library!("wrong.a"; member!(b"bad.o", WRONG)),
 ];
 
-const FIRST_INPUTS: &[Input] = &[
-    Input {
-        name: "m.o",
-        object: ASKER,
-        most: WHOLE,
-    },
-    Input {
-        name: "both.o",
-        object: ASKER_OF_BOTH,
-        most: WHOLE,
-    },
-    Input {
-        name: "one.o",
-        object: ONE,
-        most: WHOLE,
-    },
-    Input {
-        name: "two.o",
-        object: TWO,
-        most: WHOLE,
-    },
-    Input {
-        name: "weak.o",
-        object: WEAK_COPY,
-        most: WHOLE,
-    },
-    Input {
-        name: "zero.o",
-        object: HELD_TOGETHER,
-        most: WHOLE,
-    },
-    Input {
-        name: "held.o",
-        object: HELD_STRONG,
-        most: WHOLE,
-    },
-    Input {
-        name: "sec.o",
-        object: BY_SECTION,
-        most: WHOLE,
-    },
-    Input {
-        name: "label.o",
-        object: BY_LABEL,
-        most: WHOLE,
-    },
-];
+const FIRST_INPUTS: &[Input] = inputs!(
+    "m.o" => ASKER, "both.o" => ASKER_OF_BOTH, "one.o" => ONE, "two.o" => TWO, "weak.o" => WEAK_COPY, "zero.o" => HELD_TOGETHER, "held.o" => HELD_STRONG,
+    "sec.o" => BY_SECTION, "label.o" => BY_LABEL,
+);
 
-const OTHER_INPUTS: &[Input] = &[
-    Input {
-        name: "lost.o",
-        object: LOST,
-        most: WHOLE,
-    },
-    Input {
-        name: "t.o",
-        object: WITHOUT_K,
-        most: WHOLE,
-    },
-    Input {
-        name: "u.o",
-        object: WITH_K,
-        most: WHOLE,
-    },
-    Input {
-        name: "v.o",
-        object: ASKER_OF_K,
-        most: WHOLE,
-    },
-    Input {
-        name: "local.o",
-        object: TO_LABEL,
-        most: WHOLE,
-    },
-    Input {
-        name: "whole.o",
-        object: TO_SECTION,
-        most: WHOLE,
-    },
-    Input {
-        name: "weakly.o",
-        object: TO_WEAK,
-        most: WHOLE,
-    },
-    Input {
-        name: "wide.o",
-        object: WIDE,
-        most: WHOLE,
-    },
-    Input {
-        name: "twice.o",
-        object: TWICE,
-        most: WHOLE,
-    },
-];
+const OTHER_INPUTS: &[Input] = inputs!(
+    "lost.o" => LOST, "t.o" => WITHOUT_K, "u.o" => WITH_K, "v.o" => ASKER_OF_K, "local.o" => TO_LABEL, "whole.o" => TO_SECTION, "weakly.o" => TO_WEAK,
+    "wide.o" => WIDE, "twice.o" => TWICE,
+);
 
 /// The files that are at hand.
 pub fn files(alloc: Global) -> Result<Files, AllocError> {

@@ -10,6 +10,7 @@ pub mod groups;
 pub mod images;
 pub mod libraries;
 pub mod lines;
+mod macros;
 pub mod objects;
 mod stores;
 

@@ -1,6 +1,7 @@
 //! The objects of the examples.
 
-use elf_bytes::{Object, Reloc, Section, SectionLink, Symbol};
+use crate::inputs;
+use elf_bytes::{Object, Reloc, Section, Symbol, object, reloc, section, symbol};
 
 /// An input: its name, its object, and how many of the object's bytes it has at most.
 #[derive(Clone, Copy)]
@@ -13,620 +14,140 @@ pub struct Input<'a> {
 pub const WHOLE: usize = 100_000;
 
 /// `.text` of one `ret`.
-pub const RETURN: Section = Section {
-    name: b".text",
-    sort: 1,
-    flags: 6,
-    align: 4,
-    size: 0,
-    zeros: 0,
-    bytes: b"\x67\x80\0\0",
-    relocs: &[],
-    link: SectionLink::Number(0),
-    info: 0,
-    entsize: 0,
-};
+pub const RETURN: Section = section!(b".text", 1, 6, 4; b"\x67\x80\0\0");
 
 /// `.text` of one `ebreak`.
-pub const BREAK: Section = Section {
-    bytes: b"\x73\0\x10\0",
-    ..RETURN
-};
+pub const BREAK: Section = section!(b".text", 1, 6, 4; b"\x73\0\x10\0");
 
-pub const START: Symbol = Symbol {
-    name: b"_start",
-    binding: 1,
-    sort: 2,
-    section: 1,
-    value: 0,
-    size: 4,
-};
+pub const START: Symbol = symbol!(b"_start", 1, 2, 1, 0, 4);
 
 /// A function named `x`.
-pub const X: Symbol = Symbol {
-    name: b"x",
-    ..START
-};
+pub const X: Symbol = symbol!(b"x", 1, 2, 1, 0, 4);
 
 /// A label without a type.
-const LABEL: Symbol = Symbol {
-    name: b".L0",
-    binding: 0,
-    sort: 0,
-    size: 0,
-    ..START
-};
+const LABEL: Symbol = symbol!(b".L0", 0, 0, 1, 0, 0);
 
 /// A jump to symbol 2 at the beginning.
-pub const TO_SECOND: Reloc = Reloc {
-    offset: 0,
-    kind: 17,
-    symbol: 2,
-    addend: 0,
-};
+pub const TO_SECOND: Reloc = reloc!(0, 17, 2, 0);
 
 /// A word of 8 bytes at the beginning, of symbol 1.
-pub const WORD: Reloc = Reloc {
-    offset: 0,
-    kind: 2,
-    symbol: 1,
-    addend: 0,
-};
+pub const WORD: Reloc = reloc!(0, 2, 1, 0);
 
 /// A jump to the function behind it.
-pub const A: Object = Object {
-    flags: 0,
-    sections: &[Section {
-        bytes: b"\xef\0\0\0\x67\x80\0\0",
-        relocs: &[TO_SECOND],
-        ..RETURN
-    }],
-    symbols: &[
-        START,
-        Symbol {
-            name: b"f",
-            value: 4,
-            ..START
-        },
-    ],
-};
+pub const A: Object =
+    object!([section!(b".text", 1, 6, 4; b"\xef\0\0\0\x67\x80\0\0"; relocs: &[TO_SECOND])]; [START, symbol!(b"f", 1, 2, 1, 4, 4)]);
 
 /// A weak `x`.
-const WEAK: Object = Object {
-    flags: 0,
-    sections: &[RETURN],
-    symbols: &[Symbol { binding: 2, ..X }],
-};
+const WEAK: Object = object!([RETURN]; [symbol!(b"x", 2, 2, 1, 0, 4)]);
 
 /// A strong `x`.
-pub const STRONG: Object = Object {
-    flags: 0,
-    sections: &[RETURN],
-    symbols: &[X],
-};
+pub const STRONG: Object = object!([RETURN]; [X]);
 
 /// A strong `x`, and `_start`.
-const STRONG_FIRST: Object = Object {
-    flags: 0,
-    sections: &[RETURN],
-    symbols: &[X, START],
-};
+const STRONG_FIRST: Object = object!([RETURN]; [X, START]);
 
 /// `h` alone.
-const H: Object = Object {
-    flags: 0,
-    sections: &[RETURN],
-    symbols: &[Symbol {
-        name: b"h",
-        ..START
-    }],
-};
+const H: Object = object!([RETURN]; [symbol!(b"h", 1, 2, 1, 0, 4)]);
 
 /// `x` as a common of 8 bytes, alignment 8.
-const COMMON: Symbol = Symbol {
-    sort: 1,
-    section: 0xfff2,
-    value: 8,
-    size: 8,
-    ..X
-};
+const COMMON: Symbol = symbol!(b"x", 1, 1, 0xfff2, 8, 8);
 
-pub const COMMON_OF_8: Object = Object {
-    flags: 0,
-    sections: &[],
-    symbols: &[COMMON],
-};
+pub const COMMON_OF_8: Object = object!([]; [COMMON]);
 
-const COMMON_OF_4: Object = Object {
-    flags: 0,
-    sections: &[],
-    symbols: &[Symbol {
-        value: 4,
-        size: 4,
-        ..COMMON
-    }],
-};
+const COMMON_OF_4: Object = object!([]; [symbol!(b"x", 1, 1, 0xfff2, 4, 4)]);
 
-const COMMON_OF_16: Object = Object {
-    flags: 0,
-    sections: &[],
-    symbols: &[Symbol { size: 16, ..COMMON }],
-};
+const COMMON_OF_16: Object = object!([]; [symbol!(b"x", 1, 1, 0xfff2, 8, 16)]);
 
 /// A common of 4 bytes, alignment 16.
-const WIDE_COMMON: Object = Object {
-    flags: 0,
-    sections: &[],
-    symbols: &[Symbol {
-        value: 16,
-        size: 4,
-        ..COMMON
-    }],
-};
+const WIDE_COMMON: Object = object!([]; [symbol!(b"x", 1, 1, 0xfff2, 16, 4)]);
 
 /// `.bss` of 2^31 bytes.
-const BIG: Object = Object {
-    flags: 0,
-    sections: &[
-        RETURN,
-        Section {
-            name: b".bss",
-            sort: 8,
-            flags: 3,
-            align: 8,
-            size: 0x8000_0000,
-            bytes: b"",
-            ..RETURN
-        },
-    ],
-    symbols: &[START],
-};
+const BIG: Object = object!([RETURN, section!(b".bss", 8, 3, 8; b""; size: 0x8000_0000)]; [START]);
 
 /// A compressed section.
-const COMPRESSED: Object = Object {
-    flags: 0,
-    sections: &[Section {
-        flags: 0x806,
-        ..RETURN
-    }],
-    symbols: &[START],
-};
+const COMPRESSED: Object = object!([section!(RETURN => flags: 0x806)]; [START]);
 
 /// Another float ABI.
-const DOUBLE: Object = Object { flags: 4, ..H };
+const DOUBLE: Object = object!(H => flags: 4);
 
 /// A jump at 4 to `k`, which nothing defines.
-const UNDEFINED: Object = Object {
-    flags: 0,
-    sections: &[Section {
-        bytes: b"\x13\0\0\0\xef\0\0\0",
-        relocs: &[Reloc {
-            offset: 4,
-            symbol: 1,
-            ..TO_SECOND
-        }],
-        ..RETURN
-    }],
-    symbols: &[
-        Symbol {
-            name: b"k",
-            sort: 0,
-            section: 0,
-            size: 0,
-            ..START
-        },
-        START,
-    ],
-};
+const UNDEFINED: Object = object!([
+    section!(b".text", 1, 6, 4; b"\x13\0\0\0\xef\0\0\0"; relocs: &[reloc!(4, 17, 1, 0)]),
+]; [symbol!(b"k", 1, 0, 0, 0, 0), START]);
 
 /// A jump to 2^20 behind the begin of its section.
-const FAR: Object = Object {
-    flags: 0,
-    sections: &[Section {
-        bytes: b"\xef\0\0\0",
-        relocs: &[Reloc {
-            symbol: 1,
-            addend: 1_048_576,
-            ..TO_SECOND
-        }],
-        ..RETURN
-    }],
-    symbols: &[
-        Symbol {
-            name: b"",
-            sort: 3,
-            ..LABEL
-        },
-        START,
-    ],
-};
+const FAR: Object =
+    object!([section!(b".text", 1, 6, 4; b"\xef\0\0\0"; relocs: &[reloc!(0, 17, 1, 1_048_576)])]; [symbol!(b"", 0, 3, 1, 0, 0), START]);
 
 /// A jump to 3 behind `_start`.
-const UNEVEN: Object = Object {
-    flags: 0,
-    sections: &[Section {
-        bytes: b"\xef\0\0\0",
-        relocs: &[Reloc {
-            symbol: 1,
-            addend: 3,
-            ..TO_SECOND
-        }],
-        ..RETURN
-    }],
-    symbols: &[START],
-};
+const UNEVEN: Object =
+    object!([section!(b".text", 1, 6, 4; b"\xef\0\0\0"; relocs: &[reloc!(0, 17, 1, 3)])]; [START]);
 
 /// The low half of an address, without the high one.
-const ALONE: Object = Object {
-    flags: 0,
-    sections: &[Section {
-        bytes: b"\x13\x05\x05\0",
-        relocs: &[Reloc {
-            kind: 24,
-            symbol: 1,
-            ..TO_SECOND
-        }],
-        ..RETURN
-    }],
-    symbols: &[LABEL, START],
-};
+const ALONE: Object =
+    object!([section!(b".text", 1, 6, 4; b"\x13\x05\x05\0"; relocs: &[reloc!(0, 24, 1, 0)])]; [LABEL, START]);
 
 /// `w`, weak and not defined.
-pub const WEAKLY: Symbol = Symbol {
-    name: b"w",
-    binding: 2,
-    sort: 0,
-    section: 0,
-    value: 0,
-    size: 0,
-};
+pub const WEAKLY: Symbol = symbol!(b"w", 2, 0, 0, 0, 0);
 
 /// A call of `w`.
-const WEAK_CALL: Object = Object {
-    flags: 0,
-    sections: &[Section {
-        bytes: b"\x97\0\0\0\xe7\x80\0\0",
-        relocs: &[Reloc {
-            kind: 19,
-            symbol: 1,
-            ..TO_SECOND
-        }],
-        ..RETURN
-    }],
-    symbols: &[WEAKLY, START],
-};
+const WEAK_CALL: Object =
+    object!([section!(b".text", 1, 6, 4; b"\x97\0\0\0\xe7\x80\0\0"; relocs: &[reloc!(0, 19, 1, 0)])]; [WEAKLY, START]);
 
 /// Both halves of the address 0x800 behind `d`; at `d` the word of `w` plus 7.
-const HALVES: Object = Object {
-    flags: 0,
-    sections: &[
-        Section {
-            bytes: b"\x17\x05\0\0\x13\x05\x05\0",
-            relocs: &[
-                Reloc {
-                    kind: 23,
-                    addend: 0x800,
-                    ..TO_SECOND
-                },
-                Reloc {
-                    offset: 4,
-                    kind: 24,
-                    symbol: 1,
-                    ..TO_SECOND
-                },
-            ],
-            ..RETURN
-        },
-        Section {
-            name: b".data",
-            flags: 3,
-            align: 8,
-            bytes: b"\xff\xff\xff\xff\xff\xff\xff\xff",
-            relocs: &[Reloc {
-                kind: 2,
-                symbol: 3,
-                addend: 7,
-                ..TO_SECOND
-            }],
-            ..RETURN
-        },
-    ],
-    symbols: &[
-        LABEL,
-        Symbol {
-            name: b"d",
-            sort: 1,
-            section: 2,
-            size: 8,
-            ..START
-        },
-        WEAKLY,
-        START,
-    ],
-};
+const HALVES: Object = object!([
+    section!(b".text", 1, 6, 4; b"\x17\x05\0\0\x13\x05\x05\0"; relocs: &[reloc!(0, 23, 2, 0x800), reloc!(4, 24, 1, 0)]),
+    section!(b".data", 1, 3, 8; b"\xff\xff\xff\xff\xff\xff\xff\xff"; relocs: &[reloc!(0, 2, 3, 7)]),
+]; [LABEL, symbol!(b"d", 1, 1, 2, 0, 8), WEAKLY, START]);
 
 /// `n`, which another file defines.
-const ASKED_N: Symbol = Symbol {
-    name: b"n",
-    sort: 0,
-    section: 0,
-    size: 0,
-    ..START
-};
+const ASKED_N: Symbol = symbol!(b"n", 1, 0, 0, 0, 0);
 
 /// `m`, which another file defines.
-pub const ASKED_M: Symbol = Symbol {
-    name: b"m",
-    ..ASKED_N
-};
+pub const ASKED_M: Symbol = symbol!(b"m", 1, 0, 0, 0, 0);
 
 /// A jump at the beginning to `n`.
-pub const ASKER: Object = Object {
-    flags: 0,
-    sections: &[Section {
-        bytes: b"\xef\0\0\0\x67\x80\0\0",
-        relocs: &[Reloc {
-            symbol: 1,
-            ..TO_SECOND
-        }],
-        ..RETURN
-    }],
-    symbols: &[ASKED_N, START],
-};
+pub const ASKER: Object =
+    object!([section!(b".text", 1, 6, 4; b"\xef\0\0\0\x67\x80\0\0"; relocs: &[reloc!(0, 17, 1, 0)])]; [ASKED_N, START]);
 
 /// Jumps to `n` and to `m`.
-pub const ASKER_OF_BOTH: Object = Object {
-    flags: 0,
-    sections: &[Section {
-        bytes: b"\xef\0\0\0\xef\0\0\0\x67\x80\0\0",
-        relocs: &[
-            Reloc {
-                symbol: 1,
-                ..TO_SECOND
-            },
-            Reloc {
-                offset: 4,
-                ..TO_SECOND
-            },
-        ],
-        ..RETURN
-    }],
-    symbols: &[ASKED_N, ASKED_M, START],
-};
+pub const ASKER_OF_BOTH: Object = object!([
+    section!(b".text", 1, 6, 4; b"\xef\0\0\0\xef\0\0\0\x67\x80\0\0"; relocs: &[reloc!(0, 17, 1, 0), reloc!(4, 17, 2, 0)]),
+]; [ASKED_N, ASKED_M, START]);
 
 /// A jump to the function behind it; `x` is of another file.
-const ASKER_OF_X: Object = Object {
-    symbols: &[
-        START,
-        Symbol {
-            name: b"f",
-            value: 4,
-            ..START
-        },
-        Symbol {
-            name: b"x",
-            ..ASKED_N
-        },
-    ],
-    ..A
-};
+const ASKER_OF_X: Object =
+    object!(A => symbols: &[START, symbol!(b"f", 1, 2, 1, 4, 4), symbol!(b"x", 1, 0, 0, 0, 0)]);
 
 /// A weak `n` of one `ebreak`.
-const WEAK_N: Object = Object {
-    flags: 0,
-    sections: &[BREAK],
-    symbols: &[Symbol {
-        name: b"n",
-        binding: 2,
-        ..START
-    }],
-};
+const WEAK_N: Object = object!([BREAK]; [symbol!(b"n", 2, 2, 1, 0, 4)]);
 
 /// `abc`, four empty strings and `xyz`.
-pub const STRINGS: Section = Section {
-    name: b".rodata.str1.8",
-    flags: 0x32,
-    align: 8,
-    bytes: b"abc\0\0\0\0\0xyz\0",
-    entsize: 1,
-    ..RETURN
-};
+pub const STRINGS: Section =
+    section!(b".rodata.str1.8", 1, 0x32, 8; b"abc\0\0\0\0\0xyz\0"; entsize: 1);
 
 /// These strings alone.
-pub const SAID_AGAIN: Object = Object {
-    flags: 0,
-    sections: &[STRINGS],
-    symbols: &[],
-};
+pub const SAID_AGAIN: Object = object!([STRINGS]; []);
 
 /// Constants of 4 bytes: 1, 2 and 1.
-pub const CONSTANTS: Section = Section {
-    name: b".rodata.cst4",
-    flags: 0x12,
-    bytes: b"\x01\0\0\0\x02\0\0\0\x01\0\0\0",
-    entsize: 4,
-    ..RETURN
-};
+pub const CONSTANTS: Section =
+    section!(b".rodata.cst4", 1, 0x12, 4; b"\x01\0\0\0\x02\0\0\0\x01\0\0\0"; entsize: 4);
 
 /// Four constants, of which three differ.
-pub const FOUR_CONSTANTS: Object = Object {
-    flags: 0,
-    sections: &[
-        RETURN,
-        Section {
-            bytes: b"\x01\0\0\0\x02\0\0\0\x01\0\0\0\x03\0\0\0",
-            ..CONSTANTS
-        },
-    ],
-    symbols: &[START],
-};
+pub const FOUR_CONSTANTS: Object =
+    object!([RETURN, section!(CONSTANTS => bytes: b"\x01\0\0\0\x02\0\0\0\x01\0\0\0\x03\0\0\0")]; [START]);
 
 /// A word of `_end`.
-pub const WORD_OF_END: Object = Object {
-    flags: 0,
-    sections: &[
-        RETURN,
-        Section {
-            name: b".data",
-            flags: 3,
-            align: 8,
-            bytes: b"\0\0\0\0\0\0\0\0",
-            relocs: &[WORD],
-            ..RETURN
-        },
-    ],
-    symbols: &[
-        Symbol {
-            name: b"_end",
-            sort: 0,
-            section: 0,
-            size: 0,
-            ..START
-        },
-        START,
-    ],
-};
+pub const WORD_OF_END: Object =
+    object!([RETURN, section!(b".data", 1, 3, 8; b"\0\0\0\0\0\0\0\0"; relocs: &[WORD])]; [symbol!(b"_end", 1, 0, 0, 0, 0), START]);
 
 /// `_end` of one `ret`.
-pub const OWN_END: Object = Object {
-    flags: 0,
-    sections: &[RETURN],
-    symbols: &[Symbol {
-        name: b"_end",
-        ..START
-    }],
-};
+pub const OWN_END: Object = object!([RETURN]; [symbol!(b"_end", 1, 2, 1, 0, 4)]);
 
 /// All inputs that are objects. Each link has them all at hand.
-pub const INPUTS: &[Input] = &[
-    Input {
-        name: "a.o",
-        object: A,
-        most: WHOLE,
-    },
-    Input {
-        name: "cut.o",
-        object: A,
-        most: 63,
-    },
-    Input {
-        name: "empty.o",
-        object: A,
-        most: 0,
-    },
-    Input {
-        name: "p.o",
-        object: STRONG_FIRST,
-        most: WHOLE,
-    },
-    Input {
-        name: "q.o",
-        object: STRONG,
-        most: WHOLE,
-    },
-    Input {
-        name: "weak.o",
-        object: WEAK,
-        most: WHOLE,
-    },
-    Input {
-        name: "h.o",
-        object: H,
-        most: WHOLE,
-    },
-    Input {
-        name: "c4.o",
-        object: COMMON_OF_4,
-        most: WHOLE,
-    },
-    Input {
-        name: "c8.o",
-        object: COMMON_OF_8,
-        most: WHOLE,
-    },
-    Input {
-        name: "c16.o",
-        object: COMMON_OF_16,
-        most: WHOLE,
-    },
-    Input {
-        name: "wide.o",
-        object: WIDE_COMMON,
-        most: WHOLE,
-    },
-    Input {
-        name: "big.o",
-        object: BIG,
-        most: WHOLE,
-    },
-    Input {
-        name: "compressed.o",
-        object: COMPRESSED,
-        most: WHOLE,
-    },
-    Input {
-        name: "double.o",
-        object: DOUBLE,
-        most: WHOLE,
-    },
-    Input {
-        name: "u.o",
-        object: UNDEFINED,
-        most: WHOLE,
-    },
-    Input {
-        name: "far.o",
-        object: FAR,
-        most: WHOLE,
-    },
-    Input {
-        name: "uneven.o",
-        object: UNEVEN,
-        most: WHOLE,
-    },
-    Input {
-        name: "alone.o",
-        object: ALONE,
-        most: WHOLE,
-    },
-    Input {
-        name: "call.o",
-        object: WEAK_CALL,
-        most: WHOLE,
-    },
-    Input {
-        name: "halves.o",
-        object: HALVES,
-        most: WHOLE,
-    },
-    Input {
-        name: "m.o",
-        object: ASKER,
-        most: WHOLE,
-    },
-    Input {
-        name: "both.o",
-        object: ASKER_OF_BOTH,
-        most: WHOLE,
-    },
-    Input {
-        name: "x.o",
-        object: ASKER_OF_X,
-        most: WHOLE,
-    },
-    Input {
-        name: "n.o",
-        object: WEAK_N,
-        most: WHOLE,
-    },
-    Input {
-        name: "again.o",
-        object: SAID_AGAIN,
-        most: WHOLE,
-    },
-    Input {
-        name: "four.o",
-        object: FOUR_CONSTANTS,
-        most: WHOLE,
-    },
-];
+pub const INPUTS: &[Input] = inputs!(
+    "a.o" => A, "cut.o" => A[..63], "empty.o" => A[..0], "p.o" => STRONG_FIRST, "q.o" => STRONG, "weak.o" => WEAK, "h.o" => H, "c4.o" => COMMON_OF_4,
+    "c8.o" => COMMON_OF_8, "c16.o" => COMMON_OF_16, "wide.o" => WIDE_COMMON, "big.o" => BIG, "compressed.o" => COMPRESSED, "double.o" => DOUBLE,
+    "u.o" => UNDEFINED, "far.o" => FAR, "uneven.o" => UNEVEN, "alone.o" => ALONE, "call.o" => WEAK_CALL, "halves.o" => HALVES, "m.o" => ASKER,
+    "both.o" => ASKER_OF_BOTH, "x.o" => ASKER_OF_X, "n.o" => WEAK_N, "again.o" => SAID_AGAIN, "four.o" => FOUR_CONSTANTS,
+);

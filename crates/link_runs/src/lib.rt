@@ -3,6 +3,7 @@
 #![tactic(auto)]
 
 mod links;
+mod macros;
 mod refusals;
 mod runs;
 

@@ -7,7 +7,7 @@ mod orders;
 mod thread_data;
 
 use link_examples::{Files, Store, Stores, shared_files};
-use link_runs::{is_linked_by_any, is_refused_by_any};
+use link_runs::{each_is_refused, each_links};
 use std::alloc::{AllocError, Global};
 use std::test::Fail;
 
@@ -27,155 +27,71 @@ impl Stores for OwnStores {
 }
 
 #[test]
-fn notes_stand_first(rt: HostRuntime) -> Result<(), Fail> {
-    for (index, link) in orders::NOTES_FIRST.iter().enumerate() {
-        assert!(rt;
-            is_linked_by_any(&rt, rt.alloc(), &OwnStores, link)?,
-            "example {index}"
-        );
-    }
-    Ok(())
+fn note_sections_stand_first(rt: HostRuntime) -> Result<(), Fail> {
+    each_links!(rt; &OwnStores, orders::NOTES_FIRST)
 }
 
 #[test]
-fn arrays_stand_by_their_numbers(rt: HostRuntime) -> Result<(), Fail> {
-    for (index, link) in orders::BY_NUMBER.iter().enumerate() {
-        assert!(rt;
-            is_linked_by_any(&rt, rt.alloc(), &OwnStores, link)?,
-            "example {index}"
-        );
-    }
-    Ok(())
+fn arrays_of_functions_stand_by_priority(rt: HostRuntime) -> Result<(), Fail> {
+    each_links!(rt; &OwnStores, orders::BY_NUMBER)
 }
 
 #[test]
-fn each_kind_is_written(rt: HostRuntime) -> Result<(), Fail> {
-    for (index, link) in kinds::WRITTEN.iter().enumerate() {
-        assert!(rt;
-            is_linked_by_any(&rt, rt.alloc(), &OwnStores, link)?,
-            "example {index}"
-        );
-    }
-    Ok(())
+fn each_type_of_relocation_is_applied(rt: HostRuntime) -> Result<(), Fail> {
+    each_links!(rt; &OwnStores, kinds::WRITTEN)
 }
 
 #[test]
-fn branches_have_ends(rt: HostRuntime) -> Result<(), Fail> {
-    for (index, refusal) in kinds::BRANCHES.iter().enumerate() {
-        assert!(rt;
-            is_refused_by_any(&rt, rt.alloc(), &OwnStores, refusal)?,
-            "example {index}"
-        );
-    }
-    Ok(())
+fn branches_past_their_reach_are_refused(rt: HostRuntime) -> Result<(), Fail> {
+    each_is_refused!(rt; &OwnStores, kinds::BRANCHES)
 }
 
 #[test]
-fn halves_and_words_have_ends(rt: HostRuntime) -> Result<(), Fail> {
-    for (index, refusal) in kinds::HALVES_AND_WORDS.iter().enumerate() {
-        assert!(rt;
-            is_refused_by_any(&rt, rt.alloc(), &OwnStores, refusal)?,
-            "example {index}"
-        );
-    }
-    Ok(())
+fn upper_parts_and_words_past_their_reach_are_refused(rt: HostRuntime) -> Result<(), Fail> {
+    each_is_refused!(rt; &OwnStores, kinds::HALVES_AND_WORDS)
 }
 
 #[test]
-fn a_low_half_has_a_high_one(rt: HostRuntime) -> Result<(), Fail> {
-    for (index, refusal) in kinds::WRONG.iter().enumerate() {
-        assert!(rt;
-            is_refused_by_any(&rt, rt.alloc(), &OwnStores, refusal)?,
-            "example {index}"
-        );
-    }
-    Ok(())
+fn lower_parts_without_an_upper_part_are_refused(rt: HostRuntime) -> Result<(), Fail> {
+    each_is_refused!(rt; &OwnStores, kinds::WRONG)
 }
 
 #[test]
-fn entries_stand_by_first_use(rt: HostRuntime) -> Result<(), Fail> {
-    for (index, link) in thread_data::TABLES.iter().enumerate() {
-        assert!(rt;
-            is_linked_by_any(&rt, rt.alloc(), &OwnStores, link)?,
-            "example {index}"
-        );
-    }
-    Ok(())
+fn got_entries_stand_by_first_use(rt: HostRuntime) -> Result<(), Fail> {
+    each_links!(rt; &OwnStores, thread_data::TABLES)
 }
 
 #[test]
-fn a_map_has_the_table(rt: HostRuntime) -> Result<(), Fail> {
-    for (index, link) in thread_data::MAPPED.iter().enumerate() {
-        assert!(rt;
-            is_linked_by_any(&rt, rt.alloc(), &OwnStores, link)?,
-            "example {index}"
-        );
-    }
-    Ok(())
+fn a_map_has_the_got(rt: HostRuntime) -> Result<(), Fail> {
+    each_links!(rt; &OwnStores, thread_data::MAPPED)
 }
 
 #[test]
-fn offsets_count_from_the_block(rt: HostRuntime) -> Result<(), Fail> {
-    for (index, link) in thread_data::OFFSETS_OF_THREADS.iter().enumerate() {
-        assert!(rt;
-            is_linked_by_any(&rt, rt.alloc(), &OwnStores, link)?,
-            "example {index}"
-        );
-    }
-    Ok(())
+fn thread_offsets_count_from_the_tls_block(rt: HostRuntime) -> Result<(), Fail> {
+    each_links!(rt; &OwnStores, thread_data::OFFSETS_OF_THREADS)
 }
 
 #[test]
-fn the_linker_has_its_symbols(rt: HostRuntime) -> Result<(), Fail> {
-    for (index, link) in linker_symbols::FIXED.iter().enumerate() {
-        assert!(rt;
-            is_linked_by_any(&rt, rt.alloc(), &OwnStores, link)?,
-            "example {index}"
-        );
-    }
-    Ok(())
+fn linker_symbols_have_their_addresses(rt: HostRuntime) -> Result<(), Fail> {
+    each_links!(rt; &OwnStores, linker_symbols::FIXED)
 }
 
 #[test]
-fn an_offer_is_before_the_linker(rt: HostRuntime) -> Result<(), Fail> {
-    for (index, link) in linker_symbols::OFFERED.iter().enumerate() {
-        assert!(rt;
-            is_linked_by_any(&rt, rt.alloc(), &OwnStores, link)?,
-            "example {index}"
-        );
-    }
-    Ok(())
+fn a_definition_goes_before_the_linkers_own(rt: HostRuntime) -> Result<(), Fail> {
+    each_links!(rt; &OwnStores, linker_symbols::OFFERED)
 }
 
 #[test]
 fn a_program_begins_at_any_symbol(rt: HostRuntime) -> Result<(), Fail> {
-    for (index, link) in linker_symbols::ENTRIES.iter().enumerate() {
-        assert!(rt;
-            is_linked_by_any(&rt, rt.alloc(), &OwnStores, link)?,
-            "example {index}"
-        );
-    }
-    Ok(())
+    each_links!(rt; &OwnStores, linker_symbols::ENTRIES)
 }
 
 #[test]
-fn sections_are_found_by_name(rt: HostRuntime) -> Result<(), Fail> {
-    for (index, link) in linker_symbols::NAMED.iter().enumerate() {
-        assert!(rt;
-            is_linked_by_any(&rt, rt.alloc(), &OwnStores, link)?,
-            "example {index}"
-        );
-    }
-    Ok(())
+fn start_and_stop_symbols_bound_their_sections(rt: HostRuntime) -> Result<(), Fail> {
+    each_links!(rt; &OwnStores, linker_symbols::NAMED)
 }
 
 #[test]
-fn no_name_without_its_section(rt: HostRuntime) -> Result<(), Fail> {
-    for (index, refusal) in linker_symbols::LACKING.iter().enumerate() {
-        assert!(rt;
-            is_refused_by_any(&rt, rt.alloc(), &OwnStores, refusal)?,
-            "example {index}"
-        );
-    }
-    Ok(())
+fn start_and_stop_symbols_without_a_section_are_undefined(rt: HostRuntime) -> Result<(), Fail> {
+    each_is_refused!(rt; &OwnStores, linker_symbols::LACKING)
 }

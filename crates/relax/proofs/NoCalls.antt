@@ -18,15 +18,14 @@ use Rattle.lk_tables.proofs.ByNumber.{length_by_section, read_by_section}
 use Rattle.lk_tables.proofs.Owners.{place_of_number}
 use Rattle.lk_tables.proofs.SoundFiles.{inside_body, sound_file}
 use Rattle.link_sections.specs.PieceTargets.{target_at}
-use Rattle.link_sections.specs.PoolViews.{Merged, PoolsView}
+use Rattle.link_sections.specs.PoolViews.{Merged}
 use Rattle.relax.specs.declared.calls.Call.{Call}
-use Rattle.relax.specs.declared.members.Member.{Member}
-use Rattle.relax.specs.CallSizes.{AreLeastSafe, IsLeastSafe, all_calls, all_cuts, bytes_at, call_at, call_of, call_rows, calls_in, calls_of, cuts_by, cuts_of, file_of, fits, has_hint, has_words, is_candidate, is_hint, is_plain, is_safe, least_of, least_size, least_sizes, member_at, members_of, no_member, place_in, reaches, reloc_of, row_at, rows_of, size_in}
-use Rattle.relax.specs.ItemViews.{rooms_in}
+use Rattle.output_sections.specs.declared.rows.Row.{Row}
+use Rattle.output_sections.specs.Order.{IsKnown, is_section, own_section}
+use Rattle.relax.specs.CallSizes.{AreLeastSafe, IsLeastSafe, all_calls, all_cuts, bytes_at, call_at, call_of, call_rows, calls_in, calls_of, cuts_by, cuts_of, file_of, fits, has_hint, has_words, is_candidate, is_hint, is_plain, is_safe, least_of, least_size, least_sizes, member_at, no_member, place_in, reaches, reloc_of, row_at, size_in}
 use Rattle.relax.specs.Unrelaxed.{has_relax, may_relax, relaxes, some_relaxes, unrelaxed, whole_cuts}
 use Rattle.relax.proofs.CutSteps.{size_none}
 use Rattle.relax.proofs.Fitting.{live_from}
-use Rattle.relax.proofs.MemberFacts.{members_known}
 
 flat_none : {X Y : Type 0} (f : X → List Y) (xs : List X) → ((x : X) → f x ≡ []) → flat_map f xs ≡ []
 flat_none f [] none = refl
@@ -79,32 +78,34 @@ no_candidate files n k none =
     let words = has_words (file_of files n).bytes (bytes_at files n k) in
     ap (λ h. plain && (words && h)) (hint_none (relocs_of files n) (reloc_of files n k).offset none) ∙ both_none plain words
 
-no_call_at : (files : List File) (b : Bindings) (merged : List (Option Merged)) (leaders : List (Option ℕ)) (ms : List Member) (i n k : ℕ) →
+no_call_at : (files : List File) (b : Bindings) (merged : List (Option Merged)) (leaders : List (Option ℕ)) (ms : List Row) (i n k : ℕ) →
     has_relax (relocs_of files n) ≡ false → call_at files b merged leaders ms i n k ≡ []
 unfolding call_at
 no_call_at files b merged leaders ms i n k none =
     let calls = reaches leaders ms (call_of i (reloc_of files n k) k (least_of (file_of files n) (bytes_at files n k))) (target_at files b merged n k) in
     ap (λ c. if c then calls else []) (no_candidate files n k none)
 
-no_calls_in : (files : List File) (b : Bindings) (merged : List (Option Merged)) (leaders : List (Option ℕ)) (ms : List Member) (i n : ℕ) →
+no_calls_in : (files : List File) (b : Bindings) (merged : List (Option Merged)) (leaders : List (Option ℕ)) (ms : List Row) (i n : ℕ) →
     has_relax (relocs_of files n) ≡ false → calls_in files b merged leaders ms i n ≡ []
 unfolding calls_in
 no_calls_in files b merged leaders ms i n none =
     flat_none (call_at files b merged leaders ms i n) (range_with_len 0 (length (relocs_of files n))) (λ k. no_call_at files b merged leaders ms i n k none)
 
-if_none : {X : Type 0} (b : Bool) (xs : List X) → xs ≡ [] → (if b then xs else []) ≡ []
-if_none true xs none = none
-if_none false xs none = refl
-
-module _ (tables : Tables) (b : Bindings) (merged : List (Option Merged)) (leaders : List (Option ℕ)) (ms : List Member) where
-  no_calls_of : (on : Bool) (i : ℕ) → may_relax (files_of tables) on ≡ false → (member_at ms i).section < section_total (files_of tables) → calls_of (files_of tables) b merged leaders ms on i ≡ []
+module _ (tables : Tables) (b : Bindings) (merged : List (Option Merged)) (leaders : List (Option ℕ)) (ms : List Row) where
+  no_calls_of : (on : Bool) (i : ℕ) → may_relax (files_of tables) on ≡ false → (is_section (member_at ms i) ≡ true → (own_section (member_at ms i)) < section_total (files_of tables))
+      → calls_of (files_of tables) b merged leaders ms on i ≡ []
   unfolding calls_of
-  no_calls_of true i none lt =
-      let n = (member_at ms i).section in
-      if_none (member_at ms i).is_section (calls_in (files_of tables) b merged leaders ms i n) (no_calls_in (files_of tables) b merged leaders ms i n (none_at tables n none lt))
-  no_calls_of false i none lt = refl
+  no_calls_of true i none low = by (is_section (member_at ms i)) low
+    where
+      n : ℕ
+      n = (own_section (member_at ms i))
 
-  no_rows : (on : Bool) → may_relax (files_of tables) on ≡ false → All (λ m. m.section < section_total (files_of tables)) ms →
+      by : (t : Bool) → (t ≡ true → n < section_total (files_of tables)) → (if t then calls_in (files_of tables) b merged leaders ms i n else []) ≡ []
+      by true less = no_calls_in (files_of tables) b merged leaders ms i n (none_at tables n none (less refl))
+      by false less = refl
+  no_calls_of false i none low = refl
+
+  no_rows : (on : Bool) → may_relax (files_of tables) on ≡ false → All (λ m. is_section m ≡ true → own_section m < section_total (files_of tables)) ms →
       All (λ row. row ≡ []) (call_rows (files_of tables) b merged leaders ms on)
   unfolding call_rows
   no_rows on none within i d lt =
@@ -127,15 +128,15 @@ no_call : (rows : List (List Call)) → All (λ row. row ≡ []) rows → all_ca
 no_call [] none = refl
 no_call (row ∷ rows) none = ap (λ l. l ++ all_calls rows) (none 0 [] (omega arith)) ∙ no_call rows (λ k d lt. none (suc k) d (omega (arith, lt)))
 
-no_sizes : (ms : List Member) (rows : List (List Call)) → All (λ row. row ≡ []) rows → least_sizes ms rows ≡ []
+no_sizes : (ms : List Row) (rows : List (List Call)) → All (λ row. row ≡ []) rows → least_sizes ms rows ≡ []
 unfolding least_sizes
 no_sizes ms rows none = ap (λ (l : List Call). map (least_size ms rows) (range_with_len 0 (length l))) (no_call rows none)
 
-none_safe : (ms : List Member) (rows : List (List Call)) → All (λ row. row ≡ []) rows → is_safe ms rows [] ≡ true
+none_safe : (ms : List Row) (rows : List (List Call)) → All (λ row. row ≡ []) rows → is_safe ms rows [] ≡ true
 unfolding is_safe
 none_safe ms rows none = ap (λ (l : List Call). 0 == length l && list_all (fits ms rows []) (range_with_len 0 (length l))) (no_call rows none)
 
-none_least : (ms : List Member) (rows : List (List Call)) → All (λ row. row ≡ []) rows → AreLeastSafe ms rows (least_sizes ms rows)
+none_least : (ms : List Row) (rows : List (List Call)) → All (λ row. row ≡ []) rows → AreLeastSafe ms rows (least_sizes ms rows)
 none_least ms rows none = record {
   safe = ap (is_safe ms rows) (no_sizes ms rows none) ∙ none_safe ms rows none;
   least = λ y is k lt. absurd (omega (arith, lt, ap length (no_call rows none)));
@@ -153,21 +154,19 @@ pub unrelaxed_at : (files : List File) → unrelaxed files ≡ map (λ n. cuts_b
 unrelaxed_at files = by_number files (whole_cuts files) []
 
 -- a link in which no call may be relaxed
-module _ (tables : Tables) (b : Bindings) (pools : PoolsView) (leaders : List (Option ℕ)) (on : Bool) (none : may_relax (files_of tables) on ≡ false) where
-  rows_none : All (λ row. row ≡ []) (rows_of (files_of tables) b pools leaders on)
-  rows_none =
-      no_rows tables b pools.merged leaders (members_of (files_of tables) b pools leaders) on none
-      (λ k d lt. (members_known (files_of tables) b (rooms_in pools) leaders k d lt).number)
+module _ (tables : Tables) (b : Bindings) (merged : List (Option Merged)) (leaders : List (Option ℕ)) (ms : List Row) (on : Bool) (none : may_relax (files_of tables) on ≡ false)
+    (known : All (IsKnown (files_of tables) b) ms) where
+  rows_none : All (λ row. row ≡ []) (call_rows (files_of tables) b merged leaders ms on)
+  rows_none = no_rows tables b merged leaders ms on none (λ k d lt. (known k d lt).number)
 
-  pub unrelaxed_is : unrelaxed (files_of tables) ≡ cuts_of (files_of tables) b pools leaders on
+  pub unrelaxed_is : unrelaxed (files_of tables) ≡ cuts_of (files_of tables) b merged leaders ms on
   unfolding cuts_of all_cuts
   unrelaxed_is =
       let files = files_of tables in
-      let ms = members_of files b pools leaders in
-      let rows = rows_of files b pools leaders on in
+      let rows = call_rows files b merged leaders ms on in
       unrelaxed_at files
       ∙ ap (λ (s : ℕ → ℕ → ℕ). map (λ n. cuts_by (s n) (relocs_of files n)) (range_with_len 0 (section_total files)))
       (fun_ext λ n. fun_ext λ k. eight rows rows_none (least_sizes ms rows) (place_in ms n) k)
 
-  pub unrelaxed_law : IsLeastSafe (files_of tables) b pools leaders on
-  unrelaxed_law = none_least (members_of (files_of tables) b pools leaders) (rows_of (files_of tables) b pools leaders on) rows_none
+  pub unrelaxed_law : IsLeastSafe (files_of tables) b merged leaders ms on
+  unrelaxed_law = none_least ms (call_rows (files_of tables) b merged leaders ms on) rows_none

@@ -8,38 +8,39 @@ use Rattle.std.proofs.lemmas.List.Elements.{All-head, All-tail}
 use Rattle.std.proofs.lemmas.List.Folds.{position_or_len_push}
 use Rattle.std.proofs.lemmas.List.FromFn.{fill_by_all, get_or-map-range_with_len, length-map-range_with_len}
 use Rattle.std.proofs.lemmas.List.Sums.{prefix_len-le-length}
-use Rattle.relax.specs.declared.members.Member.{Member}
+use Rattle.output_sections.specs.declared.rows.Row.{Row}
+use Rattle.output_sections.specs.Order.{is_section, own_section}
 use Rattle.relax.specs.CallSizes.{is_at, place_in}
-use Rattle.relax.specs.ItemViews.{noted}
+use Rattle.relax.specs.Placing.{noted}
 
 -- a section that no member is has no place
-pub no_place : (ms : List Member) (n total : ℕ) → All (λ (m : Member). m.section < total) ms → total ≤ n → place_in ms n ≡ length ms
+pub no_place : (ms : List Row) (n total : ℕ) → All (λ (m : Row). is_section m ≡ true → own_section m < total) ms → total ≤ n → place_in ms n ≡ length ms
 unfolding place_in
 no_place [] n total all past = refl
 no_place (m ∷ ms) n total all past =
-    let own = All-head (λ (x : Member). x.section < total) m ms all in
-    let other : is_at n m ≡ false = ap (λ b. m.is_section && b) (ne_eqb m.section n (λ e. omega (arith, own, past, e))) ∙ and_no m.is_section in
+    let own = All-head (λ (x : Row). is_section x ≡ true → own_section x < total) m ms all in
+    let other : is_at n m ≡ false = by (is_section m) refl own in
     ap (λ b. cond (not b) (1 + position_or_len (is_at n) ms) 0) other
-    ∙ ap (λ k. 1 + k) (no_place ms n total (All-tail (λ (x : Member). x.section < total) m ms all) past)
+    ∙ ap (λ k. 1 + k) (no_place ms n total (All-tail (λ (x : Row). is_section x ≡ true → own_section x < total) m ms all) past)
     ∙ omega arith
   where
-    and_no : (b : Bool) → (b && false) ≡ false
-    and_no true = refl
-    and_no false = refl
+    by : (t : Bool) → is_section m ≡ t → (t ≡ true → own_section m < total) → (t && own_section m == n) ≡ false
+    by true is low = let less = low refl in ne_eqb (own_section m) n (λ e. omega (arith, less, past, e))
+    by false is low = refl
 
-pub place_at : (ms : List Member) (places : List ℕ) (n total d : ℕ) → places ≡ map (place_in ms) (range_with_len 0 total) → n < length places → get_or places n d ≡ place_in ms n
+pub place_at : (ms : List Row) (places : List ℕ) (n total d : ℕ) → places ≡ map (place_in ms) (range_with_len 0 total) → n < length places → get_or places n d ≡ place_in ms n
 place_at ms places n total d is lt =
     let few = ap length is ∙ length-map-range_with_len (place_in ms) 0 total in
     ap (λ l. get_or l n d) is ∙ get_or-map-range_with_len (place_in ms) 0 total n n d (omega (arith, lt, few)) (omega arith)
 
 -- what is noted of a section once the first i members were seen
-abbrev pub seen : List Member → (i n : ℕ) → ℕ
+abbrev pub seen : List Row → (i n : ℕ) → ℕ
 seen ms i n = cond (nat_lt (position_or_len (is_at n) (take i ms)) i) (position_or_len (is_at n) (take i ms)) (length ms)
 
-pub seen_first : (ms : List Member) (n : ℕ) → seen ms 0 n ≡ length ms
+pub seen_first : (ms : List Row) (n : ℕ) → seen ms 0 n ≡ length ms
 seen_first ms n = ap (λ b. cond b (position_or_len (is_at n) (take 0 ms)) (length ms)) (le-ltb (position_or_len (is_at n) (take 0 ms)) 0 (omega arith))
 
-pub seen_all : (ms : List Member) (i n : ℕ) → i ≡ length ms → seen ms i n ≡ place_in ms n
+pub seen_all : (ms : List Row) (i n : ℕ) → i ≡ length ms → seen ms i n ≡ place_in ms n
 unfolding place_in
 seen_all ms i n all =
     let p = position_or_len (is_at n) ms in
@@ -67,7 +68,7 @@ seen_step p i len own le lt = elim (cases_lt p i) [
     by true = ap (λ b. cond b (i + 0) len) (lt-ltb (i + 0) (i + 1) (omega arith)) ∙ omega arith
     by false = ap (λ b. cond b (i + 1) len) (le-ltb (i + 1) (i + 1) (omega arith))
 
-seen_more : (ms : List Member) (i n : ℕ) (d : Member) → i < length ms →
+seen_more : (ms : List Row) (i n : ℕ) (d : Row) → i < length ms →
     seen ms (i + 1) n ≡ cond (nat_lt (position_or_len (is_at n) (take i ms)) i) (position_or_len (is_at n) (take i ms)) (cond (is_at n (get_or ms i d)) i (length ms))
 seen_more ms i n d lt =
     let done = take i ms in
@@ -80,30 +81,30 @@ seen_more ms i n d lt =
     ap (λ k. cond (nat_lt k (i + 1)) k (length ms)) place ∙ seen_step p i (length ms) (is_at n (get_or ms i d)) (omega (arith, most, few)) lt
 
 -- the place that is noted for section n
-noted_at : (places : List ℕ) (m : Member) (i n old : ℕ) → n < length places → get_or places n 0 ≡ old → get_or (noted places m i) n 0 ≡ cond (is_at n m && nat_lt i old) i old
+noted_at : (places : List ℕ) (m : Row) (i n old : ℕ) → n < length places → get_or places n 0 ≡ old → get_or (noted places m i) n 0 ≡ cond (is_at n m && nat_lt i old) i old
 unfolding noted
-noted_at places m i n old lt held = elim (cases_Bool (m.is_section && nat_lt i (slice_index places m.section))) [
+noted_at places m i n old lt held = elim (cases_Bool ((is_section m) && nat_lt i (slice_index places (own_section m)))) [
   | inl puts ↦
-      let parts = and_parts m.is_section (nat_lt i (slice_index places m.section)) puts in
-      ap (λ b. get_or (if b then slice_set places m.section i else places) n 0) puts
-      ∙ elim (cases_Bool (m.section == n)) [
+      let parts = and_parts (is_section m) (nat_lt i (slice_index places (own_section m))) puts in
+      ap (λ b. get_or (if b then slice_set places (own_section m) i else places) n 0) puts
+      ∙ elim (cases_Bool ((own_section m) == n)) [
         | inl same ↦
-            let e : m.section ≡ n = eqb-true m.section n same in
+            let e : (own_section m) ≡ n = eqb-true (own_section m) n same in
             ap (λ k. get_or (slice_set places k i) n 0) e ∙ get_or-set_same places n i 0 lt
-            ∙ sym (ap (λ b. cond b i old) (and_from (is_at n m) (nat_lt i old) (and_from m.is_section (m.section == n) parts.0 same) (ap (λ x. nat_lt i x) (sym held ∙ ap (slice_index places) (sym e)) ∙ parts.1)))
+            ∙ sym (ap (λ b. cond b i old) (and_from (is_at n m) (nat_lt i old) (and_from (is_section m) ((own_section m) == n) parts.0 same) (ap (λ x. nat_lt i x) (sym held ∙ ap (slice_index places) (sym e)) ∙ parts.1)))
         | inr other ↦
-            get_or-set_other places m.section n i 0 (λ e. eqb-false m.section n other (sym e)) ∙ held
-            ∙ sym (ap (λ b. cond (b && nat_lt i old) i old) (and_right m.is_section (m.section == n) other))
+            get_or-set_other places (own_section m) n i 0 (λ e. eqb-false (own_section m) n other (sym e)) ∙ held
+            ∙ sym (ap (λ b. cond (b && nat_lt i old) i old) (and_right (is_section m) ((own_section m) == n) other))
       ]
   | inr keeps ↦
-      ap (λ b. get_or (if b then slice_set places m.section i else places) n 0) keeps ∙ held
-      ∙ elim (cases_Bool (m.section == n)) [
+      ap (λ b. get_or (if b then slice_set places (own_section m) i else places) n 0) keeps ∙ held
+      ∙ elim (cases_Bool ((own_section m) == n)) [
         | inl same ↦
-            let e : m.section ≡ n = eqb-true m.section n same in
-            let less : nat_lt i (slice_index places m.section) ≡ nat_lt i old = ap (λ k. nat_lt i (slice_index places k)) e ∙ ap (nat_lt i) held in
-            sym (ap (λ b. cond ((m.is_section && b) && nat_lt i old) i old) same ∙ ap (λ b. cond (b && nat_lt i old) i old) (and_true m.is_section)
-            ∙ ap (λ b. cond (m.is_section && b) i old) (sym less) ∙ ap (λ b. cond b i old) keeps)
-        | inr other ↦ sym (ap (λ b. cond (b && nat_lt i old) i old) (and_right m.is_section (m.section == n) other))
+            let e : (own_section m) ≡ n = eqb-true (own_section m) n same in
+            let less : nat_lt i (slice_index places (own_section m)) ≡ nat_lt i old = ap (λ k. nat_lt i (slice_index places k)) e ∙ ap (nat_lt i) held in
+            sym (ap (λ b. cond (((is_section m) && b) && nat_lt i old) i old) same ∙ ap (λ b. cond (b && nat_lt i old) i old) (and_true (is_section m))
+            ∙ ap (λ b. cond ((is_section m) && b) i old) (sym less) ∙ ap (λ b. cond b i old) keeps)
+        | inr other ↦ sym (ap (λ b. cond (b && nat_lt i old) i old) (and_right (is_section m) ((own_section m) == n) other))
       ]
 ]
   where
@@ -131,19 +132,19 @@ noted_step own p i len lt = elim (cases_lt p i) [
     by false = refl
 
 -- all places, one member on
-pub record AreNoted (ms : List Member) (count i : ℕ) (places : List ℕ) : Type 0 where
+pub record AreNoted (ms : List Row) (count i : ℕ) (places : List ℕ) : Type 0 where
   pub length_is : length places ≡ count
   pub each : (n : ℕ) → n < count → get_or places n 0 ≡ seen ms i n
 
-length_noted : (places : List ℕ) (m : Member) (i : ℕ) → length (noted places m i) ≡ length places
+length_noted : (places : List ℕ) (m : Row) (i : ℕ) → length (noted places m i) ≡ length places
 unfolding noted
-length_noted places m i = by (m.is_section && nat_lt i (slice_index places m.section))
+length_noted places m i = by ((is_section m) && nat_lt i (slice_index places (own_section m)))
   where
-    by : (b : Bool) → length (if b then slice_set places m.section i else places) ≡ length places
-    by true = length-set places m.section i
+    by : (b : Bool) → length (if b then slice_set places (own_section m) i else places) ≡ length places
+    by true = length-set places (own_section m) i
     by false = refl
 
-pub noted_more : (ms : List Member) (count i : ℕ) (d : Member) (old new : List ℕ) → i < length ms → AreNoted ms count i old → new ≡ noted old (get_or ms i d) i → AreNoted ms count (i + 1) new
+pub noted_more : (ms : List Row) (count i : ℕ) (d : Row) (old new : List ℕ) → i < length ms → AreNoted ms count i old → new ≡ noted old (get_or ms i d) i → AreNoted ms count (i + 1) new
 noted_more ms count i d old new lt are is = record {
   length_is = ap length is ∙ length_noted old (get_or ms i d) i ∙ are.length_is;
   each = λ n less.
@@ -152,6 +153,6 @@ noted_more ms count i d old new lt are is = record {
       ∙ noted_step (is_at n (get_or ms i d)) p i (length ms) lt ∙ sym (seen_more ms i n d lt);
 }
 
-pub noted_all : (ms : List Member) (count i : ℕ) (places : List ℕ) → AreNoted ms count i places → i ≡ length ms → places ≡ map (place_in ms) (range_with_len 0 count)
+pub noted_all : (ms : List Row) (count i : ℕ) (places : List ℕ) → AreNoted ms count i places → i ≡ length ms → places ≡ map (place_in ms) (range_with_len 0 count)
 noted_all ms count i places are all =
     fill_by_all (place_in ms) places count 0 are.length_is (λ n lt. are.each n lt ∙ seen_all ms i n all)

@@ -13,7 +13,7 @@ use Rattle.relax.specs.declared.calls.Call.{Call}
 use Rattle.relax.specs.declared.jumps.Jump.{Jump}
 use Rattle.relax.specs.declared.jumps.Mark.{Mark}
 use Rattle.relax.specs.declared.jumps.Point.{Point}
-use Rattle.relax.specs.declared.members.Member.{Member}
+use Rattle.output_sections.specs.declared.rows.Row.{Row}
 use Rattle.relax.specs.CallSizes.{all_calls, distance, first_call, goes_forwards, member_at, room, row_at, sized, upper_offset, upper_place}
 use Rattle.relax.specs.Jumps.{IsOrdered, jump_bytes, lost_before, lost_in, lost_upto, size_at}
 use Rattle.relax.specs.Points.{AreSoundRows, Follow, depth_in, ended, ends_by, jump_of, mark_at, no_call, point_at, point_in, rooms_before, whole_room}
@@ -157,7 +157,7 @@ end_sum z m size row is le few =
     ap (λ k. lost_by z (m + k) (depth_in row (ended row size) size)) n ∙ ap (λ k. lost_by z (m + length row) k) d in
     omega (arith, sum, at, few (m + length row))
 
-module _ (ms : List Member) (rows : List (List Call)) (z : List ℕ) (sound : AreSoundRows ms rows) (count : length z ≡ length (all_calls rows)) (few : (k : ℕ) → size_at z k ≤ 8) where
+module _ (ms : List Row) (rows : List (List Call)) (z : List ℕ) (sound : AreSoundRows ms rows) (count : length z ≡ length (all_calls rows)) (few : (k : ℕ) → size_at z k ≤ 8) where
   row_within : (i : ℕ) → i < length ms → first_call rows i + length (row_at rows i) ≤ length z
   row_within i lt = omega (arith, first_most rows i (omega (arith, lt, sound.count)), count)
 
@@ -232,7 +232,7 @@ depth_rises row n x y le = elim (cases_lt n (length row)) [
 abbrev AreOrdered : Point → Point → Type 0
 AreOrdered p q = (p.call < q.call) ⊎ ((p.call ≡ q.call) × (p.depth ≤ q.depth))
 
-same_row : (ms : List Member) (rows : List (List Call)) (i x y : ℕ) → x ≤ y → AreOrdered (point_at ms rows i x) (point_at ms rows i y)
+same_row : (ms : List Row) (rows : List (List Call)) (i x y : ℕ) → x ≤ y → AreOrdered (point_at ms rows i x) (point_at ms rows i y)
 unfolding point_at point_in
 same_row ms rows i x y le =
     let row = row_at rows i in
@@ -244,7 +244,7 @@ same_row ms rows i x y le =
           inr (omega (arith, same), omega (arith, depth_rises row (ended row x) x y le, ap (λ n. depth_in row n y) same))
     ]
 
-later_row : (ms : List Member) (rows : List (List Call)) (i j x y : ℕ) → i < j → AreOrdered (point_at ms rows i x) (point_at ms rows j y)
+later_row : (ms : List Row) (rows : List (List Call)) (i j x y : ℕ) → i < j → AreOrdered (point_at ms rows i x) (point_at ms rows j y)
 unfolding point_at point_in mark_at
 later_row ms rows i j x y lt =
     let row = row_at rows i in
@@ -283,13 +283,13 @@ forwards_cases c = elim (cases_Bool (c.from == c.to)) [
       ]
 ]
 
-either_order : (ms : List Member) (rows : List (List Call)) (i j x y : ℕ) → (i < j) ⊎ ((i ≡ j) × (x ≤ y)) → AreOrdered (point_at ms rows i x) (point_at ms rows j y)
+either_order : (ms : List Row) (rows : List (List Call)) (i j x y : ℕ) → (i < j) ⊎ ((i ≡ j) × (x ≤ y)) → AreOrdered (point_at ms rows i x) (point_at ms rows j y)
 either_order ms rows i j x y is = elim is [
   | inl before ↦ later_row ms rows i j x y before
   | inr (same, le) ↦ subst (λ k. AreOrdered (point_at ms rows i x) (point_at ms rows k y)) same (same_row ms rows i x y le)
 ]
 
-pub jump_ordered : (ms : List Member) (rows : List (List Call)) (c : Call) → IsOrdered (jump_of ms rows c)
+pub jump_ordered : (ms : List Row) (rows : List (List Call)) (c : Call) → IsOrdered (jump_of ms rows c)
 unfolding jump_of
 jump_ordered ms rows c =
     let P : Bool → Type 0 = λ b. AreOrdered (if b then point_at ms rows c.from c.offset else point_at ms rows c.to c.target) (if b then point_at ms rows c.to c.target else point_at ms rows c.from c.offset) in
@@ -298,15 +298,15 @@ jump_ordered ms rows c =
       | inr (no_is, order) ↦ subst P (sym no_is) (either_order ms rows c.to c.from c.target c.offset order)
     ]
 
-pub point_within : (ms : List Member) (rows : List (List Call)) (i o : ℕ) → i < length rows → (point_at ms rows i o).call ≤ length (all_calls rows)
+pub point_within : (ms : List Row) (rows : List (List Call)) (i o : ℕ) → i < length rows → (point_at ms rows i o).call ≤ length (all_calls rows)
 unfolding point_at point_in mark_at
 point_within ms rows i o lt = omega (arith, first_most rows i lt, ended_most (row_at rows i) o)
 
-pub mark_is : (ms : List Member) (rows : List (List Call)) (marks : List Mark) (i : ℕ) (d : Mark) → marks ≡ map (mark_at ms rows) (range_with_len 0 (length ms)) → i < length ms →
+pub mark_is : (ms : List Row) (rows : List (List Call)) (marks : List Mark) (i : ℕ) (d : Mark) → marks ≡ map (mark_at ms rows) (range_with_len 0 (length ms)) → i < length ms →
     get_or marks i d ≡ mark_at ms rows i
 mark_is ms rows marks i d is lt = ap (λ l. get_or l i d) is ∙ get_or-map-range_with_len (mark_at ms rows) 0 (length ms) i i d lt (omega arith)
 
-pub first_low : (ms : List Member) (rows : List (List Call)) (m : Mark) (i : ℕ) → m ≡ mark_at ms rows i → i < length rows → m.first + length (row_at rows i) ≤ length (all_calls rows)
+pub first_low : (ms : List Row) (rows : List (List Call)) (m : Mark) (i : ℕ) → m ≡ mark_at ms rows i → i < length rows → m.first + length (row_at rows i) ≤ length (all_calls rows)
 unfolding mark_at
 first_low ms rows m i is lt = omega (arith, first_most rows i lt, ap (λ (x : Mark). x.first) is)
 
@@ -320,19 +320,19 @@ pub record IsWithin (count : ℕ) (c : Call) : Type 0 where
   pub to : c.to < count
   pub least : (c.least ≡ 2) ⊎ (c.least ≡ 4)
 
-pub calls_within : (ms : List Member) (rows : List (List Call)) → AreSoundRows ms rows → All (IsWithin (length ms)) (all_calls rows)
+pub calls_within : (ms : List Row) (rows : List (List Call)) → AreSoundRows ms rows → All (IsWithin (length ms)) (all_calls rows)
 calls_within ms rows sound =
     all_flat (IsWithin (length ms)) rows (λ i lt k d less.
     let is = sound.each i (omega (arith, lt, sound.count)) k d less in
     record { from = omega (arith, lt, sound.count, is.from); to = is.to; least = is.least })
 
 -- the jumps that calls are
-pub jumps_step : (ms : List Member) (rows : List (List Call)) (calls : List Call) (k : ℕ) (d : Call) (old new : List Jump) (j : Jump) → k < length calls →
+pub jumps_step : (ms : List Row) (rows : List (List Call)) (calls : List Call) (k : ℕ) (d : Call) (old new : List Jump) (j : Jump) → k < length calls →
     old ≡ map (jump_of ms rows) (take k calls) → new ≡ old ++ j ∷ [] → j ≡ jump_of ms rows (get_or calls k d) → new ≡ map (jump_of ms rows) (take (k + 1) calls)
 jumps_step ms rows calls k d old new j lt held is own =
     is ∙ ap (λ l. l ++ j ∷ []) held ∙ ap (λ x. map (jump_of ms rows) (take k calls) ++ x ∷ []) own
     ∙ sym (map-append (jump_of ms rows) (take k calls) (get_or calls k d ∷ [])) ∙ ap (map (jump_of ms rows)) (sym (take_more calls k d lt))
 
-pub mark_first : (ms : List Member) (rows : List (List Call)) (m : Mark) (i : ℕ) → m ≡ mark_at ms rows i → m.first ≡ first_call rows i
+pub mark_first : (ms : List Row) (rows : List (List Call)) (m : Mark) (i : ℕ) → m ≡ mark_at ms rows i → m.first ≡ first_call rows i
 unfolding mark_at
 mark_first ms rows m i is = ap (λ (x : Mark). x.first) is

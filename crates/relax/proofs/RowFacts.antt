@@ -24,11 +24,11 @@ use Rattle.link_sections.specs.Leaders.{leader_at}
 use Rattle.link_sections.specs.PieceTargets.{target_at}
 use Rattle.link_sections.specs.PoolViews.{Merged}
 use Rattle.relax.specs.declared.calls.Call.{Call}
-use Rattle.relax.specs.declared.members.Member.{Member}
+use Rattle.output_sections.specs.declared.rows.Row.{Row}
 use Rattle.relax.specs.CallSizes.{bytes_at, call_at, call_of, call_rows, calls_in, calls_of, file_of, has_hint, has_rvc, has_words, is_candidate, is_near, is_plain, lands, least_of, member_at, no_member, place_in, rd_at, reaches, reloc_of, row_at}
 use Rattle.relax.specs.Points.{AreSoundRows, Follow, IsCallOf}
 use Rattle.relax.proofs.Fitting.{bytes_if, call_kind, call_width, end_is, size_is, sound_of}
-use Rattle.relax.specs.Placing.{IsKnown}
+use Rattle.output_sections.specs.Order.{IsKnown, is_section, own_section}
 
 -- a list of one that has a property, or of none
 abbrev IsOne : {X : Type 0} → (X → Type 0) → List X → Type 0
@@ -41,7 +41,7 @@ record IsNear (count : ℕ) (c d : Call) : Type 0 where
   least : d.least ≡ c.least
   to : d.to < count
 
-lands_one : (ms : List Member) (c : Call) (leader : Option ℕ) (offset : ℕ) → IsOne (IsNear (length ms) c) (lands ms c leader offset)
+lands_one : (ms : List Row) (c : Call) (leader : Option ℕ) (offset : ℕ) → IsOne (IsNear (length ms) c) (lands ms c leader offset)
 unfolding lands is_near
 lands_one ms c None offset = inl refl
 lands_one ms c (Some m) offset =
@@ -57,7 +57,7 @@ lands_one ms c (Some m) offset =
     by true false is = inl refl
     by false rest is = inl refl
 
-reaches_one : (leaders : List (Option ℕ)) (ms : List Member) (c : Call) (t : Target) → IsOne (IsNear (length ms) c) (reaches leaders ms c t)
+reaches_one : (leaders : List (Option ℕ)) (ms : List Row) (c : Call) (t : Target) → IsOne (IsNear (length ms) c) (reaches leaders ms c t)
 unfolding reaches
 reaches_one leaders ms c (targets.Section section offset rest) = lands_one ms c (leader_at leaders section) offset
 reaches_one leaders ms c (targets.Piece pool piece offset rest) = inl refl
@@ -94,7 +94,7 @@ plain_call files n k is =
     (and_parts (is_call r.kind) (int_eq r.addend (pos 0) && r.offset % 2 == 0)
     (and_parts plain (has_words (file_of files n).bytes (bytes_at files n k) && has_hint (relocs_of files n) r.offset) is).0).0
 
-pub call_one : (files : List File) (b : Bindings) (merged : List (Option Merged)) (leaders : List (Option ℕ)) (ms : List Member) (i n k : ℕ) →
+pub call_one : (files : List File) (b : Bindings) (merged : List (Option Merged)) (leaders : List (Option ℕ)) (ms : List Row) (i n k : ℕ) →
     IsOne (IsSite files (length ms) i n k) (call_at files b merged leaders ms i n k)
 unfolding call_at
 call_one files b merged leaders ms i n k =
@@ -124,7 +124,7 @@ call_one files b merged leaders ms i n k =
     by false is near = inl refl
 
 -- the calls of a section
-module _ (tables : Tables) (b : Bindings) (merged : List (Option Merged)) (leaders : List (Option ℕ)) (ms : List Member) (i n : ℕ) (lt : n < section_total (files_of tables)) where
+module _ (tables : Tables) (b : Bindings) (merged : List (Option Merged)) (leaders : List (Option ℕ)) (ms : List Row) (i n : ℕ) (lt : n < section_total (files_of tables)) where
   abbrev files : List File
   files = files_of tables
 
@@ -248,36 +248,36 @@ follow_sorted from size (c ∷ cs) is (suc x) zero d le less = absurd (omega (ar
 follow_sorted from size (c ∷ cs) is (suc x) (suc y) d le less = follow_sorted (c.offset + 8) size cs is.2 x y d (omega (arith, le)) (omega (arith, less))
 
 -- the rows of all members
-record IsSoundRow (ms : List Member) (i size : ℕ) (row : List Call) : Type 0 where
+record IsSoundRow (ms : List Row) (i size : ℕ) (row : List Call) : Type 0 where
   each : All (IsCallOf (length ms) i) row
   apart : Follow 0 size row
   numbered : IsNonDecreasingBy (λ c. c.reloc) row
 
-no_row : (ms : List Member) (i size : ℕ) → IsSoundRow ms i size []
+no_row : (ms : List Row) (i size : ℕ) → IsSoundRow ms i size []
 no_row ms i size = record { each = All-nil (IsCallOf (length ms) i); apart = tt; numbered = λ x y d le less. absurd (omega (arith, less)) }
 
-row_sound : (tables : Tables) (b : Bindings) (merged : List (Option Merged)) (leaders : List (Option ℕ)) (ms : List Member) (on : Bool) (i : ℕ) → All (IsKnown (files_of tables) b) ms →
+row_sound : (tables : Tables) (b : Bindings) (merged : List (Option Merged)) (leaders : List (Option ℕ)) (ms : List Row) (on : Bool) (i : ℕ) → All (IsKnown (files_of tables) b) ms →
     i < length ms → IsSoundRow ms i (member_at ms i).size (calls_of (files_of tables) b merged leaders ms on i)
 unfolding calls_of
 row_sound tables b merged leaders ms on i known lt =
     let m = member_at ms i in
     let is = known i no_member lt in
-    by on m.is_section refl is.number is.size
+    by on (is_section m) refl is.number is.size
   where
-    by : (o s : Bool) → (member_at ms i).is_section ≡ s → (member_at ms i).section < section_total (files_of tables) →
-        ((member_at ms i).is_section ≡ true → (member_at ms i).size ≡ (input_at (files_of tables) b (member_at ms i).section).size) →
-        IsSoundRow ms i (member_at ms i).size (if o && s then calls_in (files_of tables) b merged leaders ms i (member_at ms i).section else [])
+    by : (o s : Bool) → is_section (member_at ms i) ≡ s → (is_section (member_at ms i) ≡ true → (own_section (member_at ms i)) < section_total (files_of tables)) →
+        (is_section (member_at ms i) ≡ true → (member_at ms i).size ≡ (input_at (files_of tables) b (own_section (member_at ms i))).size) →
+        IsSoundRow ms i (member_at ms i).size (if o && s then calls_in (files_of tables) b merged leaders ms i (own_section (member_at ms i)) else [])
     by true true own number size =
-        let n = (member_at ms i).section in
+        let n = (own_section (member_at ms i)) in
         record {
-          each = calls_go tables b merged leaders ms i n number;
-          apart = subst (λ k. Follow 0 k (calls_in (files_of tables) b merged leaders ms i n)) (sym (size own)) (calls_follow tables b merged leaders ms i n number);
-          numbered = calls_numbered tables b merged leaders ms i n number;
+          each = calls_go tables b merged leaders ms i n (number own);
+          apart = subst (λ k. Follow 0 k (calls_in (files_of tables) b merged leaders ms i n)) (sym (size own)) (calls_follow tables b merged leaders ms i n (number own));
+          numbered = calls_numbered tables b merged leaders ms i n (number own);
         }
     by true false own number size = no_row ms i (member_at ms i).size
     by false s own number size = no_row ms i (member_at ms i).size
 
-pub rows_sound : (tables : Tables) (b : Bindings) (merged : List (Option Merged)) (leaders : List (Option ℕ)) (ms : List Member) (on : Bool) → All (IsKnown (files_of tables) b) ms →
+pub rows_sound : (tables : Tables) (b : Bindings) (merged : List (Option Merged)) (leaders : List (Option ℕ)) (ms : List Row) (on : Bool) → All (IsKnown (files_of tables) b) ms →
     AreSoundRows ms (call_rows (files_of tables) b merged leaders ms on)
 unfolding call_rows
 rows_sound tables b merged leaders ms on known =

@@ -10,7 +10,7 @@ use Rattle.std.proofs.lemmas.List.Sums.{AllPass-from_list_all, list_all-from_All
 use Rattle.relax.specs.declared.calls.Call.{Call}
 use Rattle.relax.specs.declared.jumps.Jump.{Jump}
 use Rattle.relax.specs.declared.jumps.Point.{Point}
-use Rattle.relax.specs.declared.members.Member.{Member}
+use Rattle.output_sections.specs.declared.rows.Row.{Row}
 use Rattle.relax.specs.CallSizes.{AreLeastSafe, all_assignments, all_calls, call_no, distance, fits, goes_forwards, is_possible, is_safe, is_size, least_size, least_sizes}
 use Rattle.relax.specs.Jumps.{AreBelow, AreSafe, IsJump, allows, is_allowed, jump_at, jump_bytes, no_jump, size_at}
 use Rattle.relax.specs.Placing.{IsOneSize}
@@ -26,7 +26,7 @@ any_append : {Y : Type 0} (q : Y → Bool) (ys zs : List Y) → list_any q (ys +
 any_append q [] zs = refl
 any_append q (y ∷ ys) zs = ap (λ b. q y || b) (any_append q ys zs) ∙ either_or (q y) (list_any q ys) (list_any q zs)
 
-module _ (ms : List Member) (rows : List (List Call)) (sound : AreSoundRows ms rows) where
+module _ (ms : List Row) (rows : List (List Call)) (sound : AreSoundRows ms rows) where
   abbrev jumps : List Jump
   jumps = jumps_in ms rows
 

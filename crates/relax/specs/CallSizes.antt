@@ -11,16 +11,16 @@ use Rattle.lk_tables.specs.Relocations.{is_alignment, place_width}
 use Rattle.lk_tables.specs.Sites.{place_of, relocs_of}
 use Rattle.link_sections.specs.declared.targets.Target.{Target}
 use Rattle.link_sections.specs.declared.targets.Target.TheVariants as targets
+use Rattle.link_sections.specs.declared.members.Content.TheVariants.{Got}
 use Rattle.link_sections.specs.Calls.{is_call}
 use Rattle.link_sections.specs.Cuts.{Cut, new_offset}
 use Rattle.link_sections.specs.Leaders.{leader_at}
 use Rattle.link_sections.specs.PieceTargets.{target_at}
-use Rattle.link_sections.specs.PoolViews.{Merged, PoolsView}
+use Rattle.link_sections.specs.PoolViews.{Merged}
 use Rattle.relax.specs.declared.calls.Call.{Call}
-use Rattle.relax.specs.declared.members.Member.{Member}
-use Rattle.relax.specs.ItemViews.{rooms_in}
+use Rattle.output_sections.specs.declared.rows.Row.{Row}
+use Rattle.output_sections.specs.Order.{is_section, own_section}
 use Rattle.relax.specs.Jumps.{allows, size_at}
-use Rattle.relax.specs.Members.{members}
 use Rattle.relax.specs.Sizes.{has_nops}
 
 -- the opcode of an instruction: the low seven bits of its first byte; rd: the highest bit of that byte, and the low four of the next
@@ -62,15 +62,15 @@ has_hint relocs offset = list_any (is_hint offset) relocs
 abbrev pub hint_offsets : List Reloc → List ℕ
 hint_offsets relocs = map (λ r. r.offset) (filter (λ r. r.kind == R_RISCV_RELAX) relocs)
 
-abbrev pub no_member : Member
-no_member = record { section = 0; is_section = false; group = 0; priority = 0; size = 0; align = 1 }
+abbrev pub no_member : Row
+no_member = record { number = 0; content = Got; group = 0; rank = 0; priority = 0; sh_type = 0; flags = 0; size = 0; align = 1 }
 
 -- the place of section n among the members, or how many these are
-abbrev pub is_at : (n : ℕ) → Member → Bool
-is_at n m = m.is_section && m.section == n
+abbrev pub is_at : (n : ℕ) → Row → Bool
+is_at n m = is_section m && own_section m == n
 
-module _ (ms : List Member) where
-  abbrev pub member_at : (i : ℕ) → Member
+module _ (ms : List Row) where
+  abbrev pub member_at : (i : ℕ) → Row
   member_at i = slice_index_or ms i no_member
 
   unfoldable pub place_in : (n : ℕ) → ℕ
@@ -87,12 +87,12 @@ abbrev pub call_of : (from : ℕ) → Reloc → (reloc least : ℕ) → Call
 call_of from r reloc least = record { from = from; offset = r.offset; reloc = reloc; to = 0; target = 0; least = least }
 
 -- the target is the leader of a section, at the same offset
-unfoldable pub lands : List Member → Call → Option ℕ → (offset : ℕ) → List Call
+unfoldable pub lands : List Row → Call → Option ℕ → (offset : ℕ) → List Call
 lands ms c None offset = []
 lands ms c (Some m) offset = if is_near ms c.from (place_in ms m) offset
     then record { from = c.from; offset = c.offset; reloc = c.reloc; to = place_in ms m; target = offset; least = c.least } ∷ [] else []
 
-unfoldable pub reaches : (leaders : List (Option ℕ)) → List Member → Call → Target → List Call
+unfoldable pub reaches : (leaders : List (Option ℕ)) → List Row → Call → Target → List Call
 reaches leaders ms c (targets.Section section offset rest) = lands ms c (leader_at leaders section) offset
 reaches leaders ms c (targets.Piece pool piece offset rest) = []
 reaches leaders ms c (targets.Number n) = []
@@ -111,7 +111,7 @@ unfoldable pub is_candidate : List File → (n k : ℕ) → Bool
 is_candidate files n k = is_plain (reloc_of files n k)
     && (has_words (file_of files n).bytes (bytes_at files n k) && has_hint (relocs_of files n) (reloc_of files n k).offset)
 
-module _ (files : List File) (b : Bindings) (merged : List (Option Merged)) (leaders : List (Option ℕ)) (ms : List Member) where
+module _ (files : List File) (b : Bindings) (merged : List (Option Merged)) (leaders : List (Option ℕ)) (ms : List Row) where
   -- the call that relocation k of section n is, which is member i, if it may be relaxed
   unfoldable pub call_at : (i n k : ℕ) → List Call
   call_at i n k = if is_candidate files n k
@@ -122,7 +122,7 @@ module _ (files : List File) (b : Bindings) (merged : List (Option Merged)) (lea
   calls_in i n = flat_map (call_at i n) (range_with_len 0 (length (relocs_of files n)))
 
   unfoldable pub calls_of : (on : Bool) → (i : ℕ) → List Call
-  calls_of on i = if on && (member_at ms i).is_section then calls_in i (member_at ms i).section else []
+  calls_of on i = if on && is_section (member_at ms i) then calls_in i (own_section (member_at ms i)) else []
 
   unfoldable pub call_rows : (on : Bool) → List (List Call)
   call_rows on = map (calls_of on) (range_with_len 0 (length ms))
@@ -154,7 +154,7 @@ abbrev pub sized : (z : List ℕ) → (number : ℕ) → List Call → List Cut
 sized z number [] = []
 sized z number (c ∷ cs) = record { at = c.offset; whole = 8; kept = size_at z number; is_align = false } ∷ sized z (number + 1) cs
 
-module _ (ms : List Member) (rows : List (List Call)) (z : List ℕ) where
+module _ (ms : List Row) (rows : List (List Call)) (z : List ℕ) where
   -- the raw upper offset in member i: what stands before an offset of it, without the bytes that its calls lose, and with those of all
   -- alignments
   unfoldable pub upper_offset : (i offset : ℕ) → ℕ
@@ -185,7 +185,7 @@ abbrev pub all_assignments : (count : ℕ) → List (List ℕ)
 all_assignments zero = [] ∷ []
 all_assignments (suc n) = flat_map (λ z. (2 ∷ z) ∷ ((4 ∷ z) ∷ ((8 ∷ z) ∷ []))) (all_assignments n)
 
-module _ (ms : List Member) (rows : List (List Call)) where
+module _ (ms : List Row) (rows : List (List Call)) where
   -- some safe sizes give call k this size
   unfoldable pub is_possible : (k size : ℕ) → Bool
   is_possible k size = list_any (λ z. is_safe ms rows z && size_at z k == size) (all_assignments (length (all_calls rows)))
@@ -221,27 +221,21 @@ cuts_by sizes relocs = map (λ k. cut_of (sizes k) (slice_index_or relocs k no_r
     (filter (λ k. is_cut (sizes k) (slice_index_or relocs k no_reloc)) (range_with_len 0 (length relocs)))
 
 -- by section number, where each section loses bytes; `on` is whether calls are relaxed
-unfoldable pub all_cuts : List File → List Member → List (List Call) → (z : List ℕ) → List (List Cut)
+unfoldable pub all_cuts : List File → List Row → List (List Call) → (z : List ℕ) → List (List Cut)
 all_cuts files ms rows z =
     map (λ n. cuts_by (size_in rows z (place_in ms n)) (relocs_of files n)) (range_with_len 0 (section_total files))
 
-abbrev pub members_of : List File → Bindings → PoolsView → (leaders : List (Option ℕ)) → List Member
-members_of files b pools leaders = members files b (rooms_in pools) leaders
-
-abbrev pub rows_of : List File → Bindings → PoolsView → (leaders : List (Option ℕ)) → (on : Bool) → List (List Call)
-rows_of files b pools leaders on = call_rows files b pools.merged leaders (members_of files b pools leaders) on
-
-unfoldable pub cuts_of : List File → Bindings → PoolsView → (leaders : List (Option ℕ)) → (on : Bool) → List (List Cut)
-cuts_of files b pools leaders on =
-    let ms = members_of files b pools leaders in
-    let rows = rows_of files b pools leaders on in
+-- the same of a link, whose members are these
+unfoldable pub cuts_of : List File → Bindings → (merged : List (Option Merged)) → (leaders : List (Option ℕ)) → List Row → (on : Bool) → List (List Cut)
+cuts_of files b merged leaders ms on =
+    let rows = call_rows files b merged leaders ms on in
     all_cuts files ms rows (least_sizes ms rows)
 
 -- the sizes are safe, and no greater than any safe ones, call by call
-pub record AreLeastSafe (ms : List Member) (rows : List (List Call)) (z : List ℕ) : Type 0 where
+pub record AreLeastSafe (ms : List Row) (rows : List (List Call)) (z : List ℕ) : Type 0 where
   pub safe : is_safe ms rows z ≡ true
   pub least : (y : List ℕ) → is_safe ms rows y ≡ true → (k : ℕ) → k < length (all_calls rows) → size_at z k ≤ size_at y k
 
-abbrev pub IsLeastSafe : List File → Bindings → PoolsView → (leaders : List (Option ℕ)) → (on : Bool) → Type 0
-IsLeastSafe files b pools leaders on =
-    AreLeastSafe (members_of files b pools leaders) (rows_of files b pools leaders on) (least_sizes (members_of files b pools leaders) (rows_of files b pools leaders on))
+abbrev pub IsLeastSafe : List File → Bindings → (merged : List (Option Merged)) → (leaders : List (Option ℕ)) → List Row → (on : Bool) → Type 0
+IsLeastSafe files b merged leaders ms on =
+    AreLeastSafe ms (call_rows files b merged leaders ms on) (least_sizes ms (call_rows files b merged leaders ms on))

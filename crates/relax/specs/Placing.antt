@@ -1,11 +1,9 @@
 -- Cuts of a section, one after the other, and where each stands once the bytes before it are gone.
-use Rattle.std.specs.Prelude.{◌≡◌, ℕ, ◌-◌, ◌<◌, ◌⊎◌, true, if◌then◌else◌, List, [], ◌∷◌, length, take, slice_index_or}
+use Rattle.std.specs.Prelude.{◌≡◌, ℕ, ◌-◌, ◌<◌, ◌⊎◌, ◌&&◌, nat_lt, if◌then◌else◌, List, [], ◌∷◌, length, take, slice_index, slice_index_or, slice_set}
 use Rattle.std.specs.List.{sum_by}
 use Rattle.lk_tables.specs.declared.objects.Reloc.{Reloc}
-use Rattle.lk_tables.specs.Binding.{Bindings}
-use Rattle.lk_tables.specs.Files.{File, section_total}
-use Rattle.link_sections.specs.InputSections.{input_at}
-use Rattle.relax.specs.declared.members.Member.{Member}
+use Rattle.output_sections.specs.declared.rows.Row.{Row}
+use Rattle.output_sections.specs.Order.{is_section, own_section}
 use Rattle.link_sections.specs.declared.cuts.Cut.{Cut as HeldCut}
 use Rattle.link_sections.specs.Cuts.{Cut}
 use Rattle.relax.specs.CallSizes.{cut_of, is_cut}
@@ -27,7 +25,6 @@ pub record ArePlaced (cuts : List HeldCut) (lost : ℕ) : Type 0 where
   pub sum : lost ≡ lost_of cuts
   pub each : (i : ℕ) (d : HeldCut) → i < length cuts → (slice_index_or cuts i d).new_at ≡ (slice_index_or cuts i d).at - lost_of (take i cuts)
 
--- a member of a section of the link; if it is one, it has the section's size
-pub record IsKnown (files : List File) (b : Bindings) (m : Member) : Type 0 where
-  pub number : m.section < section_total files
-  pub size : m.is_section ≡ true → m.size ≡ (input_at files b m.section).size
+-- places by section number, with that of a member that is a section, if none before it is noted
+unfoldable pub noted : List ℕ → Row → (place : ℕ) → List ℕ
+noted places m place = if is_section m && nat_lt place (slice_index places (own_section m)) then slice_set places (own_section m) place else places

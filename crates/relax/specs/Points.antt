@@ -6,7 +6,7 @@ use Rattle.relax.specs.declared.calls.Call.{Call}
 use Rattle.relax.specs.declared.jumps.Jump.{Jump}
 use Rattle.relax.specs.declared.jumps.Mark.{Mark}
 use Rattle.relax.specs.declared.jumps.Point.{Point}
-use Rattle.relax.specs.declared.members.Member.{Member}
+use Rattle.output_sections.specs.declared.rows.Row.{Row}
 use Rattle.relax.specs.CallSizes.{all_calls, first_call, goes_forwards, member_at, row_at}
 
 -- the calls of a row that end before an offset, or there
@@ -31,19 +31,19 @@ point_in row mark offset = record {
 }
 
 -- the most bytes of a member, and how many stand before the first of one
-abbrev pub whole_room : List Member → (i : ℕ) → ℕ
+abbrev pub whole_room : List Row → (i : ℕ) → ℕ
 whole_room ms i = ((member_at ms i).align - 1) + (member_at ms i).size
 
-abbrev pub rooms_before : List Member → (i : ℕ) → ℕ
+abbrev pub rooms_before : List Row → (i : ℕ) → ℕ
 rooms_before ms i = sum_by (whole_room ms) (range_with_len 0 i)
 
-unfoldable pub mark_at : List Member → List (List Call) → (i : ℕ) → Mark
+unfoldable pub mark_at : List Row → List (List Call) → (i : ℕ) → Mark
 mark_at ms rows i = record { start = rooms_before ms i + ((member_at ms i).align - 1); first = first_call rows i }
 
-unfoldable pub point_at : List Member → List (List Call) → (i offset : ℕ) → Point
+unfoldable pub point_at : List Row → List (List Call) → (i offset : ℕ) → Point
 point_at ms rows i offset = point_in (row_at rows i) (mark_at ms rows i) offset
 
-unfoldable pub jump_of : List Member → List (List Call) → Call → Jump
+unfoldable pub jump_of : List Row → List (List Call) → Call → Jump
 jump_of ms rows c = record {
   low = if goes_forwards c then point_at ms rows c.from c.offset else point_at ms rows c.to c.target;
   high = if goes_forwards c then point_at ms rows c.to c.target else point_at ms rows c.from c.offset;
@@ -51,7 +51,7 @@ jump_of ms rows c = record {
   least = c.least;
 }
 
-unfoldable pub jumps_in : List Member → List (List Call) → List Jump
+unfoldable pub jumps_in : List Row → List (List Call) → List Jump
 jumps_in ms rows = map (jump_of ms rows) (all_calls rows)
 
 -- calls one after the other from an offset on, up to the end of their section
@@ -65,7 +65,7 @@ pub record IsCallOf (count i : ℕ) (c : Call) : Type 0 where
   pub to : c.to < count
   pub least : (c.least ≡ 2) ⊎ (c.least ≡ 4)
 
-pub record AreSoundRows (ms : List Member) (rows : List (List Call)) : Type 0 where
+pub record AreSoundRows (ms : List Row) (rows : List (List Call)) : Type 0 where
   pub count : length rows ≡ length ms
   pub each : (i : ℕ) → i < length ms → All (IsCallOf (length ms) i) (row_at rows i)
   pub apart : (i : ℕ) → i < length ms → Follow 0 (member_at ms i).size (row_at rows i)

@@ -1,6 +1,6 @@
 //! The calls that may be relaxed.
 
-ghost use Rattle.std.specs.Prelude.{◌≡◌, ◌==◌, ◌+◌, ◌<◌, ◌^◌, ◌++◌, length, map, slice_index, All, IfOk, OnOk, if◌then◌else◌};
+ghost use Rattle.std.specs.Prelude.{◌≡◌, ◌==◌, ◌+◌, ◌<◌, ◌^◌, ◌++◌, length, map, slice_index, true, All, IfOk, OnOk, if◌then◌else◌};
 ghost use Rattle.std.proofs.Props.{props};
 ghost use Rattle.std.specs.List.{list_any, range_with_len};
 ghost use Rattle.std.specs.List.Sorted.{IsNonDecreasing};
@@ -13,13 +13,14 @@ ghost use Rattle.link_sections.specs.Leaders.{leader_at};
 ghost use Rattle.link_sections.specs.PieceTargets.{target_at};
 ghost use Rattle.link_sections.specs.PoolViews.{merged_views};
 ghost use Rattle.relax.specs.CallSizes as spec;
-ghost use Rattle.relax.specs.ItemViews.{noted};
+ghost use Rattle.output_sections.specs.Order.{is_section, own_section};
+ghost use Rattle.relax.specs.Placing.{noted};
 
-use crate::members::Member;
-use link_sections::{Pools, Target};
+use link_sections::{Content, Pools, Target};
 use lk_base::abi::{EF_RISCV_RVC, R_RISCV_CALL, R_RISCV_CALL_PLT, R_RISCV_NONE, R_RISCV_RELAX};
 use lk_base::{FileNo, SecNo};
 use lk_tables::{Binding, File, Reloc, Tables, target_in};
+use output_sections::Row;
 use std::alloc::{AllocError, Global};
 
 /// A call that may be relaxed.
@@ -47,11 +48,11 @@ pub struct Scene<'t, 'a> {
     pub pools: &'t Pools,
     /// By section number.
     pub leaders: &'t [Option<SecNo>],
-    pub members: &'t [Member],
+    pub members: &'t [Row],
     /// By section number its place among the members, or how many these are.
     pub places: &'t [usize],
 
-    ghost within: { All (λ m. m.section < section_total (files_of tables.now)) members.now } by { Prim.hlevel props },
+    ghost within: { All (λ m. is_section m ≡ true → own_section m < section_total (files_of tables.now)) members.now } by { Prim.hlevel props },
     ghost placed: { places.now ≡ map (spec.place_in members.now) (range_with_len 0 (section_total (files_of tables.now))) } by { Prim.hlevel props },
 }
 
@@ -76,7 +77,7 @@ struct Code<'t, 'a> {
 }
 
 /// The place of each section among the members, by number; those that are none have the number of members.
-pub fn places_of(alloc: Global, members: &[Member], count: usize) -> Result<Vec<usize>, AllocError>
+pub fn places_of(alloc: Global, members: &[Row], count: usize) -> Result<Vec<usize>, AllocError>
     ensures { IfOk result (λ places. places.items ≡ map (spec.place_in members.now) (range_with_len 0 count)) }
 {
     let mut places = vec![in alloc; members.len(); count]?;
@@ -87,12 +88,15 @@ pub fn places_of(alloc: Global, members: &[Member], count: usize) -> Result<Vec<
 }
 
 /// Notes the place of a member that is a section, if none before it is noted.
-#[tactic(auto, unfolding(crate::specs::ItemViews::noted))]
-fn note_place(places: &mut Vec<usize>, member: &Member, place: usize)
+#[tactic(auto, unfolding(crate::specs::Placing::noted))]
+fn note_place(places: &mut Vec<usize>, member: &Row, place: usize)
     ensures { places.new.items ≡ noted places.old.items member.now place }
 {
-    let section = member.section as usize;
-    if member.is_section & (section < places.len()) && place < places[section] {
+    let Content::Section(section) = member.content else {
+        return;
+    };
+    let section = section as usize;
+    if section < places.len() && place < places[section] {
         places[section] = place;
     }
 }
@@ -177,7 +181,7 @@ fn is_plain(reloc: &Reloc) -> bool
 
 /// Whether a call of a member may be shortened that goes to an offset of another.
 #[tactic(auto, unfolding(crate::specs::CallSizes::is_near))]
-fn is_near(members: &[Member], from: usize, to: usize, offset: u64) -> bool
+fn is_near(members: &[Row], from: usize, to: usize, offset: u64) -> bool
     requires { from < length members.now }
     ensures { result ≡ spec.is_near members.now from to offset }
 {
@@ -410,9 +414,11 @@ pub fn calls_of(
     requires { from < length scene.now.members.now }
     ensures { IfOk result (λ calls. calls.items ≡ spec.calls_of (files_of scene.now.tables.now) (binding_view scene.now.binding.now) (merged_views scene.now.pools.now) scene.now.leaders.now scene.now.members.now on from) }
 {
-    let member = &scene.members[from];
-    if !(on && member.is_section) {
+    let Content::Section(section) = scene.members[from].content else {
+        return Ok(Vec::new(alloc));
+    };
+    if !on {
         return Ok(Vec::new(alloc));
     }
-    calls_in(alloc, scene, from, member.section)
+    calls_in(alloc, scene, from, section)
 }

@@ -8,8 +8,8 @@ ghost use Rattle.relax.specs.CallSizes.{all_calls, goes_forwards};
 ghost use Rattle.relax.specs.Points as spec;
 
 use crate::calls::Call;
-use crate::members::Member;
 use flat_rows::Rows;
+use output_sections::Row;
 use std::alloc::{AllocError, Global};
 
 /// A point of a section, counted from the start of all.
@@ -49,7 +49,7 @@ pub struct Mark {
 #[tactic(auto, unfolding(crate::specs::Points::jumps_in))]
 pub fn jumps_of(
     alloc: Global,
-    members: &[Member],
+    members: &[Row],
     rows: &Rows<Call>,
     marks: &[Mark],
 ) -> Result<Vec<Jump>, AllocError>
@@ -69,11 +69,7 @@ pub fn jumps_of(
 }
 
 /// Where each member starts.
-pub fn marks_of(
-    alloc: Global,
-    members: &[Member],
-    rows: &Rows<Call>,
-) -> Result<Vec<Mark>, AllocError>
+pub fn marks_of(alloc: Global, members: &[Row], rows: &Rows<Call>) -> Result<Vec<Mark>, AllocError>
     requires few { length members.now < 2 ^ 33 }
     requires sound { spec.AreSoundRows members.now rows.now }
     ensures marks { IfOk result (λ marks. marks.items ≡ map (spec.mark_at members.now rows.now) (range_with_len 0 (length members.now))) }
@@ -96,7 +92,7 @@ pub fn marks_of(
 }
 
 /// The most bytes that a member takes, with those before it for its alignment.
-fn whole_room(member: &Member) -> u128
+fn whole_room(member: &Row) -> u128
     ensures value { result ≡ (member.now.align - 1) + member.now.size }
     ensures few { result < 2 ^ 65 }
 {
@@ -113,7 +109,7 @@ pub fn count_of(rows: &Rows<Call>) -> usize
 
 /// A call as a jump.
 #[tactic(auto, unfolding(crate::specs::Points::jump_of))]
-fn jump_of(members: &[Member], rows: &Rows<Call>, marks: &[Mark], call: &Call) -> Jump
+fn jump_of(members: &[Row], rows: &Rows<Call>, marks: &[Mark], call: &Call) -> Jump
     requires few { length members.now < 2 ^ 33 }
     requires sound { spec.AreSoundRows members.now rows.now }
     requires marks { marks.now ≡ map (spec.mark_at members.now rows.now) (range_with_len 0 (length members.now)) }
@@ -144,7 +140,7 @@ fn jump_of(members: &[Member], rows: &Rows<Call>, marks: &[Mark], call: &Call) -
 
 /// An offset of a member as a point.
 #[tactic(auto, unfolding(crate::specs::Points::point_at))]
-fn point_at(members: &[Member], rows: &Rows<Call>, marks: &[Mark], i: usize, offset: u64) -> Point
+fn point_at(members: &[Row], rows: &Rows<Call>, marks: &[Mark], i: usize, offset: u64) -> Point
     requires few { length members.now < 2 ^ 33 }
     requires sound { spec.AreSoundRows members.now rows.now }
     requires marks { marks.now ≡ map (spec.mark_at members.now rows.now) (range_with_len 0 (length members.now)) }

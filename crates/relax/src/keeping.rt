@@ -7,11 +7,12 @@ ghost use Rattle.lk_tables.specs.Files.{section_total};
 ghost use Rattle.lk_tables.specs.Sites.{relocs_of};
 ghost use Rattle.lk_tables.specs.TablesView.{files_of};
 ghost use Rattle.link_sections.specs.CutsView.{AreCuts, cut_views};
-ghost use Rattle.link_sections.specs.PoolViews.{pools_view};
+ghost use Rattle.link_sections.specs.PoolViews.{merged_views};
+ghost use Rattle.output_sections.specs.Order.{IsKnown, members_in};
 ghost use Rattle.link_sections.specs.SizesView.{sizes_of};
 ghost use Rattle.relax.specs.CallSizes as spec;
 ghost use Rattle.relax.specs.Points.{AreSoundRows, mark_at};
-ghost use Rattle.relax.specs.Placing.{IsKnown, IsOneSize, added};
+ghost use Rattle.relax.specs.Placing.{IsOneSize, added};
 ghost use Rattle.relax.specs.Scenes.{cuts_in, rows_in};
 ghost use Rattle.relax.specs.Sizes.{FitSections};
 
@@ -19,14 +20,14 @@ use crate::calls::{Call, Scene, place_of, places_of};
 use crate::cutting::push_cut;
 use crate::jumps::{Mark, count_of, jumps_of, marks_of};
 use crate::listing::call_rows;
-use crate::members::{Member, members_of};
 use crate::solving::{least_sizes, size_at};
 use crate::unrelaxed::{may_relax, unrelaxed_sizes};
 use flat_rows::Rows;
-use link_sections::{Cut, Pool, Pools, Sizes};
+use link_sections::{Cut, Pools, Sizes};
 use lk_base::SecNo;
 use lk_base::relocations::moves_bytes;
 use lk_tables::{Binding, Reloc, Tables};
+use output_sections::{OutputSections, Row};
 use std::alloc::{AllocError, Global};
 use std::thread::Threads;
 use work_split::Gate;
@@ -34,8 +35,8 @@ use work_split::Gate;
 /// By section number, where each section loses bytes, in order of offset: each alignment with all its bytes, since no place is known yet, and
 /// each call that may be shortened, with the four bytes of `jal` or the two of `c.j`. A call of eight bytes is none of them. With `on` a call
 /// has the least size that allows the greatest distance that its target can have, wherever the sections stand; without it no call is
-/// relaxed. `leaders` are by section number. Where no call can be relaxed the workers list the alignments of a run of files each,
-/// and else the calls of a run of members. The only error is out of memory.
+/// relaxed. `leaders` are by section number, and `sections` the output sections of this link. Where no call can be relaxed the workers list
+/// the alignments of a run of files each, and else the calls of a run of members. The only error is out of memory.
 pub fn sizes<R: Threads + Sync, G: Gate>(
     rt: &R,
     alloc: Global,
@@ -43,30 +44,30 @@ pub fn sizes<R: Threads + Sync, G: Gate>(
     binding: &Binding,
     pools: &Pools,
     leaders: &[Option<SecNo>],
+    sections: &OutputSections,
     on: bool,
     workers: u32,
     gate: &G,
 ) -> Result<Sizes, AllocError>
     requires some { 1 ≤ workers }
     requires most { workers ≤ 64 }
-    ensures cuts { IfOk result (λ sizes. sizes_of sizes ≡ spec.cuts_of (files_of tables.now) (binding_view binding.now) (pools_view (files_of tables.now) pools.now) leaders.now on) }
+    requires known { All (IsKnown (files_of tables.now) (binding_view binding.now)) (members_in sections.now.rows) }
+    ensures cuts { IfOk result (λ sizes. sizes_of sizes ≡ spec.cuts_of (files_of tables.now) (binding_view binding.now) (merged_views pools.now) leaders.now (members_in sections.now.rows) on) }
     ensures fit { IfOk result (λ sizes. FitSections (files_of tables.now) (sizes_of sizes)) }
-    ensures law { IfOk result (λ _. spec.IsLeastSafe (files_of tables.now) (binding_view binding.now) (pools_view (files_of tables.now) pools.now) leaders.now on) }
+    ensures law { IfOk result (λ _. spec.IsLeastSafe (files_of tables.now) (binding_view binding.now) (merged_views pools.now) leaders.now (members_in sections.now.rows) on) }
 {
     if !may_relax(tables, on) {
         let unrelaxed = unrelaxed_sizes(rt, alloc, tables, workers, gate)?;
         return Ok(unrelaxed);
     }
-    tables.is_few();
-    few_pools(pools);
-    let members = members_of(alloc, tables, binding, pools, leaders)?;
-    let places = places_of(alloc, members.as_slice(), tables.section_count())?;
+    let members = sections.rows.items();
+    let places = places_of(alloc, members, tables.section_count())?;
     let scene = Scene {
         tables,
         binding,
         pools,
         leaders,
-        members: members.as_slice(),
+        members,
         places: places.as_slice(),
     };
     let sizes = sizes_in(rt, alloc, &scene, on, workers, gate)?;
@@ -96,25 +97,6 @@ fn sizes_in<R: Threads + Sync, G: Gate>(
     let sizes = least_sizes(alloc, jumps.as_slice())?;
     let rows = cut_rows(alloc, scene, &calls, marks.as_slice(), sizes.as_slice())?;
     Ok(Sizes::of(rows))
-}
-
-/// There are not more pools than section numbers of 32 bits.
-fn few_pools(pools: &Pools) -> usize
-    ensures { length pools.now.pools.items ≤ 2 ^ 32 }
-{
-    let pools = pools.pools();
-    if pools.len() == 0 {
-        return 0;
-    }
-    last_first(&pools[pools.len() - 1])
-}
-
-/// The number of a pool's first section.
-fn last_first(pool: &Pool) -> usize
-    ensures value { result ≡ pool.now.first }
-    ensures few { result < 2 ^ 32 }
-{
-    pool.first as usize
 }
 
 /// The cuts of all sections.
@@ -177,7 +159,7 @@ fn held_size(
     calls: &Rows<Call>,
     marks: &[Mark],
     sizes: &[u64],
-    members: &[Member],
+    members: &[Row],
     member: usize,
     reloc: &Reloc,
     k: usize,
@@ -199,7 +181,7 @@ fn size_in(
     calls: &Rows<Call>,
     marks: &[Mark],
     sizes: &[u64],
-    members: &[Member],
+    members: &[Row],
     member: usize,
     k: usize,
 ) -> u64

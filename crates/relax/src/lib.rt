@@ -4,12 +4,10 @@
 
 mod calls;
 mod cutting;
-mod items;
 mod jumps;
 mod keeping;
 mod listing;
 mod losses;
-mod members;
 mod parts;
 mod settling;
 mod solving;

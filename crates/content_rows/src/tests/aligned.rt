@@ -1,336 +1,86 @@
 //! Bytes that keep an alignment (RISC-V ELF psABI, R_RISCV_ALIGN): how many stay, what moves with them, and where they do not suffice;
 //! and a call that goes nowhere, which keeps its eight bytes.
 
-use elf_bytes::{Image, Object, Reloc, Section, Symbol};
+use elf_bytes::{Image, Object, Reloc, Section, image, object, reloc, section, symbol};
 use link_examples::images::{FIRST, NAMES, READ, READ_OF_FOUR, STACK, WEAK_CALL};
 use link_examples::libraries::{Library, OFFER_OF_WEAK};
-use link_examples::objects::{Input, RETURN, START, TO_SECOND, WEAKLY, WHOLE, WORD};
-use link_examples::{FIRST_LINK, Files, Link, Refusal, Store, objects_of, push_objects};
+use link_examples::objects::{Input, RETURN, START, WEAKLY};
+use link_examples::{Files, Link, Refusal, Store, inputs, link, objects_of, push_objects, refusal};
 use std::alloc::{AllocError, Global};
 
 /// Six bytes at the beginning, for a multiple of 8.
-const TO_8: Reloc = Reloc {
-    offset: 0,
-    kind: 43,
-    symbol: 0,
-    addend: 6,
-};
-
-/// Code at a multiple of 8.
-const CODE: Section = Section { align: 8, ..RETURN };
+const TO_8: Reloc = reloc!(0, 43, 0, 6);
 
 /// Two bytes, six that may go, and a `ret`.
-const ALL_STAY: Object = Object {
-    flags: 0,
-    sections: &[Section {
-        bytes: b"\x01\0\xff\xff\xff\xff\xff\xff\x67\x80\0\0",
-        relocs: &[Reloc { offset: 2, ..TO_8 }],
-        ..CODE
-    }],
-    symbols: &[START],
-};
+const ALL_STAY: Object =
+    object!([section!(b".text", 1, 6, 8; b"\x01\0\xff\xff\xff\xff\xff\xff\x67\x80\0\0"; relocs: &[reloc!(2, 43, 0, 6)])]; [START]);
 
 /// Six that may go, and a `ret`.
-const NONE_STAY: Object = Object {
-    sections: &[Section {
-        bytes: b"\xff\xff\xff\xff\xff\xff\x67\x80\0\0",
-        relocs: &[TO_8],
-        ..CODE
-    }],
-    ..ALL_STAY
-};
+const NONE_STAY: Object =
+    object!(ALL_STAY => sections: &[section!(b".text", 1, 6, 8; b"\xff\xff\xff\xff\xff\xff\x67\x80\0\0"; relocs: &[TO_8])]);
 
-const RETURNS: Object = Object {
-    flags: 0,
-    sections: &[RETURN],
-    symbols: &[START],
-};
+const RETURNS: Object = object!([RETURN]; [START]);
 
 /// The same with an `ebreak`, in a section that may stand at a multiple of 4.
-const SOME_STAY: Object = Object {
-    flags: 0,
-    sections: &[Section {
-        bytes: b"\xff\xff\xff\xff\xff\xff\x73\0\x10\0",
-        relocs: &[TO_8],
-        ..RETURN
-    }],
-    symbols: &[],
-};
+const SOME_STAY: Object =
+    object!([section!(b".text", 1, 6, 4; b"\xff\xff\xff\xff\xff\xff\x73\0\x10\0"; relocs: &[TO_8])]; []);
 
 /// `f` after six bytes, `g` after six more, which jumps to `f`; and words of both, of places in the section and behind it, and of
 /// their distance.
-const MOVED: Object = Object {
-    flags: 0,
-    sections: &[
-        Section {
-            bytes: b"\xff\xff\xff\xff\xff\xff\x67\x80\0\0\xff\xff\xff\xff\xff\xff\xef\0\0\0\x73\0\x10\0",
-            relocs: &[
-                TO_8,
-                Reloc { offset: 10, ..TO_8 },
-                Reloc {
-                    offset: 16,
-                    ..TO_SECOND
-                },
-            ],
-            ..CODE
-        },
-        Section {
-            name: b".data",
-            flags: 3,
-            align: 8,
-            bytes: b"\0\0\0\0\0\0\0\0\0\0\0\0\0\0\0\0\0\0\0\0\0\0\0\0\0\0\0\0\0\0\0\0\0\0\0\0\0\0\0\0\0\0\0\0\0\0\0\0\0\0\0\0\0\0\0\0\0\0\0\0\0\0\0\0",
-            relocs: &[
-                Reloc { symbol: 2, ..WORD },
-                Reloc {
-                    offset: 8,
-                    symbol: 3,
-                    ..WORD
-                },
-                Reloc {
-                    offset: 16,
-                    addend: 16,
-                    ..WORD
-                },
-                Reloc {
-                    offset: 24,
-                    addend: 24,
-                    ..WORD
-                },
-                Reloc {
-                    offset: 32,
-                    addend: 12,
-                    ..WORD
-                },
-                Reloc {
-                    offset: 40,
-                    addend: 15,
-                    ..WORD
-                },
-                Reloc {
-                    offset: 48,
-                    addend: 30,
-                    ..WORD
-                },
-                Reloc {
-                    offset: 56,
-                    kind: 35,
-                    symbol: 3,
-                    ..WORD
-                },
-                Reloc {
-                    offset: 56,
-                    kind: 39,
-                    symbol: 2,
-                    ..WORD
-                },
-            ],
-            ..RETURN
-        },
-    ],
-    symbols: &[
-        Symbol {
-            name: b"",
-            binding: 0,
-            sort: 3,
-            ..START
-        },
-        Symbol {
-            name: b"f",
-            value: 6,
-            ..START
-        },
-        Symbol {
-            name: b"g",
-            value: 16,
-            ..START
-        },
-        START,
-    ],
-};
+const MOVED: Object = object!([
+    section!(b".text", 1, 6, 8; b"\xff\xff\xff\xff\xff\xff\x67\x80\0\0\xff\xff\xff\xff\xff\xff\xef\0\0\0\x73\0\x10\0";
+        relocs: &[TO_8, reloc!(10, 43, 0, 6), reloc!(16, 17, 2, 0)]),
+    section!(b".data", 1, 3, 8;
+        b"\0\0\0\0\0\0\0\0\0\0\0\0\0\0\0\0\0\0\0\0\0\0\0\0\0\0\0\0\0\0\0\0\0\0\0\0\0\0\0\0\0\0\0\0\0\0\0\0\0\0\0\0\0\0\0\0\0\0\0\0\0\0\0\0";
+        relocs: &[
+            reloc!(0, 2, 2, 0), reloc!(8, 2, 3, 0), reloc!(16, 2, 1, 16), reloc!(24, 2, 1, 24), reloc!(32, 2, 1, 12), reloc!(40, 2, 1, 15),
+            reloc!(48, 2, 1, 30), reloc!(56, 35, 3, 0), reloc!(56, 39, 2, 0),
+        ]),
+]; [symbol!(b"", 0, 3, 1, 0, 4), symbol!(b"f", 1, 2, 1, 6, 4), symbol!(b"g", 1, 2, 1, 16, 4), START]);
 
 /// A call of `w`, which may be shortened.
-const CALLED: Object = Object {
-    flags: 0,
-    sections: &[Section {
-        bytes: b"\x97\0\0\0\xe7\x80\0\0",
-        relocs: &[
-            Reloc { kind: 19, ..WORD },
-            Reloc {
-                kind: 51,
-                symbol: 0,
-                ..WORD
-            },
-        ],
-        ..RETURN
-    }],
-    symbols: &[WEAKLY, START],
-};
+const CALLED: Object =
+    object!([section!(b".text", 1, 6, 4; b"\x97\0\0\0\xe7\x80\0\0"; relocs: &[reloc!(0, 19, 1, 0), reloc!(0, 51, 0, 0)])]; [WEAKLY, START]);
 
 /// Four bytes where six are needed.
-const SHORT: Object = Object {
-    sections: &[Section {
-        bytes: b"\x01\0\xff\xff\xff\xff\x67\x80\0\0",
-        relocs: &[Reloc {
-            offset: 2,
-            addend: 4,
-            ..TO_8
-        }],
-        ..CODE
-    }],
-    ..ALL_STAY
-};
+const SHORT: Object =
+    object!(ALL_STAY => sections: &[section!(b".text", 1, 6, 8; b"\x01\0\xff\xff\xff\xff\x67\x80\0\0"; relocs: &[reloc!(2, 43, 0, 4)])]);
 
 /// Six bytes where five are needed.
-const UNEVEN: Object = Object {
-    sections: &[Section {
-        bytes: b"\x01\0\x01\xff\xff\xff\xff\xff\xff",
-        relocs: &[Reloc { offset: 3, ..TO_8 }],
-        ..CODE
-    }],
-    ..ALL_STAY
-};
+const UNEVEN: Object =
+    object!(ALL_STAY => sections: &[section!(b".text", 1, 6, 8; b"\x01\0\x01\xff\xff\xff\xff\xff\xff"; relocs: &[reloc!(3, 43, 0, 6)])]);
 
 /// Both, in no order.
-const BOTH: Object = Object {
-    sections: &[
-        Section {
-            name: b".text.z",
-            ..RETURN
-        },
-        Section {
-            bytes: b"\x01\0\x01\xff\xff\xff\xff\xff\xff\xff\xff",
-            relocs: &[
-                Reloc {
-                    offset: 9,
-                    addend: 2,
-                    ..TO_8
-                },
-                Reloc { offset: 3, ..TO_8 },
-            ],
-            ..CODE
-        },
-    ],
-    ..ALL_STAY
-};
+const BOTH: Object = object!(ALL_STAY => sections: &[
+    section!(RETURN => name: b".text.z"),
+    section!(b".text", 1, 6, 8; b"\x01\0\x01\xff\xff\xff\xff\xff\xff\xff\xff"; relocs: &[reloc!(9, 43, 0, 2), reloc!(3, 43, 0, 6)]),
+]);
 
 /// Eight bytes.
-const EIGHT: Section = Section {
-    bytes: b"\xff\xff\xff\xff\xff\xff\xff\xff",
-    ..CODE
-};
+const EIGHT: Section = section!(b".text", 1, 6, 8; b"\xff\xff\xff\xff\xff\xff\xff\xff");
 
-const ODD_NUMBER: Object = Object {
-    sections: &[Section {
-        relocs: &[Reloc { addend: 5, ..TO_8 }],
-        ..EIGHT
-    }],
-    ..ALL_STAY
-};
+const ODD_NUMBER: Object =
+    object!(ALL_STAY => sections: &[section!(EIGHT => relocs: &[reloc!(0, 43, 0, 5)])]);
 
-const LESS_THAN_NONE: Object = Object {
-    sections: &[Section {
-        relocs: &[Reloc { addend: -2, ..TO_8 }],
-        ..EIGHT
-    }],
-    ..ALL_STAY
-};
+const LESS_THAN_NONE: Object =
+    object!(ALL_STAY => sections: &[section!(EIGHT => relocs: &[reloc!(0, 43, 0, -2)])]);
 
-const BEHIND: Object = Object {
-    sections: &[Section {
-        relocs: &[Reloc { offset: 4, ..TO_8 }],
-        ..EIGHT
-    }],
-    ..ALL_STAY
-};
+const BEHIND: Object =
+    object!(ALL_STAY => sections: &[section!(EIGHT => relocs: &[reloc!(4, 43, 0, 6)])]);
 
 /// A jump within the bytes.
-const WITHIN: Object = Object {
-    sections: &[Section {
-        relocs: &[
-            TO_8,
-            Reloc {
-                offset: 4,
-                symbol: 1,
-                ..TO_SECOND
-            },
-        ],
-        ..EIGHT
-    }],
-    ..ALL_STAY
-};
+const WITHIN: Object =
+    object!(ALL_STAY => sections: &[section!(EIGHT => relocs: &[TO_8, reloc!(4, 17, 1, 0)])]);
 
 const LIBRARIES: &[Library] = &[OFFER_OF_WEAK];
 
-const INPUTS: &[Input] = &[
-    Input {
-        name: "all.o",
-        object: ALL_STAY,
-        most: WHOLE,
-    },
-    Input {
-        name: "none.o",
-        object: NONE_STAY,
-        most: WHOLE,
-    },
-    Input {
-        name: "returns.o",
-        object: RETURNS,
-        most: WHOLE,
-    },
-    Input {
-        name: "some.o",
-        object: SOME_STAY,
-        most: WHOLE,
-    },
-    Input {
-        name: "moved.o",
-        object: MOVED,
-        most: WHOLE,
-    },
-    Input {
-        name: "called.o",
-        object: CALLED,
-        most: WHOLE,
-    },
-];
+const INPUTS: &[Input] = inputs!(
+    "all.o" => ALL_STAY, "none.o" => NONE_STAY, "returns.o" => RETURNS, "some.o" => SOME_STAY, "moved.o" => MOVED, "called.o" => CALLED,
+);
 
-const WRONG_INPUTS: &[Input] = &[
-    Input {
-        name: "short.o",
-        object: SHORT,
-        most: WHOLE,
-    },
-    Input {
-        name: "uneven.o",
-        object: UNEVEN,
-        most: WHOLE,
-    },
-    Input {
-        name: "both.o",
-        object: BOTH,
-        most: WHOLE,
-    },
-    Input {
-        name: "odd.o",
-        object: ODD_NUMBER,
-        most: WHOLE,
-    },
-    Input {
-        name: "less.o",
-        object: LESS_THAN_NONE,
-        most: WHOLE,
-    },
-    Input {
-        name: "behind.o",
-        object: BEHIND,
-        most: WHOLE,
-    },
-    Input {
-        name: "within.o",
-        object: WITHIN,
-        most: WHOLE,
-    },
-];
+const WRONG_INPUTS: &[Input] = inputs!(
+    "short.o" => SHORT, "uneven.o" => UNEVEN, "both.o" => BOTH, "odd.o" => ODD_NUMBER, "less.o" => LESS_THAN_NONE, "behind.o" => BEHIND, "within.o" => WITHIN,
+);
 
 /// The files that are at hand.
 pub fn files(alloc: Global) -> Result<Files, AllocError> {
@@ -339,165 +89,46 @@ pub fn files(alloc: Global) -> Result<Files, AllocError> {
     Ok(files)
 }
 
-const ALL_STAY_IMAGE: Image = Image {
+const ALL_STAY_IMAGE: Image = image!(FIRST =>
     segments: &[READ, [1, 5, 0x1000, 0x11000, 12, 12, 4096], STACK],
-    contents: &[
-        (0x1000, b"\x01\0\x13\0\0\0\x01\0\x67\x80\0\0"),
-        (0x100c, NAMES),
-    ],
-    sections: &[
-        [1, 1, 6, 0x11000, 0x1000, 12, 8],
-        [7, 3, 0, 0, 0x100c, 17, 1],
-    ],
-    ..FIRST
-};
+    contents: &[(0x1000, b"\x01\0\x13\0\0\0\x01\0\x67\x80\0\0"), (0x100c, NAMES)],
+    sections: &[[1, 1, 6, 0x11000, 0x1000, 12, 8], [7, 3, 0, 0, 0x100c, 17, 1]]);
 
-const NONE_STAY_IMAGE: Image = Image {
+const NONE_STAY_IMAGE: Image = image!(FIRST => table: 0x1018,
     segments: &[READ, [1, 5, 0x1000, 0x11000, 4, 4, 4096], STACK],
     contents: &[(0x1000, b"\x67\x80\0\0"), (0x1004, NAMES)],
-    table: 0x1018,
-    sections: &[
-        [1, 1, 6, 0x11000, 0x1000, 4, 8],
-        [7, 3, 0, 0, 0x1004, 17, 1],
-    ],
-    ..FIRST
-};
+    sections: &[[1, 1, 6, 0x11000, 0x1000, 4, 8], [7, 3, 0, 0, 0x1004, 17, 1]]);
 
 /// Four of six.
-const SOME_STAY_IMAGE: Image = Image {
-    contents: &[
-        (0x1000, b"\x67\x80\0\0\x13\0\0\0\x73\0\x10\0"),
-        (0x100c, NAMES),
-    ],
-    sections: &[
-        [1, 1, 6, 0x11000, 0x1000, 12, 4],
-        [7, 3, 0, 0, 0x100c, 17, 1],
-    ],
-    ..ALL_STAY_IMAGE
-};
+const SOME_STAY_IMAGE: Image = image!(ALL_STAY_IMAGE =>
+    contents: &[(0x1000, b"\x67\x80\0\0\x13\0\0\0\x73\0\x10\0"), (0x100c, NAMES)],
+    sections: &[[1, 1, 6, 0x11000, 0x1000, 12, 4], [7, 3, 0, 0, 0x100c, 17, 1]]);
 
-const MOVED_IMAGE: Image = Image {
-    segments: &[
-        READ_OF_FOUR,
-        [1, 5, 0x1000, 0x11000, 16, 16, 4096],
-        [1, 6, 0x2000, 0x12000, 64, 64, 4096],
-        STACK,
-    ],
+const MOVED_IMAGE: Image = image!(FIRST => table: 0x2058,
+    segments: &[READ_OF_FOUR, [1, 5, 0x1000, 0x11000, 16, 16, 4096], [1, 6, 0x2000, 0x12000, 64, 64, 4096], STACK],
     contents: &[
-        (
-            0x1000,
-            b"\x67\x80\0\0\x13\0\0\0\xef\xf0\x9f\xff\x73\0\x10\0",
-        ),
-        (
-            0x2000,
-            b"\0\x10\x01\0\0\0\0\0\x08\x10\x01\0\0\0\0\0\x08\x10\x01\0\0\0\0\0\x10\x10\x01\0\0\0\0\0",
-        ),
-        (
-            0x2020,
-            b"\x06\x10\x01\0\0\0\0\0\x08\x10\x01\0\0\0\0\0\x16\x10\x01\0\0\0\0\0\x08\0\0\0\0\0\0\0",
-        ),
-        (0x2040, b"\0.text\0.data\0.shstrtab\0"),
+        (0x1000, b"\x67\x80\0\0\x13\0\0\0\xef\xf0\x9f\xff\x73\0\x10\0"),
+        (0x2000, b"\0\x10\x01\0\0\0\0\0\x08\x10\x01\0\0\0\0\0\x08\x10\x01\0\0\0\0\0\x10\x10\x01\0\0\0\0\0"),
+        (0x2020, b"\x06\x10\x01\0\0\0\0\0\x08\x10\x01\0\0\0\0\0\x16\x10\x01\0\0\0\0\0\x08\0\0\0\0\0\0\0"), (0x2040, b"\0.text\0.data\0.shstrtab\0"),
     ],
-    table: 0x2058,
-    sections: &[
-        [1, 1, 6, 0x11000, 0x1000, 16, 8],
-        [7, 1, 3, 0x12000, 0x2000, 64, 8],
-        [13, 3, 0, 0, 0x2040, 23, 1],
-    ],
-    ..FIRST
-};
+    sections: &[[1, 1, 6, 0x11000, 0x1000, 16, 8], [7, 1, 3, 0x12000, 0x2000, 64, 8], [13, 3, 0, 0, 0x2040, 23, 1]]);
 
 /// What stays, and what moves.
 pub const STAYING: &[Link] = &[
-    Link {
-        words: &["rvld", "-s", "all.o"],
-        store: Store::Aligned,
-        image: ALL_STAY_IMAGE,
-        ..FIRST_LINK
-    },
-    Link {
-        words: &["rvld", "-s", "none.o"],
-        store: Store::Aligned,
-        image: NONE_STAY_IMAGE,
-        ..FIRST_LINK
-    },
-    Link {
-        words: &["rvld", "-s", "returns.o", "some.o"],
-        store: Store::Aligned,
-        image: SOME_STAY_IMAGE,
-        ..FIRST_LINK
-    },
-    Link {
-        words: &["rvld", "-s", "moved.o"],
-        store: Store::Aligned,
-        image: MOVED_IMAGE,
-        ..FIRST_LINK
-    },
-    Link {
-        words: &["rvld", "-s", "called.o", "lib.a"],
-        store: Store::Aligned,
-        libraries: LIBRARIES,
-        image: WEAK_CALL,
-        ..FIRST_LINK
-    },
+    link!("-s", "all.o" => ALL_STAY_IMAGE; store: Store::Aligned),
+    link!("-s", "none.o" => NONE_STAY_IMAGE; store: Store::Aligned),
+    link!("-s", "returns.o", "some.o" => SOME_STAY_IMAGE; store: Store::Aligned),
+    link!("-s", "moved.o" => MOVED_IMAGE; store: Store::Aligned),
+    link!("-s", "called.o", "lib.a" => WEAK_CALL; store: Store::Aligned, libraries: LIBRARIES),
 ];
 
 /// Too few bytes, and bytes that can be none.
 pub const SHORTAGES: &[Refusal] = &[
-    Refusal {
-        words: &["rvld", "-s", "short.o"],
-        store: Store::Aligned,
-        libraries: &[],
-        status: 1,
-        line: "rvld: F27 NopsShort file=short.o section=1 place=2 name= other=6\n",
-        loads: 1,
-    },
-    Refusal {
-        words: &["rvld", "-s", "uneven.o"],
-        store: Store::Aligned,
-        libraries: &[],
-        status: 1,
-        line: "rvld: F27 NopsShort file=uneven.o section=1 place=3 name= other=5\n",
-        loads: 1,
-    },
-    Refusal {
-        words: &["rvld", "-s", "both.o"],
-        store: Store::Aligned,
-        libraries: &[],
-        status: 1,
-        line: "rvld: F27 NopsShort file=both.o section=2 place=3 name= other=5\n",
-        loads: 1,
-    },
-    Refusal {
-        words: &["rvld", "-s", "odd.o"],
-        store: Store::Aligned,
-        libraries: &[],
-        status: 1,
-        line: "rvld: F11 BadReloc file=odd.o section=2 place=72 name= other=0\n",
-        loads: 1,
-    },
-    Refusal {
-        words: &["rvld", "-s", "less.o"],
-        store: Store::Aligned,
-        libraries: &[],
-        status: 1,
-        line: "rvld: F11 BadReloc file=less.o section=2 place=72 name= other=0\n",
-        loads: 1,
-    },
-    Refusal {
-        words: &["rvld", "-s", "behind.o"],
-        store: Store::Aligned,
-        libraries: &[],
-        status: 1,
-        line: "rvld: F11 BadReloc file=behind.o section=2 place=72 name= other=0\n",
-        loads: 1,
-    },
-    Refusal {
-        words: &["rvld", "-s", "within.o"],
-        store: Store::Aligned,
-        libraries: &[],
-        status: 1,
-        line: "rvld: F11 BadReloc file=within.o section=2 place=96 name= other=0\n",
-        loads: 1,
-    },
+    refusal!("-s", "short.o" => 1, 1, "F27 NopsShort file=short.o section=1 place=2 name= other=6"; store: Store::Aligned),
+    refusal!("-s", "uneven.o" => 1, 1, "F27 NopsShort file=uneven.o section=1 place=3 name= other=5"; store: Store::Aligned),
+    refusal!("-s", "both.o" => 1, 1, "F27 NopsShort file=both.o section=2 place=3 name= other=5"; store: Store::Aligned),
+    refusal!("-s", "odd.o" => 1, 1, "F11 BadReloc file=odd.o section=2 place=72 name= other=0"; store: Store::Aligned),
+    refusal!("-s", "less.o" => 1, 1, "F11 BadReloc file=less.o section=2 place=72 name= other=0"; store: Store::Aligned),
+    refusal!("-s", "behind.o" => 1, 1, "F11 BadReloc file=behind.o section=2 place=72 name= other=0"; store: Store::Aligned),
+    refusal!("-s", "within.o" => 1, 1, "F11 BadReloc file=within.o section=2 place=96 name= other=0"; store: Store::Aligned),
 ];

@@ -1,510 +1,128 @@
 //! Functions that are folded (`--icf all`): those whose bytes are equal and whose targets are equal, or are folded in their turn.
 
-use elf_bytes::{Image, Object, Reloc, Section, Symbol, image_of, object_of};
+use elf_bytes::{
+    Image, Object, Reloc, Section, Symbol, image, image_of, object, object_of, reloc, section,
+    symbol,
+};
 use link_driver::OpenGate;
 use link_examples::images::{FIRST, NAMES, READ, STACK};
-use link_examples::objects::{Input, RETURN, START, TO_SECOND, WHOLE};
-use link_examples::{FIRST_LINK, Files, Link, SOUND, Store, objects_of, push_words};
+use link_examples::objects::{Input, RETURN, START, TO_SECOND};
+use link_examples::{Files, Link, SOUND, Store, inputs, link, objects_of, push_words};
 use link_runs::run_over;
 use std::alloc::{AllocError, Global};
 use std::test::Fail;
 use std::thread::Threads;
 
 /// A jump, and a `ret`.
-const JUMPS: Section = Section {
-    bytes: b"\xef\0\0\0\x67\x80\0\0",
-    ..RETURN
-};
+const JUMPS: Section = section!(b".text", 1, 6, 4; b"\xef\0\0\0\x67\x80\0\0");
 
 /// A jump, and an `ebreak`.
-const JUMPS_AND_BREAKS: Section = Section {
-    bytes: b"\xef\0\0\0\x73\0\x10\0",
-    ..RETURN
-};
+const JUMPS_AND_BREAKS: Section = section!(b".text", 1, 6, 4; b"\xef\0\0\0\x73\0\x10\0");
 
 /// A jump alone.
-const GOES: Section = Section {
-    bytes: b"\xef\0\0\0",
-    ..RETURN
-};
+const GOES: Section = section!(b".text", 1, 6, 4; b"\xef\0\0\0");
 
-const TO_FIRST: Reloc = Reloc {
-    symbol: 1,
-    ..TO_SECOND
-};
+const TO_FIRST: Reloc = reloc!(0, 17, 1, 0);
 
-const TO_THIRD: Reloc = Reloc {
-    symbol: 3,
-    ..TO_SECOND
-};
+const TO_THIRD: Reloc = reloc!(0, 17, 3, 0);
 
-const TO_FOURTH: Reloc = Reloc {
-    symbol: 4,
-    ..TO_SECOND
-};
+const TO_FOURTH: Reloc = reloc!(0, 17, 4, 0);
 
-const F_IN_2: Symbol = Symbol {
-    name: b"f1",
-    section: 2,
-    size: 8,
-    ..START
-};
+const F_IN_2: Symbol = symbol!(b"f1", 1, 2, 2, 0, 8);
 
 /// Two pairs of functions that call each other, and a jump to the second pair.
-const PAIRS: Object = Object {
-    flags: 0,
-    sections: &[
-        Section {
-            relocs: &[TO_THIRD],
-            ..GOES
-        },
-        Section {
-            name: b".text.f1",
-            relocs: &[TO_SECOND],
-            ..JUMPS
-        },
-        Section {
-            name: b".text.g1",
-            relocs: &[TO_FIRST],
-            ..JUMPS_AND_BREAKS
-        },
-        Section {
-            name: b".text.f2",
-            relocs: &[TO_FOURTH],
-            ..JUMPS
-        },
-        Section {
-            name: b".text.g2",
-            relocs: &[TO_THIRD],
-            ..JUMPS_AND_BREAKS
-        },
-    ],
-    symbols: &[
-        F_IN_2,
-        Symbol {
-            name: b"g1",
-            section: 3,
-            ..F_IN_2
-        },
-        Symbol {
-            name: b"f2",
-            section: 4,
-            ..F_IN_2
-        },
-        Symbol {
-            name: b"g2",
-            section: 5,
-            ..F_IN_2
-        },
-        START,
-    ],
-};
+const PAIRS: Object = object!([
+    section!(GOES => relocs: &[TO_THIRD]),
+    section!(JUMPS => name: b".text.f1", relocs: &[TO_SECOND]),
+    section!(JUMPS_AND_BREAKS => name: b".text.g1", relocs: &[TO_FIRST]),
+    section!(JUMPS => name: b".text.f2", relocs: &[TO_FOURTH]),
+    section!(JUMPS_AND_BREAKS => name: b".text.g2", relocs: &[TO_THIRD]),
+]; [F_IN_2, symbol!(b"g1", 1, 2, 3, 0, 8), symbol!(b"f2", 1, 2, 4, 0, 8), symbol!(b"g2", 1, 2, 5, 0, 8), START]);
 
 /// One such pair under names of its own file.
-const PAIR: Object = Object {
-    flags: 0,
-    sections: &[
-        Section {
-            name: b".text.f",
-            relocs: &[TO_SECOND],
-            ..JUMPS
-        },
-        Section {
-            name: b".text.g",
-            relocs: &[TO_FIRST],
-            ..JUMPS_AND_BREAKS
-        },
-    ],
-    symbols: &[
-        Symbol {
-            name: b"f",
-            binding: 0,
-            section: 1,
-            ..F_IN_2
-        },
-        Symbol {
-            name: b"g",
-            binding: 0,
-            ..F_IN_2
-        },
-    ],
-};
+const PAIR: Object = object!([
+    section!(JUMPS => name: b".text.f", relocs: &[TO_SECOND]),
+    section!(JUMPS_AND_BREAKS => name: b".text.g", relocs: &[TO_FIRST]),
+]; [symbol!(b"f", 0, 2, 1, 0, 8), symbol!(b"g", 0, 2, 2, 0, 8)]);
 
-const RETURNS: Object = Object {
-    flags: 0,
-    sections: &[RETURN],
-    symbols: &[START],
-};
+const RETURNS: Object = object!([RETURN]; [START]);
 
 /// `g`, which is asked for.
-const G_IN_3: Symbol = Symbol {
-    name: b"g",
-    section: 3,
-    ..F_IN_2
-};
+const G_IN_3: Symbol = symbol!(b"g", 1, 2, 3, 0, 8);
 
 /// Two functions that call the first of them, and a jump to the second.
-const BOTH_TO_FIRST: Object = Object {
-    flags: 0,
-    sections: &[
-        Section {
-            relocs: &[TO_SECOND],
-            ..GOES
-        },
-        Section {
-            name: b".text.f",
-            relocs: &[TO_FIRST],
-            ..JUMPS
-        },
-        Section {
-            name: b".text.g",
-            relocs: &[TO_FIRST],
-            ..JUMPS
-        },
-    ],
-    symbols: &[F_IN_2, G_IN_3, START],
-};
+const BOTH_TO_FIRST: Object = object!([
+    section!(GOES => relocs: &[TO_SECOND]),
+    section!(JUMPS => name: b".text.f", relocs: &[TO_FIRST]),
+    section!(JUMPS => name: b".text.g", relocs: &[TO_FIRST]),
+]; [F_IN_2, G_IN_3, START]);
 
 /// Two functions that call themselves.
-const EACH_TO_ITSELF: Object = Object {
-    sections: &[
-        Section {
-            relocs: &[TO_SECOND],
-            ..GOES
-        },
-        Section {
-            name: b".text.f",
-            relocs: &[TO_FIRST],
-            ..JUMPS
-        },
-        Section {
-            name: b".text.g",
-            relocs: &[TO_SECOND],
-            ..JUMPS
-        },
-    ],
-    ..BOTH_TO_FIRST
-};
+const EACH_TO_ITSELF: Object = object!(BOTH_TO_FIRST => sections: &[
+    section!(GOES => relocs: &[TO_SECOND]),
+    section!(JUMPS => name: b".text.f", relocs: &[TO_FIRST]),
+    section!(JUMPS => name: b".text.g", relocs: &[TO_SECOND]),
+]);
 
 /// The same function fourteen times, of which two are folded: the others differ in alignment, name, flags or relocations, may not be
 /// folded, or are empty.
-const APART: Object = Object {
-    flags: 0,
-    sections: &[
-        RETURN,
-        Section {
-            name: b".text.a",
-            align: 8,
-            ..RETURN
-        },
-        Section {
-            name: b"code",
-            ..RETURN
-        },
-        Section {
-            name: b"code",
-            ..RETURN
-        },
-        Section {
-            name: b".text.r",
-            flags: 0x200006,
-            ..RETURN
-        },
-        Section {
-            name: b".fini",
-            ..RETURN
-        },
-        Section {
-            name: b".fini",
-            ..RETURN
-        },
-        Section {
-            name: b".text.b",
-            ..RETURN
-        },
-        Section {
-            name: b".other",
-            ..RETURN
-        },
-        Section {
-            name: b".other",
-            ..RETURN
-        },
-        Section {
-            name: b".text.c",
-            relocs: &[Reloc {
-                kind: 0,
-                symbol: 0,
-                ..TO_SECOND
-            }],
-            ..RETURN
-        },
-        Section {
-            name: b".text.d",
-            flags: 0x206,
-            ..RETURN
-        },
-        Section {
-            name: b".text.o",
-            flags: 0x86,
-            ..RETURN
-        },
-        Section {
-            name: b".text.n",
-            bytes: b"",
-            ..RETURN
-        },
-    ],
-    symbols: &[START],
-};
+const APART: Object = object!([
+    RETURN,
+    section!(RETURN => name: b".text.a", align: 8),
+    section!(RETURN => name: b"code"),
+    section!(RETURN => name: b"code"),
+    section!(RETURN => name: b".text.r", flags: 0x200006),
+    section!(RETURN => name: b".fini"),
+    section!(RETURN => name: b".fini"),
+    section!(RETURN => name: b".text.b"),
+    section!(RETURN => name: b".other"),
+    section!(RETURN => name: b".other"),
+    section!(RETURN => name: b".text.c", relocs: &[reloc!(0, 0, 0, 0)]),
+    section!(RETURN => name: b".text.d", flags: 0x206),
+    section!(RETURN => name: b".text.o", flags: 0x86),
+    section!(b".text.n", 1, 6, 4; b""),
+]; [START]);
 
 /// Jumps to `h`: to its beginning by two names, to 4 behind it by two names, by its section, and by an addend.
-const NAMED: Object = Object {
-    flags: 0,
-    sections: &[
-        Section {
-            relocs: &[Reloc {
-                symbol: 6,
-                ..TO_SECOND
-            }],
-            ..JUMPS
-        },
-        Section {
-            name: b".text.h",
-            bytes: b"\x67\x80\0\0\x73\0\x10\0",
-            ..RETURN
-        },
-        Section {
-            name: b".text.a",
-            relocs: &[TO_SECOND],
-            ..GOES
-        },
-        Section {
-            name: b".text.b",
-            relocs: &[TO_THIRD],
-            ..GOES
-        },
-        Section {
-            name: b".text.c",
-            relocs: &[TO_FIRST],
-            ..GOES
-        },
-        Section {
-            name: b".text.d",
-            relocs: &[TO_FOURTH],
-            ..GOES
-        },
-        Section {
-            name: b".text.e",
-            relocs: &[Reloc {
-                addend: 4,
-                ..TO_SECOND
-            }],
-            ..GOES
-        },
-        Section {
-            name: b".text.f",
-            relocs: &[Reloc {
-                symbol: 5,
-                ..TO_SECOND
-            }],
-            ..GOES
-        },
-    ],
-    symbols: &[
-        Symbol {
-            name: b"",
-            binding: 0,
-            sort: 3,
-            section: 2,
-            ..START
-        },
-        Symbol {
-            name: b"h",
-            section: 2,
-            ..START
-        },
-        Symbol {
-            name: b"h4",
-            section: 2,
-            value: 4,
-            ..START
-        },
-        Symbol {
-            name: b"also_h",
-            section: 2,
-            ..START
-        },
-        Symbol {
-            name: b"also_h4",
-            section: 2,
-            value: 4,
-            ..START
-        },
-        Symbol {
-            name: b"d",
-            section: 6,
-            ..START
-        },
-        START,
-    ],
-};
+const NAMED: Object = object!([
+    section!(JUMPS => relocs: &[reloc!(0, 17, 6, 0)]),
+    section!(b".text.h", 1, 6, 4; b"\x67\x80\0\0\x73\0\x10\0"),
+    section!(GOES => name: b".text.a", relocs: &[TO_SECOND]),
+    section!(GOES => name: b".text.b", relocs: &[TO_THIRD]),
+    section!(GOES => name: b".text.c", relocs: &[TO_FIRST]),
+    section!(GOES => name: b".text.d", relocs: &[TO_FOURTH]),
+    section!(GOES => name: b".text.e", relocs: &[reloc!(0, 17, 2, 4)]),
+    section!(GOES => name: b".text.f", relocs: &[reloc!(0, 17, 5, 0)]),
+]; [
+    symbol!(b"", 0, 3, 2, 0, 4),
+    symbol!(b"h", 1, 2, 2, 0, 4),
+    symbol!(b"h4", 1, 2, 2, 4, 4),
+    symbol!(b"also_h", 1, 2, 2, 0, 4),
+    symbol!(b"also_h4", 1, 2, 2, 4, 4),
+    symbol!(b"d", 1, 2, 6, 0, 4),
+    START,
+]);
 
 /// The address of a string in two halves; the function is weak.
-const SAYS: Object = Object {
-    flags: 0,
-    sections: &[
-        Section {
-            name: b".text.say",
-            bytes: b"\x17\x05\0\0\x13\x05\x05\0\x67\x80\0\0",
-            relocs: &[
-                Reloc {
-                    kind: 23,
-                    ..TO_SECOND
-                },
-                Reloc {
-                    offset: 4,
-                    kind: 24,
-                    ..TO_FIRST
-                },
-            ],
-            ..RETURN
-        },
-        Section {
-            name: b".rodata.str1.1",
-            flags: 0x32,
-            align: 1,
-            bytes: b"hi\0",
-            entsize: 1,
-            ..RETURN
-        },
-    ],
-    symbols: &[
-        Symbol {
-            name: b".L0",
-            binding: 0,
-            sort: 0,
-            size: 0,
-            ..START
-        },
-        Symbol {
-            name: b".LC0",
-            binding: 0,
-            sort: 0,
-            section: 2,
-            size: 0,
-            ..START
-        },
-        Symbol {
-            name: b"say",
-            binding: 2,
-            ..START
-        },
-    ],
-};
+const SAYS: Object = object!([
+    section!(b".text.say", 1, 6, 4; b"\x17\x05\0\0\x13\x05\x05\0\x67\x80\0\0"; relocs: &[reloc!(0, 23, 2, 0), reloc!(4, 24, 1, 0)]),
+    section!(b".rodata.str1.1", 1, 0x32, 1; b"hi\0"; entsize: 1),
+]; [symbol!(b".L0", 0, 0, 1, 0, 0), symbol!(b".LC0", 0, 0, 2, 0, 0), symbol!(b"say", 2, 2, 1, 0, 4)]);
 
 /// The same with another string.
-const SINGS: Object = Object {
-    sections: &[
-        Section {
-            name: b".text.say",
-            bytes: b"\x17\x05\0\0\x13\x05\x05\0\x67\x80\0\0",
-            relocs: &[
-                Reloc {
-                    kind: 23,
-                    ..TO_SECOND
-                },
-                Reloc {
-                    offset: 4,
-                    kind: 24,
-                    ..TO_FIRST
-                },
-            ],
-            ..RETURN
-        },
-        Section {
-            name: b".rodata.str1.1",
-            flags: 0x32,
-            align: 1,
-            bytes: b"ho\0",
-            entsize: 1,
-            ..RETURN
-        },
-    ],
-    ..SAYS
-};
+const SINGS: Object = object!(SAYS => sections: &[
+    section!(b".text.say", 1, 6, 4; b"\x17\x05\0\0\x13\x05\x05\0\x67\x80\0\0"; relocs: &[reloc!(0, 23, 2, 0), reloc!(4, 24, 1, 0)]),
+    section!(b".rodata.str1.1", 1, 0x32, 1; b"ho\0"; entsize: 1),
+]);
 
 /// A jump to `say`.
-const ASKER: Object = Object {
-    flags: 0,
-    sections: &[Section {
-        relocs: &[TO_FIRST],
-        ..GOES
-    }],
-    symbols: &[
-        Symbol {
-            name: b"say",
-            sort: 0,
-            section: 0,
-            size: 0,
-            ..START
-        },
-        START,
-    ],
-};
+const ASKER: Object =
+    object!([section!(GOES => relocs: &[TO_FIRST])]; [symbol!(b"say", 1, 0, 0, 0, 0), START]);
 
-const INPUTS: &[Input] = &[
-    Input {
-        name: "pairs.o",
-        object: PAIRS,
-        most: WHOLE,
-    },
-    Input {
-        name: "pair.o",
-        object: PAIR,
-        most: WHOLE,
-    },
-    Input {
-        name: "returns.o",
-        object: RETURNS,
-        most: WHOLE,
-    },
-    Input {
-        name: "first.o",
-        object: BOTH_TO_FIRST,
-        most: WHOLE,
-    },
-    Input {
-        name: "itself.o",
-        object: EACH_TO_ITSELF,
-        most: WHOLE,
-    },
-    Input {
-        name: "apart.o",
-        object: APART,
-        most: WHOLE,
-    },
-    Input {
-        name: "named.o",
-        object: NAMED,
-        most: WHOLE,
-    },
-    Input {
-        name: "say.o",
-        object: SAYS,
-        most: WHOLE,
-    },
-    Input {
-        name: "sing.o",
-        object: SINGS,
-        most: WHOLE,
-    },
-    Input {
-        name: "ask.o",
-        object: ASKER,
-        most: WHOLE,
-    },
-];
+const INPUTS: &[Input] = inputs!(
+    "pairs.o" => PAIRS, "pair.o" => PAIR, "returns.o" => RETURNS, "first.o" => BOTH_TO_FIRST, "itself.o" => EACH_TO_ITSELF, "apart.o" => APART,
+    "named.o" => NAMED, "say.o" => SAYS, "sing.o" => SINGS, "ask.o" => ASKER,
+);
 
 /// The files that are at hand.
 pub fn files(alloc: Global) -> Result<Files, AllocError> {
@@ -512,252 +130,83 @@ pub fn files(alloc: Global) -> Result<Files, AllocError> {
 }
 
 /// A jump, and one pair.
-pub const ONE_PAIR: Image = Image {
+pub const ONE_PAIR: Image = image!(FIRST => table: 0x1028,
     segments: &[READ, [1, 5, 0x1000, 0x11000, 20, 20, 4096], STACK],
-    contents: &[
-        (
-            0x1000,
-            b"\xef\0\x40\0\xef\0\x80\0\x67\x80\0\0\xef\xf0\x9f\xff\x73\0\x10\0",
-        ),
-        (0x1014, NAMES),
-    ],
-    table: 0x1028,
-    sections: &[
-        [1, 1, 6, 0x11000, 0x1000, 20, 4],
-        [7, 3, 0, 0, 0x1014, 17, 1],
-    ],
-    ..FIRST
-};
+    contents: &[(0x1000, b"\xef\0\x40\0\xef\0\x80\0\x67\x80\0\0\xef\xf0\x9f\xff\x73\0\x10\0"), (0x1014, NAMES)],
+    sections: &[[1, 1, 6, 0x11000, 0x1000, 20, 4], [7, 3, 0, 0, 0x1014, 17, 1]]);
 
 /// A `ret`, and one pair.
-const RETURN_AND_PAIR: Image = Image {
-    contents: &[
-        (
-            0x1000,
-            b"\x67\x80\0\0\xef\0\x80\0\x67\x80\0\0\xef\xf0\x9f\xff\x73\0\x10\0",
-        ),
-        (0x1014, NAMES),
-    ],
-    ..ONE_PAIR
-};
+const RETURN_AND_PAIR: Image =
+    image!(ONE_PAIR => contents: &[(0x1000, b"\x67\x80\0\0\xef\0\x80\0\x67\x80\0\0\xef\xf0\x9f\xff\x73\0\x10\0"), (0x1014, NAMES)]);
 
 /// A jump, and two pairs.
-const TWO_PAIRS: Image = Image {
+const TWO_PAIRS: Image = image!(FIRST => table: 0x1038,
     segments: &[READ, [1, 5, 0x1000, 0x11000, 36, 36, 4096], STACK],
     contents: &[
-        (
-            0x1000,
-            b"\xef\0\x40\x01\xef\0\x80\0\x67\x80\0\0\xef\xf0\x9f\xff\x73\0\x10\0",
-        ),
-        (
-            0x1014,
-            b"\xef\0\x80\0\x67\x80\0\0\xef\xf0\x9f\xff\x73\0\x10\0",
-        ),
+        (0x1000, b"\xef\0\x40\x01\xef\0\x80\0\x67\x80\0\0\xef\xf0\x9f\xff\x73\0\x10\0"), (0x1014, b"\xef\0\x80\0\x67\x80\0\0\xef\xf0\x9f\xff\x73\0\x10\0"),
         (0x1024, NAMES),
     ],
-    table: 0x1038,
-    sections: &[
-        [1, 1, 6, 0x11000, 0x1000, 36, 4],
-        [7, 3, 0, 0, 0x1024, 17, 1],
-    ],
-    ..FIRST
-};
+    sections: &[[1, 1, 6, 0x11000, 0x1000, 36, 4], [7, 3, 0, 0, 0x1024, 17, 1]]);
 
 /// A jump to a function that calls itself.
-const CALLS_ITSELF: Image = Image {
+const CALLS_ITSELF: Image = image!(FIRST =>
     segments: &[READ, [1, 5, 0x1000, 0x11000, 12, 12, 4096], STACK],
-    contents: &[
-        (0x1000, b"\xef\0\x40\0\xef\0\0\0\x67\x80\0\0"),
-        (0x100c, NAMES),
-    ],
-    sections: &[
-        [1, 1, 6, 0x11000, 0x1000, 12, 4],
-        [7, 3, 0, 0, 0x100c, 17, 1],
-    ],
-    ..FIRST
-};
+    contents: &[(0x1000, b"\xef\0\x40\0\xef\0\0\0\x67\x80\0\0"), (0x100c, NAMES)],
+    sections: &[[1, 1, 6, 0x11000, 0x1000, 12, 4], [7, 3, 0, 0, 0x100c, 17, 1]]);
 
 /// Eleven of the fourteen.
-const MOST_APART: Image = Image {
+const MOST_APART: Image = image!(FIRST => table: 0x1058,
     segments: &[READ, [1, 5, 0x1000, 0x11000, 48, 48, 4096], STACK],
     contents: &[
-        (0x1000, b"\x67\x80\0\0"),
-        (
-            0x1008,
-            b"\x67\x80\0\0\x67\x80\0\0\x67\x80\0\0\x67\x80\0\0\x67\x80\0\0",
-        ),
-        (0x101c, b"\x67\x80\0\0\x67\x80\0\0"),
-        (0x1024, b"\x67\x80\0\0\x67\x80\0\0"),
-        (0x102c, b"\x67\x80\0\0"),
-        (0x1030, b"\0.text\0.fini\0code\0.other\0.shstrtab\0"),
+        (0x1000, b"\x67\x80\0\0"), (0x1008, b"\x67\x80\0\0\x67\x80\0\0\x67\x80\0\0\x67\x80\0\0\x67\x80\0\0"), (0x101c, b"\x67\x80\0\0\x67\x80\0\0"),
+        (0x1024, b"\x67\x80\0\0\x67\x80\0\0"), (0x102c, b"\x67\x80\0\0"), (0x1030, b"\0.text\0.fini\0code\0.other\0.shstrtab\0"),
     ],
-    table: 0x1058,
     sections: &[
-        [1, 1, 6, 0x11000, 0x1000, 28, 8],
-        [7, 1, 6, 0x1101c, 0x101c, 8, 4],
-        [13, 1, 6, 0x11024, 0x1024, 8, 4],
-        [18, 1, 6, 0x1102c, 0x102c, 4, 4],
+        [1, 1, 6, 0x11000, 0x1000, 28, 8], [7, 1, 6, 0x1101c, 0x101c, 8, 4], [13, 1, 6, 0x11024, 0x1024, 8, 4], [18, 1, 6, 0x1102c, 0x102c, 4, 4],
         [25, 3, 0, 0, 0x1030, 35, 1],
-    ],
-    ..FIRST
-};
+    ]);
 
 /// Four of the six jumps.
-const FOUR_JUMPS: Image = Image {
+const FOUR_JUMPS: Image = image!(FIRST => table: 0x1038,
     segments: &[READ, [1, 5, 0x1000, 0x11000, 32, 32, 4096], STACK],
     contents: &[
-        (
-            0x1000,
-            b"\xef\0\0\x01\x67\x80\0\0\x67\x80\0\0\x73\0\x10\0\xef\xf0\x9f\xff\xef\xf0\x9f\xff\xef\xf0\x1f\xff\xef\xf0\x1f\xff",
-        ),
-        (0x1020, NAMES),
+        (0x1000, b"\xef\0\0\x01\x67\x80\0\0\x67\x80\0\0\x73\0\x10\0\xef\xf0\x9f\xff\xef\xf0\x9f\xff\xef\xf0\x1f\xff\xef\xf0\x1f\xff"), (0x1020, NAMES),
     ],
-    table: 0x1038,
-    sections: &[
-        [1, 1, 6, 0x11000, 0x1000, 32, 4],
-        [7, 3, 0, 0, 0x1020, 17, 1],
-    ],
-    ..FIRST
-};
+    sections: &[[1, 1, 6, 0x11000, 0x1000, 32, 4], [7, 3, 0, 0, 0x1020, 17, 1]]);
 
 /// A string, and a function with its address.
-const SAID_ONCE: Image = Image {
-    segments: &[
-        [1, 4, 0, 0x10000, 0xeb, 0xeb, 4096],
-        [1, 5, 0x1000, 0x11000, 16, 16, 4096],
-        STACK,
-    ],
-    contents: &[
-        (0xe8, b"hi"),
-        (
-            0x1000,
-            b"\xef\0\x40\0\x17\xf5\xff\xff\x13\x05\x45\x0e\x67\x80\0\0",
-        ),
-        (0x1010, b"\0.rodata\0.text\0.shstrtab\0"),
-    ],
-    table: 0x1030,
-    sections: &[
-        [1, 1, 2, 0x100e8, 0xe8, 3, 1],
-        [9, 1, 6, 0x11000, 0x1000, 16, 4],
-        [15, 3, 0, 0, 0x1010, 25, 1],
-    ],
-    ..FIRST
-};
+const SAID_ONCE: Image = image!(FIRST => table: 0x1030,
+    segments: &[[1, 4, 0, 0x10000, 0xeb, 0xeb, 4096], [1, 5, 0x1000, 0x11000, 16, 16, 4096], STACK],
+    contents: &[(0xe8, b"hi"), (0x1000, b"\xef\0\x40\0\x17\xf5\xff\xff\x13\x05\x45\x0e\x67\x80\0\0"), (0x1010, b"\0.rodata\0.text\0.shstrtab\0")],
+    sections: &[[1, 1, 2, 0x100e8, 0xe8, 3, 1], [9, 1, 6, 0x11000, 0x1000, 16, 4], [15, 3, 0, 0, 0x1010, 25, 1]]);
 
 /// Two strings, and a function with the address of each.
-const SAID_AND_SUNG: Image = Image {
-    segments: &[
-        [1, 4, 0, 0x10000, 0xee, 0xee, 4096],
-        [1, 5, 0x1000, 0x11000, 28, 28, 4096],
-        STACK,
-    ],
+const SAID_AND_SUNG: Image = image!(FIRST => table: 0x1038,
+    segments: &[[1, 4, 0, 0x10000, 0xee, 0xee, 4096], [1, 5, 0x1000, 0x11000, 28, 28, 4096], STACK],
     contents: &[
-        (0xe8, b"hi\0ho"),
-        (
-            0x1000,
-            b"\xef\0\x40\0\x17\xf5\xff\xff\x13\x05\x45\x0e\x67\x80\0\0",
-        ),
-        (0x1010, b"\x17\xf5\xff\xff\x13\x05\xb5\x0d\x67\x80\0\0"),
+        (0xe8, b"hi\0ho"), (0x1000, b"\xef\0\x40\0\x17\xf5\xff\xff\x13\x05\x45\x0e\x67\x80\0\0"), (0x1010, b"\x17\xf5\xff\xff\x13\x05\xb5\x0d\x67\x80\0\0"),
         (0x101c, b"\0.rodata\0.text\0.shstrtab\0"),
     ],
-    table: 0x1038,
-    sections: &[
-        [1, 1, 2, 0x100e8, 0xe8, 6, 1],
-        [9, 1, 6, 0x11000, 0x1000, 28, 4],
-        [15, 3, 0, 0, 0x101c, 25, 1],
-    ],
-    ..FIRST
-};
+    sections: &[[1, 1, 2, 0x100e8, 0xe8, 6, 1], [9, 1, 6, 0x11000, 0x1000, 28, 4], [15, 3, 0, 0, 0x101c, 25, 1]]);
 
 /// Functions that call each other, or themselves.
 pub const TOGETHER: &[Link] = &[
-    Link {
-        words: &["rvld", "-s", "--icf", "all", "pairs.o"],
-        store: Store::Folded,
-        image: ONE_PAIR,
-        ..FIRST_LINK
-    },
-    Link {
-        words: &["rvld", "-s", "pairs.o"],
-        store: Store::Folded,
-        image: TWO_PAIRS,
-        ..FIRST_LINK
-    },
-    Link {
-        words: &["rvld", "-s", "--icf", "none", "pairs.o"],
-        store: Store::Folded,
-        image: TWO_PAIRS,
-        ..FIRST_LINK
-    },
-    Link {
-        words: &["rvld", "-s", "--icf", "all", "-e", "f2", "pairs.o"],
-        store: Store::Folded,
-        image: Image {
-            entry: 0x11004,
-            ..ONE_PAIR
-        },
-        ..FIRST_LINK
-    },
-    Link {
-        words: &["rvld", "-s", "--icf", "all", "--gc-sections", "pairs.o"],
-        store: Store::Folded,
-        image: ONE_PAIR,
-        ..FIRST_LINK
-    },
-    Link {
-        words: &[
-            "rvld",
-            "-s",
-            "--icf",
-            "all",
-            "returns.o",
-            "pair.o",
-            "pair.o",
-        ],
-        store: Store::Folded,
-        image: RETURN_AND_PAIR,
-        ..FIRST_LINK
-    },
-    Link {
-        words: &["rvld", "-s", "--icf", "all", "first.o"],
-        store: Store::Folded,
-        image: CALLS_ITSELF,
-        ..FIRST_LINK
-    },
-    Link {
-        words: &["rvld", "-s", "--icf", "all", "itself.o"],
-        store: Store::Folded,
-        image: CALLS_ITSELF,
-        ..FIRST_LINK
-    },
+    link!("-s", "--icf", "all", "pairs.o" => ONE_PAIR; store: Store::Folded),
+    link!("-s", "pairs.o" => TWO_PAIRS; store: Store::Folded),
+    link!("-s", "--icf", "none", "pairs.o" => TWO_PAIRS; store: Store::Folded),
+    link!("-s", "--icf", "all", "-e", "f2", "pairs.o" => image!(ONE_PAIR => entry: 0x11004); store: Store::Folded),
+    link!("-s", "--icf", "all", "--gc-sections", "pairs.o" => ONE_PAIR; store: Store::Folded),
+    link!("-s", "--icf", "all", "returns.o", "pair.o", "pair.o" => RETURN_AND_PAIR; store: Store::Folded),
+    link!("-s", "--icf", "all", "first.o" => CALLS_ITSELF; store: Store::Folded),
+    link!("-s", "--icf", "all", "itself.o" => CALLS_ITSELF; store: Store::Folded),
 ];
 
 /// What is equal, and what is not.
 pub const EQUAL: &[Link] = &[
-    Link {
-        words: &["rvld", "-s", "--icf", "all", "apart.o"],
-        store: Store::Folded,
-        image: MOST_APART,
-        ..FIRST_LINK
-    },
-    Link {
-        words: &["rvld", "-s", "--icf", "all", "named.o"],
-        store: Store::Folded,
-        image: FOUR_JUMPS,
-        ..FIRST_LINK
-    },
-    Link {
-        words: &["rvld", "-s", "--icf", "all", "ask.o", "say.o", "say.o"],
-        store: Store::Folded,
-        image: SAID_ONCE,
-        ..FIRST_LINK
-    },
-    Link {
-        words: &["rvld", "-s", "--icf", "all", "ask.o", "say.o", "sing.o"],
-        store: Store::Folded,
-        image: SAID_AND_SUNG,
-        ..FIRST_LINK
-    },
+    link!("-s", "--icf", "all", "apart.o" => MOST_APART; store: Store::Folded),
+    link!("-s", "--icf", "all", "named.o" => FOUR_JUMPS; store: Store::Folded),
+    link!("-s", "--icf", "all", "ask.o", "say.o", "say.o" => SAID_ONCE; store: Store::Folded),
+    link!("-s", "--icf", "all", "ask.o", "say.o", "sing.o" => SAID_AND_SUNG; store: Store::Folded),
 ];
 
 /// How many functions call the next one, where the last calls none.
@@ -767,10 +216,7 @@ const CALLERS: usize = 300;
 const ROUND: usize = 1000;
 
 /// A function that jumps to the second symbol.
-const CALLER: Section = Section {
-    relocs: &[TO_SECOND],
-    ..JUMPS
-};
+const CALLER: Section = section!(JUMPS => relocs: &[TO_SECOND]);
 
 /// The name of one of the functions in a row; the first begins the program.
 fn name_of(alloc: Global, number: usize) -> Result<String, AllocError> {
@@ -908,10 +354,8 @@ fn chain_image<'x>(contents: &'x [(usize, &'x [u8])]) -> Image<'x> {
 }
 
 /// The executable of the ring: one function, which calls itself.
-const RING: Image = Image {
-    contents: &[(0x1000, b"\xef\0\0\0\x67\x80\0\0"), (0x1008, NAMES)],
-    ..FIRST
-};
+const RING: Image =
+    image!(FIRST => contents: &[(0x1000, b"\xef\0\0\0\x67\x80\0\0"), (0x1008, NAMES)]);
 
 const WORKERS: &[&[&str]] = &[
     &["--threads", "1"],
@@ -921,7 +365,7 @@ const WORKERS: &[&[&str]] = &[
 ];
 
 #[test]
-fn what_ends_differently_stays_apart(rt: HostRuntime) -> Result<(), Fail> {
+fn a_chain_of_calls_is_not_folded(rt: HostRuntime) -> Result<(), Fail> {
     let alloc = rt.alloc();
     let code = chain_code(alloc)?;
     let contents = [(0x1000usize, code.as_slice())];
@@ -934,7 +378,7 @@ fn what_ends_differently_stays_apart(rt: HostRuntime) -> Result<(), Fail> {
 }
 
 #[test]
-fn what_goes_round_is_one(rt: HostRuntime) -> Result<(), Fail> {
+fn a_ring_of_calls_is_folded_to_one(rt: HostRuntime) -> Result<(), Fail> {
     let alloc = rt.alloc();
     for workers in WORKERS {
         let files = ring(alloc)?;

@@ -10,8 +10,8 @@ ghost use Rattle.link_sections.specs.LaidOut.{OutputPlace as Place, layout_view,
 ghost use Rattle.link_sections.specs.Sound.{IsSound};
 
 use super::links::{PLAIN, inputs_of, run_passes};
-use super::objects::{CODE, START, ZEROS};
-use elf_bytes::{Object, Section, Symbol};
+use super::objects::START;
+use elf_bytes::{Object, Section, Symbol, section, symbol};
 use flat_rows::Rows;
 use link_sections::{Bounds, Got, Layout, OutputPlace, Pools, Sizes};
 use lk_tables::{Binding, Class, Heads, NO_RANK, Tables};
@@ -147,58 +147,20 @@ fn no_symbols_no_addresses(rt: HostRuntime) -> Result<(), Fail> {
 }
 
 /// Data and lists of functions to call, in a class that is read and in one that is written; a section of sixteen bytes that is read.
-const READ: Section = Section {
-    name: b"part",
-    flags: 2,
-    align: 8,
-    zeros: 16,
-    ..CODE
-};
-
-const WRITTEN: Section = Section { flags: 3, ..READ };
+const READ: Section = section!(b"part", 1, 2, 8; b""; zeros: 16);
 
 /// A symbol that no file defines.
-const ASKED: Symbol = Symbol {
-    section: 0,
-    value: 0,
-    ..START
-};
+const ASKED: Symbol = symbol!(b"_start", 1, 0, 0, 0, 0);
 
 const SECTIONS: &[Section] = &[
-    Section {
-        name: b".init_array",
-        ..READ
-    },
-    Section {
-        name: b".fini_array",
-        zeros: 8,
-        ..READ
-    },
+    section!(READ => name: b".init_array"),
+    section!(b".fini_array", 1, 2, 8; b""; zeros: 8),
     READ,
-    Section {
-        zeros: 0x40,
-        ..CODE
-    },
-    Section {
-        name: b".init_array",
-        zeros: 0x18,
-        ..WRITTEN
-    },
-    Section {
-        zeros: 8,
-        ..WRITTEN
-    },
-    Section {
-        name: b".sdata",
-        zeros: 0x40,
-        ..WRITTEN
-    },
-    Section {
-        name: b".sdata",
-        size: 0x40,
-        align: 8,
-        ..ZEROS
-    },
+    section!(b".text", 1, 6, 4; b""; zeros: 0x40),
+    section!(b".init_array", 1, 3, 8; b""; zeros: 0x18),
+    section!(b"part", 1, 3, 8; b""; zeros: 8),
+    section!(b".sdata", 1, 3, 8; b""; zeros: 0x40),
+    section!(b".sdata", 8, 3, 8; b""; size: 0x40),
 ];
 
 /// The symbols that the linker defines, each with its address, in order of their numbers.
@@ -239,7 +201,7 @@ fn asking(alloc: Global) -> Result<Vec<Symbol<'static>>, AllocError> {
 // The global pointer stands 0x800 past the small data that has bytes; there is no list of functions to call before all others, one that is
 // not written, and two of which one is written.
 #[test]
-fn each_symbol(rt: HostRuntime) -> Result<(), Fail> {
+fn each_linker_symbol_has_its_address(rt: HostRuntime) -> Result<(), Fail> {
     let symbols = asking(rt.alloc())?;
     let object = Object {
         flags: 1,

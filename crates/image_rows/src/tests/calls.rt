@@ -166,7 +166,7 @@ fn calls_at_the_ends_of_their_reach(rt: HostRuntime) -> Result<(), Fail> {
 
 /// A tail call over its own bytes has the two of `c.j` where it may, else the four of `jal`.
 #[test]
-fn tail_call(rt: HostRuntime) -> Result<(), Fail> {
+fn a_tail_call_is_shortened(rt: HostRuntime) -> Result<(), Fail> {
     for (flags, least) in [(1, 2), (0, 4)] {
         let code = Code {
             calls: &[Call { at: 0, target: 8 }],

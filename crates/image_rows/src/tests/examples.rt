@@ -1,8 +1,7 @@
 //! The objects of the links whose executables are written by blocks.
 
 use super::blocks::Lengths;
-use super::objects::{BY_FIRST, CODE, LABEL, START, ZEROS};
-use elf_bytes::{Image, Object, Reloc, Section, Symbol};
+use elf_bytes::{Image, Object, Section, Symbol, object, reloc, section, symbol};
 
 /// Kinds of relocations: a whole address, a call of two instructions, and a distance in two parts.
 pub const WHOLE: u64 = 2;
@@ -13,186 +12,49 @@ const UPPER: u64 = 23;
 
 pub const LOWER: u64 = 24;
 
-/// A relocation by symbol 2.
-pub const TO_SECOND: Reloc = Reloc {
-    kind: WHOLE,
-    symbol: 2,
-    ..BY_FIRST
-};
-
 /// Calls `far`, loads `odd` by its distance in two parts, the second of which goes by the label of the first, and returns.
-const TEXT: Section = Section {
-    bytes: b"\x97\0\0\0\xe7\x80\0\0\x01\0\x17\x05\0\0\x03\x25\x05\0\x82\x80",
-    relocs: &[
-        Reloc {
-            kind: CALL,
-            symbol: 3,
-            ..TO_SECOND
-        },
-        Reloc {
-            offset: 10,
-            kind: UPPER,
-            symbol: 4,
-            ..BY_FIRST
-        },
-        Reloc {
-            offset: 14,
-            kind: LOWER,
-            ..BY_FIRST
-        },
-    ],
-    ..CODE
-};
+const TEXT: Section =
+    section!(b".text", 1, 6, 4; b"\x97\0\0\0\xe7\x80\0\0\x01\0\x17\x05\0\0\x03\x25\x05\0\x82\x80";
+        relocs: &[reloc!(0, CALL, 3, 0), reloc!(10, UPPER, 4, 0), reloc!(14, LOWER, 1, 0)]);
 
 /// Addresses at odd offsets, with other bytes between them; two have one place, and three reach into the place of another.
-const DATA: Section = Section {
-    name: b".data",
-    flags: 3,
-    align: 8,
-    bytes: b"a\0\0\0\0\0\0\0\0bcd\0\0\0\0\0\0\0\0\0\0\0\0\0\0\0\0e",
-    relocs: &[
-        Reloc {
-            offset: 1,
-            symbol: 4,
-            ..TO_SECOND
-        },
-        Reloc {
-            offset: 12,
-            ..TO_SECOND
-        },
-        Reloc {
-            offset: 12,
-            symbol: 3,
-            ..TO_SECOND
-        },
-        Reloc {
-            offset: 14,
-            symbol: 4,
-            ..TO_SECOND
-        },
-        Reloc {
-            offset: 20,
-            symbol: 3,
-            ..TO_SECOND
-        },
-    ],
-    ..TEXT
-};
+const DATA: Section =
+    section!(b".data", 1, 3, 8; b"a\0\0\0\0\0\0\0\0bcd\0\0\0\0\0\0\0\0\0\0\0\0\0\0\0\0e";
+        relocs: &[reloc!(1, WHOLE, 4, 0), reloc!(12, WHOLE, 2, 0), reloc!(12, WHOLE, 3, 0), reloc!(14, WHOLE, 4, 0), reloc!(20, WHOLE, 3, 0)]);
 
 /// Bytes that are only read, at odd places.
-const READ_ONLY: Section = Section {
-    name: b".rodata",
-    flags: 2,
-    align: 1,
-    bytes: b"xyz",
-    relocs: &[],
-    ..TEXT
-};
+const READ_ONLY: Section = section!(b".rodata", 1, 2, 1; b"xyz");
 
 /// A hundred zeros without bytes.
-const NO_BITS: Section = Section {
-    align: 64,
-    size: 100,
-    ..ZEROS
-};
+const NO_BITS: Section = section!(b".bss", 8, 3, 64; b""; size: 100);
 
 /// Where the load stands whose label the second part names.
-const LOADED: Symbol = Symbol { value: 10, ..LABEL };
+const LOADED: Symbol = symbol!(b".L0", 0, 0, 1, 10, 0);
 
 /// Where the code starts.
-const BEGIN: Symbol = Symbol {
-    section: 1,
-    value: 0,
-    ..START
-};
+const BEGIN: Symbol = symbol!(b"_start", 1, 0, 1, 0, 0);
 
 /// What another file has.
-const FAR: Symbol = Symbol {
-    name: b"far",
-    section: 0,
-    ..BEGIN
-};
+const FAR: Symbol = symbol!(b"far", 1, 0, 0, 0, 0);
 
 /// What stands at an odd place in the second section.
-const ODD: Symbol = Symbol {
-    name: b"odd",
-    section: 2,
-    value: 3,
-    ..BEGIN
-};
+const ODD: Symbol = symbol!(b"odd", 1, 0, 2, 3, 0);
 
-const FIRST: Object = Object {
-    flags: 1,
-    sections: &[TEXT, DATA, READ_ONLY, NO_BITS],
-    symbols: &[LOADED, BEGIN, FAR, ODD],
-};
+const FIRST: Object = object!(1; [TEXT, DATA, READ_ONLY, NO_BITS]; [LOADED, BEGIN, FAR, ODD]);
 
 /// Its sections stand at multiples of 16, 32 and 16, so that there are gaps before them.
-const SECOND: Object = Object {
-    flags: 1,
-    sections: &[
-        Section {
-            align: 16,
-            bytes: b"\x01\0\x82\x80",
-            relocs: &[],
-            ..TEXT
-        },
-        Section {
-            align: 32,
-            bytes: b"f\0\0\0\0\0\0\0\0\0\0\0\0\0\0\0\0g",
-            relocs: &[
-                Reloc {
-                    offset: 1,
-                    symbol: 1,
-                    ..TO_SECOND
-                },
-                Reloc {
-                    offset: 9,
-                    ..TO_SECOND
-                },
-            ],
-            ..DATA
-        },
-        Section {
-            align: 16,
-            ..READ_ONLY
-        },
-    ],
-    symbols: &[
-        Symbol { section: 1, ..FAR },
-        Symbol {
-            section: 0,
-            value: 0,
-            ..ODD
-        },
-    ],
-};
+const SECOND: Object = object!(1; [
+    section!(b".text", 1, 6, 16; b"\x01\0\x82\x80"),
+    section!(b".data", 1, 3, 32; b"f\0\0\0\0\0\0\0\0\0\0\0\0\0\0\0\0g"; relocs: &[reloc!(1, WHOLE, 1, 0), reloc!(9, WHOLE, 2, 0)]),
+    section!(READ_ONLY => align: 16),
+]; [symbol!(b"far", 1, 0, 1, 0, 0), symbol!(b"odd", 1, 0, 0, 0, 0)]);
 
 /// Its data stand at 65,536 of the file, with an address over the end of the second block.
-const LONG: Object = Object {
-    flags: 1,
-    sections: &[
-        TEXT,
-        Section {
-            align: 65536,
-            zeros: 65532,
-            relocs: &[
-                Reloc {
-                    offset: 65533,
-                    symbol: 4,
-                    ..TO_SECOND
-                },
-                Reloc {
-                    offset: 65544,
-                    ..TO_SECOND
-                },
-            ],
-            ..DATA
-        },
-        NO_BITS,
-    ],
-    symbols: &[LOADED, BEGIN, FAR, ODD],
-};
+const LONG: Object = object!(1; [
+    TEXT,
+    section!(DATA => align: 65536, zeros: 65532, relocs: &[reloc!(65533, WHOLE, 4, 0), reloc!(65544, WHOLE, 2, 0)]),
+    NO_BITS,
+]; [LOADED, BEGIN, FAR, ODD]);
 
 /// A link: its objects, by which lengths of blocks its executable is written once more, and the executable where it was worked out by hand.
 #[derive(Clone, Copy)]

@@ -3,8 +3,8 @@
 ghost use Rattle.lk_base.specs.Limits.{IsWithinStandard};
 
 use super::links::{PLAIN, inputs_of, run_passes, run_within};
-use super::objects::{BY_FIRST, CODE, START, object_with};
-use elf_bytes::{Object, Reloc, Section, Symbol};
+use super::objects::{CODE, object_with};
+use elf_bytes::{Object, Reloc, Section, object, reloc, section, symbol};
 use link_sections::{Content, Layout, Member, OutputPlace};
 use lk_base::abi::SHT_NOBITS;
 use lk_base::kinds::{NOPS_SHORT, TOO_BIG};
@@ -13,6 +13,17 @@ use lk_tables::Class;
 use std::alloc::Global;
 use std::test::Fail;
 use std::thread::Threads;
+
+macro_rules! place {
+    ($name:expr, $class:expr, $start:expr; $end:expr) => {
+        OutputPlace {
+            name: $name,
+            class: $class,
+            start: $start,
+            end: $end,
+        }
+    };
+}
 
 /// A section.
 fn section(name: &'static [u8], sort: u64, flags: u64, size: u64, align: u64) -> Section<'static> {
@@ -124,7 +135,7 @@ fn count_within<R: Threads + Sync>(
 }
 
 #[test]
-fn text_alone(rt: HostRuntime) -> Result<(), Fail> {
+fn text_alone_is_laid_out(rt: HostRuntime) -> Result<(), Fail> {
     let sections = [section(b".text", 1, 6, 8, 4)];
     let inputs = inputs_of(rt.alloc(), &[object_with(&sections)])?;
     let made = run_passes(&rt, rt.alloc(), &inputs, &PLAIN)?;
@@ -137,7 +148,7 @@ fn text_alone(rt: HostRuntime) -> Result<(), Fail> {
 /// The first thread-local output section starts at the greatest alignment of all of them; those without bits do not move the cursor,
 /// nor does the empty table.
 #[test]
-fn each_class(rt: HostRuntime) -> Result<(), Fail> {
+fn sections_of_each_class_are_laid_out(rt: HostRuntime) -> Result<(), Fail> {
     let sections = [
         section(b".tbss", 8, 0x403, 32, 0x4000),
         section(b".bss", 8, 3, 16, 16),
@@ -191,104 +202,26 @@ fn priorities_and_the_linkers_table(rt: HostRuntime) -> Result<(), Fail> {
 }
 
 /// A call at offset 4 that keeps four of its eight bytes.
-const CALLING: Section = Section {
-    bytes: b"\x13\0\0\0\x97\0\0\0\xe7\x80\0\0\x13\0\0\0\x13\0\0\0",
-    relocs: &[
-        Reloc {
-            offset: 4,
-            kind: 19,
-            ..BY_FIRST
-        },
-        Reloc {
-            offset: 4,
-            kind: 51,
-            symbol: 0,
-            ..BY_FIRST
-        },
-    ],
-    ..CODE
-};
+const CALLING: Section =
+    section!(b".text", 1, 6, 4; b"\x13\0\0\0\x97\0\0\0\xe7\x80\0\0\x13\0\0\0\x13\0\0\0"; relocs: &[reloc!(4, 19, 1, 0), reloc!(4, 51, 0, 0)]);
 
 /// Two instructions that need an entry of the linker's table each.
-const BY_TABLE: Section = Section {
-    name: b".text.b",
-    align: 8,
-    bytes: b"\x17\x05\0\0\x17\x05\0\0",
-    relocs: &[
-        Reloc {
-            kind: 20,
-            ..BY_FIRST
-        },
-        Reloc {
-            offset: 4,
-            kind: 20,
-            symbol: 2,
-            ..BY_FIRST
-        },
-    ],
-    ..CODE
-};
+const BY_TABLE: Section =
+    section!(b".text.b", 1, 6, 8; b"\x17\x05\0\0\x17\x05\0\0"; relocs: &[reloc!(0, 20, 1, 0), reloc!(4, 20, 2, 0)]);
 
-const STRINGS: Section = Section {
-    name: b".rodata.str1.1",
-    flags: 0x32,
-    align: 1,
-    bytes: b"four\0",
-    entsize: 1,
-    ..CODE
-};
+const STRINGS: Section = section!(b".rodata.str1.1", 1, 0x32, 1; b"four\0"; entsize: 1);
 
-const NO_DATA: Section = Section {
-    name: b".data",
-    flags: 3,
-    align: 32,
-    ..CODE
-};
+const NO_DATA: Section = section!(b".data", 1, 3, 32; b"");
 
-const WITH_ALL: Object = Object {
-    flags: 1,
-    sections: &[CALLING, BY_TABLE, STRINGS, NO_DATA],
-    symbols: &[
-        Symbol {
-            section: 1,
-            value: 0,
-            ..START
-        },
-        Symbol {
-            name: b"end_of_text",
-            section: 1,
-            value: 20,
-            ..START
-        },
-    ],
-};
+const WITH_ALL: Object =
+    object!(1; [CALLING, BY_TABLE, STRINGS, NO_DATA]; [symbol!(b"_start", 1, 0, 1, 0, 0), symbol!(b"end_of_text", 1, 0, 1, 20, 0)]);
 
 /// Where its output sections are.
 const PLACES: &[OutputPlace] = &[
-    OutputPlace {
-        name: b".rodata",
-        class: Class::R,
-        start: 0x10120,
-        end: 0x10125,
-    },
-    OutputPlace {
-        name: b".text",
-        class: Class::Rx,
-        start: 0x11000,
-        end: 0x11018,
-    },
-    OutputPlace {
-        name: b".got",
-        class: Class::RwBits,
-        start: 0x12000,
-        end: 0x12010,
-    },
-    OutputPlace {
-        name: b".data",
-        class: Class::RwBits,
-        start: 0x12020,
-        end: 0x12020,
-    },
+    place!(b".rodata", Class::R, 0x10120; 0x10125),
+    place!(b".text", Class::Rx, 0x11000; 0x11018),
+    place!(b".got", Class::RwBits, 0x12000; 0x12010),
+    place!(b".data", Class::RwBits, 0x12020; 0x12020),
 ];
 
 /// What follows a shortened call moves; an empty output section has a place, and moves nothing.
@@ -320,7 +253,7 @@ fn a_pool_a_table_and_a_short_call(rt: HostRuntime) -> Result<(), Fail> {
 }
 
 #[test]
-fn too_big(rt: HostRuntime) -> Result<(), Fail> {
+fn an_image_past_its_limit_is_refused(rt: HostRuntime) -> Result<(), Fail> {
     let sections = [
         section(b".bss", 8, 3, 0x8000_0000, 8),
         section(b".text", 1, 6, 4, 4),
@@ -332,7 +265,7 @@ fn too_big(rt: HostRuntime) -> Result<(), Fail> {
 }
 
 #[test]
-fn too_many(rt: HostRuntime) -> Result<(), Fail> {
+fn output_sections_past_their_limit_are_refused(rt: HostRuntime) -> Result<(), Fail> {
     let sections = [
         section(b".text", 1, 6, 4, 4),
         section(b".rodata", 1, 2, 5, 8),
@@ -346,24 +279,11 @@ fn too_many(rt: HostRuntime) -> Result<(), Fail> {
 }
 
 /// Code of seven instructions of two bytes, of which the second to the fourth are an alignment.
-const ALIGNED: Section = Section {
-    align: 2,
-    bytes: b"\x01\0\x01\0\x01\0\x01\0\x01\0\x01\0\x01\0",
-    relocs: &[Reloc {
-        offset: 2,
-        kind: 43,
-        symbol: 0,
-        addend: 6,
-    }],
-    ..CODE
-};
+const ALIGNED: Section =
+    section!(b".text", 1, 6, 2; b"\x01\0\x01\0\x01\0\x01\0\x01\0\x01\0\x01\0"; relocs: &[reloc!(2, 43, 0, 6)]);
 
 /// Three instructions.
-const BEFORE: Section = Section {
-    align: 2,
-    bytes: b"\x01\0\x01\0\x01\0",
-    ..CODE
-};
+const BEFORE: Section = section!(b".text", 1, 6, 2; b"\x01\0\x01\0\x01\0");
 
 /// How many bytes are left of each section of an object.
 fn sizes_of<R: Threads + Sync>(
@@ -381,7 +301,7 @@ fn sizes_of<R: Threads + Sync>(
 }
 
 #[test]
-fn alignments(rt: HostRuntime) -> Result<(), Fail> {
+fn alignments_lose_the_nops_that_they_do_not_need(rt: HostRuntime) -> Result<(), Fail> {
     // At 0x11002 six bytes are missing to a multiple of 8; at 0x11008 none.
     let sizes = sizes_of(&rt, rt.alloc(), &[ALIGNED])?;
     assert!(rt; sizes.as_slice() == [14].as_slice());
@@ -412,7 +332,7 @@ fn alignments(rt: HostRuntime) -> Result<(), Fail> {
 
 /// Notes stand first if the member that stands first in their output section is one.
 #[test]
-fn notes_first(rt: HostRuntime) -> Result<(), Fail> {
+fn notes_stand_first_in_the_layout(rt: HostRuntime) -> Result<(), Fail> {
     let sections = [
         section(b".rodata.a", 1, 2, 4, 4),
         section(b".init_array", 7, 2, 4, 4),
@@ -429,7 +349,7 @@ fn notes_first(rt: HostRuntime) -> Result<(), Fail> {
 
 /// Thread-local sections are of no other class, and stand in the order of the command.
 #[test]
-fn thread_local_ones(rt: HostRuntime) -> Result<(), Fail> {
+fn thread_local_sections_stand_by_themselves(rt: HostRuntime) -> Result<(), Fail> {
     let sections = [
         section(b".tdata.b", 1, 0x403, 4, 4),
         section(b"own", 1, 0x402, 4, 4),

@@ -110,6 +110,15 @@ fn leads<R: Threads + Sync>(
     )
 }
 
+// No items: no step.
+#[test]
+fn none_are_folded_in_no_step(rt: HostRuntime) -> Result<(), Fail> {
+    let alloc = rt.alloc();
+    let items = Vec::new(alloc);
+    assert!(rt; leads(&rt, alloc, items.as_slice(), &[], 0)?);
+    Ok(())
+}
+
 // Two pairs of functions that call each other: no class is split.
 #[test]
 fn pairs_that_call_each_other(rt: HostRuntime) -> Result<(), Fail> {
@@ -146,6 +155,6 @@ fn a_chain_is_not_folded(rt: HostRuntime) -> Result<(), Fail> {
     }
     add(&mut items, alloc, b"end", 1000)?;
     leaders.push(1000)?;
-    assert!(rt; leads_in(&rt, alloc, items.as_slice(), leaders.as_slice(), 999, 2)?);
+    assert!(rt; leads(&rt, alloc, items.as_slice(), leaders.as_slice(), 999)?);
     Ok(())
 }

@@ -2,8 +2,7 @@
 //! and their bytes.
 
 use super::links::{Asked, PLAIN, Written, inputs_of, run_passes};
-use super::objects::{CODE, START};
-use elf_bytes::{Object, Section, Symbol};
+use elf_bytes::{Object, Section, Symbol, object, section, symbol};
 use link_driver::Options;
 use lk_base::LinkStop;
 use std::alloc::Global;
@@ -31,30 +30,26 @@ struct Listing<'a> {
     told: Told<'a>,
 }
 
-/// A function of eight bytes.
-const FUNCTION: &[Section] = &[Section { zeros: 8, ..CODE }];
+macro_rules! listing {
+    ($objects:expr, $asked:expr; $told:expr) => {
+        Listing {
+            objects: $objects,
+            asked: $asked,
+            told: $told,
+        }
+    };
+}
 
-const F: Symbol = Symbol {
-    name: b"f",
-    binding: 2,
-    sort: 2,
-    section: 1,
-    value: 0,
-    size: 8,
-};
+/// A function of eight bytes.
+const FUNCTION: &[Section] = &[section!(b".text", 1, 6, 4; b""; zeros: 8)];
+
+const F: Symbol = symbol!(b"f", 2, 2, 1, 0, 8);
 
 /// A function, and a number that has the name of the image's end.
 const OF_F: Object = Object {
     flags: 1,
     sections: FUNCTION,
-    symbols: &[
-        Symbol {
-            name: b"_end",
-            value: 0x12345,
-            ..START
-        },
-        F,
-    ],
+    symbols: &[symbol!(b"_end", 1, 0, 0xfff1, 0x12345, 0), F],
 };
 
 const FROM_F: Asked = Asked {
@@ -63,75 +58,20 @@ const FROM_F: Asked = Asked {
 };
 
 /// Symbols that are numbers.
-const NUMBERS: Object = Object {
-    flags: 1,
-    sections: &[],
-    symbols: &[
-        Symbol {
-            name: b"end",
-            value: 1,
-            ..START
-        },
-        Symbol {
-            name: b"b",
-            value: 2,
-            ..START
-        },
-        Symbol {
-            name: b"_end",
-            section: 0,
-            value: 0,
-            ..START
-        },
-        Symbol {
-            name: b"a_long_name",
-            value: 4,
-            ..START
-        },
-    ],
-};
+const NUMBERS: Object = object!(1; []; [
+    symbol!(b"end", 1, 0, 0xfff1, 1, 0),
+    symbol!(b"b", 1, 0, 0xfff1, 2, 0),
+    symbol!(b"_end", 1, 0, 0, 0, 0),
+    symbol!(b"a_long_name", 1, 0, 0xfff1, 4, 0),
+]);
 
 /// What asks for a symbol of the linker's, as the other object does, and for one of that object's, and offers one that is there already.
-const ASKER: Object = Object {
-    flags: 1,
-    sections: &[],
-    symbols: &[
-        Symbol {
-            name: b"_end",
-            section: 0,
-            value: 0,
-            ..START
-        },
-        Symbol {
-            name: b"b",
-            section: 0,
-            value: 0,
-            ..START
-        },
-        Symbol {
-            name: b"end",
-            binding: 2,
-            value: 3,
-            ..START
-        },
-    ],
-};
+const ASKER: Object =
+    object!(1; []; [symbol!(b"_end", 1, 0, 0, 0, 0), symbol!(b"b", 1, 0, 0, 0, 0), symbol!(b"end", 2, 0, 0xfff1, 3, 0)]);
 
 /// A section of 11 million bytes, and a number whose name has characters that are escaped.
-const WIDE: Object = Object {
-    flags: 1,
-    sections: &[Section {
-        zeros: 0xab_cdef,
-        ..CODE
-    }],
-    symbols: &[Symbol {
-        name: b"f %",
-        sort: 2,
-        value: 0x9876_5432_1000_1004,
-        size: 4,
-        ..START
-    }],
-};
+const WIDE: Object =
+    object!(1; [section!(b".text", 1, 6, 4; b""; zeros: 0xab_cdef)]; [symbol!(b"f %", 1, 2, 0xfff1, 0x9876_5432_1000_1004, 4)]);
 
 const WIDE_MAP: &[u8] = b"rvld map 1
 entry 9876543210001004
@@ -158,41 +98,10 @@ const ENTRIES: &[u8] = b"\0\0\0\0\0\0\0\0\0\0\0\0\0\0\0\0\0\0\0\0\0\0\0\0\
 /// The names of sections stand after the function, whose eight bytes stand at 0x1000. The values are those of `_end`, where no section ends it at
 /// the start of the page after the headers, `a_long_name`, `b` and `end`, of which the first counts.
 const LISTINGS: &[Listing] = &[
-    Listing {
-        objects: &[OF_F],
-        asked: FROM_F,
-        told: Told::Table {
-            symbols: ENTRIES,
-            names: b"\0_end\0f\0",
-        },
-    },
-    Listing {
-        objects: &[OF_F],
-        asked: Asked {
-            options: STRIPPED,
-            ..FROM_F
-        },
-        told: Told::NoTable {
-            offset: 0x1008,
-            bytes: b"\0.text\0.shstrtab\0",
-        },
-    },
-    Listing {
-        objects: &[NUMBERS, ASKER],
-        asked: Asked {
-            entry: "b",
-            ..PLAIN
-        },
-        told: Told::Values(&[0x11000, 4, 2, 1]),
-    },
-    Listing {
-        objects: &[WIDE],
-        asked: Asked {
-            entry: "f %",
-            ..PLAIN
-        },
-        told: Told::Lines(WIDE_MAP),
-    },
+    listing!(&[OF_F], FROM_F; Told::Table { symbols: ENTRIES, names: b"\0_end\0f\0" }),
+    listing!(&[OF_F], Asked { options: STRIPPED, ..FROM_F }; Told::NoTable { offset: 0x1008, bytes: b"\0.text\0.shstrtab\0" }),
+    listing!(&[NUMBERS, ASKER], Asked { entry: "b", ..PLAIN }; Told::Values(&[0x11000, 4, 2, 1])),
+    listing!(&[WIDE], Asked { entry: "f %", ..PLAIN }; Told::Lines(WIDE_MAP)),
 ];
 
 /// Whether a symbol table was written, with these bytes and names.

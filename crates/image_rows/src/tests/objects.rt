@@ -1,56 +1,18 @@
 //! What the objects of the rows share.
 
-use elf_bytes::{Object, Reloc, Section, SectionLink, Symbol};
+use elf_bytes::{Object, Reloc, Section, Symbol, reloc, section, symbol};
 
 /// Code of no bytes.
-pub const CODE: Section = Section {
-    name: b".text",
-    sort: 1,
-    flags: 6,
-    align: 4,
-    size: 0,
-    zeros: 0,
-    bytes: b"",
-    relocs: &[],
-    link: SectionLink::Number(0),
-    info: 0,
-    entsize: 0,
-};
-
-/// Zeros without bytes.
-pub const ZEROS: Section = Section {
-    name: b".bss",
-    sort: 8,
-    flags: 3,
-    ..CODE
-};
+pub const CODE: Section = section!(b".text", 1, 6, 4; b"");
 
 /// Where the program starts: a number.
-pub const START: Symbol = Symbol {
-    name: b"_start",
-    binding: 1,
-    sort: 0,
-    section: 0xfff1,
-    value: 0x11000,
-    size: 0,
-};
+pub const START: Symbol = symbol!(b"_start", 1, 0, 0xfff1, 0x11000, 0);
 
 /// A local symbol at the start of the first section.
-pub const LABEL: Symbol = Symbol {
-    name: b".L0",
-    binding: 0,
-    section: 1,
-    value: 0,
-    ..START
-};
+pub const LABEL: Symbol = symbol!(b".L0", 0, 0, 1, 0, 0);
 
 /// A relocation by symbol 1.
-pub const BY_FIRST: Reloc = Reloc {
-    offset: 0,
-    kind: 0,
-    symbol: 1,
-    addend: 0,
-};
+pub const BY_FIRST: Reloc = reloc!(0, 0, 1, 0);
 
 const STARTS: &[Symbol] = &[START];
 

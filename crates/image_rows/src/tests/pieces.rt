@@ -1,8 +1,8 @@
 //! The pieces of sections that are merged, and where they stand in their pool.
 
 use super::links::{PLAIN, inputs_of, run_passes};
-use super::objects::{CODE, object_with};
-use elf_bytes::Section;
+use super::objects::object_with;
+use elf_bytes::{Section, section};
 use link_sections::{Part, Piece, Pool};
 use lk_base::LinkStop;
 use lk_tables::{Heads, Tables};
@@ -13,27 +13,12 @@ use str_merge::{merge, piece_count};
 use work_split::OpenGate;
 
 /// Strings of characters of one byte, and after them constants of four.
-const STRINGS: Section = Section {
-    name: b".rodata.str",
-    flags: 0x32,
-    align: 8,
-    entsize: 1,
-    bytes: b"abc\0\0\0\0\0xyz\0",
-    ..CODE
-};
+const STRINGS: Section = section!(b".rodata.str", 1, 0x32, 8; b"abc\0\0\0\0\0xyz\0"; entsize: 1);
 
-const CONSTANTS: Section = Section {
-    flags: 0x12,
-    entsize: 4,
-    ..STRINGS
-};
+const CONSTANTS: Section = section!(STRINGS => flags: 0x12, entsize: 4);
 
 /// Strings of characters of two bytes.
-const WIDE: Section = Section {
-    entsize: 2,
-    bytes: b"a\0\0\0\0b\0\0c\0\0\0",
-    ..STRINGS
-};
+const WIDE: Section = section!(b".rodata.str", 1, 0x32, 8; b"a\0\0\0\0b\0\0c\0\0\0"; entsize: 2);
 
 /// Where each of these parts begins in its section, and how many bytes its piece has.
 fn lengths_of(

@@ -1,9 +1,8 @@
 //! The objects of a link whose code loses bytes, and its executable, worked out by hand.
 
 use super::blocks::Lengths;
-use super::examples::{Example, LOWER, TO_SECOND, WHOLE};
-use super::objects::{BY_FIRST, CODE, LABEL, START};
-use elf_bytes::{Image, Listed, Object, Reloc, Section, Symbol};
+use super::examples::{Example, LOWER, WHOLE};
+use elf_bytes::{Image, Listed, Object, Section, Symbol, object, reloc, section, symbol};
 
 /// Kinds of relocations: a call of two instructions, the distance to an entry of the linker's table, an alignment, and leave to shorten.
 const CALL_PLT: u64 = 19;
@@ -16,164 +15,43 @@ const RELAX: u64 = 51;
 
 /// Calls `far`, jumps to it, and loads `odd` by the linker's table, with an alignment at a multiple of 16 between the two parts of the
 /// load.
-const TEXT: Section = Section {
-    align: 8,
-    bytes: b"\x97\0\0\0\xe7\x80\0\0\x17\x03\0\0\x67\0\x03\0\x17\x05\0\0\x13\0\0\0\x13\0\0\0\x13\0\0\0\x01\0\x03\x35\x05\0\x82\x80",
+const TEXT: Section = section!(b".text", 1, 6, 8;
+    b"\x97\0\0\0\xe7\x80\0\0\x17\x03\0\0\x67\0\x03\0\x17\x05\0\0\x13\0\0\0\x13\0\0\0\x13\0\0\0\x01\0\x03\x35\x05\0\x82\x80";
     relocs: &[
-        Reloc {
-            kind: CALL_PLT,
-            symbol: 4,
-            ..BY_FIRST
-        },
-        Reloc {
-            kind: RELAX,
-            symbol: 0,
-            ..BY_FIRST
-        },
-        Reloc {
-            offset: 8,
-            kind: CALL_PLT,
-            symbol: 4,
-            ..BY_FIRST
-        },
-        Reloc {
-            offset: 8,
-            kind: RELAX,
-            symbol: 0,
-            ..BY_FIRST
-        },
-        Reloc {
-            offset: 16,
-            kind: BY_TABLE,
-            symbol: 5,
-            ..BY_FIRST
-        },
-        Reloc {
-            offset: 20,
-            kind: ALIGN,
-            symbol: 0,
-            addend: 14,
-        },
-        Reloc {
-            offset: 34,
-            kind: LOWER,
-            ..BY_FIRST
-        },
-    ],
-    ..CODE
-};
+        reloc!(0, CALL_PLT, 4, 0), reloc!(0, RELAX, 0, 0), reloc!(8, CALL_PLT, 4, 0), reloc!(8, RELAX, 0, 0), reloc!(16, BY_TABLE, 5, 0),
+        reloc!(20, ALIGN, 0, 14), reloc!(34, LOWER, 1, 0),
+    ]);
 
 /// Strings, of which one is empty, and one is in both files.
-const STRINGS: Section = Section {
-    name: b".rodata.str1.1",
-    flags: 0x32,
-    align: 1,
-    entsize: 1,
-    bytes: b"ab\0\0xyz\0",
-    ..CODE
-};
+const STRINGS: Section = section!(b".rodata.str1.1", 1, 0x32, 1; b"ab\0\0xyz\0"; entsize: 1);
 
 /// The address of the second character of `xyz`, by the start of the strings, at an odd place.
-const DATA: Section = Section {
-    name: b".data",
-    flags: 3,
-    align: 8,
-    bytes: b"a\0\0\0\0\0\0\0\0b",
-    relocs: &[Reloc {
-        offset: 1,
-        addend: 5,
-        ..TO_SECOND
-    }],
-    ..CODE
-};
+const DATA: Section =
+    section!(b".data", 1, 3, 8; b"a\0\0\0\0\0\0\0\0b"; relocs: &[reloc!(1, WHOLE, 2, 5)]);
 
 /// The start of the strings.
-const TEXTS: Symbol = Symbol {
-    name: b"",
-    sort: 3,
-    section: 2,
-    ..LABEL
-};
+const TEXTS: Symbol = symbol!(b"", 0, 3, 2, 0, 0);
 
 /// Where the first part of the load stands.
-const LOADED: Symbol = Symbol { value: 16, ..LABEL };
+const LOADED: Symbol = symbol!(b".L0", 0, 0, 1, 16, 0);
 
 /// All 40 bytes of the code, of which 22 stay.
-const BEGIN: Symbol = Symbol {
-    section: 1,
-    value: 0,
-    size: 40,
-    ..START
-};
+const BEGIN: Symbol = symbol!(b"_start", 1, 0, 1, 0, 40);
 
 /// What another file has.
-const FAR: Symbol = Symbol {
-    name: b"far",
-    section: 0,
-    size: 0,
-    ..BEGIN
-};
+const FAR: Symbol = symbol!(b"far", 1, 0, 0, 0, 0);
 
 /// The last byte of the data.
-const ODD: Symbol = Symbol {
-    name: b"odd",
-    section: 3,
-    value: 9,
-    size: 1,
-    ..BEGIN
-};
+const ODD: Symbol = symbol!(b"odd", 1, 0, 3, 9, 1);
 
-const FIRST: Object = Object {
-    flags: 1,
-    sections: &[TEXT, STRINGS, DATA],
-    symbols: &[LOADED, TEXTS, BEGIN, FAR, ODD],
-};
+const FIRST: Object = object!(1; [TEXT, STRINGS, DATA]; [LOADED, TEXTS, BEGIN, FAR, ODD]);
 
 /// What is called, at a multiple of 16; and the addresses of `q` and of the last character of `xyz`.
-const SECOND: Object = Object {
-    flags: 1,
-    sections: &[
-        Section {
-            align: 16,
-            bytes: b"\x01\0\x82\x80",
-            ..CODE
-        },
-        Section {
-            bytes: b"xyz\0q\0",
-            ..STRINGS
-        },
-        Section {
-            align: 32,
-            bytes: b"c\0\0\0\0\0\0\0\0d\0\0\0\0\0\0\0\0e",
-            relocs: &[
-                Reloc {
-                    offset: 1,
-                    kind: WHOLE,
-                    ..BY_FIRST
-                },
-                Reloc {
-                    offset: 10,
-                    addend: 2,
-                    ..TO_SECOND
-                },
-            ],
-            ..DATA
-        },
-    ],
-    symbols: &[
-        Symbol {
-            section: 2,
-            value: 4,
-            ..LABEL
-        },
-        TEXTS,
-        Symbol {
-            section: 1,
-            size: 4,
-            ..FAR
-        },
-    ],
-};
+const SECOND: Object = object!(1; [
+    section!(b".text", 1, 6, 16; b"\x01\0\x82\x80"),
+    section!(STRINGS => bytes: b"xyz\0q\0"),
+    section!(b".data", 1, 3, 32; b"c\0\0\0\0\0\0\0\0d\0\0\0\0\0\0\0\0e"; relocs: &[reloc!(1, WHOLE, 1, 0), reloc!(10, WHOLE, 2, 2)]),
+]; [symbol!(b".L0", 0, 0, 2, 4, 0), TEXTS, symbol!(b"far", 1, 0, 1, 0, 4)]);
 
 /// The code at 0x11000: `jal` and `c.j` to 0x11020; `auipc` for the entry at 0x12000, which is 0xffa from it; six bytes of nops up to
 /// 0x11010; the load at -6 from 0x12006; and the return.

@@ -3,7 +3,7 @@
 use link_driver::OpenGate;
 use link_examples::{Files, SOUND, words_of};
 use link_gen::objects;
-use link_runs::{Left, run_over};
+use link_runs::{Left, each, run_over};
 use lk_depot::FileKind;
 use std::alloc::{AllocError, Global};
 use std::test::Fail;
@@ -111,58 +111,26 @@ struct Cut<'a> {
     answer: Answer<'a>,
 }
 
+macro_rules! cut {
+    ($sample:expr, $first:expr, $last:expr; $answer:expr) => {
+        Cut {
+            sample: $sample,
+            first: $first,
+            last: $last,
+            answer: $answer,
+        }
+    };
+}
+
 const CUTS: &[Cut] = &[
-    Cut {
-        sample: Sample::Object,
-        first: 0,
-        last: 3,
-        answer: Answer::Line("rvld: F01 NotObject file=gen0.o section=0 place=0 name= other=0\n"),
-    },
-    Cut {
-        sample: Sample::Object,
-        first: 4,
-        last: 63,
-        answer: Answer::LengthAs(
-            "rvld: F02 BadHeader file=gen0.o section=0 place=",
-            " name= other=0\n",
-        ),
-    },
-    Cut {
-        sample: Sample::Object,
-        first: 64,
-        last: 1151,
-        answer: Answer::Line("rvld: F03 Outside file=gen0.o section=0 place=40 name= other=0\n"),
-    },
-    Cut {
-        sample: Sample::Object,
-        first: 1152,
-        last: 1152,
-        answer: Answer::Linked,
-    },
-    Cut {
-        sample: Sample::Archive,
-        first: 0,
-        last: 7,
-        answer: Answer::Line("rvld: F01 NotObject file=lib.a section=0 place=0 name= other=0\n"),
-    },
-    Cut {
-        sample: Sample::Archive,
-        first: 8,
-        last: 8,
-        answer: Answer::Line("rvld: F21 NoEntry file=- section=0 place=0 name=_start other=0\n"),
-    },
-    Cut {
-        sample: Sample::Archive,
-        first: 9,
-        last: 1219,
-        answer: Answer::Line("rvld: F06 BadArchive file=lib.a section=0 place=8 name= other=0\n"),
-    },
-    Cut {
-        sample: Sample::Archive,
-        first: 1220,
-        last: 1220,
-        answer: Answer::Line("rvld: F21 NoEntry file=- section=0 place=0 name=_start other=0\n"),
-    },
+    cut!(Sample::Object, 0, 3; Answer::Line("rvld: F01 NotObject file=gen0.o section=0 place=0 name= other=0\n")),
+    cut!(Sample::Object, 4, 63; Answer::LengthAs("rvld: F02 BadHeader file=gen0.o section=0 place=", " name= other=0\n")),
+    cut!(Sample::Object, 64, 1151; Answer::Line("rvld: F03 Outside file=gen0.o section=0 place=40 name= other=0\n")),
+    cut!(Sample::Object, 1152, 1152; Answer::Linked),
+    cut!(Sample::Archive, 0, 7; Answer::Line("rvld: F01 NotObject file=lib.a section=0 place=0 name= other=0\n")),
+    cut!(Sample::Archive, 8, 8; Answer::Line("rvld: F21 NoEntry file=- section=0 place=0 name=_start other=0\n")),
+    cut!(Sample::Archive, 9, 1219; Answer::Line("rvld: F06 BadArchive file=lib.a section=0 place=8 name= other=0\n")),
+    cut!(Sample::Archive, 1220, 1220; Answer::Line("rvld: F21 NoEntry file=- section=0 place=0 name=_start other=0\n")),
 ];
 
 /// Whether a file that is cut to this length ends as it should.
@@ -203,102 +171,40 @@ struct Altered<'a> {
     answer: Answer<'a>,
 }
 
+macro_rules! altered {
+    ($first:expr, $last:expr, $value:expr; $answer:expr) => {
+        Altered {
+            first: $first,
+            last: $last,
+            value: $value,
+            answer: $answer,
+        }
+    };
+}
+
 /// A byte of a header.
-const OF_MACHINE: Altered = Altered {
-    first: 18,
-    last: 18,
-    value: 62,
-    answer: Answer::Line("rvld: F02 BadHeader file=gen0.o section=0 place=18 name= other=0\n"),
-};
+const OF_MACHINE: Altered =
+    altered!(18, 18, 62; Answer::Line("rvld: F02 BadHeader file=gen0.o section=0 place=18 name= other=0\n"));
 
 const HEADERS: &[Altered] = &[
     OF_MACHINE,
-    Altered {
-        first: 60,
-        last: 61,
-        value: 0,
-        answer: Answer::Line("rvld: F04 BadSection file=gen0.o section=0 place=60 name= other=0\n"),
-    },
-    Altered {
-        first: 62,
-        last: 62,
-        value: 11,
-        answer: Answer::Line("rvld: F04 BadSection file=gen0.o section=0 place=62 name= other=0\n"),
-    },
-    Altered {
-        first: 512,
-        last: 515,
-        value: 255,
-        answer: Answer::Line("rvld: F10 BadName file=gen0.o section=1 place=512 name= other=0\n"),
-    },
-    Altered {
-        first: 551,
-        last: 551,
-        value: 128,
-        answer: Answer::Line("rvld: F03 Outside file=gen0.o section=1 place=512 name= other=0\n"),
-    },
-    Altered {
-        first: 521,
-        last: 521,
-        value: 8,
-        answer: Answer::Line(
-            "rvld: F05 Compressed file=gen0.o section=1 place=512 name= other=0\n",
-        ),
-    },
-    Altered {
-        first: 560,
-        last: 560,
-        value: 3,
-        answer: Answer::Line(
-            "rvld: F15 BadAlignment file=gen0.o section=1 place=512 name= other=0\n",
-        ),
-    },
+    altered!(60, 61, 0; Answer::Line("rvld: F04 BadSection file=gen0.o section=0 place=60 name= other=0\n")),
+    altered!(62, 62, 11; Answer::Line("rvld: F04 BadSection file=gen0.o section=0 place=62 name= other=0\n")),
+    altered!(512, 515, 255; Answer::Line("rvld: F10 BadName file=gen0.o section=1 place=512 name= other=0\n")),
+    altered!(551, 551, 128; Answer::Line("rvld: F03 Outside file=gen0.o section=1 place=512 name= other=0\n")),
+    altered!(521, 521, 8; Answer::Line("rvld: F05 Compressed file=gen0.o section=1 place=512 name= other=0\n")),
+    altered!(560, 560, 3; Answer::Line("rvld: F15 BadAlignment file=gen0.o section=1 place=512 name= other=0\n")),
 ];
 
 const CONTENTS: &[Altered] = &[
-    Altered {
-        first: 238,
-        last: 239,
-        value: 255,
-        answer: Answer::Line("rvld: F09 BadSymbol file=gen0.o section=8 place=232 name= other=0\n"),
-    },
-    Altered {
-        first: 238,
-        last: 238,
-        value: 11,
-        answer: Answer::Line("rvld: F09 BadSymbol file=gen0.o section=8 place=232 name= other=0\n"),
-    },
-    Altered {
-        first: 240,
-        last: 240,
-        value: 13,
-        answer: Answer::Line("rvld: F09 BadSymbol file=gen0.o section=8 place=232 name= other=0\n"),
-    },
-    Altered {
-        first: 92,
-        last: 92,
-        value: 6,
-        answer: Answer::Line("rvld: F11 BadReloc file=gen0.o section=2 place=80 name= other=0\n"),
-    },
-    Altered {
-        first: 88,
-        last: 88,
-        value: 41,
-        answer: Answer::Line("rvld: F12 RelocKind file=gen0.o section=2 place=80 name= other=41\n"),
-    },
-    Altered {
-        first: 80,
-        last: 80,
-        value: 5,
-        answer: Answer::Line("rvld: F11 BadReloc file=gen0.o section=2 place=80 name= other=0\n"),
-    },
+    altered!(238, 239, 255; Answer::Line("rvld: F09 BadSymbol file=gen0.o section=8 place=232 name= other=0\n")),
+    altered!(238, 238, 11; Answer::Line("rvld: F09 BadSymbol file=gen0.o section=8 place=232 name= other=0\n")),
+    altered!(240, 240, 13; Answer::Line("rvld: F09 BadSymbol file=gen0.o section=8 place=232 name= other=0\n")),
+    altered!(92, 92, 6; Answer::Line("rvld: F11 BadReloc file=gen0.o section=2 place=80 name= other=0\n")),
+    altered!(88, 88, 41; Answer::Line("rvld: F12 RelocKind file=gen0.o section=2 place=80 name= other=41\n")),
+    altered!(80, 80, 5; Answer::Line("rvld: F11 BadReloc file=gen0.o section=2 place=80 name= other=0\n")),
     // Sections may share bytes.
-    Altered {
-        first: 856,
-        last: 856,
-        value: 64,
-        answer: Answer::Linked,
-    },
+    altered!(856, 856, 64; Answer::Linked),
 ];
 
 /// The object with its bytes altered.
@@ -330,16 +236,10 @@ fn is_altered<R: Threads + Sync>(
 
 #[test]
 fn headers_are_altered(rt: HostRuntime) -> Result<(), Fail> {
-    for (index, altered) in HEADERS.iter().enumerate() {
-        assert!(rt; is_altered(&rt, rt.alloc(), altered)?, "example {index}");
-    }
-    Ok(())
+    each!(rt; altered in HEADERS => is_altered(&rt, rt.alloc(), altered)?)
 }
 
 #[test]
 fn contents_are_altered(rt: HostRuntime) -> Result<(), Fail> {
-    for (index, altered) in CONTENTS.iter().enumerate() {
-        assert!(rt; is_altered(&rt, rt.alloc(), altered)?, "example {index}");
-    }
-    Ok(())
+    each!(rt; altered in CONTENTS => is_altered(&rt, rt.alloc(), altered)?)
 }

@@ -10,278 +10,64 @@ use link_examples::libraries::{
     ONE_MEMBER, PACKED_FIRST, PACKED_LAST, SEVEN_MEMBERS, START_ALONE, STRONG_ALONE, WEAK_FIRST,
     WITH_TEXT,
 };
-use link_examples::{FIRST_LINK, Link, Refusal, Store};
+use link_examples::{Link, Refusal, link, refusal};
 
 /// Forms of archives, and an archive before the object that asks.
 pub const READ: &[Link] = &[
-    Link {
-        words: &["rvld", "-s", "m.o", "lib.a"],
-        libraries: &[WITH_TEXT],
-        image: ASKED,
-        ..FIRST_LINK
-    },
-    Link {
-        words: &["rvld", "-s", "a.o", "lib.a"],
-        libraries: &[EMPTY],
-        image: FIRST,
-        ..FIRST_LINK
-    },
-    Link {
-        words: &["rvld", "-s", "m.o", "lib.a"],
-        libraries: &[INDEXED],
-        image: ASKED,
-        ..FIRST_LINK
-    },
-    Link {
-        words: &["rvld", "-s", "lib.a", "m.o"],
-        libraries: &[ONE_MEMBER],
-        image: ASKED_BEFORE,
-        ..FIRST_LINK
-    },
+    link!("-s", "m.o", "lib.a" => ASKED; libraries: &[WITH_TEXT]),
+    link!("-s", "a.o", "lib.a" => FIRST; libraries: &[EMPTY]),
+    link!("-s", "m.o", "lib.a" => ASKED; libraries: &[INDEXED]),
+    link!("-s", "lib.a", "m.o" => ASKED_BEFORE; libraries: &[ONE_MEMBER]),
 ];
 
 /// Members that nothing pulls.
 pub const IDLE: &[Link] = &[
-    Link {
-        words: &["rvld", "-s", "call.o", "lib.a"],
-        libraries: &[OFFER_OF_WEAK],
-        image: WEAK_CALL,
-        ..FIRST_LINK
-    },
-    Link {
-        words: &["rvld", "-s", "a.o", "lib.a"],
-        libraries: &[ONE_MEMBER],
-        image: FIRST,
-        ..FIRST_LINK
-    },
-    Link {
-        words: &["rvld", "-s", "lib.a", "a.o"],
-        libraries: &[ONE_MEMBER],
-        image: FIRST,
-        ..FIRST_LINK
-    },
-    Link {
-        words: &["rvld", "-s", "a.o", "lib.a"],
-        libraries: &[CHAIN],
-        image: FIRST,
-        ..FIRST_LINK
-    },
-    Link {
-        words: &["rvld", "-s", "m.o", "lib.a"],
-        libraries: &[PACKED_LAST],
-        image: ASKED,
-        ..FIRST_LINK
-    },
-    Link {
-        words: &["rvld", "-s", "m.o", "lib.a"],
-        libraries: &[DOUBLE_LAST],
-        image: ASKED,
-        ..FIRST_LINK
-    },
+    link!("-s", "call.o", "lib.a" => WEAK_CALL; libraries: &[OFFER_OF_WEAK]),
+    link!("-s", "a.o", "lib.a" => FIRST; libraries: &[ONE_MEMBER]),
+    link!("-s", "lib.a", "a.o" => FIRST; libraries: &[ONE_MEMBER]),
+    link!("-s", "a.o", "lib.a" => FIRST; libraries: &[CHAIN]),
+    link!("-s", "m.o", "lib.a" => ASKED; libraries: &[PACKED_LAST]),
+    link!("-s", "m.o", "lib.a" => ASKED; libraries: &[DOUBLE_LAST]),
 ];
 
 /// Which offer of a name is taken.
 pub const CHOSEN: &[Link] = &[
-    Link {
-        words: &["rvld", "-s", "m.o", "lib.a", "lib.a"],
-        libraries: &[ONE_MEMBER],
-        image: ASKED,
-        ..FIRST_LINK
-    },
-    Link {
-        words: &["rvld", "-s", "m.o", "lib.a", "n.o"],
-        libraries: &[ONE_MEMBER],
-        image: ASKED_BREAK,
-        ..FIRST_LINK
-    },
-    Link {
-        words: &["rvld", "-s", "m.o", "lib.a"],
-        libraries: &[FIRST_RETURNS],
-        image: ASKED,
-        ..FIRST_LINK
-    },
-    Link {
-        words: &["rvld", "-s", "m.o", "lib.a"],
-        libraries: &[FIRST_BREAKS],
-        image: ASKED_BREAK,
-        ..FIRST_LINK
-    },
-    Link {
-        words: &["rvld", "-s", "m.o", "lib.a"],
-        libraries: &[WEAK_FIRST],
-        image: ASKED,
-        ..FIRST_LINK
-    },
-    Link {
-        words: &["rvld", "-s", "x.o", "lib.a"],
-        libraries: &[COMMON_FIRST],
-        image: ASKED_COMMON,
-        ..FIRST_LINK
-    },
-    Link {
-        words: &["rvld", "-s", "x.o", "lib.a", "c8.o"],
-        libraries: &[STRONG_ALONE],
-        image: ASKED_COMMON,
-        ..FIRST_LINK
-    },
+    link!("-s", "m.o", "lib.a", "lib.a" => ASKED; libraries: &[ONE_MEMBER]),
+    link!("-s", "m.o", "lib.a", "n.o" => ASKED_BREAK; libraries: &[ONE_MEMBER]),
+    link!("-s", "m.o", "lib.a" => ASKED; libraries: &[FIRST_RETURNS]),
+    link!("-s", "m.o", "lib.a" => ASKED_BREAK; libraries: &[FIRST_BREAKS]),
+    link!("-s", "m.o", "lib.a" => ASKED; libraries: &[WEAK_FIRST]),
+    link!("-s", "x.o", "lib.a" => ASKED_COMMON; libraries: &[COMMON_FIRST]),
+    link!("-s", "x.o", "lib.a", "c8.o" => ASKED_COMMON; libraries: &[STRONG_ALONE]),
 ];
 
 /// A member that another pulls.
 pub const CHAINS: &[Link] = &[
-    Link {
-        words: &["rvld", "-s", "m.o", "lib.a"],
-        libraries: &[CHAIN],
-        image: ASKED_TWICE,
-        ..FIRST_LINK
-    },
-    Link {
-        words: &["rvld", "-s", "m.o", "two.a", "caller.a"],
-        libraries: &[CHAIN_END, CHAIN_BEGIN],
-        image: ASKED_TWICE,
-        ..FIRST_LINK
-    },
+    link!("-s", "m.o", "lib.a" => ASKED_TWICE; libraries: &[CHAIN]),
+    link!("-s", "m.o", "two.a", "caller.a" => ASKED_TWICE; libraries: &[CHAIN_END, CHAIN_BEGIN]),
 ];
 
 /// What is wrong with members.
 pub const WRONG_MEMBERS: &[Refusal] = &[
-    Refusal {
-        words: &["rvld", "-s", "both.o", "lib.a"],
-        store: Store::Objects,
-        libraries: &[SEVEN_MEMBERS],
-        status: 1,
-        line: "rvld: F20 Duplicate file=lib.a(one.o) section=0 place=1 name=n other=lib.a(seven.o)\n",
-        loads: 2,
-    },
-    Refusal {
-        words: &["rvld", "-s", "a.o", "lib.a"],
-        store: Store::Objects,
-        libraries: &[CUT_MEMBER],
-        status: 1,
-        line: "rvld: F02 BadHeader file=lib.a(two.o) section=0 place=63 name= other=0\n",
-        loads: 2,
-    },
-    Refusal {
-        words: &["rvld", "-s", "m.o", "lib.a"],
-        store: Store::Objects,
-        libraries: &[LONG_CUT_MEMBER],
-        status: 1,
-        line: "rvld: F02 BadHeader file=lib.a(cut_to_63_bytes_.o) section=0 place=63 name= other=0\n",
-        loads: 2,
-    },
-    Refusal {
-        words: &["rvld", "-s", "m.o", "lib.a"],
-        store: Store::Objects,
-        libraries: &[PACKED_FIRST],
-        status: 1,
-        line: "rvld: F05 Compressed file=lib.a(packed.o) section=1 place=200 name= other=0\n",
-        loads: 2,
-    },
-    Refusal {
-        words: &["rvld", "-s", "m.o", "lib.a"],
-        store: Store::Objects,
-        libraries: &[DOUBLE_FIRST],
-        status: 1,
-        line: "rvld: F16 FlagsClash file=lib.a(double.o) section=0 place=4 name= other=0\n",
-        loads: 2,
-    },
-    Refusal {
-        words: &["rvld", "-s", "h.o", "lib.a"],
-        store: Store::Objects,
-        libraries: &[START_ALONE],
-        status: 1,
-        line: "rvld: F21 NoEntry file=- section=0 place=0 name=_start other=0\n",
-        loads: 2,
-    },
-    Refusal {
-        words: &["rvld", "-s", "lib.a"],
-        store: Store::Objects,
-        libraries: &[START_ALONE],
-        status: 1,
-        line: "rvld: F21 NoEntry file=- section=0 place=0 name=_start other=0\n",
-        loads: 1,
-    },
-    Refusal {
-        words: &["rvld", "-s", "m.o", "lib.a"],
-        store: Store::Objects,
-        libraries: &[CALLER_ALONE],
-        status: 1,
-        line: "rvld: F22 Undefined file=lib.a(caller.o) section=1 place=0 name=m other=0\n",
-        loads: 2,
-    },
+    refusal!("-s", "both.o", "lib.a" => 1, 2, "F20 Duplicate file=lib.a(one.o) section=0 place=1 name=n other=lib.a(seven.o)"; libraries: &[SEVEN_MEMBERS]),
+    refusal!("-s", "a.o", "lib.a" => 1, 2, "F02 BadHeader file=lib.a(two.o) section=0 place=63 name= other=0"; libraries: &[CUT_MEMBER]),
+    refusal!("-s", "m.o", "lib.a" => 1, 2, "F02 BadHeader file=lib.a(cut_to_63_bytes_.o) section=0 place=63 name= other=0"; libraries: &[LONG_CUT_MEMBER]),
+    refusal!("-s", "m.o", "lib.a" => 1, 2, "F05 Compressed file=lib.a(packed.o) section=1 place=200 name= other=0"; libraries: &[PACKED_FIRST]),
+    refusal!("-s", "m.o", "lib.a" => 1, 2, "F16 FlagsClash file=lib.a(double.o) section=0 place=4 name= other=0"; libraries: &[DOUBLE_FIRST]),
+    refusal!("-s", "h.o", "lib.a" => 1, 2, "F21 NoEntry file=- section=0 place=0 name=_start other=0"; libraries: &[START_ALONE]),
+    refusal!("-s", "lib.a" => 1, 1, "F21 NoEntry file=- section=0 place=0 name=_start other=0"; libraries: &[START_ALONE]),
+    refusal!("-s", "m.o", "lib.a" => 1, 2, "F22 Undefined file=lib.a(caller.o) section=1 place=0 name=m other=0"; libraries: &[CALLER_ALONE]),
 ];
 
 /// What is wrong with archives.
 pub const WRONG_ARCHIVES: &[Refusal] = &[
-    Refusal {
-        words: &["rvld", "-s", "a.o", "lib.a"],
-        store: Store::Objects,
-        libraries: &[NO_MEMBERS_BYTES],
-        status: 1,
-        line: "rvld: F07 Thin file=lib.a section=0 place=0 name= other=0\n",
-        loads: 2,
-    },
-    Refusal {
-        words: &["rvld", "-s", "a.o", "lib.a"],
-        store: Store::Objects,
-        libraries: &[CUT_HEADER],
-        status: 1,
-        line: "rvld: F06 BadArchive file=lib.a section=0 place=8 name= other=0\n",
-        loads: 2,
-    },
-    Refusal {
-        words: &["rvld", "-s", "a.o", "lib.a"],
-        store: Store::Objects,
-        libraries: &[NO_SIZE],
-        status: 1,
-        line: "rvld: F06 BadArchive file=lib.a section=0 place=524 name= other=0\n",
-        loads: 2,
-    },
-    Refusal {
-        words: &["rvld", "-s", "a.o", "lib.a"],
-        store: Store::Objects,
-        libraries: &[NO_TABLE],
-        status: 1,
-        line: "rvld: F06 BadArchive file=lib.a section=0 place=524 name= other=0\n",
-        loads: 2,
-    },
-    Refusal {
-        words: &["rvld", "-s", "a.o", "lib.a"],
-        store: Store::Objects,
-        libraries: &[NO_END],
-        status: 1,
-        line: "rvld: F06 BadArchive file=lib.a section=0 place=524 name= other=0\n",
-        loads: 2,
-    },
-    Refusal {
-        words: &["rvld", "-s", "a.o", "lib.a"],
-        store: Store::Objects,
-        libraries: &[CUT_DATA],
-        status: 1,
-        line: "rvld: F06 BadArchive file=lib.a section=0 place=524 name= other=0\n",
-        loads: 2,
-    },
-    Refusal {
-        words: &["rvld", "-s", "a.o", "lib.a"],
-        store: Store::Objects,
-        libraries: &[BSD_FIRST],
-        status: 1,
-        line: "rvld: F18 BsdName file=lib.a section=0 place=8 name= other=0\n",
-        loads: 2,
-    },
-    Refusal {
-        words: &["rvld", "-s", "a.o", "lib.a"],
-        store: Store::Objects,
-        libraries: &[BSD_LAST],
-        status: 1,
-        line: "rvld: F18 BsdName file=lib.a section=0 place=524 name= other=0\n",
-        loads: 2,
-    },
-    Refusal {
-        words: &["rvld", "-s", "a.o", "lib.a"],
-        store: Store::Objects,
-        libraries: &[NO_SLASH],
-        status: 1,
-        line: "rvld: F18 BsdName file=lib.a section=0 place=524 name= other=0\n",
-        loads: 2,
-    },
+    refusal!("-s", "a.o", "lib.a" => 1, 2, "F07 Thin file=lib.a section=0 place=0 name= other=0"; libraries: &[NO_MEMBERS_BYTES]),
+    refusal!("-s", "a.o", "lib.a" => 1, 2, "F06 BadArchive file=lib.a section=0 place=8 name= other=0"; libraries: &[CUT_HEADER]),
+    refusal!("-s", "a.o", "lib.a" => 1, 2, "F06 BadArchive file=lib.a section=0 place=524 name= other=0"; libraries: &[NO_SIZE]),
+    refusal!("-s", "a.o", "lib.a" => 1, 2, "F06 BadArchive file=lib.a section=0 place=524 name= other=0"; libraries: &[NO_TABLE]),
+    refusal!("-s", "a.o", "lib.a" => 1, 2, "F06 BadArchive file=lib.a section=0 place=524 name= other=0"; libraries: &[NO_END]),
+    refusal!("-s", "a.o", "lib.a" => 1, 2, "F06 BadArchive file=lib.a section=0 place=524 name= other=0"; libraries: &[CUT_DATA]),
+    refusal!("-s", "a.o", "lib.a" => 1, 2, "F18 BsdName file=lib.a section=0 place=8 name= other=0"; libraries: &[BSD_FIRST]),
+    refusal!("-s", "a.o", "lib.a" => 1, 2, "F18 BsdName file=lib.a section=0 place=524 name= other=0"; libraries: &[BSD_LAST]),
+    refusal!("-s", "a.o", "lib.a" => 1, 2, "F18 BsdName file=lib.a section=0 place=524 name= other=0"; libraries: &[NO_SLASH]),
 ];

@@ -4,152 +4,42 @@ use link_examples::images::{
     ALL_ORDERED, ARRAYS_ALONE, ASKED_WORD, FIRST, FRAMED, KEPT_NOTE, KEPT_ORDER, KEPT_RING,
     KEPT_TOGETHER, ORDERED, RETURN_ALONE, RETURN_AND_BREAK, RING_ALONE,
 };
-use link_examples::{FIRST_LINK, Link, Refusal, Store};
+use link_examples::{Link, Refusal, Store, link, refusal};
 
 /// What is kept for itself.
 pub const ROOTS: &[Link] = &[
-    Link {
-        words: &["rvld", "-s", "--gc-sections", "ring.o"],
-        store: Store::Collected,
-        image: RETURN_ALONE,
-        ..FIRST_LINK
-    },
-    Link {
-        words: &["rvld", "-s", "--gc-sections", "held.o"],
-        store: Store::Collected,
-        image: KEPT_RING,
-        ..FIRST_LINK
-    },
-    Link {
-        words: &["rvld", "-s", "--gc-sections", "-e", "a", "ring.o"],
-        store: Store::Collected,
-        image: RING_ALONE,
-        ..FIRST_LINK
-    },
-    Link {
-        words: &["rvld", "-s", "--gc-sections", "frames.o"],
-        store: Store::Collected,
-        image: FRAMED,
-        ..FIRST_LINK
-    },
-    Link {
-        words: &["rvld", "-s", "--gc-sections", "note.o"],
-        store: Store::Collected,
-        image: KEPT_NOTE,
-        ..FIRST_LINK
-    },
-    Link {
-        words: &["rvld", "-s", "--gc-sections", "arrays.o"],
-        store: Store::Collected,
-        image: ARRAYS_ALONE,
-        ..FIRST_LINK
-    },
+    link!("-s", "--gc-sections", "ring.o" => RETURN_ALONE; store: Store::Collected),
+    link!("-s", "--gc-sections", "held.o" => KEPT_RING; store: Store::Collected),
+    link!("-s", "--gc-sections", "-e", "a", "ring.o" => RING_ALONE; store: Store::Collected),
+    link!("-s", "--gc-sections", "frames.o" => FRAMED; store: Store::Collected),
+    link!("-s", "--gc-sections", "note.o" => KEPT_NOTE; store: Store::Collected),
+    link!("-s", "--gc-sections", "arrays.o" => ARRAYS_ALONE; store: Store::Collected),
 ];
 
 /// What is kept with other sections: of its group, by its link, and by what names it.
 pub const WITH_OTHERS: &[Link] = &[
-    Link {
-        words: &["rvld", "-s", "--gc-sections", "together.o"],
-        store: Store::Collected,
-        image: KEPT_TOGETHER,
-        ..FIRST_LINK
-    },
-    Link {
-        words: &["rvld", "-s", "--gc-sections", "zero.o"],
-        store: Store::Collected,
-        image: KEPT_TOGETHER,
-        ..FIRST_LINK
-    },
-    Link {
-        words: &["rvld", "-s", "--gc-sections", "idle.o"],
-        store: Store::Collected,
-        image: RETURN_ALONE,
-        ..FIRST_LINK
-    },
-    Link {
-        words: &["rvld", "-s", "--gc-sections", "order.o"],
-        store: Store::Collected,
-        image: ORDERED,
-        ..FIRST_LINK
-    },
-    Link {
-        words: &["rvld", "-s", "--gc-sections", "asked.o"],
-        store: Store::Collected,
-        image: KEPT_ORDER,
-        ..FIRST_LINK
-    },
-    Link {
-        words: &["rvld", "-s", "--gc-sections", "none.o"],
-        store: Store::Collected,
-        image: RETURN_AND_BREAK,
-        ..FIRST_LINK
-    },
+    link!("-s", "--gc-sections", "together.o" => KEPT_TOGETHER; store: Store::Collected),
+    link!("-s", "--gc-sections", "zero.o" => KEPT_TOGETHER; store: Store::Collected),
+    link!("-s", "--gc-sections", "idle.o" => RETURN_ALONE; store: Store::Collected),
+    link!("-s", "--gc-sections", "order.o" => ORDERED; store: Store::Collected),
+    link!("-s", "--gc-sections", "asked.o" => KEPT_ORDER; store: Store::Collected),
+    link!("-s", "--gc-sections", "none.o" => RETURN_AND_BREAK; store: Store::Collected),
 ];
 
 /// What nothing asks for is dropped, whatever it lacks; without the option nothing is.
 pub const DROPPED: &[Link] = &[
-    Link {
-        words: &["rvld", "-s", "--gc-sections", "a.o", "c.o"],
-        store: Store::Collected,
-        image: FIRST,
-        ..FIRST_LINK
-    },
-    Link {
-        words: &["rvld", "-s", "--gc-sections", "x.o", "c.o"],
-        store: Store::Collected,
-        image: ASKED_WORD,
-        ..FIRST_LINK
-    },
-    Link {
-        words: &["rvld", "-s", "--gc-sections", "a.o", "k.o"],
-        store: Store::Collected,
-        image: FIRST,
-        ..FIRST_LINK
-    },
-    Link {
-        words: &["rvld", "-s", "--gc-sections", "a.o", "far.o"],
-        store: Store::Collected,
-        image: FIRST,
-        ..FIRST_LINK
-    },
-    Link {
-        words: &["rvld", "-s", "ring.o"],
-        store: Store::Collected,
-        image: KEPT_RING,
-        ..FIRST_LINK
-    },
-    Link {
-        words: &["rvld", "-s", "order.o"],
-        store: Store::Collected,
-        image: ALL_ORDERED,
-        ..FIRST_LINK
-    },
+    link!("-s", "--gc-sections", "a.o", "c.o" => FIRST; store: Store::Collected),
+    link!("-s", "--gc-sections", "x.o", "c.o" => ASKED_WORD; store: Store::Collected),
+    link!("-s", "--gc-sections", "a.o", "k.o" => FIRST; store: Store::Collected),
+    link!("-s", "--gc-sections", "a.o", "far.o" => FIRST; store: Store::Collected),
+    link!("-s", "ring.o" => KEPT_RING; store: Store::Collected),
+    link!("-s", "order.o" => ALL_ORDERED; store: Store::Collected),
 ];
 
 /// What is kept may not lack it.
 pub const STILL: &[Refusal] = &[
-    Refusal {
-        words: &["rvld", "-s", "a.o", "k.o"],
-        store: Store::Collected,
-        libraries: &[],
-        status: 1,
-        line: "rvld: F22 Undefined file=k.o section=1 place=0 name=k other=0\n",
-        loads: 2,
-    },
-    Refusal {
-        words: &["rvld", "-s", "a.o", "far.o"],
-        store: Store::Collected,
-        libraries: &[],
-        status: 1,
-        line: "rvld: F24 Range file=far.o section=1 place=0 name=far other=2097152\n",
-        loads: 2,
-    },
-    Refusal {
-        words: &["rvld", "-s", "--gc-sections", "-e", "far", "far.o", "k.o"],
-        store: Store::Collected,
-        libraries: &[],
-        status: 1,
-        line: "rvld: F24 Range file=far.o section=1 place=0 name=far other=2097152\n",
-        loads: 2,
-    },
+    refusal!("-s", "a.o", "k.o" => 1, 2, "F22 Undefined file=k.o section=1 place=0 name=k other=0"; store: Store::Collected),
+    refusal!("-s", "a.o", "far.o" => 1, 2, "F24 Range file=far.o section=1 place=0 name=far other=2097152"; store: Store::Collected),
+    refusal!("-s", "--gc-sections", "-e", "far", "far.o", "k.o" => 1, 2, "F24 Range file=far.o section=1 place=0 name=far other=2097152";
+        store: Store::Collected),
 ];

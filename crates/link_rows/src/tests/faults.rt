@@ -5,12 +5,21 @@ use super::generated::{TWO_ALONE, TWO_MAPPED};
 use elf_bytes::image_of;
 use link_driver::OpenGate;
 use link_examples::lines::FIRST_LINES;
-use link_examples::{Call, FIRST_LINK, Link, Outside, SOUND, Stream, WORKERS, text_of};
-use link_runs::{Left, run_with};
+use link_examples::{Call, FIRST_LINK, Link, Outside, SOUND, Stream, WORKERS, link, text_of};
+use link_runs::{Left, each, run_with};
 use lk_depot::{FileKind, MemDepot};
 use std::alloc::{AllocError, Global};
 use std::test::Fail;
 use std::thread::Threads;
+
+macro_rules! outside {
+    ($base:expr => $($field:ident: $value:expr),+) => {
+        Outside {
+            $($field: $value,)+
+            ..$base
+        }
+    };
+}
 
 /// A command over an outside that fails: what it would leave, the status, what is told as an error, how many calls of the depot there are,
 /// how many bytes of the executable and of the map are there if these were begun, and how many of what is said.
@@ -26,13 +35,19 @@ struct Fault<'a> {
     said: usize,
 }
 
+macro_rules! fault {
+    ($base:expr => $($field:ident: $value:expr),+) => {
+        Fault {
+            $($field: $value,)+
+            ..$base
+        }
+    };
+}
+
 /// An executable of five appends.
 const UNREAD: Fault = Fault {
     link: FIRST_LINK,
-    outside: Outside {
-        fails: &[0],
-        ..SOUND
-    },
+    outside: outside!(SOUND => fails: &[0]),
     status: 3,
     told: "rvld: cannot read a.o\n",
     calls: 1,
@@ -43,153 +58,32 @@ const UNREAD: Fault = Fault {
 
 const FILES: &[Fault] = &[
     UNREAD,
-    Fault {
-        outside: Outside {
-            fails: &[1],
-            ..SOUND
-        },
-        told: "rvld: cannot write a.out\n",
-        calls: 2,
-        ..UNREAD
-    },
-    Fault {
-        outside: Outside {
-            fails: &[2],
-            ..SOUND
-        },
-        told: "rvld: cannot write a.out\n",
-        calls: 3,
-        executable: Some(0),
-        ..UNREAD
-    },
-    Fault {
-        outside: Outside {
-            fails: &[4],
-            ..SOUND
-        },
-        told: "rvld: cannot write a.out\n",
-        calls: 5,
-        executable: Some(2000),
-        ..UNREAD
-    },
-    Fault {
-        outside: Outside {
-            fails: &[6],
-            ..SOUND
-        },
-        told: "rvld: cannot write a.out\n",
-        calls: 7,
-        executable: Some(4000),
-        ..UNREAD
-    },
-    Fault {
-        outside: Outside {
-            fails: &[],
-            room: 4319,
-            ..SOUND
-        },
-        told: "rvld: cannot write a.out\n",
-        calls: 8,
-        executable: Some(4319),
-        ..UNREAD
-    },
+    fault!(UNREAD => outside: outside!(SOUND => fails: &[1]), told: "rvld: cannot write a.out\n", calls: 2),
+    fault!(UNREAD => outside: outside!(SOUND => fails: &[2]), told: "rvld: cannot write a.out\n", calls: 3, executable: Some(0)),
+    fault!(UNREAD => outside: outside!(SOUND => fails: &[4]), told: "rvld: cannot write a.out\n", calls: 5, executable: Some(2000)),
+    fault!(UNREAD => outside: outside!(SOUND => fails: &[6]), told: "rvld: cannot write a.out\n", calls: 7, executable: Some(4000)),
+    fault!(UNREAD => outside: outside!(SOUND => fails: &[], room: 4319), told: "rvld: cannot write a.out\n", calls: 8, executable: Some(4319)),
 ];
 
 /// Each file is written by one append.
-const AT_ONCE: Outside = Outside {
-    most: 65536,
-    ..SOUND
-};
+const AT_ONCE: Outside = outside!(SOUND => most: 65536);
 
-const FIRST_MAPPED: Link = Link {
-    words: &["rvld", "-s", "--Map", "m", "a.o"],
-    lines: FIRST_LINES,
-    ..FIRST_LINK
-};
+const FIRST_MAPPED: Link = link!("-s", "--Map", "m", "a.o"; lines: FIRST_LINES);
 
 /// An executable of 4,320 bytes, and a map of 191.
-const UNREAD_FOR_MAP: Fault = Fault {
-    link: FIRST_MAPPED,
-    outside: Outside {
-        fails: &[0],
-        ..AT_ONCE
-    },
-    ..UNREAD
-};
+const UNREAD_FOR_MAP: Fault =
+    fault!(UNREAD => link: FIRST_MAPPED, outside: outside!(AT_ONCE => fails: &[0]));
 
 const WITH_MAP: &[Fault] = &[
     UNREAD_FOR_MAP,
-    Fault {
-        link: Link {
-            words: &["rvld", "-s", "--Map", "m", "z.o"],
-            ..FIRST_MAPPED
-        },
-        outside: AT_ONCE,
-        told: "rvld: cannot read z.o\n",
-        ..UNREAD_FOR_MAP
-    },
-    Fault {
-        outside: Outside {
-            fails: &[1],
-            ..AT_ONCE
-        },
-        told: "rvld: cannot write a.out\n",
-        calls: 2,
-        ..UNREAD_FOR_MAP
-    },
-    Fault {
-        outside: Outside {
-            fails: &[2],
-            ..AT_ONCE
-        },
-        told: "rvld: cannot write a.out\n",
-        calls: 3,
-        executable: Some(0),
-        ..UNREAD_FOR_MAP
-    },
-    Fault {
-        outside: Outside {
-            fails: &[3],
-            ..AT_ONCE
-        },
-        told: "rvld: cannot write m\n",
-        calls: 4,
-        executable: Some(4320),
-        ..UNREAD_FOR_MAP
-    },
-    Fault {
-        outside: Outside {
-            fails: &[4],
-            ..AT_ONCE
-        },
-        told: "rvld: cannot write m\n",
-        calls: 5,
-        executable: Some(4320),
-        map: Some(0),
-        ..UNREAD_FOR_MAP
-    },
-    Fault {
-        outside: Outside {
-            fails: &[4],
-            ..SOUND
-        },
-        told: "rvld: cannot write a.out\n",
-        calls: 5,
-        executable: Some(2000),
-        ..UNREAD_FOR_MAP
-    },
-    Fault {
-        outside: Outside {
-            fails: &[48],
-            most: 100,
-            ..SOUND
-        },
-        told: "rvld: cannot write m\n",
-        calls: 49,
-        executable: Some(4320),
-        map: Some(100),
-        ..UNREAD_FOR_MAP
-    },
+    fault!(UNREAD_FOR_MAP => link: link!(FIRST_MAPPED => words: &["rvld", "-s", "--Map", "m", "z.o"]), outside: AT_ONCE, told: "rvld: cannot read z.o\n"),
+    fault!(UNREAD_FOR_MAP => outside: outside!(AT_ONCE => fails: &[1]), told: "rvld: cannot write a.out\n", calls: 2),
+    fault!(UNREAD_FOR_MAP => outside: outside!(AT_ONCE => fails: &[2]), told: "rvld: cannot write a.out\n", calls: 3, executable: Some(0)),
+    fault!(UNREAD_FOR_MAP => outside: outside!(AT_ONCE => fails: &[3]), told: "rvld: cannot write m\n", calls: 4, executable: Some(4320)),
+    fault!(UNREAD_FOR_MAP => outside: outside!(AT_ONCE => fails: &[4]), told: "rvld: cannot write m\n", calls: 5, executable: Some(4320), map: Some(0)),
+    fault!(UNREAD_FOR_MAP => outside: outside!(SOUND => fails: &[4]), told: "rvld: cannot write a.out\n", calls: 5, executable: Some(2000)),
+    fault!(UNREAD_FOR_MAP => outside: outside!(SOUND => fails: &[48], most: 100), told: "rvld: cannot write m\n", calls: 49, executable: Some(4320),
+        map: Some(100)),
 ];
 
 /// The first put of a stream fails.
@@ -199,142 +93,32 @@ const BROKEN: Stream = Stream {
 };
 
 /// An executable of 8,928 bytes, a begin and nine appends, and a report of 57.
-const UNREPORTED: Fault = Fault {
-    link: TWO_ALONE,
-    outside: Outside {
-        say: BROKEN,
-        ..SOUND
-    },
-    told: "rvld: cannot report\n",
-    calls: 10,
-    executable: Some(8928),
-    ..UNREAD
-};
+const UNREPORTED: Fault =
+    fault!(UNREAD => link: TWO_ALONE, outside: outside!(SOUND => say: BROKEN), told: "rvld: cannot report\n", calls: 10, executable: Some(8928));
 
 const REPORTS: &[Fault] = &[
     UNREPORTED,
-    Fault {
-        outside: Outside {
-            say: Stream {
-                fails: &[],
-                room: 10,
-            },
-            ..SOUND
-        },
-        said: 10,
-        ..UNREPORTED
-    },
-    Fault {
-        outside: Outside {
-            say: Stream {
-                fails: &[],
-                room: 56,
-            },
-            err: BROKEN,
-            ..SOUND
-        },
-        told: "",
-        said: 56,
-        ..UNREPORTED
-    },
-    Fault {
-        link: TWO_MAPPED,
-        calls: 12,
+    fault!(UNREPORTED => outside: outside!(SOUND => say: Stream { fails: &[], room: 10 }), said: 10),
+    fault!(UNREPORTED => outside: outside!(SOUND => say: Stream { fails: &[], room: 56 }, err: BROKEN), told: "", said: 56),
+    fault!(UNREPORTED => link: TWO_MAPPED, calls: 12, executable: Some(8560), map: Some(864)),
+    fault!(UNREPORTED => link: TWO_MAPPED, outside: outside!(SOUND => fails: &[11], say: BROKEN), told: "rvld: cannot write m\n", calls: 12,
         executable: Some(8560),
-        map: Some(864),
-        ..UNREPORTED
-    },
-    Fault {
-        link: TWO_MAPPED,
-        outside: Outside {
-            fails: &[11],
-            say: BROKEN,
-            ..SOUND
-        },
-        told: "rvld: cannot write m\n",
-        calls: 12,
-        executable: Some(8560),
-        map: Some(0),
-        ..UNREPORTED
-    },
+        map: Some(0)),
 ];
 
 /// No words but the program's name.
-const UNTOLD: Fault = Fault {
-    link: Link {
-        words: &["rvld"],
-        ..FIRST_LINK
-    },
-    outside: Outside {
-        err: BROKEN,
-        ..SOUND
-    },
-    status: 2,
-    told: "",
-    calls: 0,
-    ..UNREAD
-};
+const UNTOLD: Fault =
+    fault!(UNREAD => link: link!(), outside: outside!(SOUND => err: BROKEN), status: 2, told: "", calls: 0);
 
 const LINES: &[Fault] = &[
     UNTOLD,
-    Fault {
-        outside: Outside {
-            err: Stream {
-                fails: &[],
-                room: 4,
-            },
-            ..SOUND
-        },
-        told: "rvld",
-        ..UNTOLD
-    },
-    Fault {
-        link: Link {
-            words: &["rvld", "--Map", "m", "z.o"],
-            ..FIRST_LINK
-        },
-        status: 3,
-        calls: 1,
-        ..UNTOLD
-    },
-    Fault {
-        link: Link {
-            words: &["rvld", "--Map", "m", "-e", "g", "a.o"],
-            ..FIRST_LINK
-        },
-        status: 1,
-        calls: 1,
-        ..UNTOLD
-    },
-    Fault {
-        link: Link {
-            words: &["rvld", "--Map", "m", "-e", "g", "a.o"],
-            ..FIRST_LINK
-        },
-        outside: Outside {
-            err: Stream {
-                fails: &[],
-                room: 30,
-            },
-            ..SOUND
-        },
-        status: 1,
+    fault!(UNTOLD => outside: outside!(SOUND => err: Stream { fails: &[], room: 4 }), told: "rvld"),
+    fault!(UNTOLD => link: link!("--Map", "m", "z.o"), status: 3, calls: 1),
+    fault!(UNTOLD => link: link!("--Map", "m", "-e", "g", "a.o"), status: 1, calls: 1),
+    fault!(UNTOLD => link: link!("--Map", "m", "-e", "g", "a.o"), outside: outside!(SOUND => err: Stream { fails: &[], room: 30 }), status: 1,
         told: "rvld: F21 NoEntry file=- secti",
-        calls: 1,
-        ..UNTOLD
-    },
-    Fault {
-        outside: Outside {
-            fails: &[3],
-            err: BROKEN,
-            ..AT_ONCE
-        },
-        link: FIRST_MAPPED,
-        status: 3,
-        calls: 4,
-        executable: Some(4320),
-        ..UNTOLD
-    },
+        calls: 1),
+    fault!(UNTOLD => outside: outside!(AT_ONCE => fails: &[3], err: BROKEN), link: FIRST_MAPPED, status: 3, calls: 4, executable: Some(4320)),
 ];
 
 /// Whether a file was begun as this kind and has so many of these bytes, or was not begun.
@@ -415,32 +199,20 @@ fn is_cut_by_any<R: Threads + Sync>(
 
 #[test]
 fn each_fault_leaves_a_front_of_the_executable(rt: HostRuntime) -> Result<(), Fail> {
-    for (index, fault) in FILES.iter().enumerate() {
-        assert!(rt; is_cut_by_any(&rt, rt.alloc(), fault)?, "example {index}");
-    }
-    Ok(())
+    each!(rt; fault in FILES => is_cut_by_any(&rt, rt.alloc(), fault)?)
 }
 
 #[test]
 fn each_fault_of_the_map_leaves_the_executable(rt: HostRuntime) -> Result<(), Fail> {
-    for (index, fault) in WITH_MAP.iter().enumerate() {
-        assert!(rt; is_cut_by_any(&rt, rt.alloc(), fault)?, "example {index}");
-    }
-    Ok(())
+    each!(rt; fault in WITH_MAP => is_cut_by_any(&rt, rt.alloc(), fault)?)
 }
 
 #[test]
 fn each_fault_of_the_report_leaves_both_files(rt: HostRuntime) -> Result<(), Fail> {
-    for (index, fault) in REPORTS.iter().enumerate() {
-        assert!(rt; is_cut_by_any(&rt, rt.alloc(), fault)?, "example {index}");
-    }
-    Ok(())
+    each!(rt; fault in REPORTS => is_cut_by_any(&rt, rt.alloc(), fault)?)
 }
 
 #[test]
 fn a_line_that_is_not_told_changes_no_status(rt: HostRuntime) -> Result<(), Fail> {
-    for (index, fault) in LINES.iter().enumerate() {
-        assert!(rt; is_cut_by_any(&rt, rt.alloc(), fault)?, "example {index}");
-    }
-    Ok(())
+    each!(rt; fault in LINES => is_cut_by_any(&rt, rt.alloc(), fault)?)
 }

@@ -9,11 +9,30 @@ use link_driver::{Inputs, Linked, OpenGate, link};
 use link_examples::images::{COMMON_OF_8, FIRST, FOUR_ALONE, TWO_FILES};
 use link_examples::libraries::{Library, ONE_MEMBER};
 use link_examples::{Store, WORKERS, files_of, words_of};
+use link_runs::each;
 use lk_base::kinds::{LIMIT, TOO_BIG};
 use lk_base::{Defect, Limits, LinkStop, NO_FILE};
 use std::alloc::{AllocError, Global};
 use std::test::Fail;
 use std::thread::Threads;
+
+macro_rules! defect {
+    ($base:expr => $($field:ident: $value:expr),+) => {
+        Defect {
+            $($field: $value,)+
+            ..$base
+        }
+    };
+}
+
+macro_rules! limits {
+    ($base:expr => $($field:ident: $value:expr),+) => {
+        Limits {
+            $($field: $value,)+
+            ..$base
+        }
+    };
+}
 
 /// A link with limits: its words, its files and archives, the limits, and the defect that it has, or its executable.
 #[derive(Clone, Copy)]
@@ -24,6 +43,15 @@ struct Bounded<'a> {
     limits: Limits,
     defect: Option<Defect>,
     image: Image<'a>,
+}
+
+macro_rules! bounded {
+    ($base:expr => $($field:ident: $value:expr),+) => {
+        Bounded {
+            $($field: $value,)+
+            ..$base
+        }
+    };
 }
 
 /// A number past a limit that is no file's own.
@@ -59,162 +87,38 @@ const TWO_OBJECTS: Bounded = Bounded {
 /// Each limit, kept and passed by one.
 const OBJECTS: &[Bounded] = &[
     TWO_OBJECTS,
-    Bounded {
-        limits: Limits {
-            file: 575,
-            ..OF_OBJECTS
-        },
-        defect: Some(Defect {
-            file: 0,
-            place: 576,
-            ..PASSED
-        }),
-        ..TWO_OBJECTS
-    },
-    Bounded {
-        limits: Limits {
-            files: 1,
-            ..OF_OBJECTS
-        },
-        defect: Some(Defect { place: 2, ..PASSED }),
-        ..TWO_OBJECTS
-    },
-    Bounded {
-        limits: Limits {
-            symbols: 4,
-            ..OF_OBJECTS
-        },
-        defect: Some(Defect { place: 5, ..PASSED }),
-        ..TWO_OBJECTS
-    },
-    Bounded {
-        limits: Limits {
-            sections: 10,
-            ..OF_OBJECTS
-        },
-        defect: Some(Defect {
-            place: 11,
-            ..PASSED
-        }),
-        ..TWO_OBJECTS
-    },
-    Bounded {
-        limits: Limits {
-            outputs: 0,
-            ..OF_OBJECTS
-        },
-        defect: Some(Defect { place: 1, ..PASSED }),
-        ..TWO_OBJECTS
-    },
-    Bounded {
-        limits: Limits {
-            image: 0x100c,
-            ..OF_OBJECTS
-        },
-        defect: Some(Defect {
-            kind: TOO_BIG,
-            place: 0x100c,
-            ..PASSED
-        }),
-        ..TWO_OBJECTS
-    },
-    Bounded {
-        limits: Limits {
-            files: 1,
-            symbols: 2,
-            ..OF_OBJECTS
-        },
-        defect: Some(Defect { place: 2, ..PASSED }),
-        ..TWO_OBJECTS
-    },
-    Bounded {
-        words: &["rvld", "-s", "a.o", "empty.o"],
-        limits: Limits {
-            files: 1,
-            ..OF_OBJECTS
-        },
-        defect: Some(Defect { place: 2, ..PASSED }),
-        ..TWO_OBJECTS
-    },
+    bounded!(TWO_OBJECTS => limits: limits!(OF_OBJECTS => file: 575), defect: Some(defect!(PASSED => file: 0, place: 576))),
+    bounded!(TWO_OBJECTS => limits: limits!(OF_OBJECTS => files: 1), defect: Some(defect!(PASSED => place: 2))),
+    bounded!(TWO_OBJECTS => limits: limits!(OF_OBJECTS => symbols: 4), defect: Some(defect!(PASSED => place: 5))),
+    bounded!(TWO_OBJECTS => limits: limits!(OF_OBJECTS => sections: 10), defect: Some(defect!(PASSED => place: 11))),
+    bounded!(TWO_OBJECTS => limits: limits!(OF_OBJECTS => outputs: 0), defect: Some(defect!(PASSED => place: 1))),
+    bounded!(TWO_OBJECTS => limits: limits!(OF_OBJECTS => image: 0x100c), defect: Some(defect!(PASSED => kind: TOO_BIG, place: 0x100c))),
+    bounded!(TWO_OBJECTS => limits: limits!(OF_OBJECTS => files: 1, symbols: 2), defect: Some(defect!(PASSED => place: 2))),
+    bounded!(TWO_OBJECTS => words: &["rvld", "-s", "a.o", "empty.o"], limits: limits!(OF_OBJECTS => files: 1), defect: Some(defect!(PASSED => place: 2))),
 ];
 
 /// What three objects with 15 section headers and one COMMON symbol just keep.
-const OF_COMMON: Limits = Limits {
-    files: 3,
-    symbols: 7,
-    sections: 16,
-    outputs: 2,
-    image: 0x2009,
-    ..OF_OBJECTS
-};
+const OF_COMMON: Limits =
+    limits!(OF_OBJECTS => files: 3, symbols: 7, sections: 16, outputs: 2, image: 0x2009);
 
-const WITH_COMMON: Bounded = Bounded {
-    words: &["rvld", "-s", "a.o", "c8.o", "weak.o"],
-    limits: OF_COMMON,
-    image: COMMON_OF_8,
-    ..TWO_OBJECTS
-};
+const WITH_COMMON: Bounded =
+    bounded!(TWO_OBJECTS => words: &["rvld", "-s", "a.o", "c8.o", "weak.o"], limits: OF_COMMON, image: COMMON_OF_8);
 
 /// What an object and an archive of 524 bytes just keep: its one member, with 2 symbols and 5 section headers, takes no part.
-const OF_ARCHIVE: Limits = Limits {
-    files: 3,
-    sections: 6,
-    image: 0x1009,
-    ..OF_OBJECTS
-};
+const OF_ARCHIVE: Limits = limits!(OF_OBJECTS => files: 3, sections: 6, image: 0x1009);
 
-const WITH_ARCHIVE: Bounded = Bounded {
-    words: &["rvld", "-s", "a.o", "lib.a"],
-    libraries: &[ONE_MEMBER],
-    limits: OF_ARCHIVE,
-    image: FIRST,
-    ..TWO_OBJECTS
-};
+const WITH_ARCHIVE: Bounded =
+    bounded!(TWO_OBJECTS => words: &["rvld", "-s", "a.o", "lib.a"], libraries: &[ONE_MEMBER], limits: OF_ARCHIVE, image: FIRST);
 
 /// COMMON symbols and members count.
 const COUNTED: &[Bounded] = &[
     WITH_COMMON,
-    Bounded {
-        limits: Limits {
-            sections: 15,
-            ..OF_COMMON
-        },
-        defect: Some(Defect {
-            place: 16,
-            ..PASSED
-        }),
-        ..WITH_COMMON
-    },
+    bounded!(WITH_COMMON => limits: limits!(OF_COMMON => sections: 15), defect: Some(defect!(PASSED => place: 16))),
     WITH_ARCHIVE,
-    Bounded {
-        limits: Limits {
-            files: 2,
-            ..OF_ARCHIVE
-        },
-        defect: Some(Defect { place: 3, ..PASSED }),
-        ..WITH_ARCHIVE
-    },
-    Bounded {
-        limits: Limits {
-            symbols: 4,
-            ..OF_ARCHIVE
-        },
-        defect: Some(Defect { place: 5, ..PASSED }),
-        ..WITH_ARCHIVE
-    },
-    Bounded {
-        words: &["rvld", "-s", "h.o", "lib.a"],
-        limits: Limits {
-            file: 523,
-            ..OF_ARCHIVE
-        },
-        defect: Some(Defect {
-            file: 1,
-            place: 524,
-            ..PASSED
-        }),
-        ..WITH_ARCHIVE
-    },
+    bounded!(WITH_ARCHIVE => limits: limits!(OF_ARCHIVE => files: 2), defect: Some(defect!(PASSED => place: 3))),
+    bounded!(WITH_ARCHIVE => limits: limits!(OF_ARCHIVE => symbols: 4), defect: Some(defect!(PASSED => place: 5))),
+    bounded!(WITH_ARCHIVE => words: &["rvld", "-s", "h.o", "lib.a"], limits: limits!(OF_ARCHIVE => file: 523),
+        defect: Some(defect!(PASSED => file: 1, place: 524))),
 ];
 
 /// What an object with four constants just keeps.
@@ -228,58 +132,18 @@ const OF_PIECES: Limits = Limits {
     image: 0x1005,
 };
 
-const WITH_PIECES: Bounded = Bounded {
-    words: &["rvld", "-s", "four.o"],
-    limits: OF_PIECES,
-    image: FOUR_ALONE,
-    ..TWO_OBJECTS
-};
+const WITH_PIECES: Bounded =
+    bounded!(TWO_OBJECTS => words: &["rvld", "-s", "four.o"], limits: OF_PIECES, image: FOUR_ALONE);
 
 /// Pieces count in each section that may be merged, equal or not, kept or not.
 const PIECES: &[Bounded] = &[
     WITH_PIECES,
-    Bounded {
-        limits: Limits {
-            pieces: 3,
-            ..OF_PIECES
-        },
-        defect: Some(Defect { place: 4, ..PASSED }),
-        ..WITH_PIECES
-    },
-    Bounded {
-        words: &["rvld", "-s", "--gc-sections", "four.o"],
-        limits: Limits {
-            pieces: 3,
-            ..OF_PIECES
-        },
-        defect: Some(Defect { place: 4, ..PASSED }),
-        ..WITH_PIECES
-    },
-    Bounded {
-        words: &["rvld", "-s", "four.o", "again.o"],
-        limits: Limits {
-            pieces: 9,
-            ..OF_PIECES
-        },
-        defect: Some(Defect {
-            place: 10,
-            ..PASSED
-        }),
-        ..WITH_PIECES
-    },
-    Bounded {
-        words: &["rvld", "-s", "four.o", "again.o"],
-        limits: Limits {
-            sections: 3,
-            pieces: 9,
-            ..OF_PIECES
-        },
-        defect: Some(Defect {
-            place: 11,
-            ..PASSED
-        }),
-        ..WITH_PIECES
-    },
+    bounded!(WITH_PIECES => limits: limits!(OF_PIECES => pieces: 3), defect: Some(defect!(PASSED => place: 4))),
+    bounded!(WITH_PIECES => words: &["rvld", "-s", "--gc-sections", "four.o"], limits: limits!(OF_PIECES => pieces: 3),
+        defect: Some(defect!(PASSED => place: 4))),
+    bounded!(WITH_PIECES => words: &["rvld", "-s", "four.o", "again.o"], limits: limits!(OF_PIECES => pieces: 9), defect: Some(defect!(PASSED => place: 10))),
+    bounded!(WITH_PIECES => words: &["rvld", "-s", "four.o", "again.o"], limits: limits!(OF_PIECES => sections: 3, pieces: 9),
+        defect: Some(defect!(PASSED => place: 11))),
 ];
 
 /// These limits, or the standard ones where those are less.
@@ -370,33 +234,15 @@ fn is_bounded_by_any<R: Threads + Sync>(
 
 #[test]
 fn each_limit_is_kept_up_to_its_number(rt: HostRuntime) -> Result<(), Fail> {
-    for (index, bounded) in OBJECTS.iter().enumerate() {
-        assert!(rt;
-            is_bounded_by_any(&rt, rt.alloc(), bounded)?,
-            "example {index}"
-        );
-    }
-    Ok(())
+    each!(rt; bounded in OBJECTS => is_bounded_by_any(&rt, rt.alloc(), bounded)?)
 }
 
 #[test]
 fn common_symbols_and_members_count(rt: HostRuntime) -> Result<(), Fail> {
-    for (index, bounded) in COUNTED.iter().enumerate() {
-        assert!(rt;
-            is_bounded_by_any(&rt, rt.alloc(), bounded)?,
-            "example {index}"
-        );
-    }
-    Ok(())
+    each!(rt; bounded in COUNTED => is_bounded_by_any(&rt, rt.alloc(), bounded)?)
 }
 
 #[test]
 fn each_piece_counts(rt: HostRuntime) -> Result<(), Fail> {
-    for (index, bounded) in PIECES.iter().enumerate() {
-        assert!(rt;
-            is_bounded_by_any(&rt, rt.alloc(), bounded)?,
-            "example {index}"
-        );
-    }
-    Ok(())
+    each!(rt; bounded in PIECES => is_bounded_by_any(&rt, rt.alloc(), bounded)?)
 }

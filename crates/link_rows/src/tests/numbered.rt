@@ -1,8 +1,7 @@
 //! Numbers that a field has no room for: those that stand in section 0, and an object of 70,000 sections.
 
 use super::altered::{is_linked, link_alone, object};
-use elf_bytes::{ELSEWHERE, Object, Reloc, Section, Symbol, object_of};
-use link_examples::objects::{RETURN, START};
+use elf_bytes::{ELSEWHERE, Object, Section, Symbol, object_of, reloc, section, symbol};
 use std::alloc::{AllocError, Global};
 use std::test::Fail;
 
@@ -14,7 +13,7 @@ const NUMBERED: &[&[(usize, u8)]] = &[
 ];
 
 #[test]
-fn numbers_stand_in_section_0(rt: HostRuntime) -> Result<(), Fail> {
+fn counts_of_sections_may_stand_in_section_0(rt: HostRuntime) -> Result<(), Fail> {
     let plain = link_alone(&rt, rt.alloc(), "gen0.o", object(rt.alloc())?, &[])?;
     assert!(rt; is_linked(&plain));
     for changes in NUMBERED {
@@ -34,35 +33,15 @@ fn numbers_stand_in_section_0(rt: HostRuntime) -> Result<(), Fail> {
 const MANY: usize = 70_000;
 
 /// A section of two bytes.
-const SMALL: Section = Section {
-    align: 2,
-    bytes: b"\x01\0",
-    ..RETURN
-};
+const SMALL: Section = section!(b".text", 1, 6, 2; b"\x01\0");
 
 /// The last section: a jump to symbol 2.
-const LAST: Section = Section {
-    bytes: b"\xef\0\0\0",
-    relocs: &[Reloc {
-        offset: 0,
-        kind: 17,
-        symbol: 2,
-        addend: 0,
-    }],
-    ..SMALL
-};
+const LAST: Section = section!(b".text", 1, 6, 2; b"\xef\0\0\0"; relocs: &[reloc!(0, 17, 2, 0)]);
 
 /// `_start` in the last section, and `f` in the one whose number is that of ABS where a symbol's entry has it.
 const BEYOND: &[Symbol] = &[
-    Symbol {
-        section: ELSEWHERE + 70_000,
-        ..START
-    },
-    Symbol {
-        name: b"f",
-        section: ELSEWHERE + 0xfff1,
-        ..START
-    },
+    symbol!(b"_start", 1, 2, ELSEWHERE + 70_000, 0, 4),
+    symbol!(b"f", 1, 2, ELSEWHERE + 0xfff1, 0, 4),
 ];
 
 fn many(alloc: Global) -> Result<Vec<u8>, AllocError> {

@@ -5,7 +5,7 @@ use super::generated::{executable, link_many};
 use link_driver::{Gate, OpenGate};
 use link_examples::images::{TWO_BLOCKS, TWO_FILES};
 use link_examples::lines::{TWO_FILES_LINES, TWO_FILES_LISTED};
-use link_examples::{FIRST_LINK, Link, Store};
+use link_examples::{Link, Store, link};
 use link_runs::{Left, is_linked};
 use std::alloc::{AllocError, Global};
 use std::hint;
@@ -85,38 +85,13 @@ type Shared<'a> = (Link<'a>, u64);
 /// shared out. Those of the second are the symbols that stand for sections' names, the edges between sections and the
 /// blocks of the executable too. Those of the third are those of the first, and the lists of symbols for the symbol table and for the map.
 const SHARED: &[Shared] = &[
+    (link!("-s", "a.o", "h.o" => TWO_FILES), 7),
     (
-        Link {
-            words: &["rvld", "-s", "a.o", "h.o"],
-            image: TWO_FILES,
-            ..FIRST_LINK
-        },
-        7,
-    ),
-    (
-        Link {
-            words: &[
-                "rvld",
-                "-s",
-                "--gc-sections",
-                "m.o",
-                "one.o",
-                "two.o",
-                "wide.o",
-            ],
-            store: Store::Groups,
-            image: TWO_BLOCKS,
-            ..FIRST_LINK
-        },
+        link!("-s", "--gc-sections", "m.o", "one.o", "two.o", "wide.o" => TWO_BLOCKS; store: Store::Groups),
         10,
     ),
     (
-        Link {
-            words: &["rvld", "--Map", "m", "a.o", "h.o"],
-            image: TWO_FILES_LISTED,
-            lines: TWO_FILES_LINES,
-            ..FIRST_LINK
-        },
+        link!("--Map", "m", "a.o", "h.o" => TWO_FILES_LISTED; lines: TWO_FILES_LINES),
         9,
     ),
 ];

@@ -1,941 +1,172 @@
 //! Relocations of every kind but those of the GOT and of thread-local data (RISC-V ELF psABI, relocations): code, numbers of every
 //! width, the ends of what a kind can hold, and what is refused. The bytes of instructions are those that GNU as gives.
 
-use elf_bytes::{Image, Object, Reloc, Section, Symbol};
+use elf_bytes::{Image, Object, Section, Symbol, image, object, reloc, section, symbol};
 use link_examples::images::{FIRST, NAMES_WITH_DATA, READ_OF_FOUR, STACK};
-use link_examples::objects::{Input, RETURN, START, TO_SECOND, WEAKLY, WHOLE, WORD};
-use link_examples::{FIRST_LINK, Files, Link, Refusal, Store, objects_of, push_objects};
+use link_examples::objects::{Input, START, WEAKLY};
+use link_examples::{Files, Link, Refusal, Store, inputs, link, objects_of, push_objects, refusal};
 use std::alloc::{AllocError, Global};
 
-const DATA: Section = Section {
-    name: b".data",
-    flags: 3,
-    align: 8,
-    ..RETURN
-};
-
 /// A label at 0x20.
-const LABEL: Symbol = Symbol {
-    name: b".L0",
-    binding: 0,
-    sort: 0,
-    value: 0x20,
-    size: 0,
-    ..START
-};
+const LABEL: Symbol = symbol!(b".L0", 0, 0, 1, 0x20, 0);
 
 /// A number.
-const NUMBER: Symbol = Symbol {
-    name: b"m",
-    sort: 0,
-    section: 0xfff1,
-    value: 0x1234_5fff,
-    size: 0,
-    ..START
-};
+const NUMBER: Symbol = symbol!(b"m", 1, 0, 0xfff1, 0x1234_5fff, 0);
 
 /// Data.
-const D_IN_2: Symbol = Symbol {
-    name: b"d",
-    sort: 1,
-    section: 2,
-    size: 8,
-    ..START
-};
-
-/// Of the label.
-const NEAR: Reloc = Reloc {
-    symbol: 1,
-    ..TO_SECOND
-};
-
-/// Of `_start`, which is symbol 4.
-const BACK: Reloc = Reloc {
-    symbol: 4,
-    ..TO_SECOND
-};
+const D_IN_2: Symbol = symbol!(b"d", 1, 1, 2, 0, 8);
 
 /// Jumps and branches to a label and back, a number in two halves, an address in two halves, and a call.
-const CODE: Object = Object {
-    flags: 0,
-    sections: &[
-        Section {
-            bytes: b"\x63\0\xb5\0\x63\x10\xb5\0\x01\xc1\x81\xe1\x01\xa0\x01\xa0\x37\x05\0\0\x13\x05\x05\0\x23\x20\xb5\0\xef\0\0\0\x17\x05\0\0\x13\x05\x05\0\x23\x20\xb5\0\x97\0\0\0\xe7\x80\0\0",
-            relocs: &[
-                Reloc { kind: 16, ..NEAR },
-                Reloc {
-                    offset: 4,
-                    kind: 16,
-                    ..BACK
-                },
-                Reloc {
-                    offset: 8,
-                    kind: 44,
-                    ..NEAR
-                },
-                Reloc {
-                    offset: 10,
-                    kind: 44,
-                    ..BACK
-                },
-                Reloc {
-                    offset: 12,
-                    kind: 45,
-                    ..NEAR
-                },
-                Reloc {
-                    offset: 14,
-                    kind: 45,
-                    ..BACK
-                },
-                Reloc {
-                    offset: 16,
-                    kind: 26,
-                    ..TO_SECOND
-                },
-                Reloc {
-                    offset: 20,
-                    kind: 27,
-                    ..TO_SECOND
-                },
-                Reloc {
-                    offset: 24,
-                    kind: 28,
-                    ..TO_SECOND
-                },
-                Reloc { offset: 28, ..NEAR },
-                Reloc {
-                    offset: 32,
-                    kind: 23,
-                    symbol: 3,
-                    addend: 0xfff,
-                },
-                Reloc {
-                    offset: 36,
-                    kind: 24,
-                    ..NEAR
-                },
-                Reloc {
-                    offset: 40,
-                    kind: 25,
-                    ..NEAR
-                },
-                Reloc {
-                    offset: 44,
-                    kind: 18,
-                    ..BACK
-                },
-            ],
-            ..RETURN
-        },
-        Section {
-            bytes: b"dddddddd",
-            ..DATA
-        },
-    ],
-    symbols: &[LABEL, NUMBER, D_IN_2, START],
-};
+const CODE: Object = object!([
+    section!(b".text", 1, 6, 4;
+        b"\x63\0\xb5\0\x63\x10\xb5\0\x01\xc1\x81\xe1\x01\xa0\x01\xa0\x37\x05\0\0\x13\x05\x05\0\x23\x20\xb5\0\xef\0\0\0\x17\x05\0\0\x13\x05\x05\0\x23\x20\xb5\0\x97\0\0\0\xe7\x80\0\0";
+        relocs: &[
+            reloc!(0, 16, 1, 0), reloc!(4, 16, 4, 0), reloc!(8, 44, 1, 0), reloc!(10, 44, 4, 0), reloc!(12, 45, 1, 0), reloc!(14, 45, 4, 0),
+            reloc!(16, 26, 2, 0), reloc!(20, 27, 2, 0), reloc!(24, 28, 2, 0), reloc!(28, 17, 1, 0), reloc!(32, 23, 3, 0xfff), reloc!(36, 24, 1, 0),
+            reloc!(40, 25, 1, 0), reloc!(44, 18, 4, 0),
+        ]),
+    section!(b".data", 1, 3, 8; b"dddddddd"),
+]; [LABEL, NUMBER, D_IN_2, START]);
 
 /// 0x800 in two halves.
-const HALVES: Object = Object {
-    flags: 0,
-    sections: &[Section {
-        bytes: b"\x37\x05\0\0\x13\x05\x05\0",
-        relocs: &[
-            Reloc { kind: 26, ..NEAR },
-            Reloc {
-                offset: 4,
-                kind: 27,
-                ..NEAR
-            },
-        ],
-        ..RETURN
-    }],
-    symbols: &[
-        Symbol {
-            value: 0x800,
-            ..NUMBER
-        },
-        START,
-    ],
-};
+const HALVES: Object = object!([
+    section!(b".text", 1, 6, 4; b"\x37\x05\0\0\x13\x05\x05\0"; relocs: &[reloc!(0, 26, 1, 0), reloc!(4, 27, 1, 0)]),
+]; [symbol!(b"m", 1, 0, 0xfff1, 0x800, 0), START]);
 
 /// Distances and numbers at odd offsets, in no order but for those of one place.
-const NUMBERS: Object = Object {
-    flags: 0,
-    sections: &[
-        Section {
-            bytes: b"\x67\x80\0\0\x73\0\x10\0",
-            ..RETURN
-        },
-        Section {
-            bytes: b"\xaa\x05\0\0\0\xff\xff\x80\xbb\xff\xff\xff\xff\xff\xff\xff\xff\xc1U\0\0\0\0\0\0\0\0\0\0\0\0\0\0\0\0\xcc\xff\xff\xff\xff\xff\xff\xff\xff\x7f\x01\x01\0\0\0\0",
-            relocs: &[
-                Reloc {
-                    offset: 47,
-                    kind: 59,
-                    ..WORD
-                },
-                Reloc {
-                    offset: 46,
-                    kind: 33,
-                    ..WORD
-                },
-                Reloc {
-                    offset: 46,
-                    kind: 54,
-                    ..WORD
-                },
-                Reloc {
-                    offset: 45,
-                    kind: 54,
-                    ..WORD
-                },
-                Reloc {
-                    offset: 45,
-                    kind: 33,
-                    ..WORD
-                },
-                Reloc {
-                    offset: 44,
-                    kind: 37,
-                    ..WORD
-                },
-                Reloc {
-                    offset: 38,
-                    kind: 1,
-                    ..WORD
-                },
-                Reloc { offset: 36, ..WORD },
-                Reloc {
-                    offset: 34,
-                    kind: 33,
-                    ..WORD
-                },
-                Reloc {
-                    offset: 33,
-                    kind: 55,
-                    ..WORD
-                },
-                Reloc {
-                    offset: 29,
-                    kind: 1,
-                    addend: 256,
-                    ..WORD
-                },
-                Reloc {
-                    offset: 25,
-                    kind: 57,
-                    ..WORD
-                },
-                Reloc {
-                    offset: 21,
-                    kind: 56,
-                    ..WORD
-                },
-                Reloc {
-                    offset: 19,
-                    kind: 55,
-                    ..WORD
-                },
-                Reloc {
-                    offset: 18,
-                    kind: 54,
-                    ..WORD
-                },
-                Reloc {
-                    offset: 17,
-                    kind: 53,
-                    addend: 1,
-                    ..WORD
-                },
-                Reloc {
-                    offset: 17,
-                    kind: 52,
-                    symbol: 2,
-                    addend: 3,
-                    ..WORD
-                },
-                Reloc {
-                    offset: 9,
-                    kind: 36,
-                    ..WORD
-                },
-                Reloc {
-                    offset: 9,
-                    kind: 40,
-                    symbol: 2,
-                    ..WORD
-                },
-                Reloc {
-                    offset: 7,
-                    kind: 33,
-                    ..WORD
-                },
-                Reloc {
-                    offset: 7,
-                    kind: 37,
-                    symbol: 2,
-                    ..WORD
-                },
-                Reloc {
-                    offset: 5,
-                    kind: 34,
-                    ..WORD
-                },
-                Reloc {
-                    offset: 5,
-                    kind: 38,
-                    symbol: 2,
-                    ..WORD
-                },
-                Reloc {
-                    offset: 1,
-                    kind: 35,
-                    addend: 2,
-                    ..WORD
-                },
-                Reloc {
-                    offset: 1,
-                    kind: 39,
-                    symbol: 2,
-                    addend: 1,
-                    ..WORD
-                },
-            ],
-            ..DATA
-        },
-    ],
-    symbols: &[Symbol { value: 8, ..LABEL }, START],
-};
+const NUMBERS: Object = object!([
+    section!(b".text", 1, 6, 4; b"\x67\x80\0\0\x73\0\x10\0"),
+    section!(b".data", 1, 3, 8;
+        b"\xaa\x05\0\0\0\xff\xff\x80\xbb\xff\xff\xff\xff\xff\xff\xff\xff\xc1U\0\0\0\0\0\0\0\0\0\0\0\0\0\0\0\0\xcc\xff\xff\xff\xff\xff\xff\xff\xff\x7f\x01\x01\0\0\0\0";
+        relocs: &[
+            reloc!(47, 59, 1, 0), reloc!(46, 33, 1, 0), reloc!(46, 54, 1, 0), reloc!(45, 54, 1, 0), reloc!(45, 33, 1, 0), reloc!(44, 37, 1, 0),
+            reloc!(38, 1, 1, 0), reloc!(36, 2, 1, 0), reloc!(34, 33, 1, 0), reloc!(33, 55, 1, 0), reloc!(29, 1, 1, 256), reloc!(25, 57, 1, 0),
+            reloc!(21, 56, 1, 0), reloc!(19, 55, 1, 0), reloc!(18, 54, 1, 0), reloc!(17, 53, 1, 1), reloc!(17, 52, 2, 3), reloc!(9, 36, 1, 0),
+            reloc!(9, 40, 2, 0), reloc!(7, 33, 1, 0), reloc!(7, 37, 2, 0), reloc!(5, 34, 1, 0), reloc!(5, 38, 2, 0), reloc!(1, 35, 1, 2), reloc!(1, 39, 2, 1),
+        ]),
+]; [symbol!(b".L0", 0, 0, 1, 8, 0), START]);
 
 /// The least and the greatest that each kind can hold.
-const ENDS: Object = Object {
-    flags: 0,
-    sections: &[
-        Section {
-            bytes: b"\x63\0\xb5\0\x63\0\xb5\0\x01\xc1\x01\xc1\x01\xa0\x01\xa0\xef\0\0\0\xef\0\0\0\x37\x05\0\0\x37\x05\0\0",
-            relocs: &[
-                Reloc {
-                    kind: 16,
-                    addend: 4094,
-                    ..BACK
-                },
-                Reloc {
-                    offset: 4,
-                    kind: 16,
-                    addend: -4092,
-                    ..BACK
-                },
-                Reloc {
-                    offset: 8,
-                    kind: 44,
-                    addend: 262,
-                    ..BACK
-                },
-                Reloc {
-                    offset: 10,
-                    kind: 44,
-                    addend: -246,
-                    ..BACK
-                },
-                Reloc {
-                    offset: 12,
-                    kind: 45,
-                    addend: 2058,
-                    ..BACK
-                },
-                Reloc {
-                    offset: 14,
-                    kind: 45,
-                    addend: -2034,
-                    ..BACK
-                },
-                Reloc {
-                    offset: 16,
-                    addend: 1_048_590,
-                    ..BACK
-                },
-                Reloc {
-                    offset: 20,
-                    addend: -1_048_556,
-                    ..BACK
-                },
-                Reloc {
-                    offset: 24,
-                    kind: 26,
-                    ..NEAR
-                },
-                Reloc {
-                    offset: 28,
-                    kind: 26,
-                    symbol: 3,
-                    addend: -0x8000_0800,
-                },
-            ],
-            ..RETURN
-        },
-        Section {
-            bytes: b"\0\0\0\0\0\0\0\0\0\0\0\0\0\0\0\0",
-            relocs: &[
-                Reloc {
-                    kind: 1,
-                    ..TO_SECOND
-                },
-                Reloc {
-                    offset: 4,
-                    kind: 1,
-                    symbol: 3,
-                    addend: -0x8000_0000,
-                },
-                Reloc {
-                    offset: 8,
-                    kind: 57,
-                    symbol: 3,
-                    addend: 0x8001_2007,
-                },
-                Reloc {
-                    offset: 12,
-                    kind: 57,
-                    symbol: 3,
-                    addend: -0x7ffe_dff4,
-                },
-            ],
-            ..DATA
-        },
-    ],
-    symbols: &[
-        Symbol {
-            value: 0x7fff_f7ff,
-            ..NUMBER
-        },
-        Symbol {
-            name: b"n",
-            value: 0xffff_ffff,
-            ..NUMBER
-        },
-        WEAKLY,
-        START,
-    ],
-};
+const ENDS: Object = object!([
+    section!(b".text", 1, 6, 4; b"\x63\0\xb5\0\x63\0\xb5\0\x01\xc1\x01\xc1\x01\xa0\x01\xa0\xef\0\0\0\xef\0\0\0\x37\x05\0\0\x37\x05\0\0"; relocs: &[
+        reloc!(0, 16, 4, 4094), reloc!(4, 16, 4, -4092), reloc!(8, 44, 4, 262), reloc!(10, 44, 4, -246), reloc!(12, 45, 4, 2058), reloc!(14, 45, 4, -2034),
+        reloc!(16, 17, 4, 1_048_590), reloc!(20, 17, 4, -1_048_556), reloc!(24, 26, 1, 0), reloc!(28, 26, 3, -0x8000_0800),
+    ]),
+    section!(b".data", 1, 3, 8; b"\0\0\0\0\0\0\0\0\0\0\0\0\0\0\0\0";
+        relocs: &[reloc!(0, 1, 2, 0), reloc!(4, 1, 3, -0x8000_0000), reloc!(8, 57, 3, 0x8001_2007), reloc!(12, 57, 3, -0x7ffe_dff4)]),
+]; [symbol!(b"m", 1, 0, 0xfff1, 0x7fff_f7ff, 0), symbol!(b"n", 1, 0, 0xfff1, 0xffff_ffff, 0), WEAKLY, START]);
 
-const INPUTS: &[Input] = &[
-    Input {
-        name: "code.o",
-        object: CODE,
-        most: WHOLE,
-    },
-    Input {
-        name: "halves.o",
-        object: HALVES,
-        most: WHOLE,
-    },
-    Input {
-        name: "numbers.o",
-        object: NUMBERS,
-        most: WHOLE,
-    },
-    Input {
-        name: "ends.o",
-        object: ENDS,
-        most: WHOLE,
-    },
-];
+const INPUTS: &[Input] =
+    inputs!("code.o" => CODE, "halves.o" => HALVES, "numbers.o" => NUMBERS, "ends.o" => ENDS);
 
-const CODE_IMAGE: Image = Image {
-    segments: &[
-        READ_OF_FOUR,
-        [1, 5, 0x1000, 0x11000, 52, 52, 4096],
-        [1, 6, 0x2000, 0x12000, 8, 8, 4096],
-        STACK,
-    ],
+const CODE_IMAGE: Image = image!(FIRST => table: 0x2020,
+    segments: &[READ_OF_FOUR, [1, 5, 0x1000, 0x11000, 52, 52, 4096], [1, 6, 0x2000, 0x12000, 8, 8, 4096], STACK],
     contents: &[
-        (
-            0x1000,
-            b"\x63\0\xb5\x02\xe3\x1e\xb5\xfe\x01\xcd\xfd\xf9\x11\xa8\xcd\xbf\x37\x65\x34\x12\x13\x05\xf5\xff\xa3\x2f\xb5\xfe\xef\0\x40\0",
-        ),
-        (
-            0x1020,
-            b"\x17\x25\0\0\x13\x05\xf5\xfd\xa3\x2f\xb5\xfc\x97\0\0\0\xe7\x80\x40\xfd",
-        ),
-        (0x2000, b"dddddddd"),
-        (0x2008, NAMES_WITH_DATA),
+        (0x1000, b"\x63\0\xb5\x02\xe3\x1e\xb5\xfe\x01\xcd\xfd\xf9\x11\xa8\xcd\xbf\x37\x65\x34\x12\x13\x05\xf5\xff\xa3\x2f\xb5\xfe\xef\0\x40\0"),
+        (0x1020, b"\x17\x25\0\0\x13\x05\xf5\xfd\xa3\x2f\xb5\xfc\x97\0\0\0\xe7\x80\x40\xfd"), (0x2000, b"dddddddd"), (0x2008, NAMES_WITH_DATA),
     ],
-    table: 0x2020,
-    sections: &[
-        [1, 1, 6, 0x11000, 0x1000, 52, 4],
-        [7, 1, 3, 0x12000, 0x2000, 8, 8],
-        [13, 3, 0, 0, 0x2008, 23, 1],
-    ],
-    ..FIRST
-};
+    sections: &[[1, 1, 6, 0x11000, 0x1000, 52, 4], [7, 1, 3, 0x12000, 0x2000, 8, 8], [13, 3, 0, 0, 0x2008, 23, 1]]);
 
-const HALVES_IMAGE: Image = Image {
-    contents: &[
-        (0x1000, b"\x37\x15\0\0\x13\x05\x05\x80"),
-        (0x1008, b"\0.text\0.shstrtab\0"),
-    ],
-    ..FIRST
-};
+const HALVES_IMAGE: Image =
+    image!(FIRST => contents: &[(0x1000, b"\x37\x15\0\0\x13\x05\x05\x80"), (0x1008, b"\0.text\0.shstrtab\0")]);
 
-const NUMBERS_IMAGE: Image = Image {
-    segments: &[
-        READ_OF_FOUR,
-        [1, 5, 0x1000, 0x11000, 8, 8, 4096],
-        [1, 6, 0x2000, 0x12000, 51, 51, 4096],
-        STACK,
-    ],
+const NUMBERS_IMAGE: Image = image!(FIRST => table: 0x2050,
+    segments: &[READ_OF_FOUR, [1, 5, 0x1000, 0x11000, 8, 8, 4096], [1, 6, 0x2000, 0x12000, 51, 51, 4096], STACK],
     contents: &[
-        (0x1000, b"\x67\x80\0\0\x73\0\x10\0"),
-        (
-            0x2000,
-            b"\xaa\x0e\0\0\0\x07\0\x88\xbb\x07\0\0\0\0\0\0\0\xc6\x08\x08\x10\x08\x10\x01\0\xef\xef\xff\xff",
-        ),
-        (
-            0x201d,
-            b"\x08\x11\x01\0\x08\x18\xcc\x08\x10\x08\x10\x01\0\0\0w\x10\x08\xd9\xef\xff\xff",
-        ),
-        (0x2033, NAMES_WITH_DATA),
+        (0x1000, b"\x67\x80\0\0\x73\0\x10\0"), (0x2000, b"\xaa\x0e\0\0\0\x07\0\x88\xbb\x07\0\0\0\0\0\0\0\xc6\x08\x08\x10\x08\x10\x01\0\xef\xef\xff\xff"),
+        (0x201d, b"\x08\x11\x01\0\x08\x18\xcc\x08\x10\x08\x10\x01\0\0\0w\x10\x08\xd9\xef\xff\xff"), (0x2033, NAMES_WITH_DATA),
     ],
-    table: 0x2050,
-    sections: &[
-        [1, 1, 6, 0x11000, 0x1000, 8, 4],
-        [7, 1, 3, 0x12000, 0x2000, 51, 8],
-        [13, 3, 0, 0, 0x2033, 23, 1],
-    ],
-    ..FIRST
-};
+    sections: &[[1, 1, 6, 0x11000, 0x1000, 8, 4], [7, 1, 3, 0x12000, 0x2000, 51, 8], [13, 3, 0, 0, 0x2033, 23, 1]]);
 
-const ENDS_IMAGE: Image = Image {
-    segments: &[
-        READ_OF_FOUR,
-        [1, 5, 0x1000, 0x11000, 32, 32, 4096],
-        [1, 6, 0x2000, 0x12000, 16, 16, 4096],
-        STACK,
-    ],
+const ENDS_IMAGE: Image = image!(FIRST => table: 0x2028,
+    segments: &[READ_OF_FOUR, [1, 5, 0x1000, 0x11000, 32, 32, 4096], [1, 6, 0x2000, 0x12000, 16, 16, 4096], STACK],
     contents: &[
-        (
-            0x1000,
-            b"\xe3\x0f\xb5\x7e\x63\0\xb5\x80\x7d\xcd\x01\xd1\xfd\xaf\x01\xb0\xef\xf0\xff\x7f\xef\0\0\x80\x37\xf5\xff\x7f\x37\x05\0\x80",
-        ),
-        (
-            0x2000,
-            b"\xff\xff\xff\xff\0\0\0\x80\xff\xff\xff\x7f\0\0\0\x80",
-        ),
-        (0x2010, NAMES_WITH_DATA),
+        (0x1000, b"\xe3\x0f\xb5\x7e\x63\0\xb5\x80\x7d\xcd\x01\xd1\xfd\xaf\x01\xb0\xef\xf0\xff\x7f\xef\0\0\x80\x37\xf5\xff\x7f\x37\x05\0\x80"),
+        (0x2000, b"\xff\xff\xff\xff\0\0\0\x80\xff\xff\xff\x7f\0\0\0\x80"), (0x2010, NAMES_WITH_DATA),
     ],
-    table: 0x2028,
-    sections: &[
-        [1, 1, 6, 0x11000, 0x1000, 32, 4],
-        [7, 1, 3, 0x12000, 0x2000, 16, 8],
-        [13, 3, 0, 0, 0x2010, 23, 1],
-    ],
-    ..FIRST
-};
+    sections: &[[1, 1, 6, 0x11000, 0x1000, 32, 4], [7, 1, 3, 0x12000, 0x2000, 16, 8], [13, 3, 0, 0, 0x2010, 23, 1]]);
 
 /// Code and numbers.
 pub const WRITTEN: &[Link] = &[
-    Link {
-        words: &["rvld", "-s", "code.o"],
-        store: Store::Kinds,
-        image: CODE_IMAGE,
-        ..FIRST_LINK
-    },
-    Link {
-        words: &["rvld", "-s", "halves.o"],
-        store: Store::Kinds,
-        image: HALVES_IMAGE,
-        ..FIRST_LINK
-    },
-    Link {
-        words: &["rvld", "-s", "numbers.o"],
-        store: Store::Kinds,
-        image: NUMBERS_IMAGE,
-        ..FIRST_LINK
-    },
-    Link {
-        words: &["rvld", "-s", "ends.o"],
-        store: Store::Kinds,
-        image: ENDS_IMAGE,
-        ..FIRST_LINK
-    },
+    link!("-s", "code.o" => CODE_IMAGE; store: Store::Kinds),
+    link!("-s", "halves.o" => HALVES_IMAGE; store: Store::Kinds),
+    link!("-s", "numbers.o" => NUMBERS_IMAGE; store: Store::Kinds),
+    link!("-s", "ends.o" => ENDS_IMAGE; store: Store::Kinds),
 ];
 
 /// An object of 8 bytes of code and one relocation, of a number, of a weak name that nothing defines, or of `_start`.
-const BEYOND: Object = Object {
-    flags: 0,
-    sections: &[],
-    symbols: &[
-        Symbol {
-            value: 0x7fff_f800,
-            ..NUMBER
-        },
-        WEAKLY,
-        START,
-    ],
-};
+const BEYOND: Object = object!([]; [symbol!(b"m", 1, 0, 0xfff1, 0x7fff_f800, 0), WEAKLY, START]);
 
-const EIGHT: Section = Section {
-    bytes: b"\0\0\0\0\0\0\0\0",
-    ..RETURN
-};
+const EIGHT: Section = section!(b".text", 1, 6, 4; b"\0\0\0\0\0\0\0\0");
 
-const B: Object = Object {
-    sections: &[Section {
-        relocs: &[Reloc {
-            kind: 16,
-            symbol: 3,
-            addend: 4096,
-            ..TO_SECOND
-        }],
-        ..EIGHT
-    }],
-    ..BEYOND
-};
+const B: Object =
+    object!(BEYOND => sections: &[section!(EIGHT => relocs: &[reloc!(0, 16, 3, 4096)])]);
 
-const B_BACK: Object = Object {
-    sections: &[Section {
-        relocs: &[Reloc {
-            kind: 16,
-            symbol: 3,
-            addend: -4098,
-            ..TO_SECOND
-        }],
-        ..EIGHT
-    }],
-    ..BEYOND
-};
+const B_BACK: Object =
+    object!(BEYOND => sections: &[section!(EIGHT => relocs: &[reloc!(0, 16, 3, -4098)])]);
 
-const B_ODD: Object = Object {
-    sections: &[Section {
-        relocs: &[Reloc {
-            kind: 16,
-            symbol: 3,
-            addend: 4097,
-            ..TO_SECOND
-        }],
-        ..EIGHT
-    }],
-    ..BEYOND
-};
+const B_ODD: Object =
+    object!(BEYOND => sections: &[section!(EIGHT => relocs: &[reloc!(0, 16, 3, 4097)])]);
 
-const CB: Object = Object {
-    sections: &[Section {
-        relocs: &[Reloc {
-            kind: 44,
-            symbol: 3,
-            addend: 256,
-            ..TO_SECOND
-        }],
-        ..EIGHT
-    }],
-    ..BEYOND
-};
+const CB: Object =
+    object!(BEYOND => sections: &[section!(EIGHT => relocs: &[reloc!(0, 44, 3, 256)])]);
 
-const CB_BACK: Object = Object {
-    sections: &[Section {
-        relocs: &[Reloc {
-            kind: 44,
-            symbol: 3,
-            addend: -258,
-            ..TO_SECOND
-        }],
-        ..EIGHT
-    }],
-    ..BEYOND
-};
+const CB_BACK: Object =
+    object!(BEYOND => sections: &[section!(EIGHT => relocs: &[reloc!(0, 44, 3, -258)])]);
 
-const CJ: Object = Object {
-    sections: &[Section {
-        relocs: &[Reloc {
-            kind: 45,
-            symbol: 3,
-            addend: 2048,
-            ..TO_SECOND
-        }],
-        ..EIGHT
-    }],
-    ..BEYOND
-};
+const CJ: Object =
+    object!(BEYOND => sections: &[section!(EIGHT => relocs: &[reloc!(0, 45, 3, 2048)])]);
 
-const CJ_ODD: Object = Object {
-    sections: &[Section {
-        relocs: &[Reloc {
-            kind: 45,
-            symbol: 3,
-            addend: -1,
-            ..TO_SECOND
-        }],
-        ..EIGHT
-    }],
-    ..BEYOND
-};
+const CJ_ODD: Object =
+    object!(BEYOND => sections: &[section!(EIGHT => relocs: &[reloc!(0, 45, 3, -1)])]);
 
-const HI: Object = Object {
-    sections: &[Section {
-        relocs: &[Reloc {
-            kind: 26,
-            symbol: 1,
-            ..TO_SECOND
-        }],
-        ..EIGHT
-    }],
-    ..BEYOND
-};
+const HI: Object =
+    object!(BEYOND => sections: &[section!(EIGHT => relocs: &[reloc!(0, 26, 1, 0)])]);
 
-const HI_LOW: Object = Object {
-    sections: &[Section {
-        relocs: &[Reloc {
-            kind: 26,
-            symbol: 2,
-            addend: -2147485697,
-            ..TO_SECOND
-        }],
-        ..EIGHT
-    }],
-    ..BEYOND
-};
+const HI_LOW: Object =
+    object!(BEYOND => sections: &[section!(EIGHT => relocs: &[reloc!(0, 26, 2, -2147485697)])]);
 
-const WORD_HIGH: Object = Object {
-    sections: &[Section {
-        relocs: &[Reloc {
-            kind: 1,
-            symbol: 1,
-            addend: 2147485696,
-            ..TO_SECOND
-        }],
-        ..EIGHT
-    }],
-    ..BEYOND
-};
+const WORD_HIGH: Object =
+    object!(BEYOND => sections: &[section!(EIGHT => relocs: &[reloc!(0, 1, 1, 2147485696)])]);
 
-const WORD_LOW: Object = Object {
-    sections: &[Section {
-        relocs: &[Reloc {
-            kind: 1,
-            symbol: 2,
-            addend: -2147483649,
-            ..TO_SECOND
-        }],
-        ..EIGHT
-    }],
-    ..BEYOND
-};
+const WORD_LOW: Object =
+    object!(BEYOND => sections: &[section!(EIGHT => relocs: &[reloc!(0, 1, 2, -2147483649)])]);
 
-const DISTANCE: Object = Object {
-    sections: &[Section {
-        relocs: &[Reloc {
-            kind: 57,
-            symbol: 3,
-            addend: 2147483648,
-            ..TO_SECOND
-        }],
-        ..EIGHT
-    }],
-    ..BEYOND
-};
+const DISTANCE: Object =
+    object!(BEYOND => sections: &[section!(EIGHT => relocs: &[reloc!(0, 57, 3, 2147483648)])]);
 
-const BEYOND_INPUTS: &[Input] = &[
-    Input {
-        name: "b.o",
-        object: B,
-        most: WHOLE,
-    },
-    Input {
-        name: "b-back.o",
-        object: B_BACK,
-        most: WHOLE,
-    },
-    Input {
-        name: "b-odd.o",
-        object: B_ODD,
-        most: WHOLE,
-    },
-    Input {
-        name: "cb.o",
-        object: CB,
-        most: WHOLE,
-    },
-    Input {
-        name: "cb-back.o",
-        object: CB_BACK,
-        most: WHOLE,
-    },
-    Input {
-        name: "cj.o",
-        object: CJ,
-        most: WHOLE,
-    },
-    Input {
-        name: "cj-odd.o",
-        object: CJ_ODD,
-        most: WHOLE,
-    },
-    Input {
-        name: "hi.o",
-        object: HI,
-        most: WHOLE,
-    },
-    Input {
-        name: "hi-low.o",
-        object: HI_LOW,
-        most: WHOLE,
-    },
-    Input {
-        name: "word.o",
-        object: WORD_HIGH,
-        most: WHOLE,
-    },
-    Input {
-        name: "word-low.o",
-        object: WORD_LOW,
-        most: WHOLE,
-    },
-    Input {
-        name: "distance.o",
-        object: DISTANCE,
-        most: WHOLE,
-    },
-];
+const BEYOND_INPUTS: &[Input] = inputs!(
+    "b.o" => B, "b-back.o" => B_BACK, "b-odd.o" => B_ODD, "cb.o" => CB, "cb-back.o" => CB_BACK, "cj.o" => CJ, "cj-odd.o" => CJ_ODD, "hi.o" => HI,
+    "hi-low.o" => HI_LOW, "word.o" => WORD_HIGH, "word-low.o" => WORD_LOW, "distance.o" => DISTANCE,
+);
 
 /// A kind that is none.
-const UNKNOWN: Object = Object {
-    sections: &[Section {
-        relocs: &[Reloc {
-            kind: 58,
-            symbol: 3,
-            ..TO_SECOND
-        }],
-        ..EIGHT
-    }],
-    ..BEYOND
-};
+const UNKNOWN: Object =
+    object!(BEYOND => sections: &[section!(EIGHT => relocs: &[reloc!(0, 58, 3, 0)])]);
 
 /// The low half of an address whose label stands in another section.
-const ELSEWHERE: Object = Object {
-    flags: 0,
-    sections: &[
-        Section {
-            bytes: b"\x17\x05\0\0\x13\x05\x05\0",
-            relocs: &[
-                Reloc { kind: 23, ..NEAR },
-                Reloc {
-                    offset: 4,
-                    kind: 24,
-                    ..NEAR
-                },
-            ],
-            ..RETURN
-        },
-        Section {
-            name: b".text.a",
-            bytes: b"\x17\x05\0\0",
-            relocs: &[Reloc { kind: 23, ..NEAR }],
-            ..RETURN
-        },
-    ],
-    symbols: &[
-        Symbol {
-            section: 2,
-            value: 0,
-            ..LABEL
-        },
-        START,
-    ],
-};
+const ELSEWHERE: Object = object!([
+    section!(b".text", 1, 6, 4; b"\x17\x05\0\0\x13\x05\x05\0"; relocs: &[reloc!(0, 23, 1, 0), reloc!(4, 24, 1, 0)]),
+    section!(b".text.a", 1, 6, 4; b"\x17\x05\0\0"; relocs: &[reloc!(0, 23, 1, 0)]),
+]; [symbol!(b".L0", 0, 0, 2, 0, 0), START]);
 
 /// The low half of an address whose label has the half of a number.
-const UNLIKE: Object = Object {
-    flags: 0,
-    sections: &[Section {
-        bytes: b"\x37\x05\0\0\x23\x20\xb5\0",
-        relocs: &[
-            Reloc { kind: 26, ..NEAR },
-            Reloc {
-                offset: 4,
-                kind: 25,
-                ..NEAR
-            },
-        ],
-        ..RETURN
-    }],
-    symbols: &[Symbol { value: 0, ..LABEL }, START],
-};
+const UNLIKE: Object = object!([
+    section!(b".text", 1, 6, 4; b"\x37\x05\0\0\x23\x20\xb5\0"; relocs: &[reloc!(0, 26, 1, 0), reloc!(4, 25, 1, 0)]),
+]; [symbol!(b".L0", 0, 0, 1, 0, 0), START]);
 
 /// The low half of an address of a label that is a number.
-const NUMBERED: Object = Object {
-    flags: 0,
-    sections: &[Section {
-        bytes: b"\x17\x05\0\0\x13\x05\x05\0",
-        relocs: &[
-            Reloc {
-                kind: 23,
-                ..TO_SECOND
-            },
-            Reloc {
-                offset: 4,
-                kind: 24,
-                ..NEAR
-            },
-        ],
-        ..RETURN
-    }],
-    symbols: &[
-        Symbol {
-            section: 0xfff1,
-            value: 0,
-            ..LABEL
-        },
-        START,
-    ],
-};
+const NUMBERED: Object = object!([
+    section!(b".text", 1, 6, 4; b"\x17\x05\0\0\x13\x05\x05\0"; relocs: &[reloc!(0, 23, 2, 0), reloc!(4, 24, 1, 0)]),
+]; [symbol!(b".L0", 0, 0, 0xfff1, 0, 0), START]);
 
 /// The low half of an address with an addend.
-const ADDED: Object = Object {
-    flags: 0,
-    sections: &[Section {
-        bytes: b"\x17\x05\0\0\x23\x20\xb5\0",
-        relocs: &[
-            Reloc { kind: 23, ..NEAR },
-            Reloc {
-                offset: 4,
-                kind: 25,
-                addend: 4,
-                ..NEAR
-            },
-        ],
-        ..RETURN
-    }],
-    symbols: &[Symbol { value: 0, ..LABEL }, START],
-};
+const ADDED: Object = object!([
+    section!(b".text", 1, 6, 4; b"\x17\x05\0\0\x23\x20\xb5\0"; relocs: &[reloc!(0, 23, 1, 0), reloc!(4, 25, 1, 4)]),
+]; [symbol!(b".L0", 0, 0, 1, 0, 0), START]);
 
-const WRONG_INPUTS: &[Input] = &[
-    Input {
-        name: "unknown.o",
-        object: UNKNOWN,
-        most: WHOLE,
-    },
-    Input {
-        name: "elsewhere.o",
-        object: ELSEWHERE,
-        most: WHOLE,
-    },
-    Input {
-        name: "unlike.o",
-        object: UNLIKE,
-        most: WHOLE,
-    },
-    Input {
-        name: "numbered.o",
-        object: NUMBERED,
-        most: WHOLE,
-    },
-    Input {
-        name: "added.o",
-        object: ADDED,
-        most: WHOLE,
-    },
-];
+const WRONG_INPUTS: &[Input] =
+    inputs!("unknown.o" => UNKNOWN, "elsewhere.o" => ELSEWHERE, "unlike.o" => UNLIKE, "numbered.o" => NUMBERED, "added.o" => ADDED);
 
 /// The files that are at hand.
 pub fn files(alloc: Global) -> Result<Files, AllocError> {
@@ -947,148 +178,29 @@ pub fn files(alloc: Global) -> Result<Files, AllocError> {
 
 /// Branches and jumps that are too far or odd.
 pub const BRANCHES: &[Refusal] = &[
-    Refusal {
-        words: &["rvld", "-s", "b.o"],
-        store: Store::Kinds,
-        libraries: &[],
-        status: 1,
-        line: "rvld: F24 Range file=b.o section=1 place=0 name=_start other=4096\n",
-        loads: 1,
-    },
-    Refusal {
-        words: &["rvld", "-s", "b-back.o"],
-        store: Store::Kinds,
-        libraries: &[],
-        status: 1,
-        line: "rvld: F24 Range file=b-back.o section=1 place=0 name=_start other=18446744073709547518\n",
-        loads: 1,
-    },
-    Refusal {
-        words: &["rvld", "-s", "b-odd.o"],
-        store: Store::Kinds,
-        libraries: &[],
-        status: 1,
-        line: "rvld: F25 Odd file=b-odd.o section=1 place=0 name=_start other=4097\n",
-        loads: 1,
-    },
-    Refusal {
-        words: &["rvld", "-s", "cb.o"],
-        store: Store::Kinds,
-        libraries: &[],
-        status: 1,
-        line: "rvld: F24 Range file=cb.o section=1 place=0 name=_start other=256\n",
-        loads: 1,
-    },
-    Refusal {
-        words: &["rvld", "-s", "cb-back.o"],
-        store: Store::Kinds,
-        libraries: &[],
-        status: 1,
-        line: "rvld: F24 Range file=cb-back.o section=1 place=0 name=_start other=18446744073709551358\n",
-        loads: 1,
-    },
-    Refusal {
-        words: &["rvld", "-s", "cj.o"],
-        store: Store::Kinds,
-        libraries: &[],
-        status: 1,
-        line: "rvld: F24 Range file=cj.o section=1 place=0 name=_start other=2048\n",
-        loads: 1,
-    },
-    Refusal {
-        words: &["rvld", "-s", "cj-odd.o"],
-        store: Store::Kinds,
-        libraries: &[],
-        status: 1,
-        line: "rvld: F25 Odd file=cj-odd.o section=1 place=0 name=_start other=18446744073709551615\n",
-        loads: 1,
-    },
+    refusal!("-s", "b.o" => 1, 1, "F24 Range file=b.o section=1 place=0 name=_start other=4096"; store: Store::Kinds),
+    refusal!("-s", "b-back.o" => 1, 1, "F24 Range file=b-back.o section=1 place=0 name=_start other=18446744073709547518"; store: Store::Kinds),
+    refusal!("-s", "b-odd.o" => 1, 1, "F25 Odd file=b-odd.o section=1 place=0 name=_start other=4097"; store: Store::Kinds),
+    refusal!("-s", "cb.o" => 1, 1, "F24 Range file=cb.o section=1 place=0 name=_start other=256"; store: Store::Kinds),
+    refusal!("-s", "cb-back.o" => 1, 1, "F24 Range file=cb-back.o section=1 place=0 name=_start other=18446744073709551358"; store: Store::Kinds),
+    refusal!("-s", "cj.o" => 1, 1, "F24 Range file=cj.o section=1 place=0 name=_start other=2048"; store: Store::Kinds),
+    refusal!("-s", "cj-odd.o" => 1, 1, "F25 Odd file=cj-odd.o section=1 place=0 name=_start other=18446744073709551615"; store: Store::Kinds),
 ];
 
 /// Halves and words that are too far.
 pub const HALVES_AND_WORDS: &[Refusal] = &[
-    Refusal {
-        words: &["rvld", "-s", "hi.o"],
-        store: Store::Kinds,
-        libraries: &[],
-        status: 1,
-        line: "rvld: F24 Range file=hi.o section=1 place=0 name=m other=2147481600\n",
-        loads: 1,
-    },
-    Refusal {
-        words: &["rvld", "-s", "hi-low.o"],
-        store: Store::Kinds,
-        libraries: &[],
-        status: 1,
-        line: "rvld: F24 Range file=hi-low.o section=1 place=0 name=w other=18446744071562065919\n",
-        loads: 1,
-    },
-    Refusal {
-        words: &["rvld", "-s", "word.o"],
-        store: Store::Kinds,
-        libraries: &[],
-        status: 1,
-        line: "rvld: F24 Range file=word.o section=1 place=0 name=m other=4294967296\n",
-        loads: 1,
-    },
-    Refusal {
-        words: &["rvld", "-s", "word-low.o"],
-        store: Store::Kinds,
-        libraries: &[],
-        status: 1,
-        line: "rvld: F24 Range file=word-low.o section=1 place=0 name=w other=18446744071562067967\n",
-        loads: 1,
-    },
-    Refusal {
-        words: &["rvld", "-s", "distance.o"],
-        store: Store::Kinds,
-        libraries: &[],
-        status: 1,
-        line: "rvld: F24 Range file=distance.o section=1 place=0 name=_start other=2147483648\n",
-        loads: 1,
-    },
+    refusal!("-s", "hi.o" => 1, 1, "F24 Range file=hi.o section=1 place=0 name=m other=2147481600"; store: Store::Kinds),
+    refusal!("-s", "hi-low.o" => 1, 1, "F24 Range file=hi-low.o section=1 place=0 name=w other=18446744071562065919"; store: Store::Kinds),
+    refusal!("-s", "word.o" => 1, 1, "F24 Range file=word.o section=1 place=0 name=m other=4294967296"; store: Store::Kinds),
+    refusal!("-s", "word-low.o" => 1, 1, "F24 Range file=word-low.o section=1 place=0 name=w other=18446744071562067967"; store: Store::Kinds),
+    refusal!("-s", "distance.o" => 1, 1, "F24 Range file=distance.o section=1 place=0 name=_start other=2147483648"; store: Store::Kinds),
 ];
 
 /// A kind that is none, and low halves without a high one.
 pub const WRONG: &[Refusal] = &[
-    Refusal {
-        words: &["rvld", "-s", "unknown.o"],
-        store: Store::Kinds,
-        libraries: &[],
-        status: 1,
-        line: "rvld: F12 RelocKind file=unknown.o section=2 place=72 name= other=58\n",
-        loads: 1,
-    },
-    Refusal {
-        words: &["rvld", "-s", "elsewhere.o"],
-        store: Store::Kinds,
-        libraries: &[],
-        status: 1,
-        line: "rvld: F26 NoPartner file=elsewhere.o section=1 place=4 name=.L0 other=0\n",
-        loads: 1,
-    },
-    Refusal {
-        words: &["rvld", "-s", "unlike.o"],
-        store: Store::Kinds,
-        libraries: &[],
-        status: 1,
-        line: "rvld: F26 NoPartner file=unlike.o section=1 place=4 name=.L0 other=0\n",
-        loads: 1,
-    },
-    Refusal {
-        words: &["rvld", "-s", "numbered.o"],
-        store: Store::Kinds,
-        libraries: &[],
-        status: 1,
-        line: "rvld: F26 NoPartner file=numbered.o section=1 place=4 name=.L0 other=0\n",
-        loads: 1,
-    },
-    Refusal {
-        words: &["rvld", "-s", "added.o"],
-        store: Store::Kinds,
-        libraries: &[],
-        status: 1,
-        line: "rvld: F11 BadReloc file=added.o section=2 place=96 name= other=0\n",
-        loads: 1,
-    },
+    refusal!("-s", "unknown.o" => 1, 1, "F12 RelocKind file=unknown.o section=2 place=72 name= other=58"; store: Store::Kinds),
+    refusal!("-s", "elsewhere.o" => 1, 1, "F26 NoPartner file=elsewhere.o section=1 place=4 name=.L0 other=0"; store: Store::Kinds),
+    refusal!("-s", "unlike.o" => 1, 1, "F26 NoPartner file=unlike.o section=1 place=4 name=.L0 other=0"; store: Store::Kinds),
+    refusal!("-s", "numbered.o" => 1, 1, "F26 NoPartner file=numbered.o section=1 place=4 name=.L0 other=0"; store: Store::Kinds),
+    refusal!("-s", "added.o" => 1, 1, "F11 BadReloc file=added.o section=2 place=96 name= other=0"; store: Store::Kinds),
 ];

@@ -1,219 +1,52 @@
 //! The order of what is laid out: notes first, and arrays of functions by the numbers in their names.
 
-use elf_bytes::{Object, Section};
+use elf_bytes::{Object, object, section};
 use link_examples::images::{
     NOTES_AND_DATA, NUMBERED, NUMBERED_OF_TWO, ONE_NOTE, READ_ONLY_ARRAY, TWO_NOTES,
 };
-use link_examples::objects::{Input, RETURN, START, WHOLE};
-use link_examples::{FIRST_LINK, Files, Link, Store, objects_of};
+use link_examples::objects::{Input, RETURN, START};
+use link_examples::{Files, Link, Store, inputs, link, objects_of};
 use std::alloc::{AllocError, Global};
 
 /// Read-only data, and two notes after it, of which one has an own name.
-const NOTES: Object = Object {
-    flags: 0,
-    sections: &[
-        RETURN,
-        Section {
-            name: b".rodata",
-            flags: 2,
-            bytes: b"data",
-            ..RETURN
-        },
-        Section {
-            name: b".note.a",
-            sort: 7,
-            flags: 2,
-            bytes: b"note",
-            ..RETURN
-        },
-        Section {
-            name: b".own",
-            flags: 2,
-            bytes: b"own ",
-            ..RETURN
-        },
-        Section {
-            name: b".own",
-            sort: 7,
-            flags: 2,
-            bytes: b"late",
-            ..RETURN
-        },
-    ],
-    symbols: &[START],
-};
+const NOTES: Object = object!([
+    RETURN,
+    section!(b".rodata", 1, 2, 4; b"data"),
+    section!(b".note.a", 7, 2, 4; b"note"),
+    section!(b".own", 1, 2, 4; b"own "),
+    section!(b".own", 7, 2, 4; b"late"),
+]; [START]);
 
 /// A note in `.rodata`, and a second one.
-const MORE_NOTES: Object = Object {
-    flags: 0,
-    sections: &[
-        Section {
-            name: b".rodata",
-            sort: 7,
-            flags: 2,
-            bytes: b"noted",
-            ..RETURN
-        },
-        Section {
-            name: b".note.b",
-            sort: 7,
-            flags: 2,
-            align: 8,
-            bytes: b"NOTE",
-            ..RETURN
-        },
-    ],
-    symbols: &[],
-};
+const MORE_NOTES: Object =
+    object!([section!(b".rodata", 7, 2, 4; b"noted"), section!(b".note.b", 7, 2, 8; b"NOTE")]; []);
 
 /// Arrays of functions with and without numbers, in no order.
-const ARRAYS: Object = Object {
-    flags: 0,
-    sections: &[
-        RETURN,
-        Section {
-            name: b".init_array",
-            sort: 14,
-            flags: 3,
-            align: 8,
-            bytes: b"cccccccc",
-            ..RETURN
-        },
-        Section {
-            name: b".init_array.10",
-            sort: 14,
-            flags: 3,
-            align: 8,
-            bytes: b"bbbbbbbb",
-            ..RETURN
-        },
-        Section {
-            name: b".init_array.2",
-            sort: 14,
-            flags: 3,
-            align: 8,
-            bytes: b"aaaaaaaa",
-            ..RETURN
-        },
-        Section {
-            name: b".fini_array",
-            sort: 15,
-            flags: 3,
-            align: 8,
-            bytes: b"gggggggg",
-            ..RETURN
-        },
-        Section {
-            name: b".preinit_array",
-            sort: 16,
-            flags: 3,
-            align: 8,
-            bytes: b"00000000",
-            ..RETURN
-        },
-        Section {
-            name: b".init_array.100000",
-            sort: 14,
-            flags: 3,
-            align: 8,
-            bytes: b"dddddddd",
-            ..RETURN
-        },
-        Section {
-            name: b".fini_array.00003",
-            sort: 15,
-            flags: 3,
-            align: 8,
-            bytes: b"ffffffff",
-            ..RETURN
-        },
-    ],
-    symbols: &[START],
-};
+const ARRAYS: Object = object!([
+    RETURN,
+    section!(b".init_array", 14, 3, 8; b"cccccccc"),
+    section!(b".init_array.10", 14, 3, 8; b"bbbbbbbb"),
+    section!(b".init_array.2", 14, 3, 8; b"aaaaaaaa"),
+    section!(b".fini_array", 15, 3, 8; b"gggggggg"),
+    section!(b".preinit_array", 16, 3, 8; b"00000000"),
+    section!(b".init_array.100000", 14, 3, 8; b"dddddddd"),
+    section!(b".fini_array.00003", 15, 3, 8; b"ffffffff"),
+]; [START]);
 
 /// Numbers before and after those, and what is no array.
-const MORE_ARRAYS: Object = Object {
-    flags: 0,
-    sections: &[
-        Section {
-            name: b".init_array.65537",
-            sort: 14,
-            flags: 3,
-            align: 8,
-            bytes: b"eeeeeeee",
-            ..RETURN
-        },
-        Section {
-            name: b".init_array.1",
-            sort: 14,
-            flags: 3,
-            align: 8,
-            bytes: b"AAAAAAAA",
-            ..RETURN
-        },
-        Section {
-            name: b".init_array.10",
-            flags: 3,
-            align: 8,
-            bytes: b"BBBBBBBB",
-            ..RETURN
-        },
-        Section {
-            name: b".init_array.",
-            sort: 14,
-            flags: 3,
-            align: 8,
-            bytes: b"????????",
-            ..RETURN
-        },
-    ],
-    symbols: &[],
-};
+const MORE_ARRAYS: Object = object!([
+    section!(b".init_array.65537", 14, 3, 8; b"eeeeeeee"),
+    section!(b".init_array.1", 14, 3, 8; b"AAAAAAAA"),
+    section!(b".init_array.10", 1, 3, 8; b"BBBBBBBB"),
+    section!(b".init_array.", 14, 3, 8; b"????????"),
+]; []);
 
 /// An array that is read-only.
-const READ_ONLY: Object = Object {
-    flags: 0,
-    sections: &[
-        RETURN,
-        Section {
-            name: b".init_array",
-            sort: 14,
-            flags: 2,
-            align: 8,
-            bytes: b"rrrrrrrr",
-            ..RETURN
-        },
-    ],
-    symbols: &[START],
-};
+const READ_ONLY: Object =
+    object!([RETURN, section!(b".init_array", 14, 2, 8; b"rrrrrrrr")]; [START]);
 
-const INPUTS: &[Input] = &[
-    Input {
-        name: "notes.o",
-        object: NOTES,
-        most: WHOLE,
-    },
-    Input {
-        name: "more.o",
-        object: MORE_NOTES,
-        most: WHOLE,
-    },
-    Input {
-        name: "arrays.o",
-        object: ARRAYS,
-        most: WHOLE,
-    },
-    Input {
-        name: "late.o",
-        object: MORE_ARRAYS,
-        most: WHOLE,
-    },
-    Input {
-        name: "read.o",
-        object: READ_ONLY,
-        most: WHOLE,
-    },
-];
+const INPUTS: &[Input] =
+    inputs!("notes.o" => NOTES, "more.o" => MORE_NOTES, "arrays.o" => ARRAYS, "late.o" => MORE_ARRAYS, "read.o" => READ_ONLY);
 
 /// The files that are at hand.
 pub fn files(alloc: Global) -> Result<Files, AllocError> {
@@ -222,44 +55,14 @@ pub fn files(alloc: Global) -> Result<Files, AllocError> {
 
 /// An output section that begins with a note stands before all other read-only ones.
 pub const NOTES_FIRST: &[Link] = &[
-    Link {
-        words: &["rvld", "-s", "notes.o"],
-        store: Store::Orders,
-        image: ONE_NOTE,
-        ..FIRST_LINK
-    },
-    Link {
-        words: &["rvld", "-s", "notes.o", "more.o"],
-        store: Store::Orders,
-        image: TWO_NOTES,
-        ..FIRST_LINK
-    },
-    Link {
-        words: &["rvld", "-s", "more.o", "notes.o"],
-        store: Store::Orders,
-        image: NOTES_AND_DATA,
-        ..FIRST_LINK
-    },
+    link!("-s", "notes.o" => ONE_NOTE; store: Store::Orders),
+    link!("-s", "notes.o", "more.o" => TWO_NOTES; store: Store::Orders),
+    link!("-s", "more.o", "notes.o" => NOTES_AND_DATA; store: Store::Orders),
 ];
 
 /// Arrays with and without numbers.
 pub const BY_NUMBER: &[Link] = &[
-    Link {
-        words: &["rvld", "-s", "arrays.o"],
-        store: Store::Orders,
-        image: NUMBERED,
-        ..FIRST_LINK
-    },
-    Link {
-        words: &["rvld", "-s", "arrays.o", "late.o"],
-        store: Store::Orders,
-        image: NUMBERED_OF_TWO,
-        ..FIRST_LINK
-    },
-    Link {
-        words: &["rvld", "-s", "read.o"],
-        store: Store::Orders,
-        image: READ_ONLY_ARRAY,
-        ..FIRST_LINK
-    },
+    link!("-s", "arrays.o" => NUMBERED; store: Store::Orders),
+    link!("-s", "arrays.o", "late.o" => NUMBERED_OF_TWO; store: Store::Orders),
+    link!("-s", "read.o" => READ_ONLY_ARRAY; store: Store::Orders),
 ];

@@ -1,447 +1,108 @@
 //! The global offset table and thread-local data (RISC-V ELF psABI, thread local storage): entries by first use, the words that they
 //! hold, offsets from the start of the thread-local block, and its program header.
 
-use elf_bytes::{Image, Object, Reloc, Section, Symbol};
+use elf_bytes::{Image, Object, Reloc, Section, Symbol, image, object, reloc, section, symbol};
 use link_examples::images::{FIRST, READ_OF_FOUR, STACK};
-use link_examples::objects::{Input, RETURN, START, TO_SECOND, WEAKLY, WHOLE};
-use link_examples::{FIRST_LINK, Files, Link, Store, objects_of};
+use link_examples::objects::{Input, RETURN, START, WEAKLY};
+use link_examples::{Files, Link, Store, inputs, link, objects_of};
 use std::alloc::{AllocError, Global};
 
 /// The headers of an executable of five program headers.
 const READ_OF_FIVE: [u64; 7] = [1, 4, 0, 0x10000, 344, 344, 4096];
 
-const DATA: Section = Section {
-    name: b".data",
-    flags: 3,
-    align: 8,
-    ..RETURN
-};
-
 /// Data of each thread.
-const THREAD_DATA: Section = Section {
-    name: b".tdata",
-    flags: 0x403,
-    bytes: b"tttttttt",
-    ..RETURN
-};
+const THREAD_DATA: Section = section!(b".tdata", 1, 0x403, 4; b"tttttttt");
 
 /// Zeros of each thread.
-const THREAD_ZEROS: Section = Section {
-    name: b".tbss",
-    sort: 8,
-    flags: 0x403,
-    align: 8,
-    size: 16,
-    bytes: b"",
-    ..RETURN
-};
+const THREAD_ZEROS: Section = section!(b".tbss", 8, 0x403, 8; b""; size: 16);
 
 /// A label.
-const LABEL: Symbol = Symbol {
-    name: b".L0",
-    binding: 0,
-    sort: 0,
-    size: 0,
-    ..START
-};
+const LABEL: Symbol = symbol!(b".L0", 0, 0, 1, 0, 0);
 
 /// `v` at 4 in section 2, thread-local.
-const V_IN_2: Symbol = Symbol {
-    name: b"v",
-    sort: 6,
-    section: 2,
-    value: 4,
-    ..START
-};
+const V_IN_2: Symbol = symbol!(b"v", 1, 6, 2, 4, 4);
 
 /// `b` at 8 in section 3, thread-local.
-const B_IN_3: Symbol = Symbol {
-    name: b"b",
-    section: 3,
-    value: 8,
-    ..V_IN_2
-};
+const B_IN_3: Symbol = symbol!(b"b", 1, 6, 3, 8, 4);
 
 /// The upper half of a distance to an entry.
-const UPPER: Reloc = Reloc {
-    kind: 20,
-    ..TO_SECOND
-};
+const UPPER: Reloc = reloc!(0, 20, 2, 0);
 
 /// The lower half at 4, of the label that is symbol 1.
-const LOWER: Reloc = Reloc {
-    offset: 4,
-    kind: 24,
-    symbol: 1,
-    addend: 0,
-};
+const LOWER: Reloc = reloc!(4, 24, 1, 0);
 
 /// One use of an entry of two words.
-const DYNAMIC: Object = Object {
-    flags: 0,
-    sections: &[
-        Section {
-            bytes: b"\x17\x05\0\0\x13\x05\x05\0\x67\x80\0\0",
-            relocs: &[Reloc { kind: 22, ..UPPER }, LOWER],
-            ..RETURN
-        },
-        THREAD_DATA,
-    ],
-    symbols: &[LABEL, V_IN_2, START],
-};
+const DYNAMIC: Object = object!([
+    section!(b".text", 1, 6, 4; b"\x17\x05\0\0\x13\x05\x05\0\x67\x80\0\0"; relocs: &[reloc!(0, 22, 2, 0), LOWER]),
+    THREAD_DATA,
+]; [LABEL, V_IN_2, START]);
 
 /// Nine uses: of an address twice, of a name that nothing defines, of an offset and of two words, of both for a name that nothing
 /// defines, of a label, and of a section with an addend, which is added to the entry's address.
-const ENTRIES: Object = Object {
-    flags: 0,
-    sections: &[
-        Section {
-            bytes: b"\x17\x05\0\0\x03\x35\x05\0\x17\x05\0\0\x03\x35\x05\0\x17\x05\0\0\x03\x35\x05\0\x17\x05\0\0\x03\x35\x05\0\x17\x05\0\0\x03\x35\x05\0\x17\x05\0\0\x03\x35\x05\0\x17\x05\0\0\x03\x35\x05\0\x17\x05\0\0\x03\x35\x05\0\x17\x05\0\0\x03\x35\x05\0",
-            relocs: &[
-                Reloc {
-                    kind: 20,
-                    symbol: 11,
-                    ..TO_SECOND
-                },
-                Reloc {
-                    offset: 4,
-                    symbol: 1,
-                    ..LOWER
-                },
-                Reloc {
-                    offset: 8,
-                    kind: 20,
-                    symbol: 12,
-                    ..TO_SECOND
-                },
-                Reloc {
-                    offset: 12,
-                    symbol: 2,
-                    ..LOWER
-                },
-                Reloc {
-                    offset: 16,
-                    kind: 20,
-                    symbol: 11,
-                    ..TO_SECOND
-                },
-                Reloc {
-                    offset: 20,
-                    symbol: 3,
-                    ..LOWER
-                },
-                Reloc {
-                    offset: 24,
-                    kind: 21,
-                    symbol: 13,
-                    ..TO_SECOND
-                },
-                Reloc {
-                    offset: 28,
-                    symbol: 4,
-                    ..LOWER
-                },
-                Reloc {
-                    offset: 32,
-                    kind: 22,
-                    symbol: 13,
-                    ..TO_SECOND
-                },
-                Reloc {
-                    offset: 36,
-                    symbol: 5,
-                    ..LOWER
-                },
-                Reloc {
-                    offset: 40,
-                    kind: 21,
-                    symbol: 14,
-                    ..TO_SECOND
-                },
-                Reloc {
-                    offset: 44,
-                    symbol: 6,
-                    ..LOWER
-                },
-                Reloc {
-                    offset: 48,
-                    kind: 22,
-                    symbol: 14,
-                    ..TO_SECOND
-                },
-                Reloc {
-                    offset: 52,
-                    symbol: 7,
-                    ..LOWER
-                },
-                Reloc {
-                    offset: 56,
-                    kind: 20,
-                    symbol: 1,
-                    ..TO_SECOND
-                },
-                Reloc {
-                    offset: 60,
-                    symbol: 8,
-                    ..LOWER
-                },
-                Reloc {
-                    offset: 64,
-                    kind: 20,
-                    symbol: 10,
-                    addend: 8,
-                    ..TO_SECOND
-                },
-                Reloc {
-                    offset: 68,
-                    symbol: 9,
-                    ..LOWER
-                },
-            ],
-            ..RETURN
-        },
-        Section {
-            align: 8,
-            ..THREAD_DATA
-        },
-        Section {
-            bytes: b"dddddddddddddddd",
-            ..DATA
-        },
-    ],
-    symbols: &[
-        LABEL,
-        Symbol { value: 8, ..LABEL },
-        Symbol { value: 16, ..LABEL },
-        Symbol { value: 24, ..LABEL },
-        Symbol { value: 32, ..LABEL },
-        Symbol { value: 40, ..LABEL },
-        Symbol { value: 48, ..LABEL },
-        Symbol { value: 56, ..LABEL },
-        Symbol { value: 64, ..LABEL },
-        Symbol {
-            name: b"",
-            sort: 3,
-            section: 3,
-            ..LABEL
-        },
-        Symbol {
-            name: b"d",
-            sort: 1,
-            section: 3,
-            size: 8,
-            ..START
-        },
-        WEAKLY,
-        V_IN_2,
-        Symbol {
-            name: b"w2",
-            sort: 6,
-            ..WEAKLY
-        },
-        START,
-    ],
-};
+const ENTRIES: Object = object!([
+    section!(b".text", 1, 6, 4;
+        b"\x17\x05\0\0\x03\x35\x05\0\x17\x05\0\0\x03\x35\x05\0\x17\x05\0\0\x03\x35\x05\0\x17\x05\0\0\x03\x35\x05\0\x17\x05\0\0\x03\x35\x05\0\x17\x05\0\0\x03\x35\x05\0\x17\x05\0\0\x03\x35\x05\0\x17\x05\0\0\x03\x35\x05\0\x17\x05\0\0\x03\x35\x05\0";
+        relocs: &[
+            reloc!(0, 20, 11, 0), reloc!(4, 24, 1, 0), reloc!(8, 20, 12, 0), reloc!(12, 24, 2, 0), reloc!(16, 20, 11, 0), reloc!(20, 24, 3, 0),
+            reloc!(24, 21, 13, 0), reloc!(28, 24, 4, 0), reloc!(32, 22, 13, 0), reloc!(36, 24, 5, 0), reloc!(40, 21, 14, 0), reloc!(44, 24, 6, 0),
+            reloc!(48, 22, 14, 0), reloc!(52, 24, 7, 0), reloc!(56, 20, 1, 0), reloc!(60, 24, 8, 0), reloc!(64, 20, 10, 8), reloc!(68, 24, 9, 0),
+        ]),
+    section!(THREAD_DATA => align: 8),
+    section!(b".data", 1, 3, 8; b"dddddddddddddddd"),
+]; [
+    LABEL,
+    symbol!(b".L0", 0, 0, 1, 8, 0),
+    symbol!(b".L0", 0, 0, 1, 16, 0),
+    symbol!(b".L0", 0, 0, 1, 24, 0),
+    symbol!(b".L0", 0, 0, 1, 32, 0),
+    symbol!(b".L0", 0, 0, 1, 40, 0),
+    symbol!(b".L0", 0, 0, 1, 48, 0),
+    symbol!(b".L0", 0, 0, 1, 56, 0),
+    symbol!(b".L0", 0, 0, 1, 64, 0),
+    symbol!(b"", 0, 3, 3, 0, 0),
+    symbol!(b"d", 1, 1, 3, 0, 8),
+    WEAKLY,
+    V_IN_2,
+    symbol!(b"w2", 2, 6, 0, 0, 0),
+    START,
+]);
 
-const RETURNS: Object = Object {
-    flags: 0,
-    sections: &[RETURN],
-    symbols: &[START],
-};
+const RETURNS: Object = object!([RETURN]; [START]);
 
 /// A use of data that only its file knows.
-const OWN_DATA: Object = Object {
-    flags: 0,
-    sections: &[
-        Section {
-            bytes: b"\x17\x05\0\0\x03\x35\x05\0",
-            relocs: &[UPPER, LOWER],
-            ..RETURN
-        },
-        Section {
-            bytes: b"dddddddd",
-            ..DATA
-        },
-    ],
-    symbols: &[
-        LABEL,
-        Symbol {
-            name: b"d",
-            section: 2,
-            ..LABEL
-        },
-    ],
-};
+const OWN_DATA: Object = object!([
+    section!(b".text", 1, 6, 4; b"\x17\x05\0\0\x03\x35\x05\0"; relocs: &[UPPER, LOWER]),
+    section!(b".data", 1, 3, 8; b"dddddddd"),
+]; [LABEL, symbol!(b"d", 0, 0, 2, 0, 0)]);
 
 /// Uses of two numbers, the second in code that stands first.
-const IN_ORDER: Object = Object {
-    flags: 0,
-    sections: &[
-        Section {
-            bytes: b"\x17\x05\0\0\x03\x35\x05\0",
-            relocs: &[Reloc { symbol: 3, ..UPPER }, LOWER],
-            ..RETURN
-        },
-        Section {
-            name: b".init",
-            bytes: b"\x17\x05\0\0\x03\x35\x05\0",
-            relocs: &[Reloc { symbol: 4, ..UPPER }, Reloc { symbol: 2, ..LOWER }],
-            ..RETURN
-        },
-    ],
-    symbols: &[
-        LABEL,
-        Symbol {
-            section: 2,
-            ..LABEL
-        },
-        Symbol {
-            name: b"a",
-            sort: 0,
-            section: 0xfff1,
-            value: 0x100,
-            ..START
-        },
-        Symbol {
-            name: b"b",
-            sort: 0,
-            section: 0xfff1,
-            value: 0x200,
-            ..START
-        },
-        START,
-    ],
-};
+const IN_ORDER: Object = object!([
+    section!(b".text", 1, 6, 4; b"\x17\x05\0\0\x03\x35\x05\0"; relocs: &[reloc!(0, 20, 3, 0), LOWER]),
+    section!(b".init", 1, 6, 4; b"\x17\x05\0\0\x03\x35\x05\0"; relocs: &[reloc!(0, 20, 4, 0), reloc!(4, 24, 2, 0)]),
+]; [LABEL, symbol!(b".L0", 0, 0, 2, 0, 0), symbol!(b"a", 1, 0, 0xfff1, 0x100, 4), symbol!(b"b", 1, 0, 0xfff1, 0x200, 4), START]);
 
 /// Offsets from the thread pointer: in two halves, of the other form, and of a name that nothing defines.
-const OFFSETS: Section = Section {
-    bytes: b"\x37\x05\0\0\x33\x05\x45\0\x13\x05\x05\0\x23\x20\xb5\0\x13\x05\x05\0\x67\x80\0\0",
-    relocs: &[
-        Reloc {
-            kind: 29,
-            addend: 0x1000,
-            ..TO_SECOND
-        },
-        Reloc {
-            offset: 4,
-            kind: 32,
-            ..TO_SECOND
-        },
-        Reloc {
-            offset: 8,
-            kind: 30,
-            addend: 0x1000,
-            ..TO_SECOND
-        },
-        Reloc {
-            offset: 12,
-            kind: 31,
-            symbol: 1,
-            addend: 0,
-        },
-        Reloc {
-            offset: 16,
-            kind: 30,
-            symbol: 3,
-            addend: 5,
-        },
-    ],
-    ..RETURN
-};
+const OFFSETS: Section =
+    section!(b".text", 1, 6, 4; b"\x37\x05\0\0\x33\x05\x45\0\x13\x05\x05\0\x23\x20\xb5\0\x13\x05\x05\0\x67\x80\0\0";
+        relocs: &[reloc!(0, 29, 2, 0x1000), reloc!(4, 32, 2, 0), reloc!(8, 30, 2, 0x1000), reloc!(12, 31, 1, 0), reloc!(16, 30, 3, 5)]);
 
-const DIRECT: Object = Object {
-    flags: 0,
-    sections: &[OFFSETS, THREAD_DATA, THREAD_ZEROS],
-    symbols: &[V_IN_2, B_IN_3, WEAKLY, START],
-};
+const DIRECT: Object =
+    object!([OFFSETS, THREAD_DATA, THREAD_ZEROS]; [V_IN_2, B_IN_3, WEAKLY, START]);
 
 /// The same with an alignment above that of a segment.
-const FAR_APART: Object = Object {
-    sections: &[
-        OFFSETS,
-        THREAD_DATA,
-        Section {
-            align: 0x4000,
-            ..THREAD_ZEROS
-        },
-    ],
-    ..DIRECT
-};
+const FAR_APART: Object =
+    object!(DIRECT => sections: &[OFFSETS, THREAD_DATA, section!(THREAD_ZEROS => align: 0x4000)]);
 
 /// Zeros alone.
-const ZEROS_ALONE: Object = Object {
-    flags: 0,
-    sections: &[
-        Section {
-            bytes: b"\x37\x05\0\0\x13\x05\x05\0",
-            relocs: &[
-                Reloc {
-                    kind: 29,
-                    symbol: 1,
-                    ..TO_SECOND
-                },
-                Reloc {
-                    offset: 4,
-                    kind: 30,
-                    symbol: 1,
-                    ..TO_SECOND
-                },
-            ],
-            ..RETURN
-        },
-        THREAD_ZEROS,
-    ],
-    symbols: &[
-        Symbol {
-            section: 2,
-            ..B_IN_3
-        },
-        START,
-    ],
-};
+const ZEROS_ALONE: Object = object!([
+    section!(b".text", 1, 6, 4; b"\x37\x05\0\0\x13\x05\x05\0"; relocs: &[reloc!(0, 29, 1, 0), reloc!(4, 30, 1, 0)]),
+    THREAD_ZEROS,
+]; [symbol!(b"b", 1, 6, 2, 8, 4), START]);
 
-const INPUTS: &[Input] = &[
-    Input {
-        name: "dynamic.o",
-        object: DYNAMIC,
-        most: WHOLE,
-    },
-    Input {
-        name: "entries.o",
-        object: ENTRIES,
-        most: WHOLE,
-    },
-    Input {
-        name: "returns.o",
-        object: RETURNS,
-        most: WHOLE,
-    },
-    Input {
-        name: "own.o",
-        object: OWN_DATA,
-        most: WHOLE,
-    },
-    Input {
-        name: "order.o",
-        object: IN_ORDER,
-        most: WHOLE,
-    },
-    Input {
-        name: "direct.o",
-        object: DIRECT,
-        most: WHOLE,
-    },
-    Input {
-        name: "apart.o",
-        object: FAR_APART,
-        most: WHOLE,
-    },
-    Input {
-        name: "zeros.o",
-        object: ZEROS_ALONE,
-        most: WHOLE,
-    },
-];
+const INPUTS: &[Input] = inputs!(
+    "dynamic.o" => DYNAMIC, "entries.o" => ENTRIES, "returns.o" => RETURNS, "own.o" => OWN_DATA, "order.o" => IN_ORDER, "direct.o" => DIRECT,
+    "apart.o" => FAR_APART, "zeros.o" => ZEROS_ALONE,
+);
 
 /// The files that are at hand.
 pub fn files(alloc: Global) -> Result<Files, AllocError> {
@@ -449,261 +110,92 @@ pub fn files(alloc: Global) -> Result<Files, AllocError> {
 }
 
 /// Thread-local data at 0x12000, and the entry after it.
-const DYNAMIC_IMAGE: Image = Image {
-    segments: &[
-        READ_OF_FIVE,
-        [1, 5, 0x1000, 0x11000, 12, 12, 4096],
-        [1, 6, 0x2000, 0x12000, 24, 24, 4096],
-        [7, 4, 0x2000, 0x12000, 8, 8, 4],
-        STACK,
-    ],
+const DYNAMIC_IMAGE: Image = image!(FIRST => table: 0x2038,
+    segments: &[READ_OF_FIVE, [1, 5, 0x1000, 0x11000, 12, 12, 4096], [1, 6, 0x2000, 0x12000, 24, 24, 4096], [7, 4, 0x2000, 0x12000, 8, 8, 4], STACK],
     contents: &[
-        (0x1000, b"\x17\x15\0\0\x13\x05\x85\0\x67\x80\0\0"),
-        (0x2000, b"tttttttt"),
-        (
-            0x2008,
-            b"\x01\0\0\0\0\0\0\0\x04\xf8\xff\xff\xff\xff\xff\xff",
-        ),
+        (0x1000, b"\x17\x15\0\0\x13\x05\x85\0\x67\x80\0\0"), (0x2000, b"tttttttt"), (0x2008, b"\x01\0\0\0\0\0\0\0\x04\xf8\xff\xff\xff\xff\xff\xff"),
         (0x2018, b"\0.text\0.tdata\0.got\0.shstrtab\0"),
     ],
-    table: 0x2038,
-    sections: &[
-        [1, 1, 6, 0x11000, 0x1000, 12, 4],
-        [7, 1, 0x403, 0x12000, 0x2000, 8, 4],
-        [14, 1, 3, 0x12008, 0x2008, 16, 8],
-        [19, 3, 0, 0, 0x2018, 29, 1],
-    ],
-    ..FIRST
-};
+    sections: &[[1, 1, 6, 0x11000, 0x1000, 12, 4], [7, 1, 0x403, 0x12000, 0x2000, 8, 4], [14, 1, 3, 0x12008, 0x2008, 16, 8], [19, 3, 0, 0, 0x2018, 29, 1]]);
 
 /// Ten words of nine uses of eight entries.
-const ENTRIES_IMAGE: Image = Image {
-    segments: &[
-        READ_OF_FIVE,
-        [1, 5, 0x1000, 0x11000, 72, 72, 4096],
-        [1, 6, 0x2000, 0x12000, 0x68, 0x68, 4096],
-        [7, 4, 0x2000, 0x12000, 8, 8, 8],
-        STACK,
-    ],
+const ENTRIES_IMAGE: Image = image!(FIRST => table: 0x2090,
+    segments: &[READ_OF_FIVE, [1, 5, 0x1000, 0x11000, 72, 72, 4096], [1, 6, 0x2000, 0x12000, 0x68, 0x68, 4096], [7, 4, 0x2000, 0x12000, 8, 8, 8], STACK],
     contents: &[
-        (
-            0x1000,
-            b"\x17\x15\0\0\x03\x35\x85\0\x17\x15\0\0\x03\x35\x85\0\x17\x15\0\0\x03\x35\x85\xff\x17\x15\0\0\x03\x35\x05\0\x17\x15\0\0\x03\x35\x05\0",
-        ),
-        (
-            0x1028,
-            b"\x17\x15\0\0\x03\x35\x85\0\x17\x15\0\0\x03\x35\x85\0\x17\x15\0\0\x03\x35\x05\x01\x17\x15\0\0\x03\x35\x85\x01",
-        ),
-        (0x2000, b"tttttttt"),
-        (0x2008, b"X\x20\x01\0\0\0\0\0"),
-        (0x2018, b"\x04\0\0\0\0\0\0\0"),
-        (
-            0x2020,
-            b"\x01\0\0\0\0\0\0\0\x04\xf8\xff\xff\xff\xff\xff\xff",
-        ),
-        (0x2038, b"\x01\0\0\0\0\0\0\0"),
-        (0x2048, b"\0\x10\x01\0\0\0\0\0"),
-        (0x2050, b"X\x20\x01\0\0\0\0\0"),
-        (0x2058, b"dddddddddddddddd"),
+        (0x1000, b"\x17\x15\0\0\x03\x35\x85\0\x17\x15\0\0\x03\x35\x85\0\x17\x15\0\0\x03\x35\x85\xff\x17\x15\0\0\x03\x35\x05\0\x17\x15\0\0\x03\x35\x05\0"),
+        (0x1028, b"\x17\x15\0\0\x03\x35\x85\0\x17\x15\0\0\x03\x35\x85\0\x17\x15\0\0\x03\x35\x05\x01\x17\x15\0\0\x03\x35\x85\x01"), (0x2000, b"tttttttt"),
+        (0x2008, b"X\x20\x01\0\0\0\0\0"), (0x2018, b"\x04\0\0\0\0\0\0\0"), (0x2020, b"\x01\0\0\0\0\0\0\0\x04\xf8\xff\xff\xff\xff\xff\xff"),
+        (0x2038, b"\x01\0\0\0\0\0\0\0"), (0x2048, b"\0\x10\x01\0\0\0\0\0"), (0x2050, b"X\x20\x01\0\0\0\0\0"), (0x2058, b"dddddddddddddddd"),
         (0x2068, b"\0.text\0.tdata\0.got\0.data\0.shstrtab\0"),
     ],
-    table: 0x2090,
     sections: &[
-        [1, 1, 6, 0x11000, 0x1000, 72, 4],
-        [7, 1, 0x403, 0x12000, 0x2000, 8, 8],
-        [14, 1, 3, 0x12008, 0x2008, 80, 8],
-        [19, 1, 3, 0x12058, 0x2058, 16, 8],
+        [1, 1, 6, 0x11000, 0x1000, 72, 4], [7, 1, 0x403, 0x12000, 0x2000, 8, 8], [14, 1, 3, 0x12008, 0x2008, 80, 8], [19, 1, 3, 0x12058, 0x2058, 16, 8],
         [25, 3, 0, 0, 0x2068, 35, 1],
-    ],
-    ..FIRST
-};
+    ]);
 
 /// Two entries for two of one name.
-const OWN_IMAGE: Image = Image {
-    segments: &[
-        READ_OF_FOUR,
-        [1, 5, 0x1000, 0x11000, 20, 20, 4096],
-        [1, 6, 0x2000, 0x12000, 32, 32, 4096],
-        STACK,
-    ],
+const OWN_IMAGE: Image = image!(FIRST => table: 0x2040,
+    segments: &[READ_OF_FOUR, [1, 5, 0x1000, 0x11000, 20, 20, 4096], [1, 6, 0x2000, 0x12000, 32, 32, 4096], STACK],
     contents: &[
-        (
-            0x1000,
-            b"\x67\x80\0\0\x17\x15\0\0\x03\x35\xc5\xff\x17\x15\0\0\x03\x35\xc5\xff",
-        ),
-        (0x2000, b"\x10\x20\x01"),
-        (0x2008, b"\x18\x20\x01"),
-        (0x2010, b"dddddddddddddddd"),
-        (0x2020, b"\0.text\0.got\0.data\0.shstrtab\0"),
+        (0x1000, b"\x67\x80\0\0\x17\x15\0\0\x03\x35\xc5\xff\x17\x15\0\0\x03\x35\xc5\xff"), (0x2000, b"\x10\x20\x01"), (0x2008, b"\x18\x20\x01"),
+        (0x2010, b"dddddddddddddddd"), (0x2020, b"\0.text\0.got\0.data\0.shstrtab\0"),
     ],
-    table: 0x2040,
-    sections: &[
-        [1, 1, 6, 0x11000, 0x1000, 20, 4],
-        [7, 1, 3, 0x12000, 0x2000, 16, 8],
-        [12, 1, 3, 0x12010, 0x2010, 16, 8],
-        [18, 3, 0, 0, 0x2020, 28, 1],
-    ],
-    ..FIRST
-};
+    sections: &[[1, 1, 6, 0x11000, 0x1000, 20, 4], [7, 1, 3, 0x12000, 0x2000, 16, 8], [12, 1, 3, 0x12010, 0x2010, 16, 8], [18, 3, 0, 0, 0x2020, 28, 1]]);
 
 /// Entries in order of the inputs, and not of the output.
-const IN_ORDER_IMAGE: Image = Image {
-    entry: 0x11008,
-    segments: &[
-        READ_OF_FOUR,
-        [1, 5, 0x1000, 0x11000, 16, 16, 4096],
-        [1, 6, 0x2000, 0x12000, 16, 16, 4096],
-        STACK,
-    ],
+const IN_ORDER_IMAGE: Image = image!(FIRST => entry: 0x11008, table: 0x2030,
+    segments: &[READ_OF_FOUR, [1, 5, 0x1000, 0x11000, 16, 16, 4096], [1, 6, 0x2000, 0x12000, 16, 16, 4096], STACK],
     contents: &[
-        (
-            0x1000,
-            b"\x17\x15\0\0\x03\x35\x85\0\x17\x15\0\0\x03\x35\x85\xff",
-        ),
-        (0x2000, b"\0\x01"),
-        (0x2008, b"\0\x02"),
+        (0x1000, b"\x17\x15\0\0\x03\x35\x85\0\x17\x15\0\0\x03\x35\x85\xff"), (0x2000, b"\0\x01"), (0x2008, b"\0\x02"),
         (0x2010, b"\0.init\0.text\0.got\0.shstrtab\0"),
     ],
-    table: 0x2030,
-    sections: &[
-        [1, 1, 6, 0x11000, 0x1000, 8, 4],
-        [7, 1, 6, 0x11008, 0x1008, 8, 4],
-        [13, 1, 3, 0x12000, 0x2000, 16, 8],
-        [18, 3, 0, 0, 0x2010, 28, 1],
-    ],
-    ..FIRST
-};
+    sections: &[[1, 1, 6, 0x11000, 0x1000, 8, 4], [7, 1, 6, 0x11008, 0x1008, 8, 4], [13, 1, 3, 0x12000, 0x2000, 16, 8], [18, 3, 0, 0, 0x2010, 28, 1]]);
 
-const DIRECT_IMAGE: Image = Image {
-    segments: &[
-        READ_OF_FIVE,
-        [1, 5, 0x1000, 0x11000, 24, 24, 4096],
-        [1, 6, 0x2000, 0x12000, 8, 8, 4096],
-        [7, 4, 0x2000, 0x12000, 8, 24, 8],
-        STACK,
-    ],
+const DIRECT_IMAGE: Image = image!(FIRST => table: 0x2028,
+    segments: &[READ_OF_FIVE, [1, 5, 0x1000, 0x11000, 24, 24, 4096], [1, 6, 0x2000, 0x12000, 8, 8, 4096], [7, 4, 0x2000, 0x12000, 8, 24, 8], STACK],
     contents: &[
-        (
-            0x1000,
-            b"\x37\x15\0\0\x33\x05\x45\0\x13\x05\x05\x01\x23\x22\xb5\0\x13\x05\x55\0\x67\x80\0\0",
-        ),
-        (0x2000, b"tttttttt"),
+        (0x1000, b"\x37\x15\0\0\x33\x05\x45\0\x13\x05\x05\x01\x23\x22\xb5\0\x13\x05\x55\0\x67\x80\0\0"), (0x2000, b"tttttttt"),
         (0x2008, b"\0.text\0.tdata\0.tbss\0.shstrtab\0"),
     ],
-    table: 0x2028,
-    sections: &[
-        [1, 1, 6, 0x11000, 0x1000, 24, 4],
-        [7, 1, 0x403, 0x12000, 0x2000, 8, 4],
-        [14, 8, 0x403, 0x12008, 0x2008, 16, 8],
-        [20, 3, 0, 0, 0x2008, 30, 1],
-    ],
-    ..FIRST
-};
+    sections: &[[1, 1, 6, 0x11000, 0x1000, 24, 4], [7, 1, 0x403, 0x12000, 0x2000, 8, 4], [14, 8, 0x403, 0x12008, 0x2008, 16, 8], [20, 3, 0, 0, 0x2008, 30, 1]]);
 
 /// The block begins at the greatest alignment of all that is thread-local.
-const FAR_APART_IMAGE: Image = Image {
+const FAR_APART_IMAGE: Image = image!(FIRST => table: 0x4028,
     segments: &[
-        READ_OF_FIVE,
-        [1, 5, 0x1000, 0x11000, 24, 24, 4096],
-        [1, 6, 0x2000, 0x12000, 0x2008, 0x2008, 4096],
-        [7, 4, 0x4000, 0x14000, 8, 0x4010, 0x4000],
-        STACK,
+        READ_OF_FIVE, [1, 5, 0x1000, 0x11000, 24, 24, 4096], [1, 6, 0x2000, 0x12000, 0x2008, 0x2008, 4096], [7, 4, 0x4000, 0x14000, 8, 0x4010, 0x4000], STACK,
     ],
     contents: &[
-        (
-            0x1000,
-            b"\x37\x55\0\0\x33\x05\x45\0\x13\x05\x85\0\x23\x22\xb5\0\x13\x05\x55\0\x67\x80\0\0",
-        ),
-        (0x4000, b"tttttttt"),
+        (0x1000, b"\x37\x55\0\0\x33\x05\x45\0\x13\x05\x85\0\x23\x22\xb5\0\x13\x05\x55\0\x67\x80\0\0"), (0x4000, b"tttttttt"),
         (0x4008, b"\0.text\0.tdata\0.tbss\0.shstrtab\0"),
     ],
-    table: 0x4028,
     sections: &[
-        [1, 1, 6, 0x11000, 0x1000, 24, 4],
-        [7, 1, 0x403, 0x14000, 0x4000, 8, 4],
-        [14, 8, 0x403, 0x18000, 0x8000, 16, 0x4000],
-        [20, 3, 0, 0, 0x4008, 30, 1],
-    ],
-    ..FIRST
-};
+        [1, 1, 6, 0x11000, 0x1000, 24, 4], [7, 1, 0x403, 0x14000, 0x4000, 8, 4], [14, 8, 0x403, 0x18000, 0x8000, 16, 0x4000], [20, 3, 0, 0, 0x4008, 30, 1],
+    ]);
 
 /// No segment that may be written.
-const ZEROS_IMAGE: Image = Image {
-    segments: &[
-        READ_OF_FOUR,
-        [1, 5, 0x1000, 0x11000, 8, 8, 4096],
-        [7, 4, 0x2000, 0x12000, 0, 16, 8],
-        STACK,
-    ],
-    contents: &[
-        (0x1000, b"\x37\x05\0\0\x13\x05\x85\0"),
-        (0x1008, b"\0.text\0.tbss\0.shstrtab\0"),
-    ],
-    table: 0x1020,
-    sections: &[
-        [1, 1, 6, 0x11000, 0x1000, 8, 4],
-        [7, 8, 0x403, 0x12000, 0x2000, 16, 8],
-        [13, 3, 0, 0, 0x1008, 23, 1],
-    ],
-    ..FIRST
-};
+const ZEROS_IMAGE: Image = image!(FIRST => table: 0x1020,
+    segments: &[READ_OF_FOUR, [1, 5, 0x1000, 0x11000, 8, 8, 4096], [7, 4, 0x2000, 0x12000, 0, 16, 8], STACK],
+    contents: &[(0x1000, b"\x37\x05\0\0\x13\x05\x85\0"), (0x1008, b"\0.text\0.tbss\0.shstrtab\0")],
+    sections: &[[1, 1, 6, 0x11000, 0x1000, 8, 4], [7, 8, 0x403, 0x12000, 0x2000, 16, 8], [13, 3, 0, 0, 0x1008, 23, 1]]);
 
 /// Entries of the global offset table.
 pub const TABLES: &[Link] = &[
-    Link {
-        words: &["rvld", "-s", "dynamic.o"],
-        store: Store::Threads,
-        image: DYNAMIC_IMAGE,
-        ..FIRST_LINK
-    },
-    Link {
-        words: &["rvld", "-s", "entries.o"],
-        store: Store::Threads,
-        image: ENTRIES_IMAGE,
-        ..FIRST_LINK
-    },
-    Link {
-        words: &["rvld", "-s", "returns.o", "own.o", "own.o"],
-        store: Store::Threads,
-        image: OWN_IMAGE,
-        ..FIRST_LINK
-    },
-    Link {
-        words: &["rvld", "-s", "order.o"],
-        store: Store::Threads,
-        image: IN_ORDER_IMAGE,
-        ..FIRST_LINK
-    },
+    link!("-s", "dynamic.o" => DYNAMIC_IMAGE; store: Store::Threads),
+    link!("-s", "entries.o" => ENTRIES_IMAGE; store: Store::Threads),
+    link!("-s", "returns.o", "own.o", "own.o" => OWN_IMAGE; store: Store::Threads),
+    link!("-s", "order.o" => IN_ORDER_IMAGE; store: Store::Threads),
 ];
 
 /// Offsets in the block of a thread.
 pub const OFFSETS_OF_THREADS: &[Link] = &[
-    Link {
-        words: &["rvld", "-s", "direct.o"],
-        store: Store::Threads,
-        image: DIRECT_IMAGE,
-        ..FIRST_LINK
-    },
-    Link {
-        words: &["rvld", "-s", "apart.o"],
-        store: Store::Threads,
-        image: FAR_APART_IMAGE,
-        ..FIRST_LINK
-    },
-    Link {
-        words: &["rvld", "-s", "zeros.o"],
-        store: Store::Threads,
-        image: ZEROS_IMAGE,
-        ..FIRST_LINK
-    },
+    link!("-s", "direct.o" => DIRECT_IMAGE; store: Store::Threads),
+    link!("-s", "apart.o" => FAR_APART_IMAGE; store: Store::Threads),
+    link!("-s", "zeros.o" => ZEROS_IMAGE; store: Store::Threads),
 ];
 
 /// The map has the global offset table.
-pub const MAPPED: &[Link] = &[Link {
-    words: &["rvld", "-s", "--Map", "m", "entries.o"],
-    store: Store::Threads,
-    image: ENTRIES_IMAGE,
-    lines: &[
+pub const MAPPED: &[Link] = &[
+    link!("-s", "--Map", "m", "entries.o" => ENTRIES_IMAGE; store: Store::Threads, lines: &[
         "rvld map 1",
         "entry 0000000000011000",
         "section 0000000000011000 0000000000000048 .text",
@@ -717,6 +209,5 @@ pub const MAPPED: &[Link] = &[Link {
         "symbol 0000000000011000 _start",
         "symbol 0000000000012058 d",
         "symbol 0000000000000004 v",
-    ],
-    ..FIRST_LINK
-}];
+    ]),
+];

@@ -14,63 +14,27 @@ struct Row {
     line: &'static [u8],
 }
 
+macro_rules! row {
+    ($file:expr, $name:expr, $other:expr, $defect:expr; $line:expr) => {
+        Row {
+            file: $file,
+            name: $name,
+            other: $other,
+            defect: $defect,
+            line: $line,
+        }
+    };
+}
+
 const ROWS: &[Row] = &[
-    Row {
-        defect: Defect {
-            kind: DUPLICATE,
-            file: 0,
-            section: 0,
-            place: 1,
-            symbol: 1,
-            other: 1,
-        },
-        file: b"p.o",
-        name: b"x",
-        other: b"q.o",
-        line: b"rvld: F20 Duplicate file=p.o section=0 place=1 name=x other=q.o\n",
-    },
-    Row {
-        defect: Defect {
-            kind: TOO_BIG,
-            file: NO_FILE,
-            section: 0,
-            place: 2147491840,
-            symbol: 1,
-            other: 0,
-        },
-        file: b"a.o",
-        name: b"",
-        other: b"b.o",
-        line: b"rvld: F23 TooBig file=- section=0 place=2147491840 name= other=0\n",
-    },
-    Row {
-        defect: Defect {
-            kind: BAD_ARCHIVE,
-            file: 3,
-            section: 0,
-            place: 8,
-            symbol: 1,
-            other: 0,
-        },
-        file: b"lib.a",
-        name: b"",
-        other: b"",
-        line: b"rvld: F06 BadArchive file=lib.a section=0 place=8 name= other=0\n",
-    },
-    Row {
-        defect: Defect {
-            kind: RANGE,
-            file: 5,
-            section: 12,
-            place: 0,
-            symbol: 1,
-            other: 0xffff_ffff_ffff_ffff,
-        },
-        file: b"lib.a(two.o)",
-        name: b"100% \x00\xff\x7f~!",
-        other: b"",
-        line: b"rvld: F24 Range file=lib.a(two.o) section=12 place=0 name=100%25%20%00%FF%7F~! other=18446744073709551615\n",
-    },
+    row!(b"p.o", b"x", b"q.o", Defect { kind: DUPLICATE, file: 0, section: 0, place: 1, symbol: 1, other: 1 };
+        b"rvld: F20 Duplicate file=p.o section=0 place=1 name=x other=q.o\n"),
+    row!(b"a.o", b"", b"b.o", Defect { kind: TOO_BIG, file: NO_FILE, section: 0, place: 2147491840, symbol: 1, other: 0 };
+        b"rvld: F23 TooBig file=- section=0 place=2147491840 name= other=0\n"),
+    row!(b"lib.a", b"", b"", Defect { kind: BAD_ARCHIVE, file: 3, section: 0, place: 8, symbol: 1, other: 0 };
+        b"rvld: F06 BadArchive file=lib.a section=0 place=8 name= other=0\n"),
+    row!(b"lib.a(two.o)", b"100% \x00\xff\x7f~!", b"", Defect { kind: RANGE, file: 5, section: 12, place: 0, symbol: 1, other: 0xffff_ffff_ffff_ffff };
+        b"rvld: F24 Range file=lib.a(two.o) section=12 place=0 name=100%25%20%00%FF%7F~! other=18446744073709551615\n"),
 ];
 
 #[test]

@@ -16,6 +16,15 @@ struct Piece {
     bytes: &'static [u8],
 }
 
+macro_rules! piece {
+    ($base:expr => $($field:ident: $value:expr),+) => {
+        Piece {
+            $($field: $value,)+
+            ..$base
+        }
+    };
+}
+
 const FIRST: Piece = Piece {
     number: 0,
     name: "gen0.o",
@@ -27,44 +36,23 @@ const FIRST: Piece = Piece {
 const ONE: &[Piece] = &[
     FIRST,
     // A call of g0, a return, and the call's relocations.
-    Piece {
-        offset: 64,
-        bytes: b"\x97\0\0\0\xe7\x80\0\0\x67\x80\0\0\0\0\0\0\0\0\0\0\0\0\0\0\x13\0\0\0\x04\0\0\0\0\0\0\0\0\0\0\0\0\0\0\0\0\0\0\0\x33\0\0\0\0\0\0\0\0\0\0\0\0\0\0\0",
-        ..FIRST
-    },
+    piece!(FIRST => offset: 64,
+        bytes: b"\x97\0\0\0\xe7\x80\0\0\x67\x80\0\0\0\0\0\0\0\0\0\0\0\0\0\0\x13\0\0\0\x04\0\0\0\0\0\0\0\0\0\0\0\0\0\0\0\0\0\0\0\x33\0\0\0\0\0\0\0\0\0\0\0\0\0\0\0"),
     // g0, d0, the string, the zeros, and their relocation.
-    Piece {
-        offset: 128,
-        bytes: b"\x13\x05\0\0\x67\x80\0\0\x67\x80\0\0\0\0\0\0s0\0\0\0\0\0\0\0\0\0\0\0\0\0\0\0\0\0\0\0\0\0\0\x02\0\0\0\x01\0\0\0\0\0\0\0\0\0\0\0",
-        ..FIRST
-    },
+    piece!(FIRST => offset: 128,
+        bytes: b"\x13\x05\0\0\x67\x80\0\0\x67\x80\0\0\0\0\0\0s0\0\0\0\0\0\0\0\0\0\0\0\0\0\0\0\0\0\0\0\0\0\0\x02\0\0\0\x01\0\0\0\0\0\0\0\0\0\0\0"),
     // Symbols 1 and 2, and the names.
-    Piece {
-        offset: 208,
-        bytes: b"\0\0\0\0\x03\0\x05\0\0\0\0\0\0\0\0\0\0\0\0\0\0\0\0\0\x01\0\0\0\x12\0\x01\0\0\0\0\0\0\0\0\0\x0c\0\0\0\0\0\0\0",
-        ..FIRST
-    },
-    Piece {
-        offset: 328,
-        bytes: b"\0_start\0f0\0g0\0d0\0\0\0\0\0\0\0\0\0.text.f\0.rela.text.f\0.text.g\0.text.d\0.rodata.str1.1\0.data\0.rela.data\0.symtab\0.strtab\0.shstrtab\0\0\0\0\0",
-        ..FIRST
-    },
+    piece!(FIRST => offset: 208, bytes: b"\0\0\0\0\x03\0\x05\0\0\0\0\0\0\0\0\0\0\0\0\0\0\0\0\0\x01\0\0\0\x12\0\x01\0\0\0\0\0\0\0\0\0\x0c\0\0\0\0\0\0\0"),
+    piece!(FIRST => offset: 328,
+        bytes: b"\0_start\0f0\0g0\0d0\0\0\0\0\0\0\0\0\0.text.f\0.rela.text.f\0.text.g\0.text.d\0.rodata.str1.1\0.data\0.rela.data\0.symtab\0.strtab\0.shstrtab\0\0\0\0\0"),
     // The header of the symbol table.
-    Piece {
-        offset: 960,
-        bytes: b"\x46\0\0\0\x02\0\0\0\0\0\0\0\0\0\0\0\0\0\0\0\0\0\0\0\xb8\0\0\0\0\0\0\0\x90\0\0\0\0\0\0\0\x09\0\0\0\x02\0\0\0\x08\0\0\0\0\0\0\0\x18\0\0\0\0\0\0\0",
-        ..FIRST
-    },
+    piece!(FIRST => offset: 960,
+        bytes: b"\x46\0\0\0\x02\0\0\0\0\0\0\0\0\0\0\0\0\0\0\0\0\0\0\0\xb8\0\0\0\0\0\0\0\x90\0\0\0\0\0\0\0\x09\0\0\0\x02\0\0\0\x08\0\0\0\0\0\0\0\x18\0\0\0\0\0\0\0"),
 ];
 
 const TWO: &[Piece] = &[
     // The second call's relocation is to the last symbol.
-    Piece {
-        size: 1232,
-        offset: 136,
-        bytes: b"\x08\0\0\0\0\0\0\0\x13\0\0\0\x06\0\0\0",
-        ..FIRST
-    },
+    piece!(FIRST => size: 1232, offset: 136, bytes: b"\x08\0\0\0\0\0\0\0\x13\0\0\0\x06\0\0\0"),
     Piece {
         number: 1,
         name: "gen1.o",

@@ -281,71 +281,59 @@ type Numbered = (&'static [Change], Option<(DefectKind, u32, u64)>);
 /// Section 2 as a table of section indexes: its words are those at 80, so symbol 1 has the word at 84, and symbol 2 that at 88.
 const INDEXES: [Change; 5] = [(388, 18), (416, 12), (440, 4), (84, 1), (88, 1)];
 
+macro_rules! numbered {
+    ($changes:expr) => {
+        (&$changes, None)
+    };
+    ($changes:expr => $kind:expr, $section:expr, $place:expr) => {
+        (&$changes, Some(($kind, $section, $place)))
+    };
+}
+
 const NUMBERED: &[Numbered] = &[
     // Six sections; their names in section 5.
-    (&[(60, 0), (288, 6)], None),
-    (&[(62, 255), (63, 255), (296, 5)], None),
-    (&[(60, 0), (288, 6), (62, 255), (63, 255), (296, 5)], None),
+    numbered!([(60, 0), (288, 6)]),
+    numbered!([(62, 255), (63, 255), (296, 5)]),
+    numbered!([(60, 0), (288, 6), (62, 255), (63, 255), (296, 5)]),
     // Seven, 2^28, one more, and 2^32.
-    (&[(60, 0), (288, 7)], Some((OUTSIDE, 0, 40))),
-    (&[(60, 0), (291, 16)], Some((OUTSIDE, 0, 40))),
-    (&[(60, 0), (288, 1), (291, 16)], Some((LIMIT, 0, 60))),
-    (&[(60, 0), (292, 1)], Some((LIMIT, 0, 60))),
+    numbered!([(60, 0), (288, 7)] => OUTSIDE, 0, 40),
+    numbered!([(60, 0), (291, 16)] => OUTSIDE, 0, 40),
+    numbered!([(60, 0), (288, 1), (291, 16)] => LIMIT, 0, 60),
+    numbered!([(60, 0), (292, 1)] => LIMIT, 0, 60),
     // Section 0 ends a byte past the file.
-    (&[(60, 0), (40, 65), (41, 2)], Some((OUTSIDE, 0, 40))),
+    numbered!([(60, 0), (40, 65), (41, 2)] => OUTSIDE, 0, 40),
     // Names in section 0, in section 6 and in .strtab's.
-    (&[(62, 255), (63, 255)], Some((BAD_SECTION, 0, 62))),
-    (
-        &[(62, 255), (63, 255), (296, 6)],
-        Some((BAD_SECTION, 0, 62)),
-    ),
-    (&[(62, 255), (63, 255), (296, 4)], Some((BAD_NAME, 3, 448))),
+    numbered!([(62, 255), (63, 255)] => BAD_SECTION, 0, 62),
+    numbered!([(62, 255), (63, 255), (296, 6)] => BAD_SECTION, 0, 62),
+    numbered!([(62, 255), (63, 255), (296, 4)] => BAD_NAME, 3, 448),
     // An index that stands elsewhere, where there is no elsewhere; indexes that are reserved.
-    (&[(158, 255), (159, 255)], Some((BAD_SYMBOL, 3, 152))),
-    (&[(158, 5), (159, 255)], Some((BAD_SYMBOL, 3, 152))),
-    (&[(158, 0), (159, 255)], Some((BAD_SYMBOL, 3, 152))),
+    numbered!([(158, 255), (159, 255)] => BAD_SYMBOL, 3, 152),
+    numbered!([(158, 5), (159, 255)] => BAD_SYMBOL, 3, 152),
+    numbered!([(158, 0), (159, 255)] => BAD_SYMBOL, 3, 152),
 ];
 
 /// With section 2 as a table of section indexes.
 const INDEXED: &[Numbered] = &[
-    (&[], None),
-    (&[(158, 255), (159, 255)], None),
-    (&[(182, 255), (183, 255)], None),
+    numbered!([]),
+    numbered!([(158, 255), (159, 255)]),
+    numbered!([(182, 255), (183, 255)]),
     // Words that name none: 0, 6 and 2^16 + 1.
-    (
-        &[(158, 255), (159, 255), (84, 0)],
-        Some((BAD_SYMBOL, 3, 152)),
-    ),
-    (
-        &[(158, 255), (159, 255), (84, 6)],
-        Some((BAD_SYMBOL, 3, 152)),
-    ),
-    (
-        &[(158, 255), (159, 255), (86, 1)],
-        Some((BAD_SYMBOL, 3, 152)),
-    ),
+    numbered!([(158, 255), (159, 255), (84, 0)] => BAD_SYMBOL, 3, 152),
+    numbered!([(158, 255), (159, 255), (84, 6)] => BAD_SYMBOL, 3, 152),
+    numbered!([(158, 255), (159, 255), (86, 1)] => BAD_SYMBOL, 3, 152),
     // A value past the end of the section in the word; the other symbol's word.
-    (
-        &[(158, 255), (159, 255), (160, 17)],
-        Some((BAD_SYMBOL, 3, 152)),
-    ),
-    (
-        &[(182, 255), (183, 255), (88, 0)],
-        Some((BAD_SYMBOL, 3, 176)),
-    ),
+    numbered!([(158, 255), (159, 255), (160, 17)] => BAD_SYMBOL, 3, 152),
+    numbered!([(182, 255), (183, 255), (88, 0)] => BAD_SYMBOL, 3, 176),
     // Entries of 8 bytes, two words, 13 bytes, links to nothing, to a string table and past the sections.
-    (&[(440, 8)], Some((BAD_SECTION, 2, 384))),
-    (&[(416, 8)], Some((BAD_SECTION, 2, 384))),
-    (&[(416, 13)], Some((BAD_SECTION, 2, 384))),
-    (&[(424, 0)], Some((BAD_SECTION, 2, 384))),
-    (&[(424, 4)], Some((BAD_SECTION, 2, 384))),
-    (&[(424, 6)], Some((BAD_SECTION, 2, 384))),
+    numbered!([(440, 8)] => BAD_SECTION, 2, 384),
+    numbered!([(416, 8)] => BAD_SECTION, 2, 384),
+    numbered!([(416, 13)] => BAD_SECTION, 2, 384),
+    numbered!([(424, 0)] => BAD_SECTION, 2, 384),
+    numbered!([(424, 4)] => BAD_SECTION, 2, 384),
+    numbered!([(424, 6)] => BAD_SECTION, 2, 384),
     // A second one, after .text as the first, and a symbol table that is unsound itself.
-    (
-        &[(324, 18), (352, 12), (360, 3), (376, 4)],
-        Some((BAD_SECTION, 2, 384)),
-    ),
-    (&[(504, 23)], Some((BAD_SECTION, 3, 448))),
+    numbered!([(324, 18), (352, 12), (360, 3), (376, 4)] => BAD_SECTION, 2, 384),
+    numbered!([(504, 23)] => BAD_SECTION, 3, 448),
 ];
 
 /// Whether each row ends as it should, after some bytes are changed in all.

@@ -1,11 +1,10 @@
-use Rattle.std.proofs.Common.{ℕ, List, length, flat_map, sym, ap, ◌∙◌, subst, arith}
+use Rattle.std.proofs.Common.{ℕ, List, length, flat_map, ap, ◌∙◌, arith}
 use Rattle.link_sections.specs.FoldItems.{item_views}
 use Rattle.name_numbers.specs.Texts.{text_numbers}
-use Rattle.work_split.specs.Pieces.{Tiles}
 use Rattle.icf_part.specs.Counts.{leader_count}
 use Rattle.icf_part.specs.Signatures.{rest_at}
 use Rattle.icf_part.proofs.RowSteps.{all_rows}
-use Rattle.icf_part.proofs.Whole.{all_sections, all_ends, all_steps, few_steps, first_classes, first_firsts, folded, last_fewer}
+use Rattle.icf_part.proofs.Whole.{all_ends, all_sections, all_steps, few_steps, first_classes, first_ends, first_firsts, folded, start_fewer}
 use Rattle.icf_part.proofs.folding.fold_few.Goals as goal
 
 pub all_places-requires-clause-few : goal.all_places-requires-clause-few
@@ -24,89 +23,90 @@ number_rows-requires-after_bounds g c κs within =
     omega (arith, c.requires.few, ap (λ (p : List (List (List ℕ))). length (flat_map (λ part. part) p)) c.as_slice-7.ensures.value, all_rows (rest_at (item_views c.args.items.now) c.as_slice-5.result.now c.in_ok-ends.ends) (length c.args.items.now) (flat_map (λ part. part) c.in_ok-parts.parts.items) c.in_ok-parts.ensures)
 
 pub refine-requires-clause-few : goal.refine-requires-clause-few
-refine-requires-clause-few g c κs within = omega (arith, c.requires.few, all_ends c.args.items.now c.in_ok-ends.ends c.in_ok-ends.ensures)
-
-pub refine-requires-clause-tiles : goal.refine-requires-clause-tiles
-refine-requires-clause-tiles g c κs within =
-    let P : ℕ → Type 0 = λ n. Tiles 0 n c.as_slice-8.result.now in
-    subst P (sym (all_ends c.args.items.now c.in_ok-ends.ends c.in_ok-ends.ensures)) (let Q : List _ → Type 0 = Tiles 0 (length c.args.items.now) in subst Q (sym c.as_slice-8.ensures.value) c.in_ok-pieces.ensures.tiles)
+refine-requires-clause-few g c = omega (arith, c.requires.few, all_ends c.args.items.now c.in_ok-ends.ends c.in_ok-ends.ensures)
 
 pub refine-requires-clause-firsts : goal.refine-requires-clause-firsts
-refine-requires-clause-firsts g c κs within =
+refine-requires-clause-firsts g c =
     let first = first_classes c.args.items.now c.in_ok-keys.keys.items c.as_slice-5.result.now c.in_ok-ends.ends (flat_map (λ part. part) c.in_ok-parts.parts.items) c.in_ok-start.start.items
     c.in_ok-keys.ensures c.as_slice-5.ensures.value c.in_ok-ends.ensures c.in_ok-parts.ensures (c.in_ok-start.ensures ∙ ap (λ (p : List (List (List ℕ))). text_numbers (flat_map (λ part. part) p)) c.as_slice-7.ensures.value) in
     first_firsts c.args.items.now c.in_ok-keys.keys.items c.in_ok-start.start.items c.in_ok-ends.ends c.in_ok-ends.ensures first
+
+pub refine-requires-clause-ends : goal.refine-requires-clause-ends
+refine-requires-clause-ends g c =
+    let first = first_classes c.args.items.now c.in_ok-keys.keys.items c.as_slice-5.result.now c.in_ok-ends.ends (flat_map (λ part. part) c.in_ok-parts.parts.items) c.in_ok-start.start.items
+    c.in_ok-keys.ensures c.as_slice-5.ensures.value c.in_ok-ends.ensures c.in_ok-parts.ensures (c.in_ok-start.ensures ∙ ap (λ (p : List (List (List ℕ))). text_numbers (flat_map (λ part. part) p)) c.as_slice-7.ensures.value) in
+    first_ends c.args.items.now c.in_ok-keys.keys.items c.in_ok-start.start.items c.in_ok-ends.ends c.in_ok-ends.ensures first
 
 pub returns-clause-value : goal.returns-clause-value
 returns-clause-value g c =
     let first = first_classes c.args.items.now c.in_ok-keys.keys.items c.as_slice-5.result.now c.in_ok-ends.ends (flat_map (λ part. part) c.in_ok-parts.parts.items) c.in_ok-start.start.items
     c.in_ok-keys.ensures c.as_slice-5.ensures.value c.in_ok-ends.ensures c.in_ok-parts.ensures (c.in_ok-start.ensures ∙ ap (λ (p : List (List (List ℕ))). text_numbers (flat_map (λ part. part) p)) c.as_slice-7.ensures.value) in
-    let all = folded c.args.items.now c.in_ok-keys.keys.items c.in_ok-start.start.items c.in_ok-leaders.leaders.items c.in_ok-ends.ends c.requires.order c.in_ok-ends.ensures first c.in_ok-leaders.ensures in
+    let all = folded c.args.items.now c.in_ok-keys.keys.items c.in_ok-start.start.items c.in_ok-leaders.leaders.items c.in_ok-ends.ends c.requires.order c.in_ok-ends.ensures first c.in_ok-leaders.ensures.refined in
     all.value
 
 pub returns-clause-leaders : goal.returns-clause-leaders
 returns-clause-leaders g c =
     let first = first_classes c.args.items.now c.in_ok-keys.keys.items c.as_slice-5.result.now c.in_ok-ends.ends (flat_map (λ part. part) c.in_ok-parts.parts.items) c.in_ok-start.start.items
     c.in_ok-keys.ensures c.as_slice-5.ensures.value c.in_ok-ends.ensures c.in_ok-parts.ensures (c.in_ok-start.ensures ∙ ap (λ (p : List (List (List ℕ))). text_numbers (flat_map (λ part. part) p)) c.as_slice-7.ensures.value) in
-    let all = folded c.args.items.now c.in_ok-keys.keys.items c.in_ok-start.start.items c.in_ok-leaders.leaders.items c.in_ok-ends.ends c.requires.order c.in_ok-ends.ensures first c.in_ok-leaders.ensures in
+    let all = folded c.args.items.now c.in_ok-keys.keys.items c.in_ok-start.start.items c.in_ok-leaders.leaders.items c.in_ok-ends.ends c.requires.order c.in_ok-ends.ensures first c.in_ok-leaders.ensures.refined in
     all.leaders
 
 pub returns-clause-congruence : goal.returns-clause-congruence
 returns-clause-congruence g c =
     let first = first_classes c.args.items.now c.in_ok-keys.keys.items c.as_slice-5.result.now c.in_ok-ends.ends (flat_map (λ part. part) c.in_ok-parts.parts.items) c.in_ok-start.start.items
     c.in_ok-keys.ensures c.as_slice-5.ensures.value c.in_ok-ends.ensures c.in_ok-parts.ensures (c.in_ok-start.ensures ∙ ap (λ (p : List (List (List ℕ))). text_numbers (flat_map (λ part. part) p)) c.as_slice-7.ensures.value) in
-    let all = folded c.args.items.now c.in_ok-keys.keys.items c.in_ok-start.start.items c.in_ok-leaders.leaders.items c.in_ok-ends.ends c.requires.order c.in_ok-ends.ensures first c.in_ok-leaders.ensures in
+    let all = folded c.args.items.now c.in_ok-keys.keys.items c.in_ok-start.start.items c.in_ok-leaders.leaders.items c.in_ok-ends.ends c.requires.order c.in_ok-ends.ensures first c.in_ok-leaders.ensures.refined in
     all.congruence
 
 pub returns-clause-greatest : goal.returns-clause-greatest
 returns-clause-greatest g c =
     let first = first_classes c.args.items.now c.in_ok-keys.keys.items c.as_slice-5.result.now c.in_ok-ends.ends (flat_map (λ part. part) c.in_ok-parts.parts.items) c.in_ok-start.start.items
     c.in_ok-keys.ensures c.as_slice-5.ensures.value c.in_ok-ends.ensures c.in_ok-parts.ensures (c.in_ok-start.ensures ∙ ap (λ (p : List (List (List ℕ))). text_numbers (flat_map (λ part. part) p)) c.as_slice-7.ensures.value) in
-    let all = folded c.args.items.now c.in_ok-keys.keys.items c.in_ok-start.start.items c.in_ok-leaders.leaders.items c.in_ok-ends.ends c.requires.order c.in_ok-ends.ensures first c.in_ok-leaders.ensures in
+    let all = folded c.args.items.now c.in_ok-keys.keys.items c.in_ok-start.start.items c.in_ok-leaders.leaders.items c.in_ok-ends.ends c.requires.order c.in_ok-ends.ensures first c.in_ok-leaders.ensures.refined in
     all.greatest
 
 pub returns-clause-places : goal.returns-clause-places
 returns-clause-places g c =
     let first = first_classes c.args.items.now c.in_ok-keys.keys.items c.as_slice-5.result.now c.in_ok-ends.ends (flat_map (λ part. part) c.in_ok-parts.parts.items) c.in_ok-start.start.items
     c.in_ok-keys.ensures c.as_slice-5.ensures.value c.in_ok-ends.ensures c.in_ok-parts.ensures (c.in_ok-start.ensures ∙ ap (λ (p : List (List (List ℕ))). text_numbers (flat_map (λ part. part) p)) c.as_slice-7.ensures.value) in
-    let all = folded c.args.items.now c.in_ok-keys.keys.items c.in_ok-start.start.items c.in_ok-leaders.leaders.items c.in_ok-ends.ends c.requires.order c.in_ok-ends.ensures first c.in_ok-leaders.ensures in
+    let all = folded c.args.items.now c.in_ok-keys.keys.items c.in_ok-start.start.items c.in_ok-leaders.leaders.items c.in_ok-ends.ends c.requires.order c.in_ok-ends.ensures first c.in_ok-leaders.ensures.refined in
     all.places
 
 pub returns-clause-own : goal.returns-clause-own
 returns-clause-own g c =
     let first = first_classes c.args.items.now c.in_ok-keys.keys.items c.as_slice-5.result.now c.in_ok-ends.ends (flat_map (λ part. part) c.in_ok-parts.parts.items) c.in_ok-start.start.items
     c.in_ok-keys.ensures c.as_slice-5.ensures.value c.in_ok-ends.ensures c.in_ok-parts.ensures (c.in_ok-start.ensures ∙ ap (λ (p : List (List (List ℕ))). text_numbers (flat_map (λ part. part) p)) c.as_slice-7.ensures.value) in
-    let all = folded c.args.items.now c.in_ok-keys.keys.items c.in_ok-start.start.items c.in_ok-leaders.leaders.items c.in_ok-ends.ends c.requires.order c.in_ok-ends.ensures first c.in_ok-leaders.ensures in
+    let all = folded c.args.items.now c.in_ok-keys.keys.items c.in_ok-start.start.items c.in_ok-leaders.leaders.items c.in_ok-ends.ends c.requires.order c.in_ok-ends.ensures first c.in_ok-leaders.ensures.refined in
     all.own
 
 pub returns-clause-least : goal.returns-clause-least
 returns-clause-least g c =
     let first = first_classes c.args.items.now c.in_ok-keys.keys.items c.as_slice-5.result.now c.in_ok-ends.ends (flat_map (λ part. part) c.in_ok-parts.parts.items) c.in_ok-start.start.items
     c.in_ok-keys.ensures c.as_slice-5.ensures.value c.in_ok-ends.ensures c.in_ok-parts.ensures (c.in_ok-start.ensures ∙ ap (λ (p : List (List (List ℕ))). text_numbers (flat_map (λ part. part) p)) c.as_slice-7.ensures.value) in
-    let all = folded c.args.items.now c.in_ok-keys.keys.items c.in_ok-start.start.items c.in_ok-leaders.leaders.items c.in_ok-ends.ends c.requires.order c.in_ok-ends.ensures first c.in_ok-leaders.ensures in
+    let all = folded c.args.items.now c.in_ok-keys.keys.items c.in_ok-start.start.items c.in_ok-leaders.leaders.items c.in_ok-ends.ends c.requires.order c.in_ok-ends.ensures first c.in_ok-leaders.ensures.refined in
     all.least
 
-pub overflow_sub-last : goal.overflow_sub-last
-overflow_sub-last g c =
+pub overflow_sub-next : goal.overflow_sub-next
+overflow_sub-next g c =
     let first = first_classes c.args.items.now c.in_ok-keys.keys.items c.as_slice-5.result.now c.in_ok-ends.ends (flat_map (λ part. part) c.in_ok-parts.parts.items) c.in_ok-start.start.items
     c.in_ok-keys.ensures c.as_slice-5.ensures.value c.in_ok-ends.ensures c.in_ok-parts.ensures (c.in_ok-start.ensures ∙ ap (λ (p : List (List (List ℕ))). text_numbers (flat_map (λ part. part) p)) c.as_slice-7.ensures.value) in
-    let le = last_fewer c.args.items.now c.in_ok-keys.keys.items c.in_ok-start.start.items c.in_ok-leaders.leaders.items c.in_ok-ends.ends c.in_ok-ends.ensures first c.in_ok-leaders.ensures in
-    omega (arith, le, c.count_leaders-first.ensures, c.count_leaders-last.ensures, ap leader_count c.as_slice-9.ensures.value, ap leader_count c.as_slice-10.ensures.value)
+    let le = start_fewer c.args.items.now c.in_ok-keys.keys.items c.in_ok-start.start.items first in
+    omega (arith, le, c.count_leaders-first.ensures, c.count_leaders-next.ensures, ap leader_count c.as_slice-8.ensures.value, ap leader_count c.as_slice-9.ensures.value)
 
 pub returns-clause-steps : goal.returns-clause-steps
 returns-clause-steps g c =
     let first = first_classes c.args.items.now c.in_ok-keys.keys.items c.as_slice-5.result.now c.in_ok-ends.ends (flat_map (λ part. part) c.in_ok-parts.parts.items) c.in_ok-start.start.items
     c.in_ok-keys.ensures c.as_slice-5.ensures.value c.in_ok-ends.ensures c.in_ok-parts.ensures (c.in_ok-start.ensures ∙ ap (λ (p : List (List (List ℕ))). text_numbers (flat_map (λ part. part) p)) c.as_slice-7.ensures.value) in
-    let le = last_fewer c.args.items.now c.in_ok-keys.keys.items c.in_ok-start.start.items c.in_ok-leaders.leaders.items c.in_ok-ends.ends c.in_ok-ends.ensures first c.in_ok-leaders.ensures in
-    all_steps c.args.items.now c.in_ok-keys.keys.items c.in_ok-start.start.items c.in_ok-leaders.leaders.items c.args.steps.now c.add.new.self first le
-    (omega (arith, le, c.add.ensures, c.count_leaders-first.ensures, c.count_leaders-last.ensures, ap leader_count c.as_slice-9.ensures.value, ap leader_count c.as_slice-10.ensures.value))
+    all_steps c.args.items.now c.in_ok-keys.keys.items c.in_ok-start.start.items c.in_ok-leaders.leaders.items c.args.steps.now c.add.new.self _ first
+    (omega (arith, c.add.ensures, c.count_leaders-first.ensures, c.count_leaders-next.ensures, ap leader_count c.as_slice-8.ensures.value, ap leader_count c.as_slice-9.ensures.value))
+    c.in_ok-leaders.ensures.steps
 
 pub returns-clause-bound : goal.returns-clause-bound
 returns-clause-bound g c =
     let first = first_classes c.args.items.now c.in_ok-keys.keys.items c.as_slice-5.result.now c.in_ok-ends.ends (flat_map (λ part. part) c.in_ok-parts.parts.items) c.in_ok-start.start.items
     c.in_ok-keys.ensures c.as_slice-5.ensures.value c.in_ok-ends.ensures c.in_ok-parts.ensures (c.in_ok-start.ensures ∙ ap (λ (p : List (List (List ℕ))). text_numbers (flat_map (λ part. part) p)) c.as_slice-7.ensures.value) in
-    let le = last_fewer c.args.items.now c.in_ok-keys.keys.items c.in_ok-start.start.items c.in_ok-leaders.leaders.items c.in_ok-ends.ends c.in_ok-ends.ensures first c.in_ok-leaders.ensures in
-    let all = folded c.args.items.now c.in_ok-keys.keys.items c.in_ok-start.start.items c.in_ok-leaders.leaders.items c.in_ok-ends.ends c.requires.order c.in_ok-ends.ensures first c.in_ok-leaders.ensures in
-    let steps = all_steps c.args.items.now c.in_ok-keys.keys.items c.in_ok-start.start.items c.in_ok-leaders.leaders.items c.args.steps.now c.add.new.self first le
-    (omega (arith, le, c.add.ensures, c.count_leaders-first.ensures, c.count_leaders-last.ensures, ap leader_count c.as_slice-9.ensures.value, ap leader_count c.as_slice-10.ensures.value)) in
-    few_steps c.args.items.now c.in_ok-keys.keys.items c.in_ok-start.start.items c.in_ok-leaders.leaders.items c.args.steps.now c.add.new.self first all steps
+    let all = folded c.args.items.now c.in_ok-keys.keys.items c.in_ok-start.start.items c.in_ok-leaders.leaders.items c.in_ok-ends.ends c.requires.order c.in_ok-ends.ensures first c.in_ok-leaders.ensures.refined in
+    let steps = all_steps c.args.items.now c.in_ok-keys.keys.items c.in_ok-start.start.items c.in_ok-leaders.leaders.items c.args.steps.now c.add.new.self _ first
+    (omega (arith, c.add.ensures, c.count_leaders-first.ensures, c.count_leaders-next.ensures, ap leader_count c.as_slice-8.ensures.value, ap leader_count c.as_slice-9.ensures.value))
+    c.in_ok-leaders.ensures.steps in
+    few_steps c.args.items.now c.in_ok-keys.keys.items c.in_ok-start.start.items c.in_ok-leaders.leaders.items c.args.steps.now _ first all steps

@@ -12,7 +12,7 @@ use Rattle.link_sections.specs.Sound.{IsSound}
 use Rattle.layout.proofs.Laying.{stops_first, then_limits}
 use Rattle.layout.proofs.PoolSizes.{pools_seen, sizes_seen}
 use Rattle.layout.proofs.Seen.{laws_seen}
-use Rattle.layout.proofs.Sized.{all_sound}
+use Rattle.output_sections.proofs.Sized.{all_sound}
 use Rattle.layout.proofs.SizeBounds.{all_apart}
 use Rattle.layout.proofs.Sounds.{sound_laid, within_limits}
 use Rattle.layout.proofs.placing.place.Goals as goal

@@ -2,7 +2,7 @@ use Rattle.std.proofs.Common.{◌≡◌, ◌≤◌, drop, max, List, ℕ}
 use Rattle.std.specs.List.{fold}
 use Rattle.lk_base.specs.declared.abi.TheConstants.{ALIGN_MAX}
 use Rattle.layout.specs.Walk.{greatest}
-use Rattle.layout.specs.declared.order.Row.{Row}
+use Rattle.output_sections.specs.declared.rows.Row.{Row}
 use Rattle.layout.proofs.walk.greatest_alignment.Given as goal
 
 pub record Found (found i : ℕ) (rows : List Row) : Type 0 where

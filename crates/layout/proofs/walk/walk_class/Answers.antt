@@ -3,7 +3,7 @@ use Rattle.std.proofs.lemmas.Bool.Decides.{nat_tests}
 use Rattle.std.proofs.lemmas.List.Elements.{All-drop}
 use Rattle.link_sections.specs.LaidOut.{output_view, place_view}
 use Rattle.link_sections.specs.SizesView.{sizes_of}
-use Rattle.layout.specs.ItemViews.{items_view}
+use Rattle.output_sections.specs.ItemViews.{items_view}
 use Rattle.layout.specs.Walk.{IsReady}
 use Rattle.layout.proofs.Splitting.{next_end, next_members, next_places, next_sections, next_stands, nothing_left, runs_is}
 use Rattle.layout.proofs.Weights.{weight_split}

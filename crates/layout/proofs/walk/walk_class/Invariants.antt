@@ -5,10 +5,10 @@ use Rattle.link_sections.specs.declared.members.Member.{Member}
 use Rattle.link_sections.specs.Cuts.{Cut}
 use Rattle.link_sections.specs.LaidOut.{OutputPlace, OutputSection, output_view, place_view}
 use Rattle.link_sections.specs.SizesView.{sizes_of}
-use Rattle.layout.specs.Items.{Item}
-use Rattle.layout.specs.ItemViews.{items_view}
+use Rattle.output_sections.specs.Items.{Item}
+use Rattle.output_sections.specs.ItemViews.{items_view}
 use Rattle.layout.specs.Walk.{IsReady, all_put, end_along, members_along, places_along, runs, sections_along, stands_along, stands_view, weight}
-use Rattle.layout.specs.declared.order.Row.{Row}
+use Rattle.output_sections.specs.declared.rows.Row.{Row}
 use Rattle.layout.specs.declared.places.Places.{Places}
 use Rattle.layout.specs.declared.walk.Cursor.{Cursor}
 use Rattle.layout.proofs.walk.walk_class.Given as goal

@@ -1,6 +1,6 @@
 use Rattle.std.proofs.Common.{◌≡◌, drop, length, List, ℕ}
 use Rattle.layout.specs.Walk.{all_put, members_still, stands_view}
-use Rattle.layout.specs.declared.order.Row.{Row}
+use Rattle.output_sections.specs.declared.rows.Row.{Row}
 use Rattle.layout.specs.declared.places.Places.{Places}
 use Rattle.layout.proofs.walk.walk_empty.Given as goal
 

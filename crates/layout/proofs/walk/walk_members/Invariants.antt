@@ -4,7 +4,7 @@ use Rattle.link_sections.specs.declared.members.Member.{Member}
 use Rattle.link_sections.specs.Cuts.{Cut}
 use Rattle.link_sections.specs.SizesView.{sizes_of}
 use Rattle.layout.specs.Walk.{all_put, members_from, past, stands_view, weight}
-use Rattle.layout.specs.declared.order.Row.{Row}
+use Rattle.output_sections.specs.declared.rows.Row.{Row}
 use Rattle.layout.specs.declared.places.Places.{Places}
 use Rattle.layout.proofs.walk.walk_members.Given as goal
 

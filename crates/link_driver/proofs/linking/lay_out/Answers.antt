@@ -1,5 +1,5 @@
 use Rattle.std.proofs.Common.{List, ap, sym, subst, ◌∙◌}
-use Rattle.layout.specs.Items.{HaveFirsts}
+use Rattle.output_sections.specs.Items.{HaveFirsts}
 use Rattle.layout.specs.Layout.{layout_defects}
 use Rattle.link_sections.specs.declared.pools.Pool.{Pool}
 use Rattle.link_sections.specs.GotView.{entries_of}
@@ -16,6 +16,13 @@ use Rattle.link_driver.proofs.Fitting.{firsts_stay, sizes_fit}
 use Rattle.link_driver.proofs.Leading.{defects_are, laid_are}
 use Rattle.link_driver.proofs.Whole.{header_room}
 use Rattle.link_driver.proofs.linking.lay_out.Goals as goal
+
+pub order_sections-requires-clause-pools : goal.order_sections-requires-clause-pools
+order_sections-requires-clause-pools g c = λ κs bound.
+    let files = files_of c.args.tables.now in
+    let b = binding_view c.args.binding.now in
+    let P : List Pool → Type 0 = λ pools. HaveFirsts files b pools in
+    subst P (sym (ap pool_heads c.requires.pools) ∙ pool_heads_are files c.args.pools.now) (firsts_stay files b c.args.kept.now c.requires.stay)
 
 pub place-requires-clause-pools : goal.place-requires-clause-pools
 place-requires-clause-pools g c =
@@ -35,7 +42,7 @@ returns-in-Ok-clause-goes g c =
     let b = binding_view c.args.binding.now in
     let w = wished c.args.options in
     sym (defects_are w files b c.args.kept.now c.args.pools.now c.requires.pools c.args.leaders.now c.requires.leaders (entries_of c.args.got.now) c.requires.table
-    (sizes_of c.in_ok-sizes.sizes) c.in_ok-sizes.ensures.cuts c.args.limits.now) ∙ c.in-Ok.ensures.goes
+    c.in_ok-sections.sections.rows c.in_ok-sections.ensures.order (sizes_of c.in_ok-sizes.sizes) c.in_ok-sizes.ensures.cuts c.args.limits.now) ∙ c.in-Ok.ensures.goes
 
 pub returns-in-Ok-clause-laid : goal.returns-in-Ok-clause-laid
 returns-in-Ok-clause-laid g c =
@@ -43,7 +50,7 @@ returns-in-Ok-clause-laid g c =
     let b = binding_view c.args.binding.now in
     let w = wished c.args.options in
     laid_are w files b c.args.kept.now c.args.pools.now c.requires.pools c.args.leaders.now c.requires.leaders (entries_of c.args.got.now) c.requires.table
-    (sizes_of c.in_ok-sizes.sizes) c.in_ok-sizes.ensures.cuts (layout_view c.in-Ok.layout) c.in-Ok.ensures.found
+    c.in_ok-sections.sections.rows c.in_ok-sections.ensures.order (sizes_of c.in_ok-sizes.sizes) c.in_ok-sizes.ensures.cuts (layout_view c.in-Ok.layout) c.in-Ok.ensures.found
 
 pub returns-clause-goes : goal.returns-clause-goes
 returns-clause-goes g c =
@@ -52,7 +59,7 @@ returns-clause-goes g c =
     let w = wished c.args.options in
     let P : List Defect → Type 0 = λ ds. StopsAt c.in-Err.stop ds in
     subst P (defects_are w files b c.args.kept.now c.args.pools.now c.requires.pools c.args.leaders.now c.requires.leaders (entries_of c.args.got.now) c.requires.table
-    (sizes_of c.in_ok-sizes.sizes) c.in_ok-sizes.ensures.cuts c.args.limits.now) c.in-Err.ensures.goes
+    c.in_ok-sections.sections.rows c.in_ok-sections.ensures.order (sizes_of c.in_ok-sizes.sizes) c.in_ok-sizes.ensures.cuts c.args.limits.now) c.in-Err.ensures.goes
 
 pub calls_reach-requires-clause-pools : goal.calls_reach-requires-clause-pools
 calls_reach-requires-clause-pools g c =

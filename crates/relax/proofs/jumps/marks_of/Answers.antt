@@ -1,11 +1,12 @@
-use Rattle.std.proofs.Common.{◌≡◌, ◌+◌, ◌-◌, ℕ, false, [], ◌∷◌, ◌++◌, length, ap, sym, subst, ◌∙◌, arith, get_or, refl}
+use Rattle.std.proofs.Common.{◌≡◌, ◌+◌, ◌-◌, ℕ, [], ◌∷◌, ◌++◌, length, ap, sym, subst, ◌∙◌, arith, get_or, refl}
 use Rattle.std.specs.List.{All, range_with_len, sum_by}
 use Rattle.std.proofs.lemmas.List.{get_or_default}
 use Rattle.std.proofs.lemmas.List.Elements.{All-append, All-cons, All-nil}
 use Rattle.std.proofs.lemmas.List.Sums.{sum_by_push}
 use Rattle.lk_base.proofs.Loops.{map_step, range_more}
+use Rattle.link_sections.specs.declared.members.Content.TheVariants.{Section}
 use Rattle.relax.specs.declared.jumps.Mark.{Mark}
-use Rattle.relax.specs.declared.members.Member.{Member}
+use Rattle.output_sections.specs.declared.rows.Row.{Row}
 use Rattle.relax.specs.CallSizes.{first_call, member_at, no_member}
 use Rattle.relax.specs.Points.{IsLowMark, mark_at, rooms_before, whole_room}
 use Rattle.relax.proofs.PointSteps.{first_more, first_most}
@@ -21,8 +22,8 @@ loop-i-init c = record {
   first = refl;
 }
 
-abbrev zero_member : Member
-zero_member = record { section = 0; is_section = false; group = 0; priority = 0; size = 0; align = 0 }
+abbrev zero_member : Row
+zero_member = record { number = 0; content = Section 0; group = 0; rank = 0; priority = 0; sh_type = 0; flags = 0; size = 0; align = 0 }
 
 abbrev one_mark : (start first : ℕ) → Mark
 one_mark start first = record { start = start; first = first }
@@ -42,9 +43,9 @@ loop-i-preserved c =
     let lt = c.loop-i-test.true in
     let is = c.loop-i.invariant in
     let same : get_or ms i zero_member ≡ member_at ms i = get_or_default ms i zero_member no_member lt in
-    let pad : c.saturating_sub-pad.result ≡ (member_at ms i).align - 1 = c.saturating_sub-pad.ensures ∙ ap (λ (m : Member). m.align - 1) same in
-    let align : (get_or ms i zero_member).align ≡ (member_at ms i).align = ap (λ (m : Member). m.align) same in
-    let size : (get_or ms i zero_member).size ≡ (member_at ms i).size = ap (λ (m : Member). m.size) same in
+    let pad : c.saturating_sub-pad.result ≡ (member_at ms i).align - 1 = c.saturating_sub-pad.ensures ∙ ap (λ (m : Row). m.align - 1) same in
+    let align : (get_or ms i zero_member).align ≡ (member_at ms i).align = ap (λ (m : Row). m.align) same in
+    let size : (get_or ms i zero_member).size ≡ (member_at ms i).size = ap (λ (m : Row). m.size) same in
     let mark : record { start = c.loop-i.start + c.saturating_sub-pad.result; first = c.loop-i.first } ≡ mark_at ms rows i =
     ap (λ s. one_mark s c.loop-i.first) (ap (λ n. n + c.saturating_sub-pad.result) is.start ∙ ap (λ n. rooms_before ms i + n) pad)
     ∙ ap (λ n. one_mark (rooms_before ms i + ((member_at ms i).align - 1)) n) is.first in

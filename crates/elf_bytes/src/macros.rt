@@ -1,0 +1,100 @@
+//! Objects and executables as rows: each macro writes the value of one struct, its usual fields by their order and the others by name. After
+//! `BASE =>` stand the fields in which a value differs from another. What stands behind a `;` keeps its lines, so a row stays on one.
+
+/// A relocation: its offset, its type, the number of its symbol and its addend.
+#[macro_export]
+macro_rules! reloc {
+    ($offset:expr, $kind:expr, $symbol:expr, $addend:expr) => {
+        $crate::Reloc {
+            offset: $offset,
+            kind: $kind,
+            symbol: $symbol,
+            addend: $addend,
+        }
+    };
+    ($base:expr => $($field:ident: $value:expr),+) => {
+        $crate::Reloc {
+            $($field: $value,)+
+            ..$base
+        }
+    };
+}
+
+/// A symbol: its name, binding, type, section, value and size.
+#[macro_export]
+macro_rules! symbol {
+    ($name:expr, $binding:expr, $sort:expr, $section:expr, $value:expr, $size:expr) => {
+        $crate::Symbol {
+            name: $name,
+            binding: $binding,
+            sort: $sort,
+            section: $section,
+            value: $value,
+            size: $size,
+        }
+    };
+    ($base:expr => $($field:ident: $value:expr),+) => {
+        $crate::Symbol {
+            $($field: $value,)+
+            ..$base
+        }
+    };
+}
+
+/// A section: its name, type, flags and alignment; its bytes; and other fields by name, its relocations among them.
+#[macro_export]
+macro_rules! section {
+    ($name:expr, $sort:expr, $flags:expr, $align:expr; $bytes:expr $(; $($field:ident: $value:expr),+)?) => {
+        $crate::Section {
+            name: $name,
+            sort: $sort,
+            flags: $flags,
+            align: $align,
+            bytes: $bytes,
+            $($($field: $value,)+)?
+            ..$crate::NO_SECTION
+        }
+    };
+    ($base:expr => $($field:ident: $value:expr),+) => {
+        $crate::Section {
+            $($field: $value,)+
+            ..$base
+        }
+    };
+}
+
+/// An object: its flags, where it has any; its sections; and its symbols.
+#[macro_export]
+macro_rules! object {
+    ([$($section:expr),* $(,)?]; [$($symbol:expr),* $(,)?]) => {
+        $crate::Object {
+            flags: 0,
+            sections: &[$($section),*],
+            symbols: &[$($symbol),*],
+        }
+    };
+    ($flags:expr; [$($section:expr),* $(,)?]; [$($symbol:expr),* $(,)?]) => {
+        $crate::Object {
+            flags: $flags,
+            sections: &[$($section),*],
+            symbols: &[$($symbol),*],
+        }
+    };
+    ($base:expr => $($field:ident: $value:expr),+) => {
+        $crate::Object {
+            $($field: $value,)+
+            ..$base
+        }
+    };
+}
+
+/// An executable.
+#[macro_export]
+macro_rules! image {
+    ($base:expr => $($field:ident: $value:expr),+) => {
+        $crate::Image {
+            $($field: $value,)+
+            ..$base
+        }
+    };
+}

@@ -1,0 +1,10 @@
+pub mod ClassSums
+pub mod HeadSteps
+pub mod ItemFacts
+pub mod ItemSteps
+pub mod NextPool
+pub mod OrderParts
+pub mod RowSteps
+pub mod Sized
+pub mod SizedItems
+pub mod Walked

@@ -1,0 +1,4 @@
+pub mod Items
+pub mod ItemViews
+pub mod Order
+pub mod Heads
