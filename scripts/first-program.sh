@@ -1,7 +1,7 @@
 #!/usr/bin/env bash
 # Builds rvld, links a C program on picolibc with it, and runs that under qemu.
 # Usage: scripts/first-program.sh [--unproved]     --unproved: with a program built in some minutes of which nothing is proved (scripts/unproved.sh), kept apart
-# from the proved one, which takes an hour on four processors where nothing was proved before
+# from the proved one, which takes an hour on four processors where nothing was proved before. RVLD names a program that is there
 set -eu
 top=$(cd "$(dirname "${BASH_SOURCE[0]}")/.." && pwd)
 for tool in riscv64-unknown-elf-gcc qemu-riscv64 rt; do
@@ -9,7 +9,7 @@ for tool in riscv64-unknown-elf-gcc qemu-riscv64 rt; do
 done
 work=$(mktemp -d)
 trap 'rm -rf "$work"' EXIT
-rvld=$top/crates/rvld/out/rvld
+rvld=$(realpath -m "${RVLD:-$top/crates/rvld/out/rvld}")
 if [ "${1:-}" = --unproved ]; then
     rvld=$work/rvld
     "$top/scripts/unproved.sh" "$rvld"

@@ -5,7 +5,8 @@ Usage: scripts/speed.py MODE [RVLD] [--before RVLD] [--runs 5] [--peers lld,mold
 
   objects    1000, 4000 and 16000 small objects that call each other in a binary tree
   symbols    one object of 100,000 symbols and 300,000 relocations, and one of twice as many
-  sections   one object of 30,000 sections, and one of 60,000
+  sections   one object of 7,000 sections, one of 70,000, and one of 1,000,000
+  pairs      one object with 250,000 distances as ULEB128 numbers, each of a pair of relocations, 500,000 and 1,000,000
   archive    an archive of 10,000 members of which a chain of 5,000 is live, and one of twice as many
   strings    250,000, 500,000 and 1,000,000 strings in 100 files, of which half repeat
   string     the same in one file
@@ -27,7 +28,7 @@ The linkers take turns, run by run. A row has the median time, the fastest, the 
 megabyte of input; then its ratio to rvld with as many workers, and how both grew from the size before.
 With --figures (docs/figures for `plots` and `draw`) the folder gets MODE.tsv, the figures; pictures (SVG) of time and memory against size; and
 README.md, the page of all of them.
-RVLD is crates/rvld/out/rvld where it is not named; `none` leaves it out. --before names another rvld, such as one built from an earlier commit.
+RVLD is $RVLD where it is not named, else crates/rvld/out/rvld; `none` leaves it out. --before names another rvld, such as one built from an earlier commit.
 """
 import argparse
 import hashlib
@@ -45,9 +46,10 @@ import threading
 import time
 from xml.sax.saxutils import escape
 
-sys.path.insert(0, os.path.dirname(os.path.abspath(__file__)))
-from elf_objects import (ALLOC, CALL, EXECINSTR, FUNC, GLOBAL, INFO_LINK, LOCAL, MERGE, NOTYPE, PROGBITS, NOP, R_64, R_CALL_PLT, R_RELAX, RELA, RETURN,
-                         SECTION, STRINGS, STRTAB, SYMTAB, UNDEF, WRITE, Texts, archive, entry, relocatable, simple, symbol)
+sys.path.insert(0, os.path.dirname(os.path.realpath(__file__)))
+from elf.constants import (ALLOC, EXECINSTR, FUNC, GLOBAL, INFO_LINK, LOCAL, MERGE, NOTYPE, PROGBITS, R_64, R_CALL_PLT, R_RELAX, R_SET_ULEB128, R_SUB_ULEB128,
+                           RELA, RESERVED, SECTION, STRINGS, STRTAB, SYMTAB, UNDEF, WRITE)
+from elf.write import CALL, NOP, RETURN, Texts, archive, entry, indexes, placed, relocatable, simple, symbol
 
 
 def tree_object(k, count):
@@ -98,9 +100,10 @@ def wide_object(count):
 
 
 def many_sections(count):
-    """One object of `count` sections in all: each function has a section and a section of relocations, and calls another."""
-    functions = (count - 4) // 2
+    """One object of `count` sections in all, or one or two less: each function has a section and a section of relocations, and calls another."""
+    functions = (count - (4 if count < RESERVED else 5)) // 2
     names = Texts()
+    places = [0, 1] + [placed(2 * k + 1) for k in range(functions)]
     symbols = [bytes(24), symbol(names.add('_start'), GLOBAL, FUNC, 1, 0, 12)]
     rows = []
     at_symtab = 2 * functions + 1
@@ -108,10 +111,32 @@ def many_sections(count):
         name = '.text.function_%d' % k
         rows.append((name, PROGBITS, ALLOC | EXECINSTR, CALL + RETURN, 0, 0, 4, 0))
         rows.append(('.rela' + name, RELA, INFO_LINK, entry(0, 2 + k * 7919 % functions, R_CALL_PLT), at_symtab, 2 * k + 1, 8, 24))
-        symbols.append(symbol(names.add('function_%d' % k), GLOBAL, FUNC, 2 * k + 1, 0, 12))
+        symbols.append(symbol(names.add('function_%d' % k), GLOBAL, FUNC, places[k + 2], 0, 12))
     rows.append(('.symtab', SYMTAB, 0, b''.join(symbols), at_symtab + 1, 1, 8, 24))
     rows.append(('.strtab', STRTAB, 0, names.bytes(), 0, 0, 1, 0))
+    if at_symtab > RESERVED:
+        rows.append(indexes(places, at_symtab))
     return relocatable(rows)
+
+
+def distances(count):
+    """One object: `count` numbers of three bytes in a table, each the distance from one function to a later one, and a tenth as many functions."""
+    functions = max(count // 10, 2)
+    names = Texts()
+    symbols = [bytes(24), symbol(names.add('_start'), GLOBAL, FUNC, 1, 0, 8)]
+    for k in range(functions):
+        symbols.append(symbol(names.add('function_%d' % k), GLOBAL, FUNC, 1, 8 * k, 8))
+    pairs = []
+    for i in range(count):
+        earlier = i * 7919 % functions
+        later = earlier + i % min(1000, functions - earlier)
+        pairs += [entry(3 * i, 2 + later, R_SET_ULEB128), entry(3 * i, 2 + earlier, R_SUB_ULEB128)]
+    return relocatable([
+        ('.text', PROGBITS, ALLOC | EXECINSTR, (NOP + RETURN) * functions, 0, 0, 4, 0),
+        ('.rodata', PROGBITS, ALLOC, b'\x80\x80\0' * count, 0, 0, 1, 0),
+        ('.rela.rodata', RELA, INFO_LINK, b''.join(pairs), 4, 2, 8, 24),
+        ('.symtab', SYMTAB, 0, b''.join(symbols), 5, 1, 8, 24),
+        ('.strtab', STRTAB, 0, names.bytes(), 0, 0, 1, 0)])
 
 
 def chain_archive(count):
@@ -311,6 +336,10 @@ def sections(folder, count):
     return [write(os.path.join(folder, 'sections-%d.o' % count), many_sections(count))]
 
 
+def pairs(folder, count):
+    return [write(os.path.join(folder, 'pairs-%d.o' % count), distances(count))]
+
+
 def chain(folder, count):
     root = write(os.path.join(folder, 'root.o'), simple([], ['c0'], entry_point=True))
     return [root, write(os.path.join(folder, 'lib-%d.a' % count), chain_archive(count))]
@@ -320,7 +349,8 @@ def chain(folder, count):
 MODES = {
     'objects': (tree, 'objects', (1000, 4000, 16000), (1000, 2000, 4000, 8000, 16000), 'Small objects that call each other in a binary tree'),
     'symbols': (wide, 'symbols', (100000, 200000), (25000, 50000, 100000, 200000), 'One object: its symbols, and three times as many relocations'),
-    'sections': (sections, 'sections', (30000, 60000), (7500, 15000, 30000, 60000), 'One object of many sections'),
+    'sections': (sections, 'sections', (7000, 70000, 1000000), (7000, 20000, 70000, 250000, 1000000), 'One object of many sections'),
+    'pairs': (pairs, 'pairs', (250000, 500000, 1000000), (125000, 250000, 500000, 1000000), 'One object: distances as ULEB128 numbers'),
     'archive': (chain, 'members', (10000, 20000), (2500, 5000, 10000, 20000), 'An archive of which a chain of half the members is live'),
     'strings': (lambda folder, count: string_files(folder, count, 100), 'strings', (250000, 500000, 1000000), (125000, 250000, 500000, 1000000),
                 'Strings in 100 files, of which half repeat'),
@@ -340,6 +370,7 @@ MODES = {
 }
 # what modes ask for beside: folding, which GNU ld does not have, or collection
 FOLDED = ('links', 'cycles', 'shapes', 'unlike')
+NEWER = ('pairs',)                              # relocations that linkers of before 2024 do not know: what these say is told, and is no fault
 COLLECTED = ('chain', 'star', 'layers', 'random')
 
 
@@ -611,7 +642,7 @@ def main():
     if words.mode == 'draw':
         return page(figures)
     words.threads = words.threads or ('1,4' if is_plots else '1,2,4')
-    rvld = words.rvld or os.path.join(HERE, '../crates/rvld/out/rvld')
+    rvld = words.rvld or os.environ.get('RVLD') or os.path.join(HERE, '../crates/rvld/out/rvld')
     if rvld == 'none':
         rvld = None
     elif not os.access(rvld, os.X_OK):
@@ -642,7 +673,7 @@ def main():
                 files = made_apart(make, folder, size)
                 found, megabytes, gone = measure(what, files, asked, words.runs, words.limit, os.path.join(folder, 'out'))
                 passed += len(found)
-                failed += len(gone)
+                failed += sum(mode not in NEWER or linker in ('rvld', 'before') for linker, _ in gone)
                 for (linker, workers), (median, least, peak) in found.items():
                     noted.append((size, linker, workers, median * 1e3, least * 1e3, peak))
                     own = found.get(('rvld', workers))

@@ -1,6 +1,6 @@
 #!/usr/bin/env bash
 # shellcheck disable=SC2016,SC2317
-# How scripts/packages.sh builds, tests and tries each package: recipes.sh NAME STEP, in a copy of the package's source, where STEP is
+# How scripts/tests/packages.sh builds, tests and tries each package: recipes.sh NAME STEP, in a copy of the package's source, where STEP is
 #   build    by its own build system
 #   tests    its own tests; status 0 where all pass. "none" where it has none that run without more packages
 #   failed   the names of tests that fail, of the log of `tests` on the standard input
@@ -43,7 +43,7 @@ libpng() {
     esac
 }
 
-# by CMake. Its tests are in C++ too, which is not there on musl
+# by CMake. Its tests are in C++ too, which is not there on musl: CMake is told not to try it
 expat() {
     local parts=(xmlwf runtests runtestspp)
     [ "$LIBC" = glibc ] || parts=(xmlwf runtests)
@@ -57,6 +57,7 @@ set(CMAKE_C_COMPILER ${words[0]})
 set(CMAKE_CXX_COMPILER ${words[0]/%gcc/g++})
 set(CMAKE_C_FLAGS_INIT "${words[*]:1}")
 set(CMAKE_CXX_FLAGS_INIT "${words[*]:1}")
+$([ "$LIBC" = glibc ] || echo 'set(CMAKE_CXX_COMPILER_WORKS TRUE)')
 CMAKE
             cmake -S expat -B made -DCMAKE_TOOLCHAIN_FILE="$PWD/cross.cmake" -DCMAKE_BUILD_TYPE=Release -DEXPAT_SHARED_LIBS=OFF -DEXPAT_BUILD_DOCS=OFF \
                 -DEXPAT_BUILD_EXAMPLES=OFF && cmake --build made -j "$JOBS" --target "${parts[@]}" ;;

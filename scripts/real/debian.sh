@@ -1,6 +1,6 @@
 # shellcheck shell=bash disable=SC2154
-# What scripts/real.sh and scripts/packages.sh get of Debian's archive, into their work folder alone: read with `.`. `work` is that folder, where both
-# stand; `skip WHAT WHY` and `there WHAT TOOL..` are theirs.
+# What scripts/tests/real-programs.sh and packages.sh get of Debian's archive, into their work folder alone: read with `.`, after common.sh. `work` is
+# that folder, where both stand.
 
 # once MARK COMMAND..: runs the command in the work folder unless it succeeded before; its output goes to MARK.log
 once() {

@@ -4,24 +4,28 @@ import os
 from . import equal, objects
 from .words import shown
 
-
 class Input:
     """An input as the command names it; what rvld is handed for it; and whether it was looked at whole."""
 
     def __init__(self, name, path=None):
         self.name, self.path, self.tried = name, path or name, path is not None
 
-
 class Inputs:
     """The inputs in the order in which rvld gets them, and what was made for them."""
 
-    def __init__(self, words):
+    def __init__(self, words, made):
         self.files = [Input(word) for word in words]
         self.names = {}       # of made files: path, and the name that lines and the map have for it
         self.notes = []       # what was done, for --verbose
         self.faults = {}      # names of thin archives, and why they can't be made ordinary
         self.begun = set()    # names of members that have stand-ins
         self.map = None       # the file of the map, where it is read here
+        flags = self.flags() if made else 0
+        self.files[:0] = [Input(word, self.make(word, [objects.object_of(flags, names, own=own)])) for word, (names, own) in made.items()]
+        for file in [it for it in self.files if os.path.basename(it.path) == 'libc.a']:    # what almost each program on glibc has, of 2.36 and of 2.41
+            data = equal.mapped(file.path)
+            self.mend_file(file, data, objects.holders(data, b'__libc_setup_tls') or [])
+            self.stand_in(file, data, objects.holders(data, b'memcpy') or [])
 
     def make(self, name, parts):
         """A new file of these bytes, in memory, and its path; lines have `name` for it."""
@@ -65,28 +69,30 @@ class Inputs:
     def mend(self, defect):
         """Puts equal files in the place of inputs that rvld refuses; whether there is anything new to hand to it."""
         file, member = self.found(defect.file)
-        if defect.code == 'F17' and member is not None:
-            return self.stand_in(file, defect.file)
+        if defect.code == 'F17' and member is not None and defect.file not in self.begun:
+            self.begun.add(defect.file)
+            data = equal.mapped(file.path)
+            return self.stand_in(file, data, [it for it in objects.contents(data) if shown(it[0] or b'') == member][:1])
         if file is None or file.tried or defect.code not in ('F05', 'F07', 'F09'):
             return False
-        changed = self.mend_file(file)
+        changed = self.mend_file(file, equal.mapped(file.path))
         for other in self.files if changed else ():    # where one object is refused others will be
             if not other.tried and not other.path.endswith('.a'):
-                self.mend_file(other)
+                self.mend_file(other, equal.mapped(other.path))
         return changed
 
-    def mend_file(self, file, member=None):
-        """Hands on an equal file, where this one needs it."""
-        file.tried, data, done = member is None, equal.mapped(file.path), []
+    def mend_file(self, file, data, parts=None):
+        """Hands on an equal file, where this one needs it, or these members of it do."""
+        file.tried, done = parts is None, []
         if data[:8] == objects.THIN:
             try:
-                pieces = equal.thin_members(data, file.name)
+                pieces = list(equal.thin_members(data, file.name))
             except objects.FAULTS as fault:
                 self.faults[shown(file.name)] = str(fault)
                 return False
             file.path = self.make(file.name, objects.archive_of(pieces))
             data, done = equal.mapped(file.path), ['%s: a thin archive, handed on as an ordinary one of %d members' % (file.name, len(pieces))]
-        patches, notes = equal.mend(data, file.name, member)
+        patches, notes = equal.mend(data, file.name, parts)
         if patches and file.path not in self.names:
             file.path = self.make(file.name, [data])
         for at, new in patches:
@@ -94,14 +100,13 @@ class Inputs:
         self.notes += done + notes
         return bool(patches or done)
 
-    def stand_in(self, file, name):
-        """Puts an archive of stand-ins before the one whose member has functions that are chosen when the program starts."""
+    def stand_in(self, file, data, parts):
+        """Puts an archive of stand-ins before the one whose members have functions that are chosen when the program starts."""
         try:
-            pieces = [] if name in self.begun else equal.stand_ins(equal.mapped(file.path), self.data(name)[0])
+            pieces = [piece for member in parts for piece in equal.stand_ins(data, member, file.name)]
         except objects.FAULTS:
             pieces = []
-        self.begun.add(name)
         if pieces:
-            self.files.insert(self.files.index(file), Input('rvld-ld', self.make('rvld-ld', objects.archive_of(pieces))))
-            self.notes += ['%s: chosen when the program starts; a stand-in calls __%s_generic' % (name, os.fsdecode(piece[0][:-2])) for piece in pieces]
+            self.files.insert(self.files.index(file), Input('rvld-ld', self.make('rvld-ld', objects.archive_of([piece[:2] for piece in pieces]))))
+        self.notes += [piece[2] for piece in pieces]
         return bool(pieces)

@@ -6,12 +6,11 @@ import sys
 import time
 
 from . import objects
-from .inputs import Input, Inputs
+from .inputs import Inputs
 from .words import QUESTIONS, TOLD, Link, Refused, expand, refuse, table_of
 
 VERSION = 'rvld-ld 1.0.0 (compatible with GNU ld 2.40)\n'
 ROOM = 32 << 20    # of the stack: the kernel gives a program's words a quarter of it, and 6 MB at most
-
 
 def say(text, to=1):
     """Writes to the standard output, or the standard error; where that one can't be written, the status says enough."""
@@ -22,17 +21,15 @@ def say(text, to=1):
         if to == 1:
             raise Refused('cannot write to the standard output: %s' % fault.strerror, 3)
 
-
 def program():
     """Where rvld is: what RVLD names; beside rvld-ld or the link to it; where the repository has it; on the path."""
     called, real = (os.path.dirname(path(sys.argv[0])) for path in (os.path.abspath, os.path.realpath))
-    folders = [called, real, os.path.join(os.path.dirname(real), 'crates', 'rvld', 'out')] + os.get_exec_path()
+    folders = [called, real, os.path.join(os.path.dirname(real), 'crates', 'rvld', 'out')] + os.environ.get('PATH', os.defpath).split(os.pathsep)
     found = (path for path in (os.path.join(folder, 'rvld') for folder in folders) if os.path.isfile(path) and os.access(path, os.X_OK))
     place = os.environ.get('RVLD') or next((path for path in found if os.path.realpath(path) != os.path.realpath(sys.argv[0])), None)
     if place is None:
         raise Refused('cannot find rvld: set RVLD to the program, or put it on the path')
     return place
-
 
 def start(words, **more):
     """Starts a program with as many words as the system takes, and returns its number."""
@@ -49,7 +46,6 @@ def start(words, **more):
             raise Refused('%d words of %d bytes: more than the system hands to a program, some 6 MB, and 128 KB a word; put objects into archives'
                           % (len(words) - 1, size - len(words[0])))
         refuse(words[0], 'cannot be run: %s' % fault.strerror)
-
 
 def run(words):
     """Runs rvld: its status, below 0 for a signal, and what it wrote to the standard error. What would end rvld-ld meanwhile ends rvld first."""
@@ -70,26 +66,17 @@ def run(words):
         signal.signal(it, handler)
     return os.waitstatus_to_exitcode(os.waitpid(child, 0)[1]), text
 
-
-def made_inputs(link, inputs):
-    """The objects that stand for --defsym, -u and --require-defined, before all others."""
+def made_objects(link):
+    """What stands for --defsym and --require-defined: by the word, the symbols of an object, and the flags of a section that refers to the last."""
     made = {'--defsym=' + name: ([(os.fsencode(name), objects.GLOBAL, objects.ABS, value)], 0) for name, value in link.defined.items()}
-    for option, binding in (('undefined', objects.WEAK), ('require-defined', objects.GLOBAL)):
-        for name in link.lists[option]:
-            # a strong name takes a member; what keeps its section under --gc-sections is a weak one, which need not be defined
-            names = [(os.fsencode(name), it, objects.UNDEF, 0) for it in (objects.GLOBAL, binding)]
-            made['--%s=%s' % (option, name)] = (names, objects.ALLOC | objects.RETAIN)
-    flags = inputs.flags() if made else 0
-    inputs.files[:0] = [Input(word, inputs.make(word, [objects.object_of(flags, names, own=own)])) for word, (names, own) in made.items()]
-
+    for name in link.lists['require-defined']:    # the first takes a member, the second keeps its section under --gc-sections
+        made['--require-defined=' + name] = ([(os.fsencode(name), objects.GLOBAL, objects.UNDEF, 0)] * 2, objects.ALLOC | objects.RETAIN)
+    return made
 
 def linked(link):
     """Links, and returns the status."""
     given, words = link.words()
-    rvld, inputs, runs, started, again = program(), Inputs(words), 0, time.monotonic(), True
-    made_inputs(link, inputs)
-    for file in (it for it in inputs.files if os.path.basename(it.path) == 'libc.a'):
-        inputs.mend_file(file, b'libc-tls.o')    # the member of glibc 2.36 that rvld has to refuse, and that is in almost each program
+    rvld, inputs, runs, started, again = program(), Inputs(words, made_objects(link)), 0, time.monotonic(), True
     while again:
         # the map is read here, or has names of made files
         if link.on.keys() & TOLD or link.lists['trace-symbol'] or 'Map' in link.values and inputs.names:
@@ -118,7 +105,6 @@ def linked(link):
         say('rvld-ld: %d inputs, %d files made here; rvld ran %d times; %.3f s, %.3f s of processors, %d KB at most\n' % (
             len(inputs.files), len(inputs.names), runs, time.monotonic() - started, used.ru_utime + used.ru_stime, used.ru_maxrss), 2)
     return status
-
 
 def main(words):
     """Does what the words ask for, and returns the status, below 0 for the signal that ended rvld."""

@@ -1,6 +1,5 @@
 """What is told of a link: where it ended badly, one or two sentences after rvld's line, and the cure; where it ended well, what was asked for."""
 import os
-from itertools import islice
 from types import SimpleNamespace
 
 from . import equal, objects
@@ -11,6 +10,9 @@ TEXTS = {keys.split(' ')[0] + other: text.replace('|', '\n') for keys, text in t
 KINDS = ['of kind %d' % i if name == '-' else 'R_RISCV_' + name for i, name in enumerate(TEXTS['kinds'].split())]
 MOST, FILE_AT = 2**31 - 2**20, {'input': 3, 'folded': 2, 'dropped': 1, 'discarded': 1}    # bytes of an image; which word of a line of the map is a file
 
+def called(table, number, other):
+    """What a table among the sentences calls a number."""
+    return dict(row.split(' ', 1) for row in TEXTS[table].split('; ')).get(str(number), other)
 
 def defect_of(text):
     """What rvld's line says, where it is one of a defect."""
@@ -20,7 +22,6 @@ def defect_of(text):
         return None
     file, section, place, name, other = (word.partition('=')[2] for word in words[3:])
     return SimpleNamespace(code=words[1], file=file, index=int(section), at=int(place), raw=unquote_to_bytes(name), other=other)
-
 
 def demangled(name):
     """The name of a function or an object as C++ has it, where a c++filt is at hand."""
@@ -33,12 +34,11 @@ def demangled(name):
     run = (subprocess.run([it, name], stdin=subprocess.DEVNULL, capture_output=True, encoding='utf-8', errors='replace') for it in tools)
     return next((end.stdout.strip() for end in run if end.stdout), name)
 
-
 class Place:
-    """A place in a section of an object, or the definition of a name: its function or object, and its source file."""
+    """A place in a section of an object, or the definition of a name, as `f() of a.c, in a.o:(.text.f)`: its function or object, and its source file."""
 
     def __init__(self, inputs, file, section=0, place=0, name=None):
-        self.file, self.section, self.inside, self.source, self.kind, self.own = file, '', '', '', 0, False
+        self.text, self.kind, self.own = file, 0, False
         for data in inputs.data(file):
             try:
                 return self.look(Object(data), section, place, name)
@@ -47,25 +47,21 @@ class Place:
 
     def look(self, code, section, place, name):
         """Finds it in the object."""
-        symbols, source = code.symbols(), ''
+        symbols, inside, own, source = code.symbols(), '', '', ''    # LOCAL symbols stand after the name of their source
         if name is not None:
             section, place = next((it.section, it.value) for it in symbols if it.name == name and it.defines)
         else:
             _, self.kind, named, _ = next(it for table, entries in code.relocations() if table.info == section for it in entries if it[0] == place)
             self.own = bool(symbols[named].section)
-        self.section = code.section_name(section).decode('utf-8', 'replace') if section < len(code.sections) else ''
-        for symbol in symbols:    # LOCAL ones stand after the name of their source
+        if section < len(code.sections):
+            self.text += ':(%s)' % code.section_name(section).decode('utf-8', 'replace')
+        for symbol in symbols:
             if symbol.kind == objects.FILE:
                 source = symbol.name.decode('utf-8', 'replace')
-                self.source = self.source or source
+                own = own or source
             elif symbol.section == section and symbol.kind in (objects.FUNC, objects.OBJECT) and 0 <= place - symbol.value < max(symbol.size, 1):
-                self.inside, self.source = demangled(symbol.name), self.source if symbol.binding else source
-
-    def __str__(self):
-        """As `f() of a.c, in a.o:(.text.f)`."""
-        what = ' of '.join(filter(None, [self.inside, self.source]))
-        return (what + ', in ' if what else '') + self.file + (':(%s)' % self.section if self.section else '')
-
+                inside, own = demangled(symbol.name), own if symbol.binding else source
+        self.text = ', in '.join(filter(None, [' of '.join(filter(None, [inside, own])), self.text]))
 
 class Explained:
     """The words for the sentences of a defect, and its lines."""
@@ -76,7 +72,7 @@ class Explained:
         self.name, self.number = demangled(defect.raw) or 'a local place', int(defect.other) if defect.other.isdigit() else 0
         self.signed, self.cure = self.number - (self.number >> 63 << 64), TEXTS.get('cure%d' % self.number, '')
         self.other_kind = KINDS[self.number] if self.number < len(KINDS) else 'of kind %d' % self.number
-        self.float_abi, self.first_float_abi = (TEXTS.get('floats%d' % it, 'unknown') for it in (self.at, self.number))
+        self.float_abi, self.first_float_abi = (called('floats', it, 'unknown') for it in (self.at, self.number))
         self.thin = inputs.faults.get(defect.file, TEXTS['make_archive'])
         case = ''
         if self.code in ('F01', 'F02'):
@@ -88,15 +84,14 @@ class Explained:
         elif self.code in ('F22', 'F24', 'F25', 'F26', 'F27'):
             self.place = Place(inputs, self.file, self.index, self.at)
             self.kind = KINDS[self.place.kind]
-        text = TEXTS[self.code + case if self.code + case in TEXTS else self.code]
-        self.lines = [line.format(self, **TEXTS) for line in text.split('\n')] + list(islice(self.hints(), 1))
+        text = TEXTS.get(self.code + case) or TEXTS.get(self.code, TEXTS['other'])
+        self.lines = [line.format(self, **TEXTS) for line in text.split('\n')] + [hint for hint in [next(self.hints(), '')] if hint]
 
     def of_file(self):
         """What is there in the place of an object: how the file starts (F01), or the field of the header that is another's (F02)."""
         head = bytes(self.data[:256])
-        machine = int.from_bytes(head[18:20], 'little')
-        self.machine = TEXTS.get('machines%d' % machine, 'the machine %d' % machine)
-        self.type = TEXTS.get('types%d' % int.from_bytes(head[16:18], 'little'), 'no object')
+        kind, machine = (int.from_bytes(head[at:at + 2], 'little') for at in (16, 18))
+        self.type, self.machine = called('types', kind, 'no object'), called('machines', machine, 'the machine %d' % machine)
         if self.code == 'F02':
             return str(self.at)
         is_text = all(byte in b'\t\n\r' or 32 <= byte < 127 for byte in head)
@@ -130,7 +125,6 @@ class Explained:
             if name != self.raw and (name == base or name.startswith(in_cplusplus)):
                 yield '>>> did you mean: %s%s, in %s' % ('extern "C" ' if name == base else '', demangled(name), file)
 
-
 def after(link, inputs, status, said, defect):
     """What follows rvld's own lines."""
     told, name = [], said.rstrip('\n').rpartition(' ')[2]
@@ -146,10 +140,9 @@ def after(link, inputs, status, said, defect):
     except OSError as fault:
         told = ['cannot open %s: %s' % (name, fault.strerror)]
     except FAULTS + (KeyError,):
-        told = [] if defect is None else ['%s: %s' % (defect.file, TEXTS['damaged'])]
+        told = [] if defect is None else [TEXTS['other'].format(defect, **TEXTS)]
     lines = (''.join(c if c.isprintable() else '?' for c in line) for line in told)
     return ''.join('%s%s\n' % ('' if line.startswith('>>>') else 'rvld-ld: ', line) for line in lines)
-
 
 def files(inputs, lines):
     """The files that have a part in the link, in the order of the command: objects, and the members that were taken."""
@@ -158,15 +151,14 @@ def files(inputs, lines):
         name = shown(file.name)
         yield from (it for it in found if it.startswith(name + '(')) if equal.mapped(file.path)[:8] == objects.ARCHIVE else [name]
 
-
 def traced(link, inputs, lines):
     """Who defines the names of -y, and who refers to them, in the words of ld.lld."""
     names, what = {os.fsencode(name): name for name in link.lists['trace-symbol']}, {objects.UNDEF: 'reference to', objects.COMMON: 'common definition of'}
+    yield from ('--undefined=%s: reference to %s' % (name, name) for name in link.lists['undefined'] if name in names.values())
     for file in files(inputs, lines):
         for symbol in (it for data in inputs.data(file)[:1] if data[:4] == objects.ELF for it in Object(data).symbols()):
             if symbol.binding and symbol.name in names:
                 yield '%s: %s %s' % (file, what.get(symbol.section, 'definition of'), names[symbol.name])
-
 
 def report(link, inputs, say):
     """Writes what was asked for, to the standard output, and the map to its file."""

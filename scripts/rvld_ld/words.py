@@ -1,12 +1,10 @@
 """The words of GNU ld that drivers hand over: what each asks for, and which are refused, with what to say. words.txt has the table of them."""
 import os
 
-
 def table_of(name):
     """The lines with a tab of a text that stands beside this file, parted there."""
     with open(os.path.join(os.path.dirname(__file__), name), encoding='utf-8') as text:
         return [line.rstrip('\n').split('\t') for line in text if '\t' in line]
-
 
 TABLE = {key: [] for key in 'over over-value over-maybe over-z given value on off short short-value'.split()}
 SOME, REFUSED = {}, {}    # options that have certain values alone, with what to say of others; those that are refused, and `z` with a word of -z
@@ -14,7 +12,7 @@ for names, rest in table_of('words.txt'):
     if names in TABLE:
         TABLE[names] += rest.split()
     elif '=' in names:
-        SOME[names.partition('=')[0]] = (names.partition('=')[2], rest)
+        SOME.update((word.partition('=')[0], (word.partition('=')[2], rest)) for word in names.split())
     else:
         REFUSED.update((name, rest) for name in names.split())
 OFF, SHORT, SHORT_VALUE = (dict(pair.split('=') for pair in TABLE[key]) for key in ('off', 'short', 'short-value'))
@@ -22,21 +20,18 @@ KIND = {name.partition('=')[0]: key for key in 'over over-value over-maybe given
 WARNINGS = ('warn-', 'no-warn-')    # so start words that change nothing, unless they are refused
 QUESTIONS, STATIC = {'v', 'verbose', 'version', 'help'}, {'static', 'Bstatic', 'non_shared', 'dn'}
 TOLD = {'print-map', 'trace', 'print-gc-sections', 'print-memory-usage'}    # of the map, by messages.report
+LISTED = 'undefined', 'keep-unique'    # of rvld, with names between commas
 FLAGS = {'strip-all': '-s', 'gc-sections': '--gc-sections', 'no-relax': '--no-relax'}    # of rvld
-
 
 class Refused(Exception):
     """Why a command is not passed on to rvld; and the status, where it is not 2."""
-
 
 def shown(word):
     """The word as rvld shows names: each byte that is no visible ASCII character, and each %, as % and two digits."""
     return ''.join(chr(b) if 0x21 <= b <= 0x7e and b != 0x25 else '%%%02X' % b for b in os.fsencode(word))
 
-
 def refuse(word, why):
     raise Refused('%s: %s' % (shown(word), why))
-
 
 def words_in(file):
     """The words of a response file, `@FILE`: blanks part them, quotes hold blanks, and a backslash holds the next character."""
@@ -48,15 +43,14 @@ def words_in(file):
     if not any(mark in data for mark in (b'\\', b'"', b"'")):
         return data.split()
     import re
-    quoted = rb'''"([^"\\]*(?:\\.[^"\\]*)*)"?|'([^'\\]*(?:\\.[^'\\]*)*)'?'''
-    word = re.compile(rb'''(?:[^\s'"\\]+|\\.|\\$|%s)+''' % quoted, re.S)
-    part = re.compile(quoted + rb'|\\(.)', re.S)
-
-    def plain(found):
-        inner = found[1] if found[1] is not None else found[2]
-        return found[3] if inner is None else re.sub(rb'(?s)\\(.)', rb'\1', inner)
-    return [part.sub(plain, found[0]) for found in word.finditer(data)]
-
+    out, word = [], []
+    for found in re.finditer(rb'''(?s)(\s+)|"((?:[^"\\]+|\\.)*)"?|'((?:[^'\\]+|\\.)*)'?|((?:[^\s"'\\]+|\\.)+|\\)''', data):
+        if found[1] is None:
+            word.append(re.sub(rb'(?s)\\(.)', rb'\1', found[found.lastindex]))
+        elif word:
+            out.append(b''.join(word))
+            word = []
+    return out + [b''.join(word)] if word else out
 
 def expand(words):
     """The words with those of response files in place of `@FILE`; where there is no such file the word stays, as in GNU ld."""
@@ -74,23 +68,19 @@ def expand(words):
             out.append(word)
     return out
 
-
 def not_shared(word, name):
     """Refuses a file with the name of a shared library: `.so`, or `.so.` and a version."""
     _, dot, version = os.path.basename(name).rpartition('.so')
     if dot and (not version or version[0] == '.' and all(part.isdigit() for part in version[1:].split('.'))):
         refuse(word, 'a shared library; rvld links static programs')
 
-
 def number_of(text):
     """The number that an expression is, modulo 2^64: decimal, 0x.., or 0.. octal, with K or M after it, and a sign before; else None."""
     import re
     found = re.fullmatch(r'(-?)(0x[0-9a-f]{1,28}|0[0-7]{0,28}|[1-9][0-9]{0,28})([km]?)', text.lower(), re.A)
-    if found is None:
-        return None
-    sign, digits, scale = found.groups()
-    return int(sign + digits, 8 if digits[0] == '0' and 'x' not in digits else 0) * {'': 1, 'k': 1024, 'm': 1048576}[scale] % 2**64
-
+    if found:
+        sign, digits, scale = found.groups()
+        return int(sign + digits, 8 if digits[0] == '0' and 'x' not in digits else 0) * {'': 1, 'k': 1024, 'm': 1048576}[scale] % 2**64
 
 def named(word):
     """The long name of an option, and the value that stands in the word itself."""
@@ -100,7 +90,6 @@ def named(word):
     if not is_long and word[1] in SHORT_VALUE:
         return SHORT_VALUE[word[1]], word[2:] or None
     return name if is_long else SHORT.get(name, name), value if is_ else None
-
 
 class Link:
     """What a driver's command asks for."""
@@ -122,8 +111,7 @@ class Link:
         """Takes a word, and its value from those that wait."""
         if len(word) < 2 or word[0] != '-':
             not_shared(word, word)
-            self.inputs.append((word, False))
-            return
+            return self.inputs.append((word, False))
         name, value = named(word)
         kind = KIND.get(name, 'over' if name.startswith(WARNINGS) else '')
         if value is None and kind in ('over-value', 'given', 'value'):
@@ -171,6 +159,8 @@ class Link:
             if not symbol or number_of(text) is None:
                 refuse('--defsym=' + value, 'rvld-ld takes NAME=NUMBER, and no other expression')
             self.defined[symbol] = number_of(text)
+        elif name in LISTED and ',' in value:
+            refuse('--%s=%s' % (name, value), 'rvld takes no name with a comma')
         self.lists.get(name, []).append(value)
 
     def library(self, name):
@@ -203,7 +193,8 @@ class Link:
             raise Refused('no input files')
         if 'Map' in self.values and self.values['Map'] == self.values.get('output', 'a.out'):
             refuse(self.values['Map'], 'named for the program and for the map')
-        options = ['--%s=%s' % option for option in self.values.items()] + [FLAGS[name] for name in self.on if name in FLAGS]
+        listed = [(name, ','.join(dict.fromkeys(self.lists[name]))) for name in LISTED if self.lists[name]]
+        options = ['--%s=%s' % option for option in [*self.values.items(), *listed]] + [FLAGS[name] for name in self.on if name in FLAGS]
         for word in options + list(files.values()):
             if not word.isascii() and any('\udc80' <= c <= '\udcff' for c in word):
                 refuse(word, 'not UTF-8, which rvld asks of each word')

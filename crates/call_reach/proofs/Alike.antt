@@ -24,7 +24,7 @@ use Rattle.link_sections.specs.Leaders.{fold_each, folded_leaders, is_kept, lead
 use Rattle.link_sections.specs.MergeSections.{contents}
 use Rattle.link_sections.specs.PoolViews.{Merged, is_merged}
 use Rattle.icf_part.specs.Folding.{AreFolded, AreLeaders, item_at, no_item}
-use Rattle.sec_graph.specs.Foldable.{is_foldable, is_foldable_input, item_in, item_of, items}
+use Rattle.sec_graph.specs.Foldable.{is_barred, is_foldable, is_foldable_input, item_in, item_of, items}
 use Rattle.relax.proofs.Fitting.{live_from}
 use Rattle.call_reach.specs.Reach.{AreAlike}
 
@@ -127,33 +127,34 @@ module _ (tables : Tables) (b : Bindings) (kept : List Bool) (stay : (n : ℕ) �
   abbrev HasSize : FoldItem → Type 0
   HasSize i = S i.section ≡ length i.bytes
 
-  one_has : (merged : List (Option Merged)) (n : ℕ) → n < section_total files → is_foldable files b kept n ≡ true → HasSize (item_of files b merged n)
+  one_has : (barred : List Bool) (merged : List (Option Merged)) (n : ℕ) → n < section_total files → is_foldable files b kept barred n ≡ true → HasSize (item_of files b merged n)
   unfolding is_foldable item_in
-  one_has merged n lt is =
+  one_has barred merged n lt is =
       let f = (place_of files n).file in
       let k = (place_of files n).index in
-      let parts = and_parts (is_kept kept n) (is_foldable_input (input_of files b f k)) is in
+      let input = is_foldable_input (input_of files b f k) in
+      let parts = and_parts (is_kept kept n) (not (is_barred barred n) && input) is in
       let law = place_of_number files n lt in
-      size_in f k (live_from files f k law.index) (stay n parts.0) (sorted (input_of files b f k) parts.1)
+      size_in f k (live_from files f k law.index) (stay n parts.0) (sorted (input_of files b f k) (and_parts (not (is_barred barred n)) input parts.1).1)
 
-  all_have : (merged : List (Option Merged)) → All HasSize (items files b merged kept)
+  all_have : (barred : List Bool) (merged : List (Option Merged)) → All HasSize (items files b merged kept barred)
   unfolding items
-  all_have merged = each_flat HasSize _ 0 (section_total files) (λ n lt. one_if HasSize (is_foldable files b kept n) (item_of files b merged n) (one_has merged n (omega (arith, lt))))
+  all_have barred merged = each_flat HasSize _ 0 (section_total files) (λ n lt. one_if HasSize (is_foldable files b kept barred n) (item_of files b merged n) (one_has barred merged n (omega (arith, lt))))
 
   section_at_is : (list : List FoldItem) (k : ℕ) → k < length list → section_in list k ≡ (item_at list k).section
   section_at_is list k lt = get_or-map (λ (i : FoldItem). i.section) list k no_item 0 lt
 
-  pub folded_alike : (merged : List (Option Merged)) (places : List ℕ) → AreLeaders (items files b merged kept) places
-      → AreAlike files b (folded_leaders (items files b merged kept) places (own_leaders kept merged))
+  pub folded_alike : (barred : List Bool) (merged : List (Option Merged)) (places : List ℕ) → AreLeaders (items files b merged kept barred) places
+      → AreAlike files b (folded_leaders (items files b merged kept barred) places (own_leaders kept merged))
   unfolding folded_leaders
-  folded_alike merged places are =
-      let list = items files b merged kept in
+  folded_alike barred merged places are =
+      let list = items files b merged kept barred in
       let ns = map (λ (i : FoldItem). i.section) list in
       each_alike list ns places (own_leaders kept merged) (own_alike merged) (λ k lt less.
       let low : k < length list = omega (arith, lt, length-map list (λ (i : FoldItem). i.section)) in
       let is = are.each k low in
       let p = slice_index places k in
-      let size : (a : ℕ) → a < length list → S (section_in list a) ≡ length (item_at list a).bytes = λ a in_list. ap S (section_at_is list a in_list) ∙ all_have merged a no_item in_list in
+      let size : (a : ℕ) → a < length list → S (section_in list a) ≡ length (item_at list a).bytes = λ a in_list. ap S (section_at_is list a in_list) ∙ all_have barred merged a no_item in_list in
       let bytes : (item_at list p).bytes ≡ (item_at list k).bytes = same_bytes list p k is.own in
       size k low ∙ ap length (sym bytes) ∙ sym (size p is.within))
     where

@@ -1,9 +1,9 @@
 -- A shortened call whose distance is even and within its reach has no defect.
-use Rattle.std.proofs.Common.{◌≡◌, ℕ, ◌+◌, ◌-◌, ◌≤◌, ◌%◌, ◌⊎◌, ◌==◌, ◌&&◌, ◌||◌, not, true, false, if◌then◌else◌, Option, Some, None, List, [], ◌∷◌, get_or, refl, ap, ◌∙◌, subst, arith, inl, inr, pos, ◌+ℤ◌, ◌-ℤ◌}
+use Rattle.std.proofs.Common.{◌≡◌, ℕ, ◌+◌, ◌-◌, ◌≤◌, ◌%◌, ◌⊎◌, ◌==◌, ◌&&◌, ◌||◌, not, true, false, if◌then◌else◌, Option, Some, None, List, [], ◌∷◌, get_or, refl, ap, ◌∙◌, subst, arith, inl, inr, ℤ, pos, ◌+ℤ◌, ◌-ℤ◌}
 use Rattle.std.specs.Prelude.{is_some, option_and_then}
 use Rattle.std.proofs.lemmas.Bool.{eqb-true, or_cases}
 use Rattle.lk_base.specs.Reaches.{even_from_to, minus, misfit_of}
-use Rattle.lk_base.specs.RelocKinds.{is_lower, kind_of}
+use Rattle.lk_base.specs.RelocKinds.{is_lower, is_uleb, kind_of}
 use Rattle.lk_base.specs.declared.abi.TheConstants.{R_RISCV_CALL, R_RISCV_CALL_PLT, R_RISCV_JAL, R_RISCV_RVC_JUMP}
 use Rattle.lk_base.specs.declared.relocations.Calculation.TheVariants.{Distance}
 use Rattle.lk_base.specs.declared.kinds.TheConstants as kinds
@@ -19,7 +19,7 @@ use Rattle.link_sections.specs.LaidOut.{LaidOut, address_in, cuts_at, start_at}
 use Rattle.link_sections.specs.PieceTargets.{target_at}
 use Rattle.link_sections.specs.PoolViews.{Merged}
 use Rattle.relax.specs.Jumps.{reach}
-use Rattle.reloc_apply.specs.Relocated.{misfit_defects, reloc_defect, reloc_defects, value_defects}
+use Rattle.reloc_apply.specs.Relocated.{misfit_defects, operand, reach_in, reloc_defect, reloc_defects, value_defects, width_at}
 use Rattle.reloc_apply.specs.Values.{addend_of, computed, direct_value, entry_of, partner_of, place_of as place_at, sum_of, target_in, thread_of, value_of}
 use Rattle.call_reach.proofs.Reached.{Reaches}
 use Rattle.call_reach.proofs.Values.{distance_taken}
@@ -27,15 +27,16 @@ use Rattle.call_reach.proofs.Values.{distance_taken}
 -- a call takes the distance to its own target
 record IsCallLine (kind : ℕ) : Type 0 where
   lower : is_lower kind ≡ false
+  plain : is_uleb kind ≡ false
   calculation : (kind_of kind).calculation ≡ Distance
 
 first_line : IsCallLine R_RISCV_CALL
-unfolding is_lower kind_of
-first_line = record { lower = refl; calculation = refl }
+unfolding is_lower is_uleb kind_of
+first_line = record { lower = refl; plain = refl; calculation = refl }
 
 second_line : IsCallLine R_RISCV_CALL_PLT
-unfolding is_lower kind_of
-second_line = record { lower = refl; calculation = refl }
+unfolding is_lower is_uleb kind_of
+second_line = record { lower = refl; plain = refl; calculation = refl }
 
 call_line : (kind : ℕ) → is_call kind ≡ true → IsCallLine kind
 unfolding is_call
@@ -92,22 +93,26 @@ module _ (files : List File) (b : Bindings) (leaders : List (Option ℕ)) (laid 
       plus_none : a + 0 ≡ a
       plus_none = omega arith
 
-  own_value : is_call r.kind ≡ true → value_of files b leaders laid n r (pos 0) ≡ Some (pos a -ℤ pos p)
+  own_value : (held : ℤ) → is_call r.kind ≡ true → value_of files b leaders laid n r held ≡ Some (pos a -ℤ pos p)
   unfolding value_of direct_value
-  own_value call =
+  own_value held call =
       let line = call_line r.kind call in
-      ap (λ t. if t then option_and_then (λ (q : Reloc). direct_value files b leaders laid n q (pos 0)) (partner_of files b leaders laid n r) else computed (kind_of r.kind).calculation (sum_of files b leaders laid n r) (place_at files b leaders laid n r) (thread_of files b leaders laid n r) (entry_of files b leaders laid n r) (pos 0)) line.lower
-      ∙ ap (λ c. computed c (sum_of files b leaders laid n r) (place_at files b leaders laid n r) (thread_of files b leaders laid n r) (entry_of files b leaders laid n r) (pos 0)) line.calculation
+      ap (λ t. if t then option_and_then (λ (q : Reloc). direct_value files b leaders laid n q (pos 0)) (partner_of files b leaders laid n r) else computed (kind_of r.kind).calculation (sum_of files b leaders laid n r) (place_at files b leaders laid n r) (thread_of files b leaders laid n r) (entry_of files b leaders laid n r) held) line.lower
+      ∙ ap (λ c. computed c (sum_of files b leaders laid n r) (place_at files b leaders laid n r) (thread_of files b leaders laid n r) (entry_of files b leaders laid n r) held) line.calculation
       ∙ ap (λ s. Some (s -ℤ place_at files b leaders laid n r)) own_sum
 
-  pub none_defect : is_call r.kind ≡ true → reloc_defects files b leaders laid n r ≡ []
+  pub none_defect : is_call r.kind ≡ true → (before : Reloc) → reloc_defects files b leaders laid n before r ≡ []
   unfolding reloc_defects acting_number
-  none_defect call =
+  none_defect call before =
       let line = call_line r.kind call in
       let size = call_size (cuts_at laid n) r.offset in
+      let held : ℤ = operand files b leaders laid n before r (pos 0) in
+      let kind = kind_of (if is_call r.kind then kind_by_size size r.kind else r.kind) in
+      let width : ℕ = width_at files b leaders laid n r in
       let number : (if is_call r.kind then kind_by_size size r.kind else r.kind) ≡ kind_by_size size r.kind = ap (λ t. if t then kind_by_size size r.kind else r.kind) call in
       let fits = taken_by size r.kind a p is.size is.target_even is.place_even is.ahead is.back in
-      ap (λ t. if t && not (is_some (partner_of files b leaders laid n r)) then reloc_defect kinds.NO_PARTNER (place_of files n) r 0 ∷ [] else value_defects (place_of files n) r (kind_of (if is_call r.kind then kind_by_size size r.kind else r.kind)) (value_of files b leaders laid n r (pos 0))) line.lower
-      ∙ ap (value_defects (place_of files n) r (kind_of (if is_call r.kind then kind_by_size size r.kind else r.kind))) (own_value call)
+      ap (λ t. if t && not (is_some (partner_of files b leaders laid n r)) then reloc_defect kinds.NO_PARTNER (place_of files n) r 0 ∷ [] else value_defects (place_of files n) r (reach_in (is_uleb r.kind) kind width) (value_of files b leaders laid n r held)) line.lower
+      ∙ ap (λ u. value_defects (place_of files n) r (reach_in u kind width) (value_of files b leaders laid n r held)) line.plain
+      ∙ ap (value_defects (place_of files n) r kind.reach) (own_value held call)
       ∙ ap (λ m. misfit_defects (place_of files n) r (pos a -ℤ pos p) (misfit_of (kind_of m).reach (pos a -ℤ pos p))) number
       ∙ ap (misfit_defects (place_of files n) r (pos a -ℤ pos p)) fits

@@ -199,7 +199,7 @@ module _ (tables : Tables) (b : Bindings) (pools : List Pool) (words : ℕ) (lea
   calls_on : (z : List ℕ) → is_safe ms (rows true) z ≡ true → sizes ≡ all_cuts files ms (rows true) z → CallsReach files b leaders laid
   calls_on z safe sizes_are n lt leader k d k_low short =
       let same : get_or (relocs_of files n) k d ≡ reloc_of files n k = get_or_default (relocs_of files n) k d no_reloc k_low in
-      let P : Reloc → Type 0 = λ r. reloc_defects files b leaders laid n r ≡ [] in
+      let P : Reloc → Type 0 = λ r. (before : Reloc) → reloc_defects files b leaders laid n before r ≡ [] in
       let r : Reloc = reloc_of files n k in
       let test : (is_call r.kind && nat_lt (call_size (cuts_at laid n) r.offset) 8) ≡ true = ap (λ (x : Reloc). is_call x.kind && nat_lt (call_size (cuts_at laid n) x.offset) 8) (sym same) ∙ short in
       let parts = and_parts (is_call r.kind) (nat_lt (call_size (cuts_at laid n) r.offset) 8) test in

@@ -9,6 +9,7 @@ use Rattle.std.proofs.lemmas.List.Elements.{All-nil, All-head, All-tail, All-con
 use Rattle.std.proofs.lemmas.List.Folds.{list_any-append}
 use Rattle.std.proofs.lemmas.Slice.Eq.{bytes_eq-Decides}
 use Rattle.lk_base.proofs.StableElements.{all_stable, any_stable}
+use Rattle.lk_base.specs.declared.abi.TheConstants.{SHT_NULL}
 use Rattle.lk_tables.specs.declared.classes.Class.{Class}
 use Rattle.lk_tables.specs.Binding.{Bindings}
 use Rattle.lk_tables.specs.Classes.{is_in, output_rank}
@@ -446,7 +447,7 @@ number_in (IsPool p) = p
 number_in Got = 0
 
 abbrev pub no_row : Row
-no_row = record { number = 0; content = Got; group = 0; rank = 0; priority = 0; sh_type = 0; flags = 0; size = 0; align = 1 }
+no_row = record { number = 0; content = Got; group = 0; rank = 0; priority = 0; sh_type = SHT_NULL; flags = 0; size = 0; align = 1 }
 
 -- the row of a section that leads itself, at a place among those of its class
 pub record SectionRow (class : Class) (its : List Item) (n : ℕ) (s : InputSection) (place : ℕ) : Type 0 where

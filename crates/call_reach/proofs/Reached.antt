@@ -32,7 +32,7 @@ use Rattle.relax.specs.CallSizes.{all_calls, call_no, cuts_by, distance, first_c
 use Rattle.relax.specs.Jumps.{allows, reach, size_at}
 use Rattle.relax.specs.Placing.{IsOneSize}
 use Rattle.relax.proofs.CutSteps.{size_one}
-use Rattle.relax.proofs.Fitting.{call_width, cuts_apart, end_is, size_is, sound_of}
+use Rattle.relax.proofs.Fitting.{call_kind, call_width, cuts_apart, end_is, size_is, sound_of}
 use Rattle.relax.proofs.PointSteps.{first_most}
 use Rattle.call_reach.proofs.Classes.{HasBits, class_bits, class_some}
 use Rattle.call_reach.proofs.Evens.{times_even}
@@ -335,7 +335,7 @@ module _ (tables : Tables) (b : Bindings) (pools : List Pool) (merged : List (Op
       let s = section_at file (place_of files n).index in
       let whole = sound_of tables n n_low in
       let inside = whole.fits k no_reloc k_low in
-      let end = end_is (contents_of file.bytes s) r (whole.kinds k no_reloc k_low) in
+      let end = end_is (contents_of file.bytes s) r (call_kind r.kind call).moves (whole.kinds k no_reloc k_low) in
       let wide = call_width r call in
       let size_of_n = size_is tables b n n_low (omega (arith, k_low)) in
       let o_in : c.offset + 8 ≤ (input_at files b n).size = omega (arith, lands.offset, inside, end, wide, size_of_n) in

@@ -157,8 +157,10 @@ one_call tables n k j lt k_low j_low k_call j_call same =
         let qk = sound.kinds j no_reloc high in
         let rw_is = call_width r first in
         let qw_is = call_width q second in
-        let before = sound.apart k j no_reloc less high (bytes_if contents r rk (omega (arith, rw_is))) (bytes_if contents q qk (omega (arith, qw_is))) (ap (λ m. m || moves_bytes q.kind) (call_kind r.kind first).moves) in
-        omega (arith, before, end_is contents r rk, rw_is, same)
+        let rm = (call_kind r.kind first).moves in
+        let qm = (call_kind q.kind second).moves in
+        let before = sound.apart k j no_reloc less high (bytes_if contents r rm rk (omega (arith, rw_is))) (bytes_if contents q qm qk (omega (arith, qw_is))) (ap (λ m. m || moves_bytes q.kind) rm) in
+        omega (arith, before, end_is contents r rm rk, rw_is, same)
 
 -- where a call goes
 pub record IsLanded (files : List File) (b : Bindings) (merged : List (Option Merged)) (leaders : List (Option ℕ)) (ms : List Row) (i n k : ℕ) (c : Call) : Type 0 where

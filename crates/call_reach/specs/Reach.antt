@@ -18,7 +18,8 @@ AreAlike files b leaders = (n m : ℕ) → leader_at leaders n ≡ Some m → (i
 abbrev pub is_shortened : LaidOut → (n : ℕ) → Reloc → Bool
 is_shortened laid n r = is_call r.kind && nat_lt (call_size (cuts_at laid n) r.offset) 8
 
--- each shortened call reaches its target: its relocation has no defect, so its value is even and in the range of `jal` or of `c.j`
+-- each shortened call reaches its target: its relocation has no defect, whatever relocation comes before it, so its value is even and in the
+-- range of `jal` or of `c.j`
 abbrev pub CallsReach : List File → Bindings → (leaders : List (Option ℕ)) → LaidOut → Type 0
 CallsReach files b leaders laid =
-    (n : ℕ) → n < section_total files → leads leaders n ≡ true → All (λ r. is_shortened laid n r ≡ true → reloc_defects files b leaders laid n r ≡ []) (relocs_of files n)
+    (n : ℕ) → n < section_total files → leads leaders n ≡ true → All (λ r. is_shortened laid n r ≡ true → (before : Reloc) → reloc_defects files b leaders laid n before r ≡ []) (relocs_of files n)

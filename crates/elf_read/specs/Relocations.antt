@@ -23,8 +23,8 @@ abbrev pub offset_of : Numbered → ℕ
 offset_of e = e.reloc.offset
 
 -- the bytes of a relocation
-abbrev pub extent_of : Reloc → Extent
-extent_of r = record { from = r.offset; end = end_of [] r; moves = moves_bytes r.kind }
+abbrev pub extent_of : (contents : List ℕ) → Reloc → Extent
+extent_of contents r = record { from = r.offset; end = end_of contents r; moves = moves_bytes r.kind }
 
 -- the furthest end of bytes so far, that of those after which bytes may move, and bytes that start before one of them
 unfoldable pub later_end : ℕ → Extent → ℕ

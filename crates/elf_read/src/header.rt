@@ -1,7 +1,7 @@
 //! The file header (System V gABI, "ELF Header"; RISC-V ELF psABI, "File Header"), and a file whose header is sound.
 
-ghost use Rattle.std.specs.Prelude.{◌≡◌, ◌+◌, ◌*◌, ◌^◌, ◌<◌, ◌≤◌, length, IfOk, OnOk, [], ◌∷◌};
-ghost use Rattle.lk_base.specs.declared.abi.TheConstants.{EHDR_SIZE, SHDR_SIZE};
+ghost use Rattle.std.specs.Prelude.{◌≡◌, ◌+◌, ◌*◌, ◌<◌, ◌≤◌, length, IfOk, OnOk, [], ◌∷◌};
+ghost use Rattle.lk_base.specs.declared.abi.TheConstants.{EHDR_SIZE, SECTIONS_MAX, SHDR_SIZE};
 ghost use Rattle.lk_tables.specs.Checks.{outcome, passes, ◌says◌, flaw_at};
 ghost use Rattle.lk_tables.specs.FileHeader as read;
 ghost use Rattle.lk_tables.specs.Sections.{is_symtab, names_from as first_name, names_size as size_of_names};
@@ -34,7 +34,7 @@ pub struct File<'a> {
 
     ghost long: { EHDR_SIZE ≤ length bytes.now },
     ghost counted: { 0 < count },
-    ghost few: { count ≤ 2 ^ 28 },
+    ghost few: { count ≤ SECTIONS_MAX },
     ghost table_is: { table ≡ read.e_shoff bytes.now },
     ghost count_is: { count ≡ read.section_count bytes.now },
     ghost within: { table + SHDR_SIZE * count ≤ length bytes.now },

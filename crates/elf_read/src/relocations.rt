@@ -1,13 +1,15 @@
 //! The entries of a relocation section (System V gABI, "Relocation"; RISC-V ELF psABI, "Relocations"). They are tested in file
 //! order, and mostly stand in order of offset already; else they are sorted. Then the bytes of no call and of no alignment may meet
-//! another entry's.
+//! another entry's, and the two parts of a pair have to stand next to each other.
 
-ghost use Rattle.std.specs.Prelude.{◌≡◌, ◌+◌, ◌<◌, ◌≤◌, ◌^◌, length, map, unwrap_or, IfOk, IfSome, IsFalse, [], true};
+ghost use Rattle.std.specs.Prelude.{◌≡◌, ◌+◌, ◌-◌, ◌<◌, ◌≤◌, ◌^◌, ◌++◌, ◌||◌, find, is_some, length, map, slice_index_or, IfOk, IfSome, [], true, false};
 ghost use Rattle.std.specs.List.{All, range_with_len};
 ghost use Rattle.std.specs.List.Sorted.{IsNonDecreasingBy};
 ghost use Rattle.lk_base.specs.Order.{stable_order};
 ghost use Rattle.lk_tables.specs.Checks.{checked, passes, from_on, Follows};
+ghost use Rattle.lk_base.specs.RelocKinds.{is_linked};
 ghost use Rattle.lk_tables.specs.declared.objects.Reloc.{Reloc as RelocOf};
+ghost use Rattle.lk_tables.specs.Files.{no_reloc};
 ghost use Rattle.lk_tables.specs.Relocations as read;
 ghost use Rattle.lk_tables.specs.Sections.{section_of};
 ghost use Rattle.elf_read.specs.Relocations as loops;
@@ -15,11 +17,11 @@ ghost use Rattle.elf_read.specs.Relocations as loops;
 use crate::entries::reloc_at;
 use crate::header::{ends_past, flaw};
 use crate::sound_file::SoundFile;
-use lk_base::abi::{RELA_SIZE, SHT_NOBITS};
-use lk_base::kinds::{BAD_RELOC, RELOC_KIND};
-use lk_base::relocations::{is_linked, is_lower, moves_bytes};
+use lk_base::abi::{R_RISCV_SET_ULEB128, R_RISCV_SUB_ULEB128, RELA_SIZE, SHT_NOBITS};
+use lk_base::kinds::{BAD_RELOC, BAD_ULEB, RELOC_KIND};
+use lk_base::relocations::{is_linked, is_lower, is_uleb, moves_bytes};
 use lk_base::{Flaw, ReadFault};
-use lk_tables::{Reloc, Section, is_alignment, place_width};
+use lk_tables::{Reloc, Section, contents_of, is_alignment, place_width, uleb_len};
 use std::alloc::{AllocError, Global};
 
 /// A relocation with the number of its entry.
@@ -52,32 +54,45 @@ pub fn read_relocations(
     ensures checked { Follows result (read.entries_checks file.now.bytes.now index) }
     ensures list { IfOk result (λ relocs. relocs.items ≡ read.relocs_of file.now.bytes.now index) }
 {
-    let relocs = read_entries(alloc, file, index, rela, target)?;
+    let contents = contents_of(file.bytes, target);
+    let relocs = read_entries(alloc, file, index, rela, target, contents)?;
     if rises(relocs.as_slice()) {
-        check_rising(file, index, rela, relocs.as_slice())?;
+        check_rising(file, index, rela, contents, relocs.as_slice())?;
+        check_rising_pairs(file, index, rela, relocs.as_slice())?;
         return Ok(relocs);
     }
-    sort(alloc, file, index, rela, relocs.as_slice())
+    sort(alloc, file, index, rela, contents, relocs.as_slice())
 }
 
 /// Relocations that do not stand in order of offset in the file, in stable order of it.
+#[tactic(auto, using(lk_tables::proofs::Passing::checked_append))]
 fn sort(
     alloc: Global,
     file: &SoundFile,
     index: u32,
     rela: &Section,
+    contents: &[u8],
     relocs: &[Reloc],
 ) -> Result<Vec<Reloc>, ReadFault>
     requires rela { rela.now ≡ section_of file.now.bytes.now index }
     requires within { rela.now.offset + rela.now.size ≤ length file.now.bytes.now }
+    requires contents { contents.now ≡ read.target_bytes file.now.bytes.now index }
     requires relocs { relocs.now ≡ map (read.reloc file.now.bytes.now index) (range_with_len 0 (read.rela_count file.now.bytes.now index)) }
-    requires ends { All (λ reloc. read.end_of [] reloc < 2 ^ 64) relocs.now }
-    ensures checked { Follows result (read.overlap_checks file.now.bytes.now index [] (read.in_order file.now.bytes.now index)) }
+    requires ends { All (λ reloc. read.end_of contents.now reloc < 2 ^ 64) relocs.now }
+    ensures checked { Follows result (read.overlap_checks file.now.bytes.now index [] (read.in_order file.now.bytes.now index) ++ read.pair_checks file.now.bytes.now index) }
     ensures list { IfOk result (λ relocs. relocs.items ≡ read.relocs_of file.now.bytes.now index) }
 {
     let entries = in_order(alloc, relocs)?;
     let sorted = relocs_in(alloc, entries.as_slice())?;
-    check_sorted(file, index, rela, entries.as_slice(), sorted.as_slice())?;
+    check_sorted(
+        file,
+        index,
+        rela,
+        contents,
+        entries.as_slice(),
+        sorted.as_slice(),
+    )?;
+    check_sorted_pairs(file, index, rela, entries.as_slice(), sorted.as_slice())?;
     Ok(sorted)
 }
 
@@ -88,52 +103,62 @@ fn read_entries(
     index: u32,
     rela: &Section,
     target: &Section,
+    contents: &[u8],
 ) -> Result<Vec<Reloc>, ReadFault>
     requires rela { rela.now ≡ section_of file.now.bytes.now index }
     requires target { target.now ≡ read.target_of file.now.bytes.now index }
+    requires contents { contents.now ≡ read.target_bytes file.now.bytes.now index }
     requires within { rela.now.offset + rela.now.size ≤ length file.now.bytes.now }
     ensures checked { Follows result (from_on (read.entry_checks file.now.bytes.now index) 0 (read.rela_count file.now.bytes.now index)) }
     ensures list { IfOk result (λ relocs. relocs.items ≡ map (read.reloc file.now.bytes.now index) (range_with_len 0 (read.rela_count file.now.bytes.now index))) }
-    ensures ends { IfOk result (λ relocs. All (λ reloc. read.end_of [] reloc < 2 ^ 64) relocs.items) }
+    ensures ends { IfOk result (λ relocs. All (λ reloc. read.end_of contents.now reloc < 2 ^ 64) relocs.items) }
 {
     let count = rela.size as usize / RELA_SIZE as usize;
     let mut relocs = Vec::with_capacity(alloc, count)?;
     for entry in 0..count {
-        relocs.push(read_entry(file, index, rela, target, entry)?)?;
+        relocs.push(read_entry(file, index, rela, target, contents, entry)?)?;
     }
     Ok(relocs)
 }
 
 /// The relocation of entry `entry` of the relocation section `index`, if it is sound.
-#[tactic(auto, unfolding(lk_tables::specs::Relocations::entry_checks, lk_tables::specs::Relocations::is_past_target))]
+#[tactic(auto, unfolding(lk_tables::specs::Relocations::entry_checks))]
 fn read_entry(
     file: &SoundFile,
     index: u32,
     rela: &Section,
     target: &Section,
+    contents: &[u8],
     entry: usize,
 ) -> Result<Reloc, Flaw>
     requires rela { rela.now ≡ section_of file.now.bytes.now index }
     requires target { target.now ≡ read.target_of file.now.bytes.now index }
+    requires contents { contents.now ≡ read.target_bytes file.now.bytes.now index }
     requires within { rela.now.offset + rela.now.size ≤ length file.now.bytes.now }
     requires entry { entry < read.rela_count file.now.bytes.now index }
     ensures reloc { result ≡ checked (read.entry_checks file.now.bytes.now index entry) (read.reloc file.now.bytes.now index entry) }
-    ensures end { IfOk result (λ reloc. read.end_of [] reloc < 2 ^ 64) }
+    ensures end { IfOk result (λ reloc. read.end_of contents.now reloc < 2 ^ 64) }
 {
     let place = rela.offset as usize + RELA_SIZE as usize * entry;
     let reloc = reloc_at(file.bytes, place);
     if file.symbols.len() <= reloc.symbol as usize {
         return Err(flaw(BAD_RELOC, index, place));
     }
-    let Some(width) = linked_width(&reloc) else {
+    if !is_linked(reloc.kind) {
         return Err(Flaw {
             kind: RELOC_KIND,
             section: index,
             place: place as u64,
             other: reloc.kind as u64,
         });
-    };
-    if is_past_target(target, &reloc, width) || is_bad_addend(&reloc) {
+    }
+    if is_past_target(target, &reloc) {
+        return Err(flaw(BAD_RELOC, index, place));
+    }
+    if !has_end(contents, &reloc) {
+        return Err(flaw(BAD_ULEB, index, place));
+    }
+    if is_bad_addend(&reloc) {
         return Err(flaw(BAD_RELOC, index, place));
     }
     Ok(reloc)
@@ -150,14 +175,38 @@ fn linked_width(reloc: &Reloc) -> Option<u64>
     Some(place_width(reloc))
 }
 
-/// Whether a relocation's bytes end past its section, or the section has none in the file.
-#[tactic(auto, unfolding(lk_tables::specs::Relocations::is_past_target))]
-fn is_past_target(target: &Section, reloc: &Reloc, width: u64) -> bool
-    requires { width ≡ unwrap_or (read.linked_width reloc.now) 0 }
-    ensures value { result ≡ read.is_past_target [] target.now reloc.now }
-    ensures fits { IsFalse result → reloc.now.offset + width < 2 ^ 64 }
+/// The same in a section of these contents: a ULEB128 number is as long as its bytes say.
+#[tactic(auto, unfolding(lk_tables::specs::Relocations::width_of))]
+fn width_of(contents: &[u8], reloc: &Reloc) -> Option<u64>
+    ensures { result ≡ read.width_of contents.now reloc.now }
 {
-    target.sh_type == SHT_NOBITS || ends_past(target.size, reloc.offset, width)
+    if is_uleb(reloc.kind) {
+        return uleb_len(contents, reloc.offset);
+    }
+    linked_width(reloc)
+}
+
+/// Whether the place of a relocation of a kind that is linked has an end: a ULEB128 number may go on past the contents, or have more than ten
+/// bytes.
+#[tactic(auto, unfolding(lk_tables::specs::Relocations::width_of, lk_tables::specs::Relocations::linked_width))]
+fn has_end(contents: &[u8], reloc: &Reloc) -> bool
+    requires { is_linked reloc.now.kind ≡ true }
+    ensures { result ≡ is_some (read.width_of contents.now reloc.now) }
+{
+    if !is_uleb(reloc.kind) {
+        return true;
+    }
+    uleb_len(contents, reloc.offset).is_some()
+}
+
+/// Whether a relocation's bytes, of a ULEB128 number the first one, end past its section, or the section has none in the file.
+#[tactic(auto, unfolding(lk_tables::specs::Relocations::is_past_target))]
+fn is_past_target(target: &Section, reloc: &Reloc) -> bool
+    ensures value { result ≡ read.is_past_target target.now reloc.now }
+    ensures fits { result ≡ false → reloc.now.offset + read.place_width reloc.now ≤ target.now.size }
+    ensures small { result ≡ false → target.now.size < 2 ^ 64 }
+{
+    target.sh_type == SHT_NOBITS || ends_past(target.size, reloc.offset, place_width(reloc))
 }
 
 /// Whether an alignment has no even number of bytes, or a relocation that takes its value from another an addend of its own.
@@ -184,24 +233,75 @@ fn rises(relocs: &[Reloc]) -> bool
     relocs.is_sorted_by(|reloc, next| reloc.offset <= next.offset)
 }
 
-/// The checks of relocations that stand in order of offset in the file.
-fn check_rising(file: &SoundFile, index: u32, rela: &Section, relocs: &[Reloc]) -> Result<(), Flaw>
+/// The checks of relocations that stand in order of offset in the file: none meets an earlier one.
+fn check_rising(
+    file: &SoundFile,
+    index: u32,
+    rela: &Section,
+    contents: &[u8],
+    relocs: &[Reloc],
+) -> Result<(), Flaw>
     requires rela { rela.now ≡ section_of file.now.bytes.now index }
     requires within { rela.now.offset + rela.now.size ≤ length file.now.bytes.now }
+    requires contents { contents.now ≡ read.target_bytes file.now.bytes.now index }
     requires relocs { relocs.now ≡ map (read.reloc file.now.bytes.now index) (range_with_len 0 (read.rela_count file.now.bytes.now index)) }
     requires rising { IsNonDecreasingBy (λ (r : RelocOf). r.offset) relocs.now }
-    requires ends { All (λ reloc. read.end_of [] reloc < 2 ^ 64) relocs.now }
+    requires ends { All (λ reloc. read.end_of contents.now reloc < 2 ^ 64) relocs.now }
     ensures { result ≡ passes (read.overlap_checks file.now.bytes.now index [] (read.in_order file.now.bytes.now index)) }
 {
-    let Some(number) = first_overlap(relocs) else {
+    let Some(number) = first_overlap(contents, relocs) else {
         return Ok(());
     };
     let place = rela.offset as usize + RELA_SIZE as usize * number;
     Err(flaw(BAD_RELOC, index, place))
 }
 
-/// The checks of relocations in order of offset that stand in another order in the file.
+/// The same checks of relocations in order of offset that stand in another order in the file.
 fn check_sorted(
+    file: &SoundFile,
+    index: u32,
+    rela: &Section,
+    contents: &[u8],
+    entries: &[Numbered],
+    relocs: &[Reloc],
+) -> Result<(), Flaw>
+    requires rela { rela.now ≡ section_of file.now.bytes.now index }
+    requires within { rela.now.offset + rela.now.size ≤ length file.now.bytes.now }
+    requires contents { contents.now ≡ read.target_bytes file.now.bytes.now index }
+    requires entries { entries.now ≡ map (loops.numbered file.now.bytes.now index) (read.in_order file.now.bytes.now index) }
+    requires relocs { relocs.now ≡ read.relocs_of file.now.bytes.now index }
+    requires ends { All (λ reloc. read.end_of contents.now reloc < 2 ^ 64) relocs.now }
+    ensures { result ≡ passes (read.overlap_checks file.now.bytes.now index [] (read.in_order file.now.bytes.now index)) }
+{
+    let Some(at) = first_overlap(contents, relocs) else {
+        return Ok(());
+    };
+    let place = rela.offset as usize + RELA_SIZE as usize * entries[at].number;
+    Err(flaw(BAD_RELOC, index, place))
+}
+
+/// The checks of pairs among relocations that stand in order of offset in the file.
+fn check_rising_pairs(
+    file: &SoundFile,
+    index: u32,
+    rela: &Section,
+    relocs: &[Reloc],
+) -> Result<(), Flaw>
+    requires rela { rela.now ≡ section_of file.now.bytes.now index }
+    requires within { rela.now.offset + rela.now.size ≤ length file.now.bytes.now }
+    requires relocs { relocs.now ≡ map (read.reloc file.now.bytes.now index) (range_with_len 0 (read.rela_count file.now.bytes.now index)) }
+    requires rising { IsNonDecreasingBy (λ (r : RelocOf). r.offset) relocs.now }
+    ensures { result ≡ passes (read.pair_checks file.now.bytes.now index) }
+{
+    let Some(number) = first_unpaired(relocs) else {
+        return Ok(());
+    };
+    let place = rela.offset as usize + RELA_SIZE as usize * number;
+    Err(flaw(BAD_ULEB, index, place))
+}
+
+/// The same checks of relocations in order of offset that stand in another order in the file.
+fn check_sorted_pairs(
     file: &SoundFile,
     index: u32,
     rela: &Section,
@@ -212,27 +312,26 @@ fn check_sorted(
     requires within { rela.now.offset + rela.now.size ≤ length file.now.bytes.now }
     requires entries { entries.now ≡ map (loops.numbered file.now.bytes.now index) (read.in_order file.now.bytes.now index) }
     requires relocs { relocs.now ≡ read.relocs_of file.now.bytes.now index }
-    requires ends { All (λ reloc. read.end_of [] reloc < 2 ^ 64) relocs.now }
-    ensures { result ≡ passes (read.overlap_checks file.now.bytes.now index [] (read.in_order file.now.bytes.now index)) }
+    ensures { result ≡ passes (read.pair_checks file.now.bytes.now index) }
 {
-    let Some(at) = first_overlap(relocs) else {
+    let Some(at) = first_unpaired(relocs) else {
         return Ok(());
     };
     let place = rela.offset as usize + RELA_SIZE as usize * entries[at].number;
-    Err(flaw(BAD_RELOC, index, place))
+    Err(flaw(BAD_ULEB, index, place))
 }
 
 /// Which of some relocations in order of offset is the first whose bytes meet those of an earlier one, if one of the two may move
 /// what stands after it.
-fn first_overlap(relocs: &[Reloc]) -> Option<usize>
-    requires { All (λ reloc. read.end_of [] reloc < 2 ^ 64) relocs.now }
-    ensures value { result ≡ loops.first_met 0 0 0 (map loops.extent_of relocs.now) }
+fn first_overlap(contents: &[u8], relocs: &[Reloc]) -> Option<usize>
+    requires { All (λ reloc. read.end_of contents.now reloc < 2 ^ 64) relocs.now }
+    ensures value { result ≡ loops.first_met 0 0 0 (map (loops.extent_of contents.now) relocs.now) }
     ensures within { IfSome result (λ at. at < length relocs.now) }
 {
     let mut moving_end = 0;
     let mut end = 0;
     for at in 0..relocs.len() {
-        let extent = extent_of(&relocs[at]);
+        let extent = extent_of(contents, &relocs[at]);
         if is_met(extent, moving_end, end) {
             return Some(at);
         }
@@ -243,15 +342,74 @@ fn first_overlap(relocs: &[Reloc]) -> Option<usize>
 }
 
 /// The bytes that a relocation changes.
-fn extent_of(reloc: &Reloc) -> Extent
-    requires { read.end_of [] reloc.now < 2 ^ 64 }
-    ensures { result ≡ loops.extent_of reloc.now }
+fn extent_of(contents: &[u8], reloc: &Reloc) -> Extent
+    requires { read.end_of contents.now reloc.now < 2 ^ 64 }
+    ensures { result ≡ loops.extent_of contents.now reloc.now }
 {
     Extent {
         from: reloc.offset,
-        end: reloc.offset + linked_width(reloc).unwrap_or(0),
+        end: reloc.offset + width_of(contents, reloc).unwrap_or(0),
         moves: moves_bytes(reloc.kind),
     }
+}
+
+/// Which of some relocations in order of offset is the first of a pair that the other part is not next to.
+fn first_unpaired(relocs: &[Reloc]) -> Option<usize>
+    ensures value { result ≡ find (read.is_unpaired relocs.now) (range_with_len 0 (length relocs.now)) }
+    ensures within { IfSome result (λ k. k < length relocs.now) }
+{
+    for k in 0..relocs.len() {
+        if is_unpaired(relocs, k) {
+            return Some(k);
+        }
+    }
+    None
+}
+
+/// Whether the relocation at a place is of a pair, and the other part is not next to it.
+#[tactic(auto, unfolding(lk_tables::specs::Relocations::is_unpaired))]
+fn is_unpaired(relocs: &[Reloc], k: usize) -> bool
+    requires { k < length relocs.now }
+    ensures { result ≡ read.is_unpaired relocs.now k }
+{
+    is_uleb(relocs[k].kind) && !is_paired(relocs, k)
+}
+
+/// Whether the relocation at a place and one next to it are a pair.
+fn is_paired(relocs: &[Reloc], k: usize) -> bool
+    requires { k < length relocs.now }
+    ensures { result ≡ (read.is_pair (slice_index_or relocs.now k no_reloc) (slice_index_or relocs.now (k + 1) no_reloc) || read.is_pair (slice_index_or relocs.now (k - 1) no_reloc) (slice_index_or relocs.now k no_reloc)) }
+{
+    starts_pair(relocs, k) || ends_pair(relocs, k)
+}
+
+/// Whether the relocations at a place and after it are a pair.
+fn starts_pair(relocs: &[Reloc], k: usize) -> bool
+    requires { k < length relocs.now }
+    ensures { result ≡ read.is_pair (slice_index_or relocs.now k no_reloc) (slice_index_or relocs.now (k + 1) no_reloc) }
+{
+    match relocs.get(k + 1) {
+        Some(next) => is_pair(&relocs[k], next),
+        None => false,
+    }
+}
+
+/// Whether the relocations before a place and at it are a pair.
+fn ends_pair(relocs: &[Reloc], k: usize) -> bool
+    requires { k < length relocs.now }
+    ensures { result ≡ read.is_pair (slice_index_or relocs.now (k - 1) no_reloc) (slice_index_or relocs.now k no_reloc) }
+{
+    is_pair(&relocs[k.saturating_sub(1)], &relocs[k])
+}
+
+/// Whether two relocations are the two parts of a pair, at one offset.
+#[tactic(auto, unfolding(lk_tables::specs::Relocations::is_pair))]
+fn is_pair(first: &Reloc, second: &Reloc) -> bool
+    ensures { result ≡ read.is_pair first.now second.now }
+{
+    first.kind == R_RISCV_SET_ULEB128
+        && second.kind == R_RISCV_SUB_ULEB128
+        && first.offset == second.offset
 }
 
 /// Whether bytes start before the end of earlier ones after which bytes may move, or are such and start before that of any.

@@ -1,8 +1,8 @@
 //! A file whose head is sound, with what was read of it.
 
-ghost use Rattle.std.specs.Prelude.{◌≡◌, ℕ, ◌+◌, ◌*◌, ◌^◌, ◌<◌, ◌≤◌, length, Ok};
+ghost use Rattle.std.specs.Prelude.{◌≡◌, ℕ, ◌+◌, ◌*◌, ◌<◌, ◌≤◌, length, Ok};
 ghost use Rattle.std.specs.List.{All};
-ghost use Rattle.lk_base.specs.declared.abi.TheConstants.{SHDR_SIZE};
+ghost use Rattle.lk_base.specs.declared.abi.TheConstants.{SECTIONS_MAX, SHDR_SIZE};
 ghost use Rattle.lk_tables.specs.Checks.{passes};
 ghost use Rattle.lk_tables.specs.FileHeader as read;
 ghost use Rattle.lk_tables.specs.Heads.{head_of, head_view, sections_of, symbols_of, all_section_checks};
@@ -29,7 +29,7 @@ pub struct SoundFile<'a> {
     ghost table_is: { table ≡ read.e_shoff bytes.now },
     ghost sections_are: { sections.now ≡ sections_of bytes.now },
     ghost counted: { length sections.now ≡ read.section_count bytes.now },
-    ghost few: { length sections.now ≤ 2 ^ 28 },
+    ghost few: { length sections.now ≤ SECTIONS_MAX },
     ghost within: { table + SHDR_SIZE * length sections.now ≤ length bytes.now },
     ghost symbols_are: { symbols.now ≡ symbols_of bytes.now },
     ghost placed: { All (λ s. (k : ℕ) → s.place ≡ Within k → k < length sections.now) symbols.now },

@@ -73,11 +73,11 @@ pulled_some files f i rank g asking is own read =
     ∙ ap (λ r. Some (file_of r)) (sym is) ∙ ap Some (sym read)
 
 -- what a file pulls is what the definition says
-all_option : (P : ℕ → Type 0) (b : Bool) (g : ℕ) → (b ≡ true → P g) → All P (option_to_list (if b then Some g else None))
+pub all_option : (P : ℕ → Type 0) (b : Bool) (g : ℕ) → (b ≡ true → P g) → All P (option_to_list (if b then Some g else None))
 all_option P true g holds = All-cons P g [] (holds refl) (All-nil P)
 all_option P false g holds = All-nil P
 
-in_option : (b : Bool) (g h : ℕ) → b ≡ true → g ≡ h → Contains (option_to_list (if b then Some g else None)) h
+pub in_option : (b : Bool) (g h : ℕ) → b ≡ true → g ≡ h → Contains (option_to_list (if b then Some g else None)) h
 in_option true g h is same = (0, omega arith, same)
 in_option false g h is same = absurd cc
 
@@ -139,11 +139,10 @@ least_some P text (o ∷ os) none each =
 file_back : (class f i : ℕ) → f < 2 ^ 24 → i < 2 ^ 31 → file_of (rank_of class f i) ≡ f
 file_back class f i lt small = omega arith
 
--- a member that is pulled is one of the table's
-pub pull_within : (files : List File) → length files < 2 ^ 24 → symbol_total files < 2 ^ 31 → (f g : ℕ) → pulls files f g ≡ true → g < length files
+-- a member whose offer of a name is the first is one of the table's
+pub offered_within : (files : List File) → length files < 2 ^ 24 → symbol_total files < 2 ^ 31 → (text : List ℕ) (g : ℕ) → is_of_member g (early files text) ≡ true → g < length files
 unfolding early early_offers early_offers_in early_offer_at
-pull_within files few small f g is =
-    let p = puller files f g is in
+offered_within files few small text g first =
     let P : ℕ → Type 0 = λ r. is_of_member g r ≡ true → g < length files in
     let Q : Offer → Type 0 = λ o. P o.rank in
     let none : P no_rank = λ e. absurd cc in
@@ -156,7 +155,13 @@ pull_within files few small f g is =
     let back = file_back class e i (omega arith) (let lt : e < length files = omega arith in omega (arith, first_within files e lt)) in
     let own : g ≡ e = sym same ∙ back in
     omega arith))) in
-    least_some P (symbol_name (file_at files f) p.symbol) (early_offers files) none each p.member
+    least_some P text (early_offers files) none each first
+
+-- so is one that is pulled
+pub pull_within : (files : List File) → length files < 2 ^ 24 → symbol_total files < 2 ^ 31 → (f g : ℕ) → pulls files f g ≡ true → g < length files
+pull_within files few small f g is =
+    let p = puller files f g is in
+    offered_within files few small (symbol_name (file_at files f) p.symbol) g p.member
 
 pub some_within : (files : List File) → length files < 2 ^ 24 → symbol_total files < 2 ^ 31 → (f i g : ℕ) → i < length (file_at files f).head.symbols → Some g ≡ pulled files f i → g < length files
 unfolding pulled_in

@@ -229,6 +229,10 @@ visited_append r (f ∷ fs) gs = visited_append (visited r f) fs gs
 pub length_visited : (r : Reached) (f : ℕ) → length (visited r f).seen ≡ length r.seen
 length_visited r f = one_visit (λ s. length s.seen ≡ length r.seen) r f (λ is. refl) (λ is. length-set r.seen f true)
 
+pub length_all_visited : (r : Reached) (fs : List ℕ) → length (all_visited r fs).seen ≡ length r.seen
+length_all_visited r [] = refl
+length_all_visited r (f ∷ fs) = length_all_visited (visited r f) fs ∙ length_visited r f
+
 -- a loop that visits what numbers give
 abbrev pub AreVisited : (g : ℕ → List ℕ) (start now : Reached) (i : ℕ) → Type 0
 AreVisited g start now i = (length now.seen ≡ length start.seen) × (now ≡ all_visited start (flat_map g (range_with_len 0 i)))

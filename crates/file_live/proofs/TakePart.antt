@@ -1,14 +1,15 @@
 -- The files that the search marks are those that take part.
 use Rattle.std.proofs.Common.{◌≡◌, ℕ, ◌^◌, ◌<◌, ◌≤◌, not, Bool, true, false, List, [], length, get_or, replicate, All, Contains, sym, ◌∙◌, subst, ⊎_elim, arith}
 use Rattle.std.proofs.lemmas.List.{get_or_past, get_or-replicate, length-replicate}
-use Rattle.std.proofs.lemmas.List.Elements.{All-contains, All-from_get_or, Contains-get_or}
+use Rattle.std.proofs.lemmas.List.Elements.{All-append, All-contains, All-from_get_or, Contains-append_left, Contains-append_right, Contains-get_or}
 use Rattle.std.proofs.lemmas.Bool.{cases_lt, not-true, not_from_false}
 use Rattle.lk_tables.specs.Files.{File, file_at, symbol_total}
 use Rattle.lk_tables.specs.Reach.{ends_at, IsReach}
 use Rattle.name_numbers.proofs.Walks.{all_range, all_if, in_range, in_if}
-use Rattle.file_live.specs.Live.{live_of, pulls, IsLive}
-use Rattle.file_live.specs.Pulls.{ends, command_at, commands}
-use Rattle.file_live.proofs.Pulling.{pulled_is, pulled_has, puller_within, pull_within, length_ends, ends_read}
+use Rattle.file_live.specs.Live.{live_of, pulls, IsClosedSet, IsLive}
+use Rattle.file_live.specs.Pulls.{asked_members, ends, command_at, commands, first_files}
+use Rattle.file_live.proofs.Pulling.{offered_within, pulled_is, pulled_has, puller_within, pull_within, length_ends, ends_read}
+use Rattle.file_live.proofs.Asking.{asked_all, asked_has, asked_within}
 use Rattle.file_live.proofs.Rounds.{live_of_least, live_once}
 
 abbrev IsCommand : List File → ℕ → Type 0
@@ -48,23 +49,48 @@ ends_within files few small f =
     let g = get_or (ends_at (ends files) f) j 0 in
     omega (arith, length_ends files, pull_within files few small f g (end_is files f g (Contains-get_or (ends_at (ends files) f) j 0 lt))))
 
-pub live_marked : (files : List File) (seen : List Bool) → IsReach (commands files) (ends files) seen → IsLive files seen
-live_marked files seen r = record {
+-- where the search begins
+pub first_within : (undefined : List (List ℕ)) (files : List File) → length files < 2 ^ 24 → symbol_total files < 2 ^ 31 → (n : ℕ) → n ≡ length files →
+    All (λ f. f < n) (first_files undefined files)
+first_within undefined files few small n same =
+    let P : ℕ → Type 0 = λ f. f < n in
+    All-append P (commands files) (asked_members undefined files) (commands_within files n same)
+    (asked_all P undefined files (λ name g has first. let lt = offered_within files few small name g first in omega arith))
+
+firsts_in : (undefined : List (List ℕ)) (files : List File) (s : ℕ → Bool) → IsClosedSet undefined files s → (f : ℕ) →
+    Contains (first_files undefined files) f → s f ≡ true
+firsts_in undefined files s closed f has =
+    let P : ℕ → Type 0 = λ g. s g ≡ true in
+    All-contains P (first_files undefined files) f
+    (All-append P (commands files) (asked_members undefined files)
+    (All-from_get_or P (commands files) 0 (λ k lt.
+    let g = get_or (commands files) k 0 in
+    let c = command_is files g (Contains-get_or (commands files) k 0 lt) in
+    closed.commands g c.0 c.1))
+    (asked_all P undefined files closed.asked)) has
+
+pub live_marked : (undefined : List (List ℕ)) (files : List File) (seen : List Bool) → IsReach (first_files undefined files) (ends files) seen →
+    IsLive undefined files seen
+live_marked undefined files seen r = record {
   wide = r.wide ∙ length_ends files;
   closed = record {
-    commands = λ f lt own. r.closed.rooted f (command_there files f lt own);
+    commands = λ f lt own. r.closed.rooted f (Contains-append_left (commands files) (asked_members undefined files) f (command_there files f lt own));
+    asked = λ name g has first.
+        r.closed.rooted g (Contains-append_right (commands files) (asked_members undefined files) g (asked_has undefined files name g has first));
     pulled = λ f g is pulled.
         let P : List ℕ → Type 0 = λ l. Contains l g in
         r.closed.followed f g is (subst P (sym (ends_read files f (puller_within files f g pulled))) (pulled_has files f g pulled));
   };
   least = λ s closed g is. r.least s (record {
-    rooted = λ f has. let c = command_is files f has in closed.commands f c.0 c.1;
+    rooted = firsts_in undefined files s closed;
     followed = λ f h live has. closed.pulled f h live (end_is files f h has);
   }) g is;
 }
 
-pub live_is : (files : List File) (seen : List Bool) → length files < 2 ^ 24 → symbol_total files < 2 ^ 31 → IsLive files seen → seen ≡ live_of files
-live_is files seen few small is = live_once files seen (live_of files) is (live_of_least files (pull_within files few small))
+pub live_is : (undefined : List (List ℕ)) (files : List File) (seen : List Bool) → length files < 2 ^ 24 → symbol_total files < 2 ^ 31 →
+    IsLive undefined files seen → seen ≡ live_of undefined files
+live_is undefined files seen few small is =
+    live_once undefined files seen (live_of undefined files) is (live_of_least undefined files (pull_within files few small) (asked_within undefined files few small))
 
 -- where no file is a member, all take part
 within_replicate : (n f : ℕ) → get_or (replicate n true) f false ≡ true → f < n
@@ -75,12 +101,13 @@ within_replicate n f is = ⊎_elim
     absurd cc)
     (cases_lt f n)
 
-pub all_commands : (files : List File) → length files < 2 ^ 24 → symbol_total files < 2 ^ 31 → ((f : ℕ) → f < length files → (file_at files f).member ≡ false)
-    → IsLive files (replicate (length files) true)
-all_commands files few small own = record {
+pub all_commands : (undefined : List (List ℕ)) (files : List File) → length files < 2 ^ 24 → symbol_total files < 2 ^ 31 →
+    ((f : ℕ) → f < length files → (file_at files f).member ≡ false) → IsLive undefined files (replicate (length files) true)
+all_commands undefined files few small own = record {
   wide = length-replicate (length files) true;
   closed = record {
     commands = λ f lt is. get_or-replicate (length files) f true false lt;
+    asked = λ name g has first. get_or-replicate (length files) g true false (offered_within files few small name g first);
     pulled = λ f g is pulled. get_or-replicate (length files) g true false (pull_within files few small f g pulled);
   };
   least = λ s closed g is. let lt = within_replicate (length files) g is in closed.commands g lt (own g lt);

@@ -59,7 +59,7 @@ fn push_claims(
 }
 
 /// The class of an offer: a member's comes after all of objects.
-fn early_class(file: &File, symbol: &Symbol) -> u64
+pub fn early_class(file: &File, symbol: &Symbol) -> u64
     ensures class { result ≡ spec.early_class (file_view file.now) symbol.now }
     ensures most { result ≤ 3 }
 {

@@ -1,12 +1,13 @@
 //! Which files take part in a link: the objects of the command, and each member of an archive that one of those that take part
 //! asks for.
 //!
-//! An undefined symbol asks for its name. The first offer of each name is found over all files, and it is of an object of the
+//! An undefined symbol asks for its name, and the command may ask for more. The first offer of each name is found over all files, and it is of an object of the
 //! command if one offers the name: workers claim the numbers of the names, as they do where names are bound, with all
-//! members after all objects. A symbol whose name a member is the first to offer pulls that member. From the objects on
-//! these pulls are followed, each file's once.
+//! members after all objects. A symbol whose name a member is the first to offer pulls that member. From the objects, and
+//! the members that the command asks for, these pulls are followed, each file's once.
 #![tactic(auto)]
 
+mod asked;
 mod claims;
 mod live_files;
 mod pulls;

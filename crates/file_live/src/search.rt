@@ -7,19 +7,21 @@ ghost use Rattle.lk_tables.specs.Files.{symbol_total};
 ghost use Rattle.lk_tables.specs.NameNumbers.{NumbersNames, heads_alone};
 ghost use Rattle.lk_tables.specs.Reach.{IsReach};
 ghost use Rattle.file_live.specs.Claims.{claims};
-ghost use Rattle.file_live.specs.Pulls.{commands, ends, pulled_in};
+ghost use Rattle.file_live.specs.Pulls.{asked_members, commands, ends, first_files, lists_of, pulled_in};
 ghost use Rattle.file_live.specs.Visits.{reached, visited, all_visited};
 
+use crate::asked::asked_member;
 use crate::pulls::pulled_by;
 use lk_base::FileNo;
 use lk_tables::{File, NameNumbers};
 use std::alloc::{AllocError, Global};
 
-/// Marks the objects of the command, the members that each marked file pulls, and no others. It follows each file's pulls once, in a
+/// Marks the objects of the command, the members that this asks for, the members that each marked file pulls, and no others. It follows each file's pulls once, in a
 /// queue that grows.
 pub fn reach(
     alloc: Global,
     files: &[File],
+    undefined: &[Vec<u8>],
     names: &NameNumbers,
     row: &[u64],
 ) -> Result<Vec<bool>, AllocError>
@@ -27,11 +29,12 @@ pub fn reach(
     requires symbols { symbol_total (file_views files.now) < 2 ^ 31 }
     requires names { NumbersNames (heads_alone (file_views files.now)) names.now }
     requires row { row.now ≡ after (none_of (symbol_total (file_views files.now))) (claims (file_views files.now)) }
-    ensures { IfOk result (λ seen. IsReach (commands (file_views files.now)) (ends (file_views files.now)) seen.items) }
+    ensures { IfOk result (λ seen. IsReach (first_files (lists_of undefined.now) (file_views files.now)) (ends (file_views files.now)) seen.items) }
 {
     let mut seen = vec![in alloc; false; files.len()]?;
     let mut queue = Vec::with_capacity(alloc, files.len())?;
     visit_commands(&mut seen, &mut queue, files)?;
+    visit_asked(&mut seen, &mut queue, files, undefined)?;
     let mut next: usize = 0;
     while next < queue.len() {
         let f = queue[next] as usize;
@@ -54,6 +57,26 @@ fn visit_commands(
     for f in 0..files.len() {
         if !files[f].is_member() {
             visit(seen, queue, f as u32)?;
+        }
+    }
+    Ok(())
+}
+
+/// Marks the members that the command asks for.
+fn visit_asked(
+    seen: &mut Vec<bool>,
+    queue: &mut Vec<FileNo>,
+    files: &[File],
+    undefined: &[Vec<u8>],
+) -> Result<(), AllocError>
+    requires files { length files.now < 2 ^ 24 }
+    requires symbols { symbol_total (file_views files.now) < 2 ^ 31 }
+    requires wide { length seen.old.items ≡ length files.now }
+    ensures { OnOk result (reached seen.new.items queue.new.items ≡ all_visited (reached seen.old.items queue.old.items) (asked_members (lists_of undefined.now) (file_views files.now))) }
+{
+    for n in 0..undefined.len() {
+        if let Some(member) = asked_member(files, undefined, n) {
+            visit(seen, queue, member)?;
         }
     }
     Ok(())

@@ -113,7 +113,7 @@ any_below p n k lt is = any_passes p (range_with_len 0 n) k (in_range n k lt) is
 pub below_any : (p : ℕ → Bool) (n : ℕ) → list_any p (range_with_len 0 n) ≡ true → Found p n
 below_any p n is = let some = any_tells p (range_with_len 0 n) is in record { k = some.x; within = from_range n some.x some.listed; passes = some.passes }
 
-either : (a b : Bool) → (a ≡ true → b ≡ true) → (b ≡ true → a ≡ true) → a ≡ b
+pub either : (a b : Bool) → (a ≡ true → b ≡ true) → (b ≡ true → a ≡ true) → a ≡ b
 either true b there back = sym (there refl)
 either false true there back = back refl
 either false false there back = refl
@@ -123,7 +123,7 @@ any_same p q n is = either (list_any p (range_with_len 0 n)) (list_any q (range_
     (λ t. let f = below_any p n t in any_below q n f.k f.within (sym (is f.k f.within) ∙ f.passes))
     (λ t. let f = below_any q n t in any_below p n f.k f.within (is f.k f.within ∙ f.passes))
 
-not_any : (b : Bool) → (b ≡ true → ⊥) → not b ≡ true
+pub not_any : (b : Bool) → (b ≡ true → ⊥) → not b ≡ true
 not_any true no_one = absurd (no_one refl)
 not_any false no_one = refl
 

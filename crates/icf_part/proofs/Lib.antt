@@ -33,3 +33,9 @@ pub mod Seeded
 pub mod Sized
 pub mod Started
 pub mod AllTurns
+pub mod Fewer
+pub mod ChosenItems
+pub mod ChosenRanks
+pub mod Spreading
+pub mod SharedItems
+pub mod SharedWhole

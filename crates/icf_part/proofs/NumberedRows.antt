@@ -44,6 +44,13 @@ pub numbers_same : (texts : List (List ℕ)) (a b : ℕ) → a < length texts �
     get_or (text_numbers texts) a 0 ≡ get_or (text_numbers texts) b 0
 numbers_same texts a b la lb e = number_at texts a la ∙ ap (text_number texts) e ∙ sym (number_at texts b lb)
 
+-- the number of a text is that of a text
+pub numbers_within : (texts : List (List ℕ)) (a : ℕ) → a < length (text_numbers texts) → get_or (text_numbers texts) a 0 < length (text_numbers texts)
+numbers_within texts a lt =
+    let la : a < length texts = omega (arith, lt, numbers_wide texts) in
+    let inside = (number_of_text texts (text_at texts a) (Contains-get_or texts a [] la)).within in
+    omega (arith, inside, number_at texts a la, numbers_wide texts)
+
 module _ (words : ℕ → List ℕ) (n : ℕ) (rows : List (List ℕ)) (are : AreRows words n rows) where
   rows_wide : length rows ≡ n
   rows_wide = ap length are.rows_are ∙ length-map-range_with_len (λ a. row_bytes (words a)) 0 n

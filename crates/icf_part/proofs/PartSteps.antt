@@ -5,7 +5,7 @@ use Rattle.std.proofs.lemmas.Bool.{cases_lt}
 use Rattle.std.proofs.lemmas.List.{get_or-map, length-map}
 use Rattle.std.proofs.lemmas.List.FromFn.{fill_by_all}
 use Rattle.link_sections.specs.declared.fold_items.FoldItem.{FoldItem as LentItem}
-use Rattle.link_sections.specs.FoldItems.{item_view, item_views, sections_of}
+use Rattle.link_sections.specs.FoldItems.{FoldItem, item_view, item_views, sections_of}
 use Rattle.work_split.proofs.ListedRuns.{both_parts, first_run, run_more}
 use Rattle.work_split.proofs.RunsBeside.{GoesBeside}
 use Rattle.icf_part.specs.Folding.{item_at, no_item}
@@ -50,17 +50,17 @@ rows_of_all words n rows are = record {
 }
 
 -- items as they are lent
+pub viewed_there : (items : List LentItem) (a : ℕ) (x : LentItem) → a < length items → item_view (get_or items a x) ≡ item_at (item_views items) a
+viewed_there items a x lt = sym (get_or-map item_view items a x no_item lt)
+
 pub viewed_at : (items : List LentItem) (a : ℕ) (x : LentItem) → a < length items → x ≡ get_or items a x → item_view x ≡ item_at (item_views items) a
-viewed_at items a x lt is = ap item_view is ∙ sym (get_or-map item_view items a x no_item lt)
+viewed_at items a x lt is = ap item_view is ∙ viewed_there items a x lt
 
 -- the places of all items
-pub places_all : (sections : List ℕ) (items : List LentItem) (rows : List (List ℕ)) → sections ≡ sections_of (item_views items) →
-    rows ≡ places_from sections (item_views items) 0 (length items) → rows ≡ all_places (item_views items)
+pub places_all : (sections : List ℕ) (views : List FoldItem) (n : ℕ) (rows : List (List ℕ)) → length views ≡ n → sections ≡ sections_of views →
+    rows ≡ places_from sections views 0 n → rows ≡ all_places views
 unfolding all_places
-places_all sections items rows secs is =
-    let views = item_views items in
-    let n = length items in
-    let wide = length-map items item_view in
+places_all sections views n rows wide secs is =
     let f : ℕ → List ℕ = λ a. places sections (item_at views a) in
     let e : n - 0 ≡ n = omega arith in
     let each = fill_by_all f (map (places sections) views) n [] (length-map views (places sections) ∙ wide)

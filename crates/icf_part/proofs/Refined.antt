@@ -4,7 +4,7 @@ use Rattle.std.specs.List.Sorted.{IsStrictlyIncreasing}
 use Rattle.std.proofs.lemmas.List.{get_or-map, length-map}
 use Rattle.link_sections.specs.FoldItems.{FoldItem, sections_of}
 use Rattle.name_numbers.specs.Texts.{text_at, text_numbers}
-use Rattle.icf_part.specs.Folding.{AreFolded, AreLeaders, IsCongruence, Key, Pair, classes, item_at, key_of, no_item, no_reloc, pair, site_of}
+use Rattle.icf_part.specs.Folding.{AreFolded, AreLeaders, HoldsAll, IsCongruence, Key, Pair, classes, item_at, key_of, no_item, no_reloc, pair, site_of}
 use Rattle.icf_part.specs.Counts.{key_count, leader_count}
 use Rattle.icf_part.specs.Leaders.{same_key}
 use Rattle.icf_part.specs.Numbered.{AreCarried, AreEnds, AreFirsts, IsNumbering, IsRefined, IsRefining, IsStable, Joins, key}
@@ -42,13 +42,13 @@ ends_are items c a lt =
 text_of_item : (f : FoldItem → List ℕ) (items : List FoldItem) (a : ℕ) → a < length items → text_at (map f items) a ≡ f (item_at items a)
 text_of_item f items a lt = get_or-map f items a no_item [] lt
 
-one_number : (f : FoldItem → List ℕ) (items : List FoldItem) (a b : ℕ) → a < length items → b < length items → f (item_at items a) ≡ f (item_at items b) →
+pub one_number : (f : FoldItem → List ℕ) (items : List FoldItem) (a b : ℕ) → a < length items → b < length items → f (item_at items a) ≡ f (item_at items b) →
     get_or (text_numbers (map f items)) a 0 ≡ get_or (text_numbers (map f items)) b 0
 one_number f items a b la lb e =
     numbers_same (map f items) a b (omega (arith, la, length-map items f)) (omega (arith, lb, length-map items f))
     (text_of_item f items a la ∙ e ∙ sym (text_of_item f items b lb))
 
-one_text : (f : FoldItem → List ℕ) (items : List FoldItem) (a b : ℕ) → a < length items → b < length items →
+pub one_text : (f : FoldItem → List ℕ) (items : List FoldItem) (a b : ℕ) → a < length items → b < length items →
     get_or (text_numbers (map f items)) a 0 ≡ get_or (text_numbers (map f items)) b 0 → f (item_at items a) ≡ f (item_at items b)
 one_text f items a b la lb e =
     sym (text_of_item f items a la)
@@ -179,11 +179,10 @@ module _ (items : List FoldItem) where
         };
   }
 
-  -- and their numbers are the leaders
-  pub stable_leads : (c : List ℕ) → AreFirsts (length items) c → IsRefining items c → IsStable (all_places items) c → AreLeaders items c
-  stable_leads c firsts r s =
-      let congr = stable_fits c r s in
-      let wide = r.wide in
+  -- classes by their first items that are the greatest congruence are the leaders
+  pub firsts_lead : (c : List ℕ) → AreFirsts (length items) c → IsCongruence items (classes c) → HoldsAll items c → AreLeaders items c
+  firsts_lead c firsts congr holds =
+      let wide = firsts.wide in
       record {
         count = wide;
         each = λ a la.
@@ -193,10 +192,14 @@ module _ (items : List FoldItem) where
               own = inr (record { pairs = classes c; congruence = congr; listed = classes_have c (get_or c a 0) a (omega (arith, low, wide)) (omega (arith, la, wide)) (firsts.own a la) });
               least = λ b stands. ⊎_elim
                   (λ (same : b ≡ a). firsts.least a b (omega (arith, la)) (omega (arith, la, same)) (ap (λ k. get_or c k 0) same))
-                  (λ (folded : AreFolded items b a). firsts.least a b la (inside folded.pairs folded.congruence b a folded.listed).0 (r.outer folded.pairs b a folded.congruence folded.listed))
+                  (λ (folded : AreFolded items b a). firsts.least a b la (inside folded.pairs folded.congruence b a folded.listed).0 (holds folded.pairs b a folded.congruence folded.listed))
                   stands;
             };
       }
+
+  -- and so are the numbers of the last ones
+  pub stable_leads : (c : List ℕ) → AreFirsts (length items) c → IsRefining items c → IsStable (all_places items) c → AreLeaders items c
+  stable_leads c firsts r s = firsts_lead c firsts (stable_fits c r s) r.outer
 
   -- classes of equal keys are as many as their first items
   pub keys_counted : (keys : List ℕ) → IsNumbering (key items) (length items) keys → key_count items ≡ leader_count keys

@@ -22,7 +22,7 @@ kept_of : (test : Pair → Bool) (ps : List Pair) → Contains (sublists ps) (fi
 kept_of test [] = (0, omega arith, refl)
 kept_of test (p ∷ ps) = one_kept (test p) p ps (filter test ps) (kept_of test ps)
 
-in_pairs : (n a b : ℕ) → a < n → b < n → Contains (all_pairs n) (pair a b)
+pub in_pairs : (n a b : ℕ) → a < n → b < n → Contains (all_pairs n) (pair a b)
 in_pairs n a b la lb =
     let range = range_with_len 0 n in
     in_flat (λ k. map (pair k) range) range a (pair a b) (in_range n a la) (in_map (pair a) range b (in_range n b lb))

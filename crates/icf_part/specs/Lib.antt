@@ -1,3 +1,4 @@
+pub mod Chosen
 pub mod Classes
 pub mod Counts
 pub mod Edges

@@ -1,8 +1,9 @@
 //! What must be equal of two items, whatever is folded.
 
-ghost use Rattle.std.specs.Prelude.{◌≡◌, ◌≤◌, ◌++◌, length, flat_map, IfOk, OnOk};
-ghost use Rattle.link_sections.specs.FoldItems.{item_view, item_views};
+ghost use Rattle.std.specs.Prelude.{◌≡◌, ◌<◌, ◌≤◌, ◌++◌, All, length, flat_map, IfOk, OnOk};
+ghost use Rattle.link_sections.specs.FoldItems.{item_view};
 ghost use Rattle.work_split.specs.Pieces.{Tiles};
+ghost use Rattle.icf_part.specs.Chosen.{views_at};
 ghost use Rattle.icf_part.specs.Signatures as spec;
 
 use crate::parts::one_part;
@@ -15,22 +16,24 @@ use std::ops::Range;
 use std::thread::Threads;
 use work_split::{Gate, over_shares};
 
-/// A row for each item, in parts; `bytes` and `outputs` are the numbers of their contents and of their output sections. The workers make
+/// A row for each item that is compared, in parts; `bytes` and `outputs` are the numbers of their contents and of their output sections. The workers make
 /// one part each.
 pub fn all_keys<R: Threads + Sync, G: Gate>(
     rt: &R,
     alloc: Global,
     items: &[FoldItem],
+    chosen: &[u32],
     bytes: &[u32],
     outputs: &[u32],
     pieces: &[Range<usize>],
     gate: &G,
 ) -> Result<Vec<Rows<u8>>, AllocError>
-    requires bytes { length bytes.now ≡ length items.now }
-    requires outputs { length outputs.now ≡ length items.now }
-    requires tiles { Tiles 0 (length items.now) pieces.now }
+    requires chosen { All (λ a. a < length items.now) chosen.now }
+    requires bytes { length bytes.now ≡ length chosen.now }
+    requires outputs { length outputs.now ≡ length chosen.now }
+    requires tiles { Tiles 0 (length chosen.now) pieces.now }
     requires most { length pieces.now ≤ 64 }
-    ensures { IfOk result (λ parts. spec.AreRows (spec.key_at (item_views items.now) bytes.now outputs.now) (length items.now) (flat_map (λ part. part) parts.items)) }
+    ensures { IfOk result (λ parts. spec.AreRows (spec.key_at (views_at items.now chosen.now) bytes.now outputs.now) (length chosen.now) (flat_map (λ part. part) parts.items)) }
 {
     let found = over_shares(
         rt,
@@ -38,12 +41,13 @@ pub fn all_keys<R: Threads + Sync, G: Gate>(
         gate,
         pieces,
         |piece: Range<usize>| -> Result<Vec<Rows<u8>>, LinkStop>
-            requires bytes { length bytes.now ≡ length items.now }
-            requires outputs { length outputs.now ≡ length items.now }
+            requires chosen { All (λ a. a < length items.now) chosen.now }
+            requires bytes { length bytes.now ≡ length chosen.now }
+            requires outputs { length outputs.now ≡ length chosen.now }
             requires ordered { piece.start ≤ piece.end }
-            requires within { piece.end ≤ length items.now }
-            ensures { spec.IsRowsPart (spec.key_at (item_views items.entry.now) bytes.entry.now outputs.entry.now) piece result }
-        { Ok(key_rows(alloc, items, bytes, outputs, piece)?) },
+            requires within { piece.end ≤ length chosen.now }
+            ensures { spec.IsRowsPart (spec.key_at (views_at items.entry.now chosen.entry.now) bytes.entry.now outputs.entry.now) piece result }
+        { Ok(key_rows(alloc, items, chosen, bytes, outputs, piece)?) },
     );
     match found {
         Ok(parts) => Ok(parts),
@@ -55,21 +59,23 @@ pub fn all_keys<R: Threads + Sync, G: Gate>(
 fn key_rows(
     alloc: Global,
     items: &[FoldItem],
+    chosen: &[u32],
     bytes: &[u32],
     outputs: &[u32],
     piece: Range<usize>,
 ) -> Result<Vec<Rows<u8>>, AllocError>
-    requires bytes { length bytes.now ≡ length items.now }
-    requires outputs { length outputs.now ≡ length items.now }
+    requires chosen { All (λ a. a < length items.now) chosen.now }
+    requires bytes { length bytes.now ≡ length chosen.now }
+    requires outputs { length outputs.now ≡ length chosen.now }
     requires ordered { piece.start ≤ piece.end }
-    requires within { piece.end ≤ length items.now }
-    ensures { IfOk result (λ parts. spec.AreRowsFrom (spec.key_at (item_views items.now) bytes.now outputs.now) piece.start piece.end (flat_map (λ part. part) parts.items)) }
+    requires within { piece.end ≤ length chosen.now }
+    ensures { IfOk result (λ parts. spec.AreRowsFrom (spec.key_at (views_at items.now chosen.now) bytes.now outputs.now) piece.start piece.end (flat_map (λ part. part) parts.items)) }
 {
     let mut rows = Rows::empty(alloc)?;
     let mut words = Vec::new(alloc);
     let mut row = Vec::new(alloc);
     for a in piece.start..piece.end {
-        put_key(&mut words, &items[a], bytes[a], outputs[a])?;
+        put_key(&mut words, &items[chosen[a] as usize], bytes[a], outputs[a])?;
         push_row(&mut rows, &mut row, words.as_slice())?;
     }
     let parts = one_part(alloc, rows)?;

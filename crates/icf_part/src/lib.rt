@@ -1,7 +1,8 @@
 //! Folding of equal code: which sections can stand for one another.
 //!
-//! Items are put into classes. At first a class has the items of one shape: equal bytes, headers and relocations, where a relocation that
-//! stands for another item counts by its offset and rest alone. Then classes take turns, those first to which items of one class lead in
+//! An item whose contents no other has leads itself, and no more of it is compared. The others are put into classes. At first a class has
+//! the items of one shape: equal bytes, headers and relocations, where a relocation that stands for another of them counts by its offset and
+//! rest alone. Then classes take turns, those first to which items of one class lead in
 //! part: in its turn a class splits each class of which some items lead to it in one place of their relocations and some do not. Of the
 //! two that come of a split one waits for its turn, until none waits. No two items that some congruence pairs are ever split, and the
 //! classes that stay are a congruence, so they are the greatest one. At the end a class's number is the place of its first item.
@@ -19,6 +20,7 @@ mod relabel;
 mod rests;
 mod runs;
 mod seeds;
+mod sharing;
 mod splitting;
 mod steps;
 mod turns;

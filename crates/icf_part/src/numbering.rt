@@ -1,7 +1,8 @@
 //! Rows by number: the number of a row is the place of the first that is equal to it.
 
-ghost use Rattle.std.specs.Prelude.{◌≡◌, ◌<◌, ◌^◌, ◌++◌, length, map, flat_map, IfOk, OnOk};
+ghost use Rattle.std.specs.Prelude.{◌≡◌, ◌<◌, ◌^◌, ◌++◌, All, length, map, flat_map, IfOk, OnOk};
 ghost use Rattle.link_sections.specs.FoldItems.{item_views};
+ghost use Rattle.icf_part.specs.Chosen.{views_at};
 ghost use Rattle.icf_part.specs.Signatures.{bytes_of, output_of};
 ghost use Rattle.name_numbers.specs.Texts.{lent_texts, text_numbers};
 
@@ -65,26 +66,33 @@ fn contents_of<'a>(alloc: Global, items: &[FoldItem<'a>]) -> Result<Vec<&'a [u8]
     Ok(texts)
 }
 
-/// The number of each item's output section, by its name. One worker does it, since most often they are all one.
+/// The number of the output section, by its name, of each item that is compared. One worker does it, since most often they are all one.
 pub fn number_outputs<R: Threads + Sync>(
     rt: &R,
     alloc: Global,
     items: &[FoldItem],
+    chosen: &[u32],
 ) -> Result<Vec<u32>, AllocError>
-    requires { length items.now < 2 ^ 31 }
-    ensures { IfOk result (λ list. list.items ≡ text_numbers (map output_of (item_views items.now))) }
+    requires few { length chosen.now < 2 ^ 31 }
+    requires chosen { All (λ a. a < length items.now) chosen.now }
+    ensures { IfOk result (λ list. list.items ≡ text_numbers (map output_of (views_at items.now chosen.now))) }
 {
-    let texts = outputs_of(alloc, items)?;
+    let texts = outputs_of(alloc, items, chosen)?;
     number_texts(rt, alloc, texts.as_slice(), 1)
 }
 
-/// The names of the output sections of items, lent.
-fn outputs_of<'a>(alloc: Global, items: &[FoldItem<'a>]) -> Result<Vec<&'a [u8]>, AllocError>
-    ensures { IfOk result (λ texts. lent_texts texts.items ≡ map output_of (item_views items.now)) }
+/// The names of their output sections, lent.
+fn outputs_of<'a>(
+    alloc: Global,
+    items: &[FoldItem<'a>],
+    chosen: &[u32],
+) -> Result<Vec<&'a [u8]>, AllocError>
+    requires { All (λ a. a < length items.now) chosen.now }
+    ensures { IfOk result (λ texts. lent_texts texts.items ≡ map output_of (views_at items.now chosen.now)) }
 {
-    let mut texts = Vec::with_capacity(alloc, items.len())?;
-    for a in 0..items.len() {
-        texts.push(items[a].output)?;
+    let mut texts = Vec::with_capacity(alloc, chosen.len())?;
+    for k in 0..chosen.len() {
+        texts.push(items[chosen[k] as usize].output)?;
     }
     Ok(texts)
 }

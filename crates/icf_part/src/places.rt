@@ -1,9 +1,10 @@
 //! Which items are the targets of an item's relocations.
 
-ghost use Rattle.std.specs.Prelude.{◌≡◌, ◌<◌, ◌≤◌, ◌^◌, ◌++◌, length, flat_map, IfOk, OnOk};
+ghost use Rattle.std.specs.Prelude.{◌≡◌, ◌<◌, ◌≤◌, ◌^◌, ◌++◌, All, length, flat_map, IfOk, OnOk};
 ghost use Rattle.std.specs.List.Sorted.{IsStrictlyIncreasing};
-ghost use Rattle.link_sections.specs.FoldItems.{item_view, item_views, sections_of};
+ghost use Rattle.link_sections.specs.FoldItems.{item_view, sections_of};
 ghost use Rattle.work_split.specs.Pieces.{Tiles};
+ghost use Rattle.icf_part.specs.Chosen.{views_at};
 ghost use Rattle.icf_part.specs.Signatures as spec;
 
 use crate::parts::{join_rows, one_part};
@@ -15,14 +16,19 @@ use std::ops::Range;
 use std::thread::Threads;
 use work_split::{Gate, over_shares};
 
-/// The sections of items.
+/// The sections of the items that are compared.
 #[tactic(auto, unfolding(link_sections::specs::FoldItems::sections_of))]
-pub fn sections_of(alloc: Global, items: &[FoldItem]) -> Result<Vec<SecNo>, AllocError>
-    ensures { IfOk result (λ sections. sections.items ≡ sections_of (item_views items.now)) }
+pub fn sections_of(
+    alloc: Global,
+    items: &[FoldItem],
+    chosen: &[u32],
+) -> Result<Vec<SecNo>, AllocError>
+    requires { All (λ a. a < length items.now) chosen.now }
+    ensures { IfOk result (λ sections. sections.items ≡ sections_of (views_at items.now chosen.now)) }
 {
-    let mut sections = Vec::with_capacity(alloc, items.len())?;
-    for a in 0..items.len() {
-        sections.push(items[a].section)?;
+    let mut sections = Vec::with_capacity(alloc, chosen.len())?;
+    for k in 0..chosen.len() {
+        sections.push(items[chosen[k] as usize].section)?;
     }
     Ok(sections)
 }
@@ -39,22 +45,24 @@ pub fn place_of(sections: &[SecNo], section: SecNo) -> Option<u32>
     }
 }
 
-/// By item, the places of the items for which its relocations stand, in order of these. The workers find those of one piece of the items
-/// each.
+/// By item that is compared, the places of those for which its relocations stand, in order of these. The workers find those of one piece
+/// of the items each.
 pub fn all_places<R: Threads + Sync, G: Gate>(
     rt: &R,
     alloc: Global,
     items: &[FoldItem],
+    chosen: &[u32],
     sections: &[SecNo],
     pieces: &[Range<usize>],
     gate: &G,
 ) -> Result<Rows<u32>, AllocError>
     requires order { IsStrictlyIncreasing sections.now }
     requires few { length sections.now < 2 ^ 31 }
-    requires sections { sections.now ≡ sections_of (item_views items.now) }
-    requires tiles { Tiles 0 (length items.now) pieces.now }
+    requires sections { sections.now ≡ sections_of (views_at items.now chosen.now) }
+    requires chosen { All (λ a. a < length items.now) chosen.now }
+    requires tiles { Tiles 0 (length chosen.now) pieces.now }
     requires most { length pieces.now ≤ 64 }
-    ensures { IfOk result (λ rows. rows ≡ spec.all_places (item_views items.now)) }
+    ensures { IfOk result (λ rows. rows ≡ spec.all_places (views_at items.now chosen.now)) }
 {
     let found = over_shares(
         rt,
@@ -64,10 +72,11 @@ pub fn all_places<R: Threads + Sync, G: Gate>(
         |piece: Range<usize>| -> Result<Vec<Rows<u32>>, LinkStop>
             requires order { IsStrictlyIncreasing sections.now }
             requires few { length sections.now < 2 ^ 31 }
+            requires chosen { All (λ a. a < length items.now) chosen.now }
             requires ordered { piece.start ≤ piece.end }
-            requires within { piece.end ≤ length items.now }
-            ensures { spec.IsPlacesPart sections.entry.now (item_views items.entry.now) piece result }
-        { Ok(places_of(alloc, items, sections, piece)?) },
+            requires within { piece.end ≤ length chosen.now }
+            ensures { spec.IsPlacesPart sections.entry.now (views_at items.entry.now chosen.entry.now) piece result }
+        { Ok(places_of(alloc, items, chosen, sections, piece)?) },
     );
     match found {
         Ok(parts) => {
@@ -82,19 +91,21 @@ pub fn all_places<R: Threads + Sync, G: Gate>(
 fn places_of(
     alloc: Global,
     items: &[FoldItem],
+    chosen: &[u32],
     sections: &[SecNo],
     piece: Range<usize>,
 ) -> Result<Vec<Rows<u32>>, AllocError>
     requires order { IsStrictlyIncreasing sections.now }
     requires few { length sections.now < 2 ^ 31 }
+    requires chosen { All (λ a. a < length items.now) chosen.now }
     requires ordered { piece.start ≤ piece.end }
-    requires within { piece.end ≤ length items.now }
-    ensures { IfOk result (λ parts. flat_map (λ part. part) parts.items ≡ spec.places_from sections.now (item_views items.now) piece.start piece.end) }
+    requires within { piece.end ≤ length chosen.now }
+    ensures { IfOk result (λ parts. flat_map (λ part. part) parts.items ≡ spec.places_from sections.now (views_at items.now chosen.now) piece.start piece.end) }
 {
     let mut rows = Rows::empty(alloc)?;
     let mut list = Vec::new(alloc);
     for a in piece.start..piece.end {
-        put_places(&mut list, &items[a], sections)?;
+        put_places(&mut list, &items[chosen[a] as usize], sections)?;
         rows.push(list.as_slice())?;
     }
     let parts = one_part(alloc, rows)?;

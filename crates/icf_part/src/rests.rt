@@ -1,9 +1,10 @@
 //! What is compared of the targets of items of one key, but for the classes of those that are items.
 
-ghost use Rattle.std.specs.Prelude.{◌≡◌, ◌<◌, ◌≤◌, ◌^◌, ◌++◌, length, flat_map, IfOk, OnOk};
+ghost use Rattle.std.specs.Prelude.{◌≡◌, ◌<◌, ◌≤◌, ◌^◌, ◌++◌, All, length, flat_map, IfOk, OnOk};
 ghost use Rattle.std.specs.List.Sorted.{IsStrictlyIncreasing};
-ghost use Rattle.link_sections.specs.FoldItems.{item_view, item_views, sections_of};
+ghost use Rattle.link_sections.specs.FoldItems.{item_view, sections_of};
 ghost use Rattle.work_split.specs.Pieces.{Tiles};
+ghost use Rattle.icf_part.specs.Chosen.{views_at};
 ghost use Rattle.icf_part.specs.Signatures as spec;
 
 use crate::parts::one_part;
@@ -17,12 +18,13 @@ use std::ops::Range;
 use std::thread::Threads;
 use work_split::{Gate, over_shares};
 
-/// A row for each item, in parts; `keys` are the numbers of their keys, and `ends` has the items to which they lead. The workers make one
+/// A row for each item that is compared, in parts; `keys` are the numbers of their keys, and `ends` has the items to which they lead. The workers make one
 /// part each.
 pub fn all_rests<R: Threads + Sync, G: Gate>(
     rt: &R,
     alloc: Global,
     items: &[FoldItem],
+    chosen: &[u32],
     sections: &[SecNo],
     keys: &[u32],
     ends: &Rows<u32>,
@@ -31,11 +33,12 @@ pub fn all_rests<R: Threads + Sync, G: Gate>(
 ) -> Result<Vec<Rows<u8>>, AllocError>
     requires order { IsStrictlyIncreasing sections.now }
     requires few { length sections.now < 2 ^ 31 }
-    requires sections { sections.now ≡ sections_of (item_views items.now) }
-    requires keys { length keys.now ≡ length items.now }
-    requires tiles { Tiles 0 (length items.now) pieces.now }
+    requires sections { sections.now ≡ sections_of (views_at items.now chosen.now) }
+    requires chosen { All (λ a. a < length items.now) chosen.now }
+    requires keys { length keys.now ≡ length chosen.now }
+    requires tiles { Tiles 0 (length chosen.now) pieces.now }
     requires most { length pieces.now ≤ 64 }
-    ensures { IfOk result (λ parts. spec.AreRows (spec.rest_at (item_views items.now) keys.now ends.now) (length items.now) (flat_map (λ part. part) parts.items)) }
+    ensures { IfOk result (λ parts. spec.AreRows (spec.rest_at (views_at items.now chosen.now) keys.now ends.now) (length chosen.now) (flat_map (λ part. part) parts.items)) }
 {
     let found = over_shares(
         rt,
@@ -45,12 +48,13 @@ pub fn all_rests<R: Threads + Sync, G: Gate>(
         |piece: Range<usize>| -> Result<Vec<Rows<u8>>, LinkStop>
             requires order { IsStrictlyIncreasing sections.now }
             requires few { length sections.now < 2 ^ 31 }
-            requires sections { sections.now ≡ sections_of (item_views items.now) }
-            requires keys { length keys.now ≡ length items.now }
+            requires sections { sections.now ≡ sections_of (views_at items.now chosen.now) }
+            requires chosen { All (λ a. a < length items.now) chosen.now }
+            requires keys { length keys.now ≡ length chosen.now }
             requires ordered { piece.start ≤ piece.end }
-            requires within { piece.end ≤ length items.now }
-            ensures { spec.IsRowsPart (spec.rest_at (item_views items.entry.now) keys.entry.now ends.entry.now) piece result }
-        { Ok(rest_rows(alloc, items, sections, keys, ends, piece)?) },
+            requires within { piece.end ≤ length chosen.now }
+            ensures { spec.IsRowsPart (spec.rest_at (views_at items.entry.now chosen.entry.now) keys.entry.now ends.entry.now) piece result }
+        { Ok(rest_rows(alloc, items, chosen, sections, keys, ends, piece)?) },
     );
     match found {
         Ok(parts) => Ok(parts),
@@ -62,6 +66,7 @@ pub fn all_rests<R: Threads + Sync, G: Gate>(
 fn rest_rows(
     alloc: Global,
     items: &[FoldItem],
+    chosen: &[u32],
     sections: &[SecNo],
     keys: &[u32],
     ends: &Rows<u32>,
@@ -69,17 +74,24 @@ fn rest_rows(
 ) -> Result<Vec<Rows<u8>>, AllocError>
     requires order { IsStrictlyIncreasing sections.now }
     requires few { length sections.now < 2 ^ 31 }
-    requires sections { sections.now ≡ sections_of (item_views items.now) }
-    requires keys { length keys.now ≡ length items.now }
+    requires sections { sections.now ≡ sections_of (views_at items.now chosen.now) }
+    requires chosen { All (λ a. a < length items.now) chosen.now }
+    requires keys { length keys.now ≡ length chosen.now }
     requires ordered { piece.start ≤ piece.end }
-    requires within { piece.end ≤ length items.now }
-    ensures { IfOk result (λ parts. spec.AreRowsFrom (spec.rest_at (item_views items.now) keys.now ends.now) piece.start piece.end (flat_map (λ part. part) parts.items)) }
+    requires within { piece.end ≤ length chosen.now }
+    ensures { IfOk result (λ parts. spec.AreRowsFrom (spec.rest_at (views_at items.now chosen.now) keys.now ends.now) piece.start piece.end (flat_map (λ part. part) parts.items)) }
 {
     let mut rows = Rows::empty(alloc)?;
     let mut words = Vec::new(alloc);
     let mut row = Vec::new(alloc);
     for a in piece.start..piece.end {
-        put_rest(&mut words, &items[a], sections, keys[a], ends.row(a))?;
+        put_rest(
+            &mut words,
+            &items[chosen[a] as usize],
+            sections,
+            keys[a],
+            ends.row(a),
+        )?;
         push_row(&mut rows, &mut row, words.as_slice())?;
     }
     let parts = one_part(alloc, rows)?;

@@ -5,7 +5,8 @@ ghost use Rattle.std.specs.Prelude.{◌≡◌, ◌+◌, ◌-◌, ◌<◌, ◌^�
 use std::marker::Model;
 use std::sync::ledger::{Blank, Book, Ledger, Share};
 
-/// How many steps folding took: each is one class that became two. A clause sees the number.
+/// How many steps folding took: each is one class that became two. The value that contracts speak of is the exact number, which no code reads;
+/// [`Steps::taken`] gives it up to 2^64 - 1.
 #[derive(Drop)]
 pub struct Steps<L: Ledger> {
     book: Book<L>,
@@ -24,7 +25,7 @@ impl<L: Ledger> Model for Steps<L> {
 }
 
 impl<L: Ledger> Steps<L> {
-    /// None yet, in a new ledger.
+    /// No steps yet. `blank` is the unused ledger `L`, of which there is one; the steps own it from here on.
     pub fn open(blank: Blank) -> Steps<L>
         requires name { blank.name ≡ L.name }
         requires parts { blank.parts ≡ L.parts }

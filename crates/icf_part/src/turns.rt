@@ -67,7 +67,8 @@ fn members_of(
     Ok(own)
 }
 
-fn push_if(list: &mut Vec<u32>, a: u32, wanted: bool) -> Result<(), AllocError>
+/// Adds an item to a list, if it is wanted there.
+pub fn push_if(list: &mut Vec<u32>, a: u32, wanted: bool) -> Result<(), AllocError>
     ensures { OnOk result (list.new.items ≡ list.old.items ++ (if wanted then a ∷ [] else [])) }
 {
     if wanted {

@@ -1,7 +1,7 @@
 -- What holds of the cuts of a section holds once they are laid.
 use Rattle.std.proofs.Common.{ℕ, ◌+◌, ◌<◌, ◌≤◌, List, [], ◌∷◌, ◌++◌, All, inl, inr}
 use Rattle.std.proofs.lemmas.List.Elements.{All-nil, All-head, All-tail, All-cons}
-use Rattle.lk_base.specs.RelocKinds.{kind_of}
+use Rattle.lk_tables.specs.Relocations.{value_len}
 use Rattle.lk_tables.specs.declared.objects.Reloc.{Reloc}
 use Rattle.link_sections.specs.Calls.{IsOwnCall}
 use Rattle.link_sections.specs.Cuts.{Cut}
@@ -37,7 +37,7 @@ still_own : (r : Reloc) (start : ℕ) (before : List Cut) (c : Cut) → IsOwnCal
 unfolding laid_cut kept_at
 still_own r start before c is = record { call = is.call; at = is.at; plain = is.plain; whole = is.whole; kept = rw is.plain is.kept }
 
-pub still_met : (r : Reloc) (start : ℕ) (before : List Cut) (c : Cut) → IsMet r c → IsMet r (laid_cut start before c)
-still_met r start before c (inl is) = inl (still_within r.offset start before c is)
-still_met r start before c (inr (inl is)) = inr (inl (still_after (r.offset + (kind_of r.kind).width) start before c is))
-still_met r start before c (inr (inr is)) = inr (inr (still_own r start before c is))
+pub still_met : (contents : List ℕ) (r : Reloc) (start : ℕ) (before : List Cut) (c : Cut) → IsMet contents r c → IsMet contents r (laid_cut start before c)
+still_met contents r start before c (inl is) = inl (still_within r.offset start before c is)
+still_met contents r start before c (inr (inl is)) = inr (inl (still_after (r.offset + value_len contents r) start before c is))
+still_met contents r start before c (inr (inr is)) = inr (inr (still_own r start before c is))

@@ -5,22 +5,24 @@ use Rattle.std.proofs.lemmas.Bool.{and_from, and_parts, eq-eqb, eqb-true}
 use Rattle.std.proofs.lemmas.List.Elements.{All-nil, All-head, All-tail, All-cons}
 use Rattle.std.proofs.lemmas.List.Sums.{sum_by-cons}
 use Rattle.lk_base.specs.declared.abi.TheConstants.{R_RISCV_CALL, R_RISCV_CALL_PLT}
-use Rattle.lk_base.specs.RelocKinds.{kind_of}
+use Rattle.lk_base.specs.RelocKinds.{is_uleb, kind_of}
 use Rattle.lk_tables.specs.declared.objects.Reloc.{Reloc}
-use Rattle.link_sections.specs.Calls.{IsOwnCall, acting_number, acting_width, call_size, is_call, is_call_cut, kind_by_size}
+use Rattle.lk_tables.specs.Relocations.{value_len}
+use Rattle.lk_tables.proofs.Widths.{no_uleb, value_plain}
+use Rattle.link_sections.specs.Calls.{IsOwnCall, acting_number, acting_width, call_size, is_call, is_call_cut, kind_by_size, width_in}
 use Rattle.link_sections.specs.Cuts.{AreApart, Cut, kept_before, new_offset, whole_before}
 use Rattle.link_sections.proofs.CutSums.{new_rises}
 use Rattle.layout.proofs.CutsPassed.{AreFrom, apart_from}
 use Rattle.layout.proofs.RelocsLie.{IsClear, Lies, lies_still, low_from}
 
 -- a cut comes before or after a place, or is that of its call
-abbrev pub IsMet : Reloc → Cut → Type 0
-IsMet r c = (c.at + c.whole ≤ r.offset) ⊎ ((r.offset + (kind_of r.kind).width ≤ c.at) ⊎ IsOwnCall c r)
+abbrev pub IsMet : (contents : List ℕ) → Reloc → Cut → Type 0
+IsMet contents r c = (c.at + c.whole ≤ r.offset) ⊎ ((r.offset + value_len contents r ≤ c.at) ⊎ IsOwnCall c r)
 
-clear_by : (r : Reloc) (c : Cut) → (IsOwnCall c r → ⊥) → IsMet r c → IsClear r.offset (kind_of r.kind).width c
-clear_by r c other (inl before) = inl before
-clear_by r c other (inr (inl after)) = inr after
-clear_by r c other (inr (inr own)) = absurd (other own)
+clear_by : (contents : List ℕ) (r : Reloc) (c : Cut) → (IsOwnCall c r → ⊥) → IsMet contents r c → IsClear r.offset (value_len contents r) c
+clear_by contents r c other (inl before) = inl before
+clear_by contents r c other (inr (inl after)) = inr after
+clear_by contents r c other (inr (inr own)) = absurd (other own)
 
 -- a call's place has eight bytes
 one_of : (n kind : ℕ) → (n == kind) ≡ true → (kind_of n).width ≡ 8 → (kind_of kind).width ≡ 8
@@ -34,6 +36,14 @@ call_width kind is = by (R_RISCV_CALL == kind) (R_RISCV_CALL_PLT == kind) refl r
     by true b one other is = one_of R_RISCV_CALL kind one refl
     by false true one other is = one_of R_RISCV_CALL_PLT kind other refl
     by false false one other is = cc
+
+-- and is no ULEB128 number
+call_plain : (kind : ℕ) → is_call kind ≡ true → is_uleb kind ≡ false
+unfolding is_call is_uleb
+call_plain kind is = no_uleb kind (R_RISCV_CALL ∷ R_RISCV_CALL_PLT ∷ []) refl is
+
+call_len : (contents : List ℕ) (r : Reloc) → is_call r.kind ≡ true → value_len contents r ≡ 8
+call_len contents r is = value_plain contents r (call_plain r.kind is) ∙ call_width r.kind is
 
 -- and as many as stay once it is shortened
 short_width : (kept kind : ℕ) → (kept ≡ 2) ⊎ (kept ≡ 4) → (kind_of (kind_by_size kept kind)).width ≡ kept
@@ -105,31 +115,32 @@ kept_after cuts c apart kept =
     omega (arith, kept, whole_between 0 c.at (c.at + 8) cuts from (omega arith), low_from 0 c.at cuts from, low_from 0 (c.at + 8) cuts from)
 
 -- the place of a relocation, as it is filled
-module _ (cuts : List Cut) (size : ℕ) (r : Reloc) (apart : AreApart cuts) (some : All (λ c. 0 < c.whole) cuts) (lies : Lies size r)
-    (met : 0 < (kind_of r.kind).width → All (IsMet r) cuts) where
-  own_of : (c : Cut) → is_call_cut r.offset c ≡ true → (kind_of r.kind).width ≡ 8 → 0 < c.whole → IsMet r c → (c.at ≡ r.offset) × IsOwnCall c r
+module _ (contents : List ℕ) (cuts : List Cut) (size : ℕ) (r : Reloc) (apart : AreApart cuts) (some : All (λ c. 0 < c.whole) cuts) (lies : Lies contents size r)
+    (met : 0 < value_len contents r → All (IsMet contents r) cuts) where
+  own_of : (c : Cut) → is_call_cut r.offset c ≡ true → value_len contents r ≡ 8 → 0 < c.whole → IsMet contents r c → (c.at ≡ r.offset) × IsOwnCall c r
   own_of c passes width whole met =
       let at : c.at ≡ r.offset = eqb-true c.at r.offset (and_parts (c.at == r.offset) (not c.is_align) passes).0 in
       (at, by at met)
     where
-      by : c.at ≡ r.offset → IsMet r c → IsOwnCall c r
+      by : c.at ≡ r.offset → IsMet contents r c → IsOwnCall c r
       by at (inl before) = absurd (omega (arith, at, before, whole))
       by at (inr (inl after)) = absurd (omega (arith, at, after, width))
       by at (inr (inr own)) = own
 
-  other : (is_call r.kind ≡ true → All (λ c. is_call_cut r.offset c ≡ false) cuts) → new_offset cuts r.offset + (kind_of r.kind).width ≤ new_offset cuts size
+  other : (is_call r.kind ≡ true → All (λ c. is_call_cut r.offset c ≡ false) cuts) → new_offset cuts r.offset + value_len contents r ≤ new_offset cuts size
   other none =
-      lies_still cuts size r apart lies (λ wide k d lt. clear_by r _ (λ own.
+      lies_still cuts size r.offset (value_len contents r) apart lies (λ wide k d lt. clear_by contents r _ (λ own.
       let here = none own.call k d lt in
       let passes = and_from _ _ (eq-eqb _ _ own.at) (ap not own.plain) in
       let no_way : true ≡ false = sym passes ∙ here in cc) (met wide k d lt))
 
   found : (f : Option Cut) → find (is_call_cut r.offset) cuts ≡ f → is_call r.kind ≡ true
       → new_offset cuts r.offset + (kind_of (kind_by_size (option_map_or (λ (c : Cut). c.kept) f 8) r.kind)).width ≤ new_offset cuts size
-  found None is call = other (λ _. none_found (is_call_cut r.offset) cuts is)
+  found None is call =
+      subst (λ w. new_offset cuts r.offset + w ≤ new_offset cuts size) (value_plain contents r (call_plain r.kind call)) (other (λ _. none_found (is_call_cut r.offset) cuts is))
   found (Some c) is call =
-      let width = call_width r.kind call in
-      let one = one_found (is_call_cut r.offset) (λ x. (0 < x.whole) × IsMet r x) cuts c (λ k d lt. (some k d lt, met (omega (arith, width)) k d lt)) is in
+      let width = call_len contents r call in
+      let one = one_found (is_call_cut r.offset) (λ x. (0 < x.whole) × IsMet contents r x) cuts c (λ k d lt. (some k d lt, met (omega (arith, width)) k d lt)) is in
       let own = own_of c one.passes width one.holds.0 one.holds.1 in
       let at : c.at ≡ r.offset = own.0 in
       let short : c.kept ≤ 8 = most c.kept own.1.kept in
@@ -142,11 +153,20 @@ module _ (cuts : List Cut) (size : ℕ) (r : Reloc) (apart : AreApart cuts) (som
       most kept (inl two) = omega (arith, two)
       most kept (inr four) = omega (arith, four)
 
-  pub acting_lies : new_offset cuts r.offset + acting_width cuts r ≤ new_offset cuts size
+  acting_lies : is_uleb r.kind ≡ false → new_offset cuts r.offset + acting_width cuts r ≤ new_offset cuts size
   unfolding acting_number call_size
-  acting_lies = by (is_call r.kind) refl
+  acting_lies plain = by (is_call r.kind) refl
     where
       by : (b : Bool) → is_call r.kind ≡ b
           → new_offset cuts r.offset + (kind_of (if b then kind_by_size (option_map_or (λ (c : Cut). c.kept) (find (is_call_cut r.offset) cuts) 8) r.kind else r.kind)).width ≤ new_offset cuts size
       by true is = found (find (is_call_cut r.offset) cuts) refl is
-      by false is = other (λ call. let no_way : true ≡ false = sym call ∙ is in cc)
+      by false is =
+          subst (λ w. new_offset cuts r.offset + w ≤ new_offset cuts size) (value_plain contents r plain) (other (λ call. let no_way : true ≡ false = sym call ∙ is in cc))
+
+  pub width_lies : new_offset cuts r.offset + width_in contents cuts r ≤ new_offset cuts size
+  unfolding width_in
+  width_lies = by (is_uleb r.kind) refl
+    where
+      by : (b : Bool) → is_uleb r.kind ≡ b → new_offset cuts r.offset + (if b then value_len contents r else acting_width cuts r) ≤ new_offset cuts size
+      by true uleb = other (λ call. let no_way : true ≡ false = sym uleb ∙ call_plain r.kind call in cc)
+      by false plain = acting_lies plain

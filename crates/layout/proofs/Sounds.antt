@@ -10,11 +10,11 @@ use Rattle.lk_base.specs.declared.abi.TheConstants.{EHDR_SIZE, IMAGE_BASE, SHT_N
 use Rattle.lk_base.specs.declared.defects.Defect.{Defect}
 use Rattle.lk_base.specs.declared.limits.Limits.{Limits}
 use Rattle.lk_base.specs.Limits.{IsWithinStandard}
-use Rattle.lk_base.specs.RelocKinds.{kind_of}
+use Rattle.lk_tables.specs.Relocations.{value_len}
 use Rattle.lk_tables.specs.declared.objects.Reloc.{Reloc}
 use Rattle.lk_tables.specs.Binding.{Bindings, first_phase}
 use Rattle.lk_tables.specs.Files.{File, section_total}
-use Rattle.lk_tables.specs.Sites.{place_of, relocs_of}
+use Rattle.lk_tables.specs.Sites.{contents_at, place_of, relocs_of}
 use Rattle.link_sections.specs.declared.layouts.Bounds.{Bounds}
 use Rattle.link_sections.specs.declared.got.GotEntry.{GotEntry}
 use Rattle.link_sections.specs.declared.members.Content.{Content}
@@ -24,7 +24,7 @@ use Rattle.link_sections.specs.declared.pools.Pool.{Pool}
 use Rattle.link_sections.specs.Cuts.{AreApart, Cut, new_offset}
 use Rattle.link_sections.specs.InputSections.{input_at}
 use Rattle.link_sections.specs.Addresses.{no_pool}
-use Rattle.link_sections.specs.Calls.{acting_width}
+use Rattle.link_sections.specs.Calls.{width_in}
 use Rattle.link_sections.specs.GotEntries.{word_count}
 use Rattle.link_sections.specs.LaidOut.{LaidOut, cuts_at, start_at, with_contents}
 use Rattle.link_sections.specs.Leaders.{leads}
@@ -46,7 +46,7 @@ use Rattle.layout.proofs.LaidHold.{laid_hold, still_met, still_some, still_withi
 use Rattle.layout.proofs.Listed.{all_listed, has, pools_listed, table_is_listed}
 use Rattle.layout.proofs.Marks.{HasRoom, found_at, in_members, stand_at, stands_once}
 use Rattle.layout.proofs.MemberFacts.{IsMade, all_made, part_all}
-use Rattle.layout.proofs.OwnCalls.{IsMet, acting_lies}
+use Rattle.layout.proofs.OwnCalls.{IsMet, width_lies}
 use Rattle.layout.proofs.RelocsLie.{lies_of}
 use Rattle.layout.proofs.Rising.{AllFit, all_fit, rising}
 use Rattle.layout.proofs.RowsOfCuts.{defects_are, map_at, row_defects}
@@ -143,11 +143,12 @@ section_member files b pools words leaders sizes laid n m sound are fit made is 
       cuts = subst (λ (l : List Cut). All (λ (x : Cut). x.at + x.whole ≤ size) l) (sym cuts) within;
       relocs = λ k d lt.
           let r : Reloc = get_or (relocs_of files n) k d in
-          let met : 0 < (kind_of r.kind).width → All (IsMet r) c =
-          λ wide. laid_hold (IsMet r) m.start plain (still_met r m.start) (fit.clear n stays.number k d lt wide) in
-          let most = acting_lies c size r now some (lies k d lt) met in
-          let same : new_offset (cuts_at laid n) r.offset + acting_width (cuts_at laid n) r ≡ new_offset c r.offset + acting_width c r =
-          ap (λ l. new_offset l r.offset + acting_width l r) cuts in
+          let contents = contents_at files n in
+          let met : 0 < value_len contents r → All (IsMet contents r) c =
+          λ wide. laid_hold (IsMet contents r) m.start plain (still_met contents r m.start) (fit.clear n stays.number k d lt wide) in
+          let most = width_lies contents c size r now some (lies k d lt) met in
+          let same : new_offset (cuts_at laid n) r.offset + width_in contents (cuts_at laid n) r ≡ new_offset c r.offset + width_in contents c r =
+          ap (λ l. new_offset l r.offset + width_in contents l r) cuts in
           omega (arith, most, same, sized);
     }
 

@@ -8,12 +8,12 @@ use Rattle.lk_base.specs.declared.kinds.TheConstants.{TOO_BIG}
 use Rattle.lk_base.specs.declared.limits.Limits.{Limits}
 use Rattle.lk_base.specs.Arithmetic.{up}
 use Rattle.lk_base.specs.Defects.{count_defect, linkwide}
-use Rattle.lk_base.specs.RelocKinds.{kind_of}
 use Rattle.lk_tables.specs.declared.classes.Class.{Class}
 use Rattle.lk_tables.specs.declared.classes.Class.TheVariants.{R, Rx, TlsBits, TlsNobits, RwBits, RwNobits}
 use Rattle.lk_tables.specs.Binding.{Bindings, first_phase}
 use Rattle.lk_tables.specs.Files.{File, section_total}
-use Rattle.lk_tables.specs.Sites.{place_of, relocs_of}
+use Rattle.lk_tables.specs.Relocations.{value_len}
+use Rattle.lk_tables.specs.Sites.{contents_at, place_of, relocs_of}
 use Rattle.link_sections.specs.declared.layouts.Bounds.{Bounds}
 use Rattle.link_sections.specs.declared.members.Content.TheVariants.{Section, Pool as IsPool}
 use Rattle.link_sections.specs.declared.members.Member.{Member}
@@ -266,5 +266,5 @@ pub record FitSizes (files : List File) (b : Bindings) (sizes : List (List Cut))
   pub count : length sizes ≡ section_total files
   pub some : (n : ℕ) → n < section_total files → All (λ c. 0 < c.whole) (slice_index_or sizes n [])
   pub within : (n : ℕ) → n < section_total files → All (λ c. c.at + c.whole ≤ (input_at files b n).size) (slice_index_or sizes n [])
-  pub clear : (n : ℕ) → n < section_total files → All (λ r. 0 < (kind_of r.kind).width
-      → All (λ c. (c.at + c.whole ≤ r.offset) ⊎ ((r.offset + (kind_of r.kind).width ≤ c.at) ⊎ IsOwnCall c r)) (slice_index_or sizes n [])) (relocs_of files n)
+  pub clear : (n : ℕ) → n < section_total files → All (λ r. 0 < value_len (contents_at files n) r
+      → All (λ c. (c.at + c.whole ≤ r.offset) ⊎ ((r.offset + value_len (contents_at files n) r ≤ c.at) ⊎ IsOwnCall c r)) (slice_index_or sizes n [])) (relocs_of files n)

@@ -3,3 +3,4 @@ mod Parsing
 mod Reading
 mod Entries
 mod Numbers
+mod CommaParts

@@ -1,29 +1,33 @@
 -- What a command asks for, as a function of its words.
-use Rattle.std.specs.Prelude.{true, false, ◌==◌, ◌&&◌, ◌||◌, ℕ, Bool, not, List, [], Option, Some, None, is_some, if◌then◌else◌, codes, length, map, option_and_then, option_map, string_bytes, String, unwrap_or, ◌<◌, ◌≤◌}
+use Rattle.std.specs.Prelude.{true, false, ◌==◌, ◌&&◌, ◌||◌, ℕ, Bool, not, List, [], Option, Some, None, is_some, if◌then◌else◌, codes, length, map, option_and_then, option_map, string_bytes, String, unwrap_or, ◌<◌, ◌≤◌, ◌∷◌}
+use Rattle.std.specs.List.{list_all}
 use Rattle.std.specs.Option.{option_map_or}
-use Rattle.std.specs.Global.{Global}
+use Rattle.std.specs.Global.{Global, Vec}
 use Rattle.std.specs.Str.{bytes_eq}
 use Rattle.std.specs.Str.Parse.{digits_value, without_leading_plus}
 use Rattle.clap.specs.Words.{Row, all_of, first_of, one_of}
 use Rattle.link_command.specs.declared.command.Command.{Command}
 use Rattle.link_command.specs.declared.command.IcfMode.{IcfMode}
-use Rattle.link_command.specs.declared.command.IcfMode.TheVariants.{Off, All}
+use Rattle.link_command.specs.declared.command.IcfMode.TheVariants.{Off, All, Safe}
 use Rattle.link_command.specs.declared.command.Wanted.{Wanted}
 use Rattle.link_command.specs.declared.command.Wanted.TheVariants.{Files, Generated}
 use Rattle.link_command.specs.Grammar.{taken}
 
 -- what a command asks for: the names of the executable and of the map, the entry symbol, the number of
--- workers, whether sections that nothing refers to are left out, whether equal code is folded, whether calls are relaxed, whether symbols are
--- left out, and what is linked: so many generated objects, or the files of these names
+-- workers, whether sections that nothing refers to are left out, which equal code is folded, whether calls are relaxed, whether symbols are
+-- left out, the names that are asked for as by an undefined symbol, the names whose sections are folded with no other, and what is linked: so
+-- many generated objects, or the files of these names
 pub record Asked : Type 0 where
   pub output : List ℕ
   pub map : Option (List ℕ)
   pub entry : List ℕ
   pub threads : ℕ
   pub gc : Bool
-  pub icf : Bool
+  pub icf : IcfMode
   pub relax : Bool
   pub strip : Bool
+  pub undefined : List (List ℕ)
+  pub unique : List (List ℕ)
   pub generated : Option ℕ
   pub inputs : List (List ℕ)
 
@@ -46,10 +50,20 @@ abbrev pub IsWanted : Wanted → Type 0
 IsWanted (Files names) = 0 < length names.items
 IsWanted (Generated n) = (1 ≤ n) × (n ≤ 65536)
 
--- what folding is asked for
+-- whether equal code is folded, and whether only sections are that nothing but calls and jumps refers to
 abbrev pub folds : IcfMode → Bool
 folds Off = false
 folds All = true
+folds Safe = true
+
+abbrev pub is_safe : IcfMode → Bool
+is_safe Off = false
+is_safe All = false
+is_safe Safe = true
+
+-- the bytes of each name
+abbrev pub lists_of : List (Vec ℕ) → List (List ℕ)
+lists_of names = map (λ name. name.items) names
 
 abbrev pub asks : Command → Asked
 asks command = record {
@@ -58,9 +72,11 @@ asks command = record {
   entry = string_bytes command.entry;
   threads = command.threads;
   gc = command.gc;
-  icf = folds command.icf;
+  icf = command.icf;
   relax = command.relax;
   strip = command.strip;
+  undefined = lists_of command.undefined.items;
+  unique = lists_of command.unique.items;
   generated = generated_of command.inputs;
   inputs = names_of command.inputs;
 }
@@ -89,6 +105,26 @@ generated_in rows = option_map number_of (one_of (codes "self-input") rows)
 abbrev pub inputs_in : List Row → List (List ℕ)
 inputs_in rows = unwrap_or (all_of (codes "files") rows) []
 
+-- what stands between the commas of a text, before the first and after the last of them
+abbrev pub comma : ℕ
+comma = 44
+
+abbrev pub begun_by : (byte : ℕ) → List (List ℕ) → List (List ℕ)
+begun_by byte [] = []
+begun_by byte (part ∷ parts) = (byte ∷ part) ∷ parts
+
+abbrev pub parts_of : List ℕ → List (List ℕ)
+parts_of [] = [] ∷ []
+parts_of (b ∷ bs) = if b == comma then [] ∷ parts_of bs else begun_by b (parts_of bs)
+
+-- the names of an option, none where it is not given
+abbrev pub listed_in : List ℕ → List Row → List (List ℕ)
+listed_in id rows = option_map_or parts_of (first_of id rows) []
+
+-- the mode of a text that is one
+abbrev pub mode_of : List ℕ → IcfMode
+mode_of text = if bytes_eq text (codes "all") then All else (if bytes_eq text (codes "safe") then Safe else Off)
+
 -- what clap's rows for the words ask for
 abbrev pub read_from : List Row → Asked
 read_from rows = record {
@@ -97,9 +133,11 @@ read_from rows = record {
   entry = text_of (codes "entry") rows;
   threads = workers_in rows;
   gc = is_on (codes "gc-sections") rows;
-  icf = bytes_eq (text_of (codes "icf") rows) (codes "all");
+  icf = mode_of (text_of (codes "icf") rows);
   relax = not (is_on (codes "no-relax") rows);
   strip = is_on (codes "strip-all") rows;
+  undefined = listed_in (codes "undefined") rows;
+  unique = listed_in (codes "keep-unique") rows;
   generated = generated_in rows;
   inputs = inputs_in rows;
 }
@@ -113,13 +151,18 @@ abbrev pub is_apart : (map : Option (List ℕ)) → (output : List ℕ) → Bool
 is_apart None output = true
 is_apart (Some map) output = not (bytes_eq map output)
 
--- the command has one kind of input, an entry, and two names for its two files
-abbrev pub is_linkable : Asked → Bool
-is_linkable asked = has_inputs asked && (not (length asked.entry == 0) && is_apart asked.map asked.output)
+-- no name is empty
+abbrev pub are_named : List (List ℕ) → Bool
+are_named names = list_all (λ name. not (length name == 0)) names
 
--- the mode of folding is one of the two that there are
+-- the command has one kind of input, an entry, two names for its two files, and no empty name in its lists
+abbrev pub is_linkable : Asked → Bool
+is_linkable asked = has_inputs asked && (not (length asked.entry == 0) && (is_apart asked.map asked.output
+    && (are_named asked.undefined && are_named asked.unique)))
+
+-- the mode of folding is one of the three that there are
 abbrev pub is_mode : List ℕ → Bool
-is_mode text = bytes_eq text (codes "none") || bytes_eq text (codes "all")
+is_mode text = bytes_eq text (codes "none") || (bytes_eq text (codes "all") || bytes_eq text (codes "safe"))
 
 abbrev pub tested : (mode : List ℕ) → Asked → Option Asked
 tested mode asked = if is_mode mode && is_linkable asked then Some asked else None

@@ -47,7 +47,7 @@ gc_rule = record (new_rule (codes "gc-sections")) {
   action = Some SetTrue;
 }
 
--- `--icf MODE`: whether equal code is folded, `none` or `all`
+-- `--icf MODE`: which equal code is folded, `none`, `all` or `safe`
 abbrev pub icf_rule : Rule
 icf_rule = record (new_rule (codes "icf")) {
   long = Some (codes "icf");
@@ -70,6 +70,20 @@ strip_rule = record (new_rule (codes "strip-all")) {
   action = Some SetTrue;
 }
 
+-- `--undefined NAMES`: names that are asked for as by an undefined symbol, between commas
+abbrev pub undefined_rule : Rule
+undefined_rule = record (new_rule (codes "undefined")) {
+  long = Some (codes "undefined");
+  action = Some Set;
+}
+
+-- `--keep-unique NAMES`: names whose sections are folded with no other, between commas
+abbrev pub unique_rule : Rule
+unique_rule = record (new_rule (codes "keep-unique")) {
+  long = Some (codes "keep-unique");
+  action = Some Set;
+}
+
 -- `--self-input N`: so many generated objects in place of files
 abbrev pub generated_rule : Rule
 generated_rule = record (new_rule (codes "self-input")) {
@@ -86,8 +100,8 @@ files_rule = record (new_rule (codes "files")) {
 
 -- the command
 unfoldable pub rvld_app : App
-rvld_app = with_rule (with_rule (with_rule (with_rule (with_rule (with_rule (with_rule (with_rule (with_rule (with_rule (new_app (codes "rvld"))
-    output_rule) map_rule) entry_rule) threads_rule) gc_rule) icf_rule) relax_rule) strip_rule) generated_rule) files_rule
+rvld_app = with_rule (with_rule (with_rule (with_rule (with_rule (with_rule (with_rule (with_rule (with_rule (with_rule (with_rule (with_rule (new_app (codes "rvld"))
+    output_rule) map_rule) entry_rule) threads_rule) gc_rule) icf_rule) relax_rule) strip_rule) undefined_rule) unique_rule) generated_rule) files_rule
 
 -- the rows of a parse
 abbrev pub rows_in : ArgMatches → List Row

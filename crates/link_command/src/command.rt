@@ -1,13 +1,13 @@
 //! An accepted command.
 
 ghost use Rattle.std.specs.Prelude.{◌≡◌, ◌≤◌, IfOk, IfSome, is_some, option_map, string_bytes};
-ghost use Rattle.link_command.specs.Command.{IsWanted, asked_of, asks, generated_in, generated_of, has_inputs, inputs_in, is_apart, names_of, read_from, texts_of};
+ghost use Rattle.link_command.specs.Command.{IsWanted, asked_of, asks, folds, generated_in, generated_of, has_inputs, inputs_in, is_apart, is_safe, names_of as given_names, read_from, texts_of};
 ghost use Rattle.link_command.specs.Grammar.{HasGenerated, HasThreads, rows_in};
 
 use crate::matching::matches_of;
 use crate::values::{
-    gc_of, generated_of, has_mode, icf_of, inputs_of, map_of, owned_text, relax_of, strip_of,
-    threads_of,
+    are_named, gc_of, generated_of, has_mode, icf_of, inputs_of, map_of, names_of, owned_text,
+    relax_of, strip_of, threads_of,
 };
 use clap::ArgMatches;
 use std::alloc::{AllocError, Global};
@@ -24,7 +24,7 @@ pub enum Wanted {
 impl Wanted {
     /// The names of the files, in the order of the command; none where objects are generated.
     pub fn names(&self) -> &[String]
-        ensures { texts_of result.now ≡ names_of self.now }
+        ensures { texts_of result.now ≡ given_names self.now }
     {
         match self {
             Wanted::Files(names) => names.as_slice(),
@@ -33,13 +33,39 @@ impl Wanted {
     }
 }
 
-/// Whether equal code is folded.
+/// Which equal code is folded.
 #[derive(Clone, Copy, Debug, PartialEq, Eq)]
 pub enum IcfMode {
-    /// It is not.
+    /// None.
     Off,
     /// All code that may be.
     All,
+    /// The code that may be, but for sections whose address is taken: those that something other than a call or a jump refers to.
+    Safe,
+}
+
+impl IcfMode {
+    /// Whether equal code is folded.
+    pub fn folds(self) -> bool
+        ensures { result ≡ folds self }
+    {
+        match self {
+            IcfMode::Off => false,
+            IcfMode::All => true,
+            IcfMode::Safe => true,
+        }
+    }
+
+    /// Whether code whose address is taken is folded with no other.
+    pub fn is_safe(self) -> bool
+        ensures { result ≡ is_safe self }
+    {
+        match self {
+            IcfMode::Off => false,
+            IcfMode::All => false,
+            IcfMode::Safe => true,
+        }
+    }
 }
 
 /// An accepted command.
@@ -55,12 +81,16 @@ pub struct Command {
     pub threads: u32,
     /// `--gc-sections`: whether sections that nothing refers to are left out.
     pub gc: bool,
-    /// `--icf`: whether equal code is folded.
+    /// `--icf`: which equal code is folded.
     pub icf: IcfMode,
     /// Without `--no-relax`: whether calls are relaxed.
     pub relax: bool,
     /// `-s`: whether the symbol table is left out.
     pub strip: bool,
+    /// `--undefined`: names, none empty, that are asked for as by an undefined symbol; none where it is not given.
+    pub undefined: Vec<Vec<u8>>,
+    /// `--keep-unique`: names, none empty, whose sections are folded with no other; none where it is not given.
+    pub unique: Vec<Vec<u8>>,
     /// What is linked.
     pub inputs: Wanted,
 }
@@ -70,7 +100,7 @@ fn wanted_of(alloc: Global, matches: &ArgMatches) -> Result<Option<Wanted>, Allo
     requires { HasGenerated (rows_in matches.now) }
     ensures given { IfOk result (λ wanted. is_some wanted ≡ has_inputs (read_from (rows_in matches.now))) }
     ensures generated { IfOk result (λ wanted. IfSome wanted (λ w. generated_of w ≡ generated_in (rows_in matches.now))) }
-    ensures names { IfOk result (λ wanted. IfSome wanted (λ w. names_of w ≡ inputs_in (rows_in matches.now))) }
+    ensures names { IfOk result (λ wanted. IfSome wanted (λ w. given_names w ≡ inputs_in (rows_in matches.now))) }
     ensures some { IfOk result (λ wanted. IfSome wanted IsWanted) }
 {
     let names = inputs_of(alloc, matches)?;
@@ -90,7 +120,7 @@ fn wanted_of(alloc: Global, matches: &ArgMatches) -> Result<Option<Wanted>, Allo
 fn read_from(alloc: Global, matches: &ArgMatches, inputs: Wanted) -> Result<Command, AllocError>
     requires threads { HasThreads (rows_in matches.now) }
     requires generated { generated_of inputs ≡ generated_in (rows_in matches.now) }
-    requires names { names_of inputs ≡ inputs_in (rows_in matches.now) }
+    requires names { given_names inputs ≡ inputs_in (rows_in matches.now) }
     ensures asked { IfOk result (λ command. asks command ≡ read_from (rows_in matches.now)) }
     ensures threads { IfOk result (λ command. (1 ≤ command.threads) × (command.threads ≤ 64)) }
     ensures inputs { IfOk result (λ command. command.inputs ≡ inputs) }
@@ -98,6 +128,8 @@ fn read_from(alloc: Global, matches: &ArgMatches, inputs: Wanted) -> Result<Comm
     let output = owned_text(alloc, matches, "output")?;
     let map = map_of(alloc, matches)?;
     let entry = owned_text(alloc, matches, "entry")?;
+    let undefined = names_of(alloc, matches, "undefined")?;
+    let unique = names_of(alloc, matches, "keep-unique")?;
     Ok(Command {
         output,
         map,
@@ -107,6 +139,8 @@ fn read_from(alloc: Global, matches: &ArgMatches, inputs: Wanted) -> Result<Comm
         icf: icf_of(matches),
         relax: relax_of(matches),
         strip: strip_of(matches),
+        undefined,
+        unique,
         inputs,
     })
 }
@@ -139,6 +173,9 @@ pub fn command_of(alloc: Global, words: &[String]) -> Result<Option<Command>, Al
     };
     let command = read_from(alloc, &matches, inputs)?;
     if command.entry.is_empty() || !is_apart(&command.map, command.output.as_str()) {
+        return Ok(None);
+    }
+    if !are_named(command.undefined.as_slice()) || !are_named(command.unique.as_slice()) {
         return Ok(None);
     }
     Ok(Some(command))

@@ -2,7 +2,7 @@
 
 ghost use Rattle.std.specs.Prelude.{◌≡◌, IfOk, false};
 ghost use Rattle.clap.specs.Words.{app_of, rule_of};
-ghost use Rattle.link_command.specs.Grammar.{entry_rule, files_rule, gc_rule, generated_rule, icf_rule, map_rule, output_rule, relax_rule, rvld_app, strip_rule, threads_rule};
+ghost use Rattle.link_command.specs.Grammar.{entry_rule, files_rule, gc_rule, generated_rule, icf_rule, map_rule, output_rule, relax_rule, rvld_app, strip_rule, threads_rule, undefined_rule, unique_rule};
 
 use clap::{Arg, ArgAction};
 use std::alloc::{AllocError, Global};
@@ -61,7 +61,7 @@ fn gc_option<'a>(alloc: Global) -> Arg<'a>
         .action(ArgAction::SetTrue)
 }
 
-/// `--icf MODE`: whether equal code is folded, `none` or `all`.
+/// `--icf MODE`: which equal code is folded, `none`, `all` or `safe`.
 fn icf_option<'a>(alloc: Global) -> Arg<'a>
     ensures rule { rule_of result ≡ icf_rule }
     ensures local { result.global ≡ false }
@@ -91,6 +91,26 @@ fn strip_option<'a>(alloc: Global) -> Arg<'a>
         .short('s')
         .long("strip-all")
         .action(ArgAction::SetTrue)
+}
+
+/// `--undefined NAMES`: names that are asked for as by an undefined symbol, between commas.
+fn undefined_option<'a>(alloc: Global) -> Arg<'a>
+    ensures rule { rule_of result ≡ undefined_rule }
+    ensures local { result.global ≡ false }
+{
+    Arg::new(alloc, "undefined")
+        .long("undefined")
+        .action(ArgAction::Set)
+}
+
+/// `--keep-unique NAMES`: names whose sections are folded with no other, between commas.
+fn unique_option<'a>(alloc: Global) -> Arg<'a>
+    ensures rule { rule_of result ≡ unique_rule }
+    ensures local { result.global ≡ false }
+{
+    Arg::new(alloc, "keep-unique")
+        .long("keep-unique")
+        .action(ArgAction::Set)
 }
 
 /// `--self-input N`: so many generated objects are linked, in place of files.
@@ -126,6 +146,8 @@ pub(crate) fn command_line<'a>(alloc: Global) -> Result<clap::Command<'a>, Alloc
         .arg(icf_option(alloc))?
         .arg(relax_option(alloc))?
         .arg(strip_option(alloc))?
+        .arg(undefined_option(alloc))?
+        .arg(unique_option(alloc))?
         .arg(generated_option(alloc))?
         .arg(files_argument(alloc))
 }

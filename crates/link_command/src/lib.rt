@@ -8,6 +8,7 @@
 mod command;
 mod grammar;
 mod matching;
+mod parts;
 mod values;
 
 pub use command::{Command, IcfMode, Wanted, command_of};

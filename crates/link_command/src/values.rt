@@ -1,12 +1,12 @@
 //! The values that clap found.
 
 ghost use Rattle.std.specs.Prelude.{◌≡◌, ◌≤◌, IfOk, IfSome, codes, map, not, option_map, string_bytes};
-ghost use Rattle.std.specs.Str.{bytes_eq};
 ghost use Rattle.clap.specs.Words.{first_of};
-ghost use Rattle.link_command.specs.Command.{folds, generated_in, inputs_in, is_mode, is_on, text_of, texts_of, workers_in};
+ghost use Rattle.link_command.specs.Command.{are_named, generated_in, inputs_in, is_mode, is_on, listed_in, lists_of, mode_of, text_of, texts_of, workers_in};
 ghost use Rattle.link_command.specs.Grammar.{HasGenerated, HasThreads, rows_in};
 
 use crate::command::IcfMode;
+use crate::parts::parts_of;
 use clap::ArgMatches;
 use std::alloc::{AllocError, Global};
 
@@ -45,21 +45,52 @@ pub(crate) fn gc_of(matches: &ArgMatches) -> bool
     text_of(matches, "gc-sections") == "true"
 }
 
-/// Whether a mode of folding is one of the two that there are.
+/// Whether a mode of folding is one of the three that there are.
 pub(crate) fn has_mode(matches: &ArgMatches) -> bool
     ensures { result ≡ is_mode (text_of (codes "icf") (rows_in matches.now)) }
 {
-    text_of(matches, "icf") == "none" || text_of(matches, "icf") == "all"
+    let mode = text_of(matches, "icf");
+    mode == "none" || (mode == "all" || mode == "safe")
 }
 
-/// Whether equal code is folded.
+/// Which equal code is folded.
 pub(crate) fn icf_of(matches: &ArgMatches) -> IcfMode
-    ensures { folds result ≡ bytes_eq (text_of (codes "icf") (rows_in matches.now)) (codes "all") }
+    ensures { result ≡ mode_of (text_of (codes "icf") (rows_in matches.now)) }
 {
-    if text_of(matches, "icf") == "all" {
+    let mode = text_of(matches, "icf");
+    if mode == "all" {
         return IcfMode::All;
     }
+    if mode == "safe" {
+        return IcfMode::Safe;
+    }
     IcfMode::Off
+}
+
+/// The names of an option, none where it is not given.
+pub(crate) fn names_of(
+    alloc: Global,
+    matches: &ArgMatches,
+    id: &str,
+) -> Result<Vec<Vec<u8>>, AllocError>
+    ensures { IfOk result (λ names. lists_of names.items ≡ listed_in id.now (rows_in matches.now)) }
+{
+    let Some(text) = matches.get_str(id) else {
+        return Ok(Vec::new(alloc));
+    };
+    parts_of(alloc, text.as_bytes())
+}
+
+/// Whether no name is empty.
+pub(crate) fn are_named(names: &[Vec<u8>]) -> bool
+    ensures { result ≡ are_named (lists_of names.now) }
+{
+    for name in names {
+        if name.len() == 0 {
+            return false;
+        }
+    }
+    true
 }
 
 /// Whether calls are relaxed.

@@ -20,7 +20,7 @@ use Rattle.reloc_apply.specs.Relocated.{relocation_defects}
 use Rattle.sec_graph.specs.Undefined.{undefined_defects}
 use Rattle.link_driver.specs.Defects.{head_defects_at, opening_defects, reading_defects}
 use Rattle.link_driver.specs.Laws.{AreCounted, StopsAtLeast}
-use Rattle.link_driver.specs.Link.{bound_names, defects_in, final_phases, kept_of, laid_out, last_phases, later_phases, leaders_in, piece_defects, wishes_of}
+use Rattle.link_driver.specs.Link.{Wishes, bound_names, defects_in, final_phases, kept_for, laid_out, last_phases, later_phases, leaders_in, piece_defects, wishes_for}
 use Rattle.link_driver.specs.Sources.{Source, files_in, heads_in}
 use Rattle.link_driver.proofs.DefectOrder.{Ordered, first_least, first_ordered}
 use Rattle.link_driver.proofs.LaidOrder.{laid_ordered, relocations_ordered}
@@ -57,18 +57,21 @@ module _ (limits : Limits) (within : IsWithinStandard limits) (ss : List Source)
 
   module _ (asked : Asked) where
     abbrev files : List File
-    files = files_in ss
+    files = files_in asked.undefined ss
 
     abbrev bound : Bindings
     bound = bound_names files asked.entry
 
     abbrev kept : List Bool
-    kept = kept_of asked.gc files bound
+    kept = kept_for asked files bound
 
-    last_ordered : Ordered (first_phase (last_phases limits (wishes_of asked) files bound kept))
+    abbrev wishes : Wishes
+    wishes = wishes_for asked files bound kept
+
+    last_ordered : Ordered (first_phase (last_phases limits wishes files bound kept))
     last_ordered =
-        let w = wishes_of asked in
-        let rise = files_in_order ss in
+        let w = wishes in
+        let rise = files_in_order asked.undefined ss in
         let relocations = relocation_defects files bound (leaders_in w files bound kept) (laid_out w files bound kept) in
         first_ordered (undefined_defects files bound kept) (final_phases limits w files bound kept) (undefined_ordered files bound kept rise)
         (λ none. first_ordered (layout_defects limits files (laid_out w files bound kept)) (relocations ∷ []) (laid_ordered limits w files bound kept rise)
@@ -77,17 +80,17 @@ module _ (limits : Limits) (within : IsWithinStandard limits) (ss : List Source)
     binding_ordered : AreCounted ss → Ordered (first_phase (later_phases limits asked files))
     binding_ordered few =
         let gone = discarded files in
-        let last = last_phases limits (wishes_of asked) files bound kept in
+        let last = last_phases limits wishes files bound kept in
         first_ordered (piece_defects limits files) (flag_defects files ∷ duplicate_defects files gone ∷ entry_defects files gone asked.entry ∷ last) (pieces_ordered limits files)
         (λ none. first_ordered (flag_defects files) (duplicate_defects files gone ∷ entry_defects files gone asked.entry ∷ last) (flags_ordered files)
-        (λ nor. first_ordered (duplicate_defects files gone) (entry_defects files gone asked.entry ∷ last) (duplicates_ordered_in files gone (few_files ss few) (few_symbols ss few))
+        (λ nor. first_ordered (duplicate_defects files gone) (entry_defects files gone asked.entry ∷ last) (duplicates_ordered_in files gone (few_files asked.undefined ss few) (few_symbols asked.undefined ss few))
         (λ no. first_ordered (entry_defects files gone asked.entry) last (entry_ordered files gone asked.entry) (λ any. last_ordered))))
 
     defects_ordered : Ordered (defects_in limits asked ss)
     unfolding defects_in
     defects_ordered =
-        first_ordered (reading_defects limits ss) (opening_defects limits ss ∷ later_phases limits asked files) (reading_ordered limits ss)
-        (λ none. first_ordered (opening_defects limits ss) (later_phases limits asked files) (opening_ordered limits ss) (λ nor. binding_ordered (counted none)))
+        first_ordered (reading_defects limits ss) (opening_defects limits asked.undefined ss ∷ later_phases limits asked files) (reading_ordered limits ss)
+        (λ none. first_ordered (opening_defects limits asked.undefined ss) (later_phases limits asked files) (opening_ordered limits asked.undefined ss) (λ nor. binding_ordered (counted none)))
 
     -- where a link stops
     pub least_stop : (stop : LinkStop) → StopsAt stop (defects_in limits asked ss) → StopsAtLeast stop (defects_in limits asked ss)

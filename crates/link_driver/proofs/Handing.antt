@@ -11,23 +11,22 @@ use Rattle.lk_tables.specs.Files.{File}
 use Rattle.map_file.specs.MapText.{map_text}
 use Rattle.sym_resolve.specs.Law.{IsLawful}
 use Rattle.link_driver.specs.declared.linking.Linked.{Linked}
-use Rattle.link_driver.specs.Link.{Wishes, bound_names, executable_in, executable_with, kept_in, kept_of, laid_out, leaders_in, map_in, map_with, report_in, report_with, wishes_of}
-use Rattle.link_driver.specs.Phases.{Gives, IsWritten, LinkStands, Makes}
-use Rattle.link_driver.specs.Sources.{Source, files_in, heads_in, live_in}
-use Rattle.link_driver.specs.Tables.{IsCollected}
+use Rattle.link_driver.specs.Link.{Wishes, bound_in, bound_names, executable_in, executable_with, kept_for, kept_in, laid_out, leaders_in, linked_files, map_in, map_with, report_in, report_with, wishes_for, wishes_in}
+use Rattle.link_driver.specs.Phases.{Gives, IsWritten, Makes}
+use Rattle.link_driver.specs.Sources.{Source, heads_in, live_in}
 
 -- the set of files that takes part, as the code found it
-pub live_is : (ss : List Source) (files : List File) → files ≡ heads_in ss → live_of files ≡ live_in ss
+pub live_is : (undefined : List (List ℕ)) (ss : List Source) (files : List File) → files ≡ heads_in ss → live_of undefined files ≡ live_in undefined ss
 unfolding live_in
-live_is ss files are = ap live_of are
+live_is undefined ss files are = ap (live_of undefined) are
 
 -- it is the least closed set of them
-pub least_is : (ss : List Source) (files : List File) (live : List Bool) → files ≡ heads_in ss → live ≡ live_of files → IsLive files live →
-    IsLive (heads_in ss) (live_in ss)
-least_is ss files live are found least =
-    let P : List File → Type 0 = λ fs. IsLive fs (live_in ss) in
-    let Q : List Bool → Type 0 = λ l. IsLive files l in
-    subst P are (subst Q (found ∙ live_is ss files are) least)
+pub least_is : (undefined : List (List ℕ)) (ss : List Source) (files : List File) (live : List Bool) → files ≡ heads_in ss → live ≡ live_of undefined files →
+    IsLive undefined files live → IsLive undefined (heads_in ss) (live_in undefined ss)
+least_is undefined ss files live are found least =
+    let P : List File → Type 0 = λ fs. IsLive undefined fs (live_in undefined ss) in
+    let Q : List Bool → Type 0 = λ l. IsLive undefined files l in
+    subst P are (subst Q (found ∙ live_is undefined ss files are) least)
 
 -- the names of the files are bound
 pub binding_is : (entry : List ℕ) (files : List File) (b : Bindings) → b ≡ bound_names files entry → IsBindingOf files b
@@ -58,45 +57,31 @@ made_as w names shown files b kept linked same makes = record {
   report = makes.report;
 }
 
+-- what holds of files, what their names are bound to and what is kept holds of those of the sources
+pub holds_in : (asked : Asked) (ss : List Source) (F : Wishes → List File → Bindings → List Bool → Type 0) (files : List File) (b : Bindings) (kept : List Bool) →
+    files ≡ linked_files asked ss → b ≡ bound_names files asked.entry → kept ≡ kept_for asked files b → F (wishes_for asked files b kept) files b kept →
+    F (wishes_in asked ss) (linked_files asked ss) (bound_in asked ss) (kept_in asked ss)
+holds_in asked ss F files b kept are bound stays holds =
+    let P : List Bool → Type 0 = λ k. F (wishes_for asked files b k) files b k in
+    let Q : Bindings → Type 0 = λ n. F (wishes_for asked files n (kept_for asked files n)) files n (kept_for asked files n) in
+    let R : List File → Type 0 = λ fs.
+    F (wishes_for asked fs (bound_names fs asked.entry) (kept_for asked fs (bound_names fs asked.entry))) fs (bound_names fs asked.entry)
+    (kept_for asked fs (bound_names fs asked.entry)) in
+    subst R are (subst Q bound (subst P stays holds))
+
 -- what the files of these sources give
-pub gives_all : (asked : Asked) (names : List (List ℕ)) (ss : List Source) (files : List File) (b : Bindings) (kept : List Bool) (linked : Linked) →
-    files ≡ files_in ss → b ≡ bound_names files asked.entry → kept ≡ kept_of asked.gc files b → Makes (wishes_of asked) names files b kept linked →
-    Gives asked names ss linked
+pub gives_all : (asked : Asked) (names : List (List ℕ)) (ss : List Source) (linked : Linked) →
+    Makes (wishes_in asked ss) names (linked_files asked ss) (bound_in asked ss) (kept_in asked ss) linked → Gives asked names ss linked
 unfolding executable_in map_in report_in
-gives_all asked names ss files b kept linked are bound stays makes =
-    let P : List Bool → Type 0 = λ k. Makes (wishes_of asked) names files b k linked in
-    let Q : Bindings → Type 0 = λ n. Makes (wishes_of asked) names files n (kept_of asked.gc files n) linked in
-    let R : List File → Type 0 = λ fs. Makes (wishes_of asked) names fs (bound_names fs asked.entry) (kept_of asked.gc fs (bound_names fs asked.entry)) linked in
-    let so = subst R are (subst Q bound (subst P stays makes)) in
-    record { executable = so.executable; map = so.map; report = so.report }
+gives_all asked names ss linked makes = record { executable = makes.executable; map = makes.map; report = makes.report }
 
 -- what the names of these files are bound to
-pub bound_are : (entry asked : List ℕ) (files : List File) (ss : List Source) → files ≡ files_in ss → entry ≡ asked →
-    IsLawful files (discarded files) entry (bound_names files entry) → IsLawful (files_in ss) (discarded (files_in ss)) asked (bound_names (files_in ss) asked)
-bound_are entry asked files ss are same bound =
-    let P : List ℕ → Type 0 = λ name. IsLawful (files_in ss) (discarded (files_in ss)) name (bound_names (files_in ss) name) in
+pub bound_are : (entry asked : List ℕ) (files given : List File) → files ≡ given → entry ≡ asked →
+    IsLawful files (discarded files) entry (bound_names files entry) → IsLawful given (discarded given) asked (bound_names given asked)
+bound_are entry asked files given are same bound =
+    let P : List ℕ → Type 0 = λ name. IsLawful given (discarded given) name (bound_names given name) in
     let Q : List File → Type 0 = λ fs. IsLawful fs (discarded fs) entry (bound_names fs entry) in
     subst P same (subst Q are bound)
-
--- a set that garbage collection keeps
-pub collected_are : (asked : Asked) (ss : List Source) (files : List File) (b : Bindings) (kept : List Bool) → files ≡ files_in ss →
-    b ≡ bound_names files asked.entry → kept ≡ kept_of asked.gc files b → IsCollected files b kept →
-    IsCollected (files_in ss) (bound_names (files_in ss) asked.entry) (kept_in asked ss)
-collected_are asked ss files b kept are names stays is =
-    let P : List Bool → Type 0 = λ k. IsCollected files b k in
-    let Q : Bindings → Type 0 = λ n. IsCollected files n (kept_of asked.gc files n) in
-    let R : List File → Type 0 = λ fs. IsCollected fs (bound_names fs asked.entry) (kept_of asked.gc fs (bound_names fs asked.entry)) in
-    subst R are (subst Q names (subst P stays is))
-
--- what is made of these files stands whole
-pub stand_so : (asked : Asked) (ss : List Source) (files : List File) (b : Bindings) (kept : List Bool) (exe : List ℕ) → files ≡ files_in ss →
-    b ≡ bound_names files asked.entry → kept ≡ kept_of asked.gc files b → LinkStands (wishes_of asked) files b kept exe →
-    LinkStands (wishes_of asked) (files_in ss) (bound_names (files_in ss) asked.entry) (kept_in asked ss) exe
-stand_so asked ss files b kept exe are names stays stand =
-    let P : List Bool → Type 0 = λ k. LinkStands (wishes_of asked) files b k exe in
-    let Q : Bindings → Type 0 = λ n. LinkStands (wishes_of asked) files n (kept_of asked.gc files n) exe in
-    let R : List File → Type 0 = λ fs. LinkStands (wishes_of asked) fs (bound_names fs asked.entry) (kept_of asked.gc fs (bound_names fs asked.entry)) exe in
-    subst R are (subst Q names (subst P stays stand))
 
 -- what holds of an answer, and follows from it
 pub on_each : {X E : Type 0} {P Q : X → Type 0} (r : Result X E) → ((x : X) → P x → Q x) → IfOk r P → IfOk r Q

@@ -1,5 +1,5 @@
 -- The sections that are kept may be.
-use Rattle.std.proofs.Common.{◌≡◌, ℕ, zero, suc, ◌+◌, ◌<◌, ◌≤◌, ◌==◌, ◌&&◌, Bool, true, false, List, [], ◌∷◌, length, refl, sym, ap, ◌∙◌, subst, arith, inl, inr}
+use Rattle.std.proofs.Common.{◌≡◌, ℕ, zero, suc, ◌+◌, ◌<◌, ◌≤◌, ◌==◌, ◌&&◌, Bool, true, false, List, [], ◌∷◌, ◌++◌, length, refl, sym, ap, ◌∙◌, subst, arith, inl, inr}
 use Rattle.std.specs.Prelude.{not, flat_map, if◌then◌else◌, Contains, ◌↔◌}
 use Rattle.std.specs.List.{All, range_with_len}
 use Rattle.std.proofs.lemmas.Bool.{and_parts, cases_lt}
@@ -13,8 +13,8 @@ use Rattle.lk_tables.specs.declared.bounds.Target.TheVariants as targets
 use Rattle.lk_tables.specs.declared.heads.Symbol.{Symbol}
 use Rattle.lk_tables.specs.declared.objects.Reloc.{Reloc}
 use Rattle.lk_tables.specs.declared.section_places.SectionPlace.{SectionPlace}
-use Rattle.lk_tables.specs.BoundNames.{IsBindingOf}
-use Rattle.lk_tables.specs.Binding.{Bindings}
+use Rattle.lk_tables.specs.BoundNames.{IsBindingOf, bindings, with_linker}
+use Rattle.lk_tables.specs.Binding.{Bindings, offered_bindings}
 use Rattle.lk_tables.specs.Files.{AreFew, File, file_at, first_section, is_section_symbol, section_count, section_no, section_total, symbol_at}
 use Rattle.lk_tables.specs.Reach.{IsReach}
 use Rattle.lk_tables.specs.Sites.{IsPlaceOf, place_of}
@@ -25,7 +25,9 @@ use Rattle.lk_tables.proofs.Owners.{IsOwner, place_is, place_law}
 use Rattle.link_sections.specs.InputSections.{all_kept, input_of, may_stay, may_stay_at}
 use Rattle.link_sections.specs.Leaders.{is_kept}
 use Rattle.link_sections.proofs.BoundStays.{Stays, bound_stays, entry_stays, stays_at}
-use Rattle.sec_gc.specs.Roots.{is_root, is_root_input, root_at, roots, roots_in, section_bound}
+use Rattle.asked_names.specs.AskedNames.{name_bound, named_sections, section_bound}
+use Rattle.asked_names.proofs.NameBounds.{as_an_entry, sections_have}
+use Rattle.sec_gc.specs.Roots.{is_root, is_root_input, root_at, roots, roots_in}
 use Rattle.sec_graph.specs.Graph.{edges, ends_in, section_in}
 use Rattle.sec_graph.specs.Kept as rules
 use Rattle.sec_graph.proofs.Closing.{bounds_stay}
@@ -107,18 +109,33 @@ closed_stay files b is few = record {
 }
 
 -- and each root does
-entry_root : (files : List File) (b : Bindings) (found : Bound) → Stays files b found → AllStay files b (section_bound found)
-entry_root files b (InSection section offset) stays = one_stays files b section stays
-entry_root files b (Number n) stays = none_stays files b
-entry_root files b (Linker n) stays = none_stays files b
-entry_root files b Nobody stays = none_stays files b
+section_stays : (files : List File) (b : Bindings) (found : Bound) → Stays files b found → AllStay files b (section_bound found)
+section_stays files b (InSection section offset) stays = one_stays files b section stays
+section_stays files b (Number n) stays = none_stays files b
+section_stays files b (Linker n) stays = none_stays files b
+section_stays files b Nobody stays = none_stays files b
 
-roots_stay : (files : List File) (b : Bindings) → IsBindingOf files b → AreFew files → AllStay files b (roots files b)
+stays_moved : (files : List File) (name : List ℕ) (gone : List Bool) (entry : List ℕ) (found : Bound) → Stays files (bindings files gone name) found →
+    Stays files (bindings files gone entry) found
+unfolding bindings with_linker offered_bindings may_stay
+stays_moved files name gone entry (InSection section offset) stays = stays
+stays_moved files name gone entry (Number n) stays = tt
+stays_moved files name gone entry (Linker n) stays = tt
+stays_moved files name gone entry Nobody stays = tt
+
+named_stay : (files : List File) (b : Bindings) (names : List (List ℕ)) → IsBindingOf files b → AreFew files → AllStay files b (named_sections files b names)
+named_stay files b names is few =
+    sections_have files b (λ n. may_stay_at files b n ≡ true) names (λ name.
+    section_stays files b (name_bound files b name)
+    (as_an_entry files b (Stays files) name is (λ c own. entry_stays files c own few) (stays_moved files name)))
+
+roots_stay : (files : List File) (b : Bindings) (undefined : List (List ℕ)) → IsBindingOf files b → AreFew files → AllStay files b (roots files b undefined)
 unfolding roots roots_in is_root
-roots_stay files b is few =
+roots_stay files b undefined is few =
     let P : ℕ → Type 0 = λ n. may_stay_at files b n ≡ true in
-    All-append P (section_bound (entry_bound files b)) (flat_map (roots_in files b) (range_with_len 0 (length files)))
-    (entry_root files b (entry_bound files b) (entry_stays files b is few))
+    All-append P (section_bound (entry_bound files b) ++ named_sections files b undefined) (flat_map (roots_in files b) (range_with_len 0 (length files)))
+    (All-append P (section_bound (entry_bound files b)) (named_sections files b undefined)
+    (section_stays files b (entry_bound files b) (entry_stays files b is few)) (named_stay files b undefined is few))
     (each_flat P (roots_in files b) 0 (length files) (λ f lt.
     each_flat P (root_at files b f) 0 (section_count (file_at files f)) (λ k below.
     one_if P (may_stay files b f k && is_root_input (input_of files b f k)) (section_no files f k)
@@ -126,20 +143,21 @@ roots_stay files b is few =
     stays_at files b f k (omega (arith, lt)) (omega (arith, below)) both.0))))
 
 -- a link that collects keeps the least set
-pub is_collected : (files : List File) (b : Bindings) (ends : List (List ℕ)) (found : List ℕ) (seen : List Bool) → found ≡ roots files b →
-    ((s : ℕ → Bool) → rules.IsClosedByRules files b s ↔ rules.HasEnds ends s) → IsReach found ends seen → IsCollected files b seen
-is_collected files b ends found seen are law reach =
+pub is_collected : (undefined : List (List ℕ)) (files : List File) (b : Bindings) (ends : List (List ℕ)) (found : List ℕ) (seen : List Bool) →
+    found ≡ roots files b undefined → ((s : ℕ → Bool) → rules.IsClosedByRules files b s ↔ rules.HasEnds ends s) → IsReach found ends seen →
+    IsCollected undefined files b seen
+is_collected undefined files b ends found seen are law reach =
     let P : List ℕ → Type 0 = λ l. IsReach l ends seen in
     record { ends = ends; rules = law; reach = subst P are reach }
 
 -- of which each may stay
-pub collected_stay : (files : List File) (b : Bindings) (ends : List (List ℕ)) (found : List ℕ) (seen : List Bool) → IsBindingOf files b → AreFew files →
-    length ends ≡ section_total files → found ≡ roots files b → ((s : ℕ → Bool) → rules.IsClosedByRules files b s ↔ rules.HasEnds ends s) →
+pub collected_stay : (undefined : List (List ℕ)) (files : List File) (b : Bindings) (ends : List (List ℕ)) (found : List ℕ) (seen : List Bool) →
+    IsBindingOf files b → AreFew files → length ends ≡ section_total files → found ≡ roots files b undefined → ((s : ℕ → Bool) → rules.IsClosedByRules files b s ↔ rules.HasEnds ends s) →
     IsReach found ends seen → MayStay files b seen
-collected_stay files b ends found seen is few count are law reach = record {
+collected_stay undefined files b ends found seen is few count are law reach = record {
   wide = reach.wide ∙ count;
   each = λ n kept. reach.least (may_stay_at files b) (record {
-    rooted = λ f has. All-contains (λ m. may_stay_at files b m ≡ true) (roots files b) f (roots_stay files b is few) (let P : List ℕ → Type 0 = λ l. Contains l f in subst P are has);
+    rooted = λ f has. All-contains (λ m. may_stay_at files b m ≡ true) (roots files b undefined) f (roots_stay files b undefined is few) (let P : List ℕ → Type 0 = λ l. Contains l f in subst P are has);
     followed = (law (may_stay_at files b)).0 (closed_stay files b is few);
   }) n kept;
 }

@@ -9,8 +9,8 @@ use Rattle.lk_base.specs.declared.defects.Misfit.TheVariants.{Odd, Range}
 use Rattle.lk_base.specs.declared.kinds.TheConstants.{NO_PARTNER, TOO_BIG}
 use Rattle.lk_base.specs.declared.limits.Limits.{Limits}
 use Rattle.lk_base.specs.Defects.{count_defect, linkwide}
-use Rattle.lk_base.specs.Reaches.{misfit_of}
-use Rattle.lk_base.specs.RelocKinds.{Kind, is_lower}
+use Rattle.lk_base.specs.Reaches.{Reach, misfit_of}
+use Rattle.lk_base.specs.RelocKinds.{is_lower, is_uleb}
 use Rattle.lk_tables.specs.declared.objects.Reloc.{Reloc}
 use Rattle.lk_tables.specs.declared.section_places.SectionPlace.{SectionPlace}
 use Rattle.lk_tables.specs.Binding.{Bindings}
@@ -29,11 +29,11 @@ use Rattle.relax.specs.declared.calls.Call.{Call}
 use Rattle.output_sections.specs.declared.rows.Row.{Row}
 use Rattle.relax.specs.CallSizes as calls
 use Rattle.relax.specs.CallSizes.{cut_of, cuts_by, is_cut}
-use Rattle.reloc_apply.specs.Relocated.{misfit_defects, reloc_defect, reloc_defects, relocation_defects, section_defects, value_defects}
+use Rattle.reloc_apply.specs.Relocated.{defects_at, misfit_defects, operand, reach_in, reloc_at, reloc_defect, reloc_defects, relocation_defects, section_defects, value_defects, width_at}
 use Rattle.reloc_apply.specs.Values.{partner_of, value_of}
 use Rattle.link_driver.specs.Link.{Wishes, cuts_in, laid_out, leaders_in}
-use Rattle.link_driver.proofs.DefectOrder.{AreBelow, IsWide, NotAfter, Ordered, Up, all_append, all_if, all_map, all_same, all_weaker, first_ordered, later_place, numbers_up, one_all, read_all, read_up, up_append, up_filter, up_if, up_map, wide_ordered}
-use Rattle.link_driver.proofs.PhaseOrder.{AreInOrder, OfReloc, OfSection, RelocsUp, relocs_section, relocs_walk, sections_walk}
+use Rattle.link_driver.proofs.DefectOrder.{AreBelow, IsWide, NotAfter, Ordered, Up, all_append, all_flat, all_if, all_map, all_same, all_weaker, first_ordered, later_place, number_walk, numbers_up, one_all, read_all, read_up, up_append, up_filter, up_if, up_map, wide_ordered}
+use Rattle.link_driver.proofs.PhaseOrder.{AreInOrder, OfReloc, OfSection, RelocsUp, relocs_apart, sections_walk}
 
 -- cuts in order of offset
 abbrev CutsUp : (c d : Cut) → Type 0
@@ -133,48 +133,64 @@ module _ (files : List File) (b : Bindings) (leaders : List (Option ℕ)) (laid 
   misfits_up place r v (Some Odd) = (tt, tt)
   misfits_up place r v (Some Range) = (tt, tt)
 
-  values_of : (place : SectionPlace) (r : Reloc) (kind : Kind) (v : Option ℤ) → AllByRecursion (OfReloc place.file place.index r) (value_defects place r kind v)
-  values_of place r kind None = tt
-  values_of place r kind (Some v) = misfits_of place r v (misfit_of kind.reach v)
+  values_of : (place : SectionPlace) (r : Reloc) (reach : Reach) (v : Option ℤ) → AllByRecursion (OfReloc place.file place.index r) (value_defects place r reach v)
+  values_of place r reach None = tt
+  values_of place r reach (Some v) = misfits_of place r v (misfit_of reach v)
 
-  values_up : (place : SectionPlace) (r : Reloc) (kind : Kind) (v : Option ℤ) → Ordered (value_defects place r kind v)
-  values_up place r kind None = tt
-  values_up place r kind (Some v) = misfits_up place r v (misfit_of kind.reach v)
+  values_up : (place : SectionPlace) (r : Reloc) (reach : Reach) (v : Option ℤ) → Ordered (value_defects place r reach v)
+  values_up place r reach None = tt
+  values_up place r reach (Some v) = misfits_up place r v (misfit_of reach v)
 
   abbrev alone : (n : ℕ) → Reloc → Bool
   alone n r = is_lower r.kind && not (is_some (partner_of files b leaders laid n r))
 
-  abbrev misfitting : (n : ℕ) → Reloc → List Defect
-  misfitting n r = value_defects (place_of files n) r (acting_kind (cuts_at laid n) r) (value_of files b leaders laid n r (pos 0))
+  abbrev reach_at : (n : ℕ) → Reloc → Reach
+  reach_at n r = reach_in (is_uleb r.kind) (acting_kind (cuts_at laid n) r) (width_at files b leaders laid n r)
 
-  reloc_of : (n : ℕ) (r : Reloc) → AllByRecursion (OfReloc (place_of files n).file (place_of files n).index r) (reloc_defects files b leaders laid n r)
+  abbrev value_by : (n : ℕ) → (p r : Reloc) → Option ℤ
+  value_by n p r = value_of files b leaders laid n r (operand files b leaders laid n p r (pos 0))
+
+  abbrev misfitting : (n : ℕ) → (p r : Reloc) → List Defect
+  misfitting n p r = value_defects (place_of files n) r (reach_at n r) (value_by n p r)
+
+  reloc_of : (n : ℕ) (p r : Reloc) → AllByRecursion (OfReloc (place_of files n).file (place_of files n).index r) (reloc_defects files b leaders laid n p r)
   unfolding reloc_defects
-  reloc_of n r =
-      all_if (OfReloc (place_of files n).file (place_of files n).index r) (alone n r) (reloc_defect NO_PARTNER (place_of files n) r 0 ∷ []) (misfitting n r)
+  reloc_of n p r =
+      all_if (OfReloc (place_of files n).file (place_of files n).index r) (alone n r) (reloc_defect NO_PARTNER (place_of files n) r 0 ∷ []) (misfitting n p r)
       (record { own = record { file = refl; section = refl }; place = refl }, tt)
-      (values_of (place_of files n) r (acting_kind (cuts_at laid n) r) (value_of files b leaders laid n r (pos 0)))
+      (values_of (place_of files n) r (reach_at n r) (value_by n p r))
 
-  reloc_up : (n : ℕ) (r : Reloc) → Ordered (reloc_defects files b leaders laid n r)
+  reloc_up : (n : ℕ) (p r : Reloc) → Ordered (reloc_defects files b leaders laid n p r)
   unfolding reloc_defects
-  reloc_up n r =
-      up_if NotAfter (alone n r) (reloc_defect NO_PARTNER (place_of files n) r 0 ∷ []) (misfitting n r) (tt, tt)
-      (values_up (place_of files n) r (acting_kind (cuts_at laid n) r) (value_of files b leaders laid n r (pos 0)))
+  reloc_up n p r =
+      up_if NotAfter (alone n r) (reloc_defect NO_PARTNER (place_of files n) r 0 ∷ []) (misfitting n p r) (tt, tt)
+      (values_up (place_of files n) r (reach_at n r) (value_by n p r))
+
+  abbrev of_section : (n : ℕ) → List Defect
+  of_section n = flat_map (defects_at files b leaders laid n) (range_with_len 0 (length (relocs_of files n)))
 
   section_of : (n : ℕ) → AllByRecursion (OfSection (place_of files n).file (place_of files n).index) (section_defects files b leaders laid n)
   unfolding section_defects
   section_of n =
       let f = (place_of files n).file in
       let k = (place_of files n).index in
-      all_if (OfSection f k) (leads leaders n) (flat_map (reloc_defects files b leaders laid n) (relocs_of files n)) []
-      (relocs_section f k (reloc_defects files b leaders laid n) (reloc_of n) (reloc_up n) (relocs_of files n)) tt
+      all_if (OfSection f k) (leads leaders n) (of_section n) []
+      (all_flat (OfSection f k) (defects_at files b leaders laid n) (range_with_len 0 (length (relocs_of files n)))
+      (λ i. all_weaker (OfReloc f k (reloc_at files b leaders laid n i)) (OfSection f k) (defects_at files b leaders laid n i)
+      (λ d is. is.own) (reloc_of n (reloc_at files b leaders laid n (i - 1)) (reloc_at files b leaders laid n i)))) tt
 
   section_up : ((f : ℕ) → AreInOrder (file_at files f)) → (n : ℕ) → Ordered (section_defects files b leaders laid n)
   unfolding section_defects
   section_up rise n =
       let f = (place_of files n).file in
       let k = (place_of files n).index in
-      up_if NotAfter (leads leaders n) (flat_map (reloc_defects files b leaders laid n) (relocs_of files n)) []
-      (relocs_walk f k (reloc_defects files b leaders laid n) (reloc_of n) (reloc_up n) (relocs_of files n) (rise f k)) tt
+      let list = relocs_of files n in
+      up_if NotAfter (leads leaders n) (of_section n) []
+      (number_walk (length list) NotAfter (λ i. OfReloc f k (get_or list i no_reloc))
+      (λ i j x y lt one two. relocs_apart f k (get_or list i no_reloc) (get_or list j no_reloc) x y (read_up RelocsUp list i j no_reloc (rise f k) lt.0 lt.1) one two)
+      (defects_at files b leaders laid n)
+      (λ i. reloc_of n (reloc_at files b leaders laid n (i - 1)) (reloc_at files b leaders laid n i))
+      (λ i. reloc_up n (reloc_at files b leaders laid n (i - 1)) (reloc_at files b leaders laid n i))) tt
 
   pub relocations_ordered : ((f : ℕ) → AreInOrder (file_at files f)) → Ordered (relocation_defects files b leaders laid)
   unfolding relocation_defects

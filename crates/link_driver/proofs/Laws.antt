@@ -5,6 +5,7 @@ use Rattle.std.specs.List.{range_with_len, sum}
 use Rattle.std.proofs.lemmas.List.FromFn.{length-map-range_with_len}
 use Rattle.comdat.specs.Discarded.{discarded}
 use Rattle.file_live.specs.Live.{IsLive}
+use Rattle.file_live.proofs.Asking.{asked_within}
 use Rattle.file_live.proofs.Pulling.{pull_within}
 use Rattle.file_live.proofs.Rounds.{live_of_least}
 use Rattle.lk_base.specs.declared.defects.Defect.{Defect}
@@ -33,37 +34,37 @@ counts_same ss live (f ∷ fs) =
     ap (λ n. n ∷ map symbols_of (map (opened ss live) fs)) (same_symbols (has_body ss live f) (headed ss f))
     ∙ ap (λ ns. symbols_of (headed ss f) ∷ ns) (counts_same ss live fs)
 
-total_same : (ss : List Source) → symbol_total (files_in ss) ≡ symbol_total (heads_in ss)
+total_same : (undefined : List (List ℕ)) (ss : List Source) → symbol_total (files_in undefined ss) ≡ symbol_total (heads_in ss)
 unfolding opened_files heads_in
-total_same ss = ap sum (counts_same ss (live_in ss) (range_with_len 0 (length ss)))
+total_same undefined ss = ap sum (counts_same ss (live_in undefined ss) (range_with_len 0 (length ss)))
 
-file_count : (ss : List Source) → length (files_in ss) ≡ length ss
+file_count : (undefined : List (List ℕ)) (ss : List Source) → length (files_in undefined ss) ≡ length ss
 unfolding opened_files
-file_count ss = length-map-range_with_len (opened ss (live_in ss)) 0 (length ss)
+file_count undefined ss = length-map-range_with_len (opened ss (live_in undefined ss)) 0 (length ss)
 
-pub few_files : (ss : List Source) → AreCounted ss → length (files_in ss) < 2 ^ 24
-few_files ss few = omega (arith, file_count ss, few.files)
+pub few_files : (undefined : List (List ℕ)) (ss : List Source) → AreCounted ss → length (files_in undefined ss) < 2 ^ 24
+few_files undefined ss few = omega (arith, file_count undefined ss, few.files)
 
-pub few_symbols : (ss : List Source) → AreCounted ss → symbol_total (files_in ss) < 2 ^ 31
-few_symbols ss few = omega (arith, total_same ss, few.symbols)
+pub few_symbols : (undefined : List (List ℕ)) (ss : List Source) → AreCounted ss → symbol_total (files_in undefined ss) < 2 ^ 31
+few_symbols undefined ss few = omega (arith, total_same undefined ss, few.symbols)
 
-module _ (ss : List Source) (few : AreCounted ss) where
+module _ (undefined : List (List ℕ)) (ss : List Source) (few : AreCounted ss) where
   -- the files that take part are the least closed set
-  pub least_files : IsLive (heads_in ss) (live_in ss)
+  pub least_files : IsLive undefined (heads_in ss) (live_in undefined ss)
   unfolding live_in
   least_files =
       let files : length (heads_in ss) < 2 ^ 24 = omega (arith, how_many ss, few.files) in
       let symbols : symbol_total (heads_in ss) < 2 ^ 31 = omega (arith, few.symbols) in
-      live_of_least (heads_in ss) (pull_within (heads_in ss) files symbols)
+      live_of_least undefined (heads_in ss) (pull_within (heads_in ss) files symbols) (asked_within undefined (heads_in ss) files symbols)
 
   -- each name is bound to its least offer
-  pub least_offers : (entry : List ℕ) → IsLawful (files_in ss) (discarded (files_in ss)) entry (bound_names (files_in ss) entry)
+  pub least_offers : (entry : List ℕ) → IsLawful (files_in undefined ss) (discarded (files_in undefined ss)) entry (bound_names (files_in undefined ss) entry)
   unfolding bound_names
   least_offers entry =
-      lawful (files_in ss) (discarded (files_in ss)) (few_files ss few) (few_symbols ss few) entry
+      lawful (files_in undefined ss) (discarded (files_in undefined ss)) (few_files undefined ss few) (few_symbols undefined ss few) entry
 
 pub are_least : (asked : Asked) (ss : List Source) → AreCounted ss → AreLeast asked ss
-are_least asked ss few = record { taking_part = least_files ss few; bound = least_offers ss few asked.entry }
+are_least asked ss few = record { taking_part = least_files asked.undefined ss few; bound = least_offers asked.undefined ss few asked.entry }
 
 -- no definition of Link reads the number of workers
 same_line : (asked : Asked) (inputs : List (List ℕ)) (n : ℕ) (ds : List Defect) → link_with (with_workers n asked) inputs ds ≡ link_with asked inputs ds

@@ -36,14 +36,14 @@ use Rattle.link_driver.specs.Tables.{MayStay}
 use Rattle.link_driver.proofs.Fitting.{lead_so}
 
 -- the sections that may be folded are kept
-pub items_kept : (files : List File) (b : Bindings) (merged : List (Option Merged)) (kept : List Bool) →
-    All (λ n. is_kept kept n ≡ true) (sections_of (items files b merged kept))
+pub items_kept : (files : List File) (b : Bindings) (merged : List (Option Merged)) (kept barred : List Bool) →
+    All (λ n. is_kept kept n ≡ true) (sections_of (items files b merged kept barred))
 unfolding sections_of items is_foldable item_in
-items_kept files b merged kept =
+items_kept files b merged kept barred =
     let P : FoldItem → Type 0 = λ i. is_kept kept i.section ≡ true in
-    All-map (λ n. is_kept kept n ≡ true) section_of (items files b merged kept)
-    (each_flat P (item_if files b merged kept) 0 (section_total files) (λ n lt.
-    one_if P (is_foldable files b kept n) (item_of files b merged n)
+    All-map (λ n. is_kept kept n ≡ true) section_of (items files b merged kept barred)
+    (each_flat P (item_if files b merged kept barred) 0 (section_total files) (λ n lt.
+    one_if P (is_foldable files b kept barred n) (item_of files b merged n)
     (λ on. (and_parts (is_kept kept n) _ on).0)))
 
 -- what stands in pools and in the table is no matter of the layout's defects
@@ -60,12 +60,12 @@ module _ (w : Wishes) (files : List File) (b : Bindings) (kept : List Bool) (poo
 
   -- with it
   pub folded_are : (own leaders : List (Option ℕ)) (list : List FoldItem) (places : List ℕ) → w.icf ≡ true → own ≡ own_leaders kept (merged_views pools) →
-      list ≡ items files b (merged_views pools) kept → places ≡ leaders_of list → leaders ≡ folded_leaders list places own → leaders ≡ leaders_in w files b kept
+      list ≡ items files b (merged_views pools) kept w.barred → places ≡ leaders_of list → leaders ≡ folded_leaders list places own → leaders ≡ leaders_in w files b kept
   unfolding leaders_in pools_view
   folded_are own leaders list places on own_is list_is places_are is =
       let give : List FoldItem → List (Option ℕ) → List (Option ℕ) = λ l o. folded_leaders l (leaders_of l) o in
-      is ∙ ap (λ ps. folded_leaders list ps own) places_are ∙ ap (λ l. give l own) list_is ∙ ap (give (items files b (merged_views pools) kept)) own_is
-      ∙ ap (λ (v : PoolsView). give (items files b v.merged kept) (own_leaders kept v.merged)) are ∙ sym (cond-true w.icf _ _ on)
+      is ∙ ap (λ ps. folded_leaders list ps own) places_are ∙ ap (λ l. give l own) list_is ∙ ap (give (items files b (merged_views pools) kept w.barred)) own_is
+      ∙ ap (λ (v : PoolsView). give (items files b v.merged kept w.barred) (own_leaders kept v.merged)) are ∙ sym (cond-true w.icf _ _ on)
 
   module _ (leaders : List (Option ℕ)) (lead : leaders ≡ leaders_in w files b kept) (entries : List GotEntry) (listed : entries ≡ table_of w files b kept)
       (rows : Orders) (order : rows ≡ orders_of (parts files b pools.pools.items (word_count entries) leaders)) (sizes : List (List Cut))
@@ -117,13 +117,13 @@ lead_items items l count places own = record {
 }
 
 -- folded sections have leaders that may stay and lead themselves
-pub folded_stay : (files : List File) (b : Bindings) (kept : List Bool) (pools : Pools) (own leaders : List (Option ℕ)) (list : List FoldItem) (places : List ℕ) →
-    own ≡ own_leaders kept (merged_views pools) → list ≡ items files b (merged_views pools) kept → IsStrictlyIncreasing (sections_of list) →
+pub folded_stay : (files : List File) (b : Bindings) (kept barred : List Bool) (pools : Pools) (own leaders : List (Option ℕ)) (list : List FoldItem) (places : List ℕ) →
+    own ≡ own_leaders kept (merged_views pools) → list ≡ items files b (merged_views pools) kept barred → IsStrictlyIncreasing (sections_of list) →
     LeadItems (length list) places → leaders ≡ folded_leaders list places own → MayStay files b kept → AreLeaders files b leaders
-folded_stay files b kept pools own leaders list places own_is list_is order lead is stay =
+folded_stay files b kept barred pools own leaders list places own_is list_is order lead is stay =
     let merged = merged_views pools in
     let P : List FoldItem → Type 0 = λ l. All (λ n. is_kept kept n ≡ true) (sections_of l) in
-    let kept_are = subst P (sym list_is) (items_kept files b merged kept) in
+    let kept_are = subst P (sym list_is) (items_kept files b merged kept barred) in
     let whole = is ∙ ap (folded_leaders list places) own_is in
     let Q : List (Option ℕ) → Type 0 = λ l. AreLeaders files b l in
     subst Q (sym whole) (lead_so files b kept (folded_leaders list places (own_leaders kept merged)) (folded_lead kept merged list places order kept_are lead) stay)

@@ -1,3 +1,4 @@
+pub mod SetApart
 pub mod Chain
 pub mod Counting
 pub mod DefectOrder
@@ -16,6 +17,7 @@ pub mod Opened
 pub mod Passing
 pub mod PhaseOrder
 pub mod Promising
+pub mod Sparing
 pub mod Starting
 pub mod Totals
 pub mod Whole

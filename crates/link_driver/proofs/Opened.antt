@@ -30,9 +30,9 @@ pub how_many : (ss : List Source) → length (heads_in ss) ≡ length ss
 unfolding heads_in
 how_many ss = length-map-range_with_len (headed ss) 0 (length ss)
 
-pub how_many_live : (ss : List Source) → length (live_in ss) ≡ length ss
+pub how_many_live : (undefined : List (List ℕ)) (ss : List Source) → length (live_in undefined ss) ≡ length ss
 unfolding live_in live_of
-how_many_live ss = length-map-range_with_len (is_live (heads_in ss)) 0 (length (heads_in ss)) ∙ how_many ss
+how_many_live undefined ss = length-map-range_with_len (is_live undefined (heads_in ss)) 0 (length (heads_in ss)) ∙ how_many ss
 
 pub head_at : (ss : List Source) (f : ℕ) → f < length ss → file_at (heads_in ss) f ≡ headed ss f
 unfolding heads_in
@@ -78,9 +78,9 @@ module _ (ss : List Source) (live : List Bool) (bodies : List (Option Object)) (
   pub each_few : (f : ℕ) → f < length (heads_in ss) → is_some (slice_index_or bodies f None) ≡ true → count_of (file_at (heads_in ss) f) < 2 ^ 28
   each_few f lt some = body_few (file_at (heads_in ss) f) (slice_index_or bodies f None) (are_bodies f lt) some
 
-  pub with_bodies : live ≡ live_in ss → with_objects (heads_in ss) bodies ≡ files_in ss
+  pub with_bodies : (undefined : List (List ℕ)) → live ≡ live_in undefined ss → with_objects (heads_in ss) bodies ≡ files_in undefined ss
   unfolding opened_files
-  with_bodies same =
+  with_bodies undefined same =
       fill_by_all (opened ss live) (with_objects (heads_in ss) bodies) (length ss) no_file (length_with_objects (heads_in ss) bodies ∙ how_many ss)
       (λ f lt. file_at_with_objects (heads_in ss) bodies f (omega (arith, lt, how_many ss))
       ∙ ap (λ (file : File). with_object file (slice_index_or bodies f None)) (head_at ss f lt)
@@ -88,7 +88,7 @@ module _ (ss : List Source) (live : List Bool) (bodies : List (Option Object)) (
       ∙ ap (λ (l : List Bool). map (opened ss l) (range_with_len 0 (length ss))) same
 
 -- the defects of the bodies, by the marks that the code has
-pub same_defects : (ss : List Source) (live : List Bool) (n : ℕ) → n ≡ length ss → live ≡ live_in ss →
-    flat_map (body_defects_at ss live) (range_with_len 0 n) ≡ flat_map (body_defects_at ss (live_in ss)) (range_with_len 0 (length ss))
-same_defects ss live n all same =
+pub same_defects : (undefined : List (List ℕ)) (ss : List Source) (live : List Bool) (n : ℕ) → n ≡ length ss → live ≡ live_in undefined ss →
+    flat_map (body_defects_at ss live) (range_with_len 0 n) ≡ flat_map (body_defects_at ss (live_in undefined ss)) (range_with_len 0 (length ss))
+same_defects undefined ss live n all same =
     ap (λ k. flat_map (body_defects_at ss live) (range_with_len 0 k)) all ∙ ap (λ l. flat_map (body_defects_at ss l) (range_with_len 0 (length ss))) same

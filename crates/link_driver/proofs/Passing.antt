@@ -25,7 +25,7 @@ use Rattle.sec_graph.specs.Foldable.{items}
 use Rattle.reloc_apply.specs.Relocated.{relocation_defects}
 use Rattle.link_driver.specs.declared.linking.Linked.{Linked}
 use Rattle.link_driver.specs.Defects.{opening_defects, reading_defects}
-use Rattle.link_driver.specs.Link.{Wishes, binding_phases, bound_names, kept_in, kept_of, laid_out, leaders_in, piece_defects, placing_defects, placing_phases, wishes_of}
+use Rattle.link_driver.specs.Link.{Wishes, binding_phases, bound_names, kept_for, laid_out, leaders_in, piece_defects, placing_defects, placing_phases, wishes_for}
 use Rattle.link_driver.specs.Phases.{HoldsAtStop, HoldsPast, ShortenedCallsReach}
 use Rattle.link_driver.specs.Sources.{Source, files_in}
 use Rattle.link_driver.specs.Tables.{MayStay}
@@ -38,16 +38,16 @@ own_so tables b kept pools own is stay =
     let Q : List (Option ℕ) → Type 0 = λ l. AreAlike (files_of tables) b l in
     subst Q (sym is) (own_alike tables b kept stay.each (merged_views pools))
 
-pub folded_so : (tables : Tables) (b : Bindings) (kept : List Bool) (pools : Pools) (own leaders : List (Option ℕ)) (list : List FoldItem) (places : List ℕ) →
-    own ≡ own_leaders kept (merged_views pools) → list ≡ items (files_of tables) b (merged_views pools) kept → AreLeaders list places →
+pub folded_so : (tables : Tables) (b : Bindings) (kept barred : List Bool) (pools : Pools) (own leaders : List (Option ℕ)) (list : List FoldItem) (places : List ℕ) →
+    own ≡ own_leaders kept (merged_views pools) → list ≡ items (files_of tables) b (merged_views pools) kept barred → AreLeaders list places →
     leaders ≡ folded_leaders list places own → MayStay (files_of tables) b kept → AreAlike (files_of tables) b leaders
-folded_so tables b kept pools own leaders list places own_is list_is lead is stay =
+folded_so tables b kept barred pools own leaders list places own_is list_is lead is stay =
     let files = files_of tables in
     let merged = merged_views pools in
     let P : List FoldItem → Type 0 = λ l. AreLeaders l places in
     let Q : List (Option ℕ) → Type 0 = λ l. AreAlike files b l in
-    let whole = is ∙ ap (λ l. folded_leaders l places own) list_is ∙ ap (folded_leaders (items files b merged kept) places) own_is in
-    subst Q (sym whole) (folded_alike tables b kept stay.each merged places (subst P list_is lead))
+    let whole = is ∙ ap (λ l. folded_leaders l places own) list_is ∙ ap (folded_leaders (items files b merged kept barred) places) own_is in
+    subst Q (sym whole) (folded_alike tables b kept stay.each barred merged places (subst P list_is lead))
 
 -- over the leaders and the layout of a link
 pub reaches_so : (w : Wishes) (files : List File) (b : Bindings) (kept : List Bool) (leaders : List (Option ℕ)) (laid : LaidOut) → leaders ≡ leaders_in w files b kept →
@@ -64,17 +64,6 @@ goes_so r w files b kept leaders laid lead found goes =
     let P : List (Option ℕ) → Type 0 = λ l. Goes r (relocation_defects files b l laid) in
     let Q : LaidOut → Type 0 = λ l. Goes r (relocation_defects files b (leaders_in w files b kept) l) in
     subst Q found (subst P lead goes)
-
--- and of the files of these sources
-pub reach_in : (asked : Asked) (ss : List Source) (files : List File) (b : Bindings) (kept : List Bool) → files ≡ files_in ss → b ≡ bound_names files asked.entry →
-    kept ≡ kept_of asked.gc files b → ShortenedCallsReach (wishes_of asked) files b kept →
-    ShortenedCallsReach (wishes_of asked) (files_in ss) (bound_names (files_in ss) asked.entry) (kept_in asked ss)
-reach_in asked ss files b kept are names stays reach =
-    let w = wishes_of asked in
-    let P : List Bool → Type 0 = λ k. ShortenedCallsReach w files b k in
-    let Q : Bindings → Type 0 = λ n. ShortenedCallsReach w files n (kept_of asked.gc files n) in
-    let R : List File → Type 0 = λ fs. ShortenedCallsReach w fs (bound_names fs asked.entry) (kept_of asked.gc fs (bound_names fs asked.entry)) in
-    subst R are (subst Q names (subst P stays reach))
 
 -- a link that stops at one of these defects has some
 pub not_past : (stop : LinkStop) (defects : List Defect) (P : Type 0) → StopsAt stop defects → HoldsAtStop stop defects P
@@ -94,22 +83,22 @@ past_on stops.Memory earlier more P Q less step holds = tt
 
 module _ (limits : Limits) (asked : Asked) (ss : List Source) where
   abbrev read_phases : List (List Defect)
-  read_phases = reading_defects limits ss ∷ opening_defects limits ss ∷ []
+  read_phases = reading_defects limits ss ∷ opening_defects limits asked.undefined ss ∷ []
 
   abbrev placing_of : List File → Bindings → List Bool → List (List Defect)
-  placing_of files b kept = placing_phases limits (wishes_of asked) files b kept
+  placing_of files b kept = placing_phases limits (wishes_for asked files b kept) files b kept
 
   abbrev rest_of : List File → List (List Defect)
-  rest_of files = binding_phases limits asked files ++ placing_of files (bound_names files asked.entry) (kept_of asked.gc files (bound_names files asked.entry))
+  rest_of files = binding_phases limits asked files ++ placing_of files (bound_names files asked.entry) (kept_for asked files (bound_names files asked.entry))
 
   pub early_reading : (stop : LinkStop) → StopsAt stop (first_phase read_phases) → StopsAt stop (placing_defects limits asked ss)
   unfolding placing_defects
-  early_reading stop at = stopped read_phases (rest_of (files_in ss)) stop at
+  early_reading stop at = stopped read_phases (rest_of (files_in asked.undefined ss)) stop at
 
-  module _ (read : first_phase read_phases ≡ []) (files : List File) (are : files ≡ files_in ss) where
+  module _ (read : first_phase read_phases ≡ []) (files : List File) (are : files ≡ files_in asked.undefined ss) where
     left : placing_defects limits asked ss ≡ first_phase (rest_of files)
     unfolding placing_defects
-    left = passed read_phases (rest_of (files_in ss)) read ∙ ap (λ fs. first_phase (rest_of fs)) (sym are)
+    left = passed read_phases (rest_of (files_in asked.undefined ss)) read ∙ ap (λ fs. first_phase (rest_of fs)) (sym are)
 
     pub early_pieces : (stop : LinkStop) → StopsAt stop (piece_defects limits files) → StopsAt stop (placing_defects limits asked ss)
     early_pieces stop at = let P : List Defect → Type 0 = λ ds. StopsAt stop ds in
@@ -120,15 +109,15 @@ module _ (limits : Limits) (asked : Asked) (ss : List Source) where
 
     module _ (few : piece_defects limits files ≡ []) where
       past : placing_defects limits asked ss
-          ≡ first_phase (name_phases ++ placing_of files (bound_names files asked.entry) (kept_of asked.gc files (bound_names files asked.entry)))
+          ≡ first_phase (name_phases ++ placing_of files (bound_names files asked.entry) (kept_for asked files (bound_names files asked.entry)))
       past = left ∙ passed (piece_defects limits files ∷ []) _ (one_none (piece_defects limits files) few)
 
       pub early_binding : (stop : LinkStop) → StopsAt stop (binding_defects files (discarded files) asked.entry) → StopsAt stop (placing_defects limits asked ss)
       early_binding stop at = let P : List Defect → Type 0 = λ ds. StopsAt stop ds in subst P (sym past) (stopped name_phases _ stop at)
 
       pub placing_left : binding_defects files (discarded files) asked.entry ≡ [] → (b : Bindings) → b ≡ bound_names files asked.entry →
-          (kept : List Bool) → kept ≡ kept_of asked.gc files b → placing_defects limits asked ss ≡ first_phase (placing_of files b kept)
+          (kept : List Bool) → kept ≡ kept_for asked files b → placing_defects limits asked ss ≡ first_phase (placing_of files b kept)
       placing_left bound b names kept stays =
           past ∙ passed name_phases _ bound
-          ∙ ap (λ n. first_phase (placing_of files n (kept_of asked.gc files n))) (sym names)
+          ∙ ap (λ n. first_phase (placing_of files n (kept_for asked files n))) (sym names)
           ∙ ap (λ k. first_phase (placing_of files b k)) (sym stays)

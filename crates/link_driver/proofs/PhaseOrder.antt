@@ -92,14 +92,14 @@ reading_ordered limits ss =
     (number_walk n NotAfter OfFile (files_apart n) (head_defects_at ss) (λ f. head_file (source_at ss f) f) (λ f. head_up (source_at ss f) f))
     (all_append IsWide files symbols (counts_wide limits.files (length ss)) (counts_wide limits.symbols (symbol_total (heads_in ss))))
 
-pub opening_ordered : (limits : Limits) (ss : List Source) → Ordered (opening_defects limits ss)
+pub opening_ordered : (limits : Limits) (undefined : List (List ℕ)) (ss : List Source) → Ordered (opening_defects limits undefined ss)
 unfolding opening_defects
-opening_ordered limits ss =
+opening_ordered limits undefined ss =
     let n = length ss in
-    let live = live_in ss in
-    then_wide (flat_map (body_defects_at ss live) (range_with_len 0 n)) (count_defects limits.sections (section_total (files_in ss)))
+    let live = live_in undefined ss in
+    then_wide (flat_map (body_defects_at ss live) (range_with_len 0 n)) (count_defects limits.sections (section_total (files_in undefined ss)))
     (number_walk n NotAfter OfFile (files_apart n) (body_defects_at ss live) (body_file ss live) (body_up ss live))
-    (counts_wide limits.sections (section_total (files_in ss)))
+    (counts_wide limits.sections (section_total (files_in undefined ss)))
 
 pub pieces_ordered : (limits : Limits) (files : List File) → Ordered (piece_defects limits files)
 unfolding piece_defects
@@ -325,10 +325,10 @@ opened_in_order ss live f = by_body (has_body ss live f)
     by_body true = body_in_order (headed ss f)
     by_body false = λ k. tt
 
-pub files_in_order : (ss : List Source) (f : ℕ) → AreInOrder (file_at (files_in ss) f)
+pub files_in_order : (undefined : List (List ℕ)) (ss : List Source) (f : ℕ) → AreInOrder (file_at (files_in undefined ss) f)
 unfolding opened_files
-files_in_order ss f =
-    let live = live_in ss in
+files_in_order undefined ss f =
+    let live = live_in undefined ss in
     read_all AreInOrder (map (opened ss live) (range_with_len 0 (length ss))) f no_file
     (all_map AreInOrder (opened ss live) (range_with_len 0 (length ss)) (all_same (λ g. AreInOrder (opened ss live g)) (range_with_len 0 (length ss)) (opened_in_order ss live)))
     (λ k. tt)
@@ -345,7 +345,7 @@ pub record OfReloc (f k : ℕ) (r : Reloc) (e : Defect) : Type 0 where
 sections_apart : (f n j k : ℕ) (d e : Defect) → AreBelow n j k → OfSection f j d → OfSection f k e → NotAfter d e
 sections_apart f n j k d e lt here there = later_section e d (omega (arith, here.file, there.file)) (omega (arith, lt.0, here.section, there.section))
 
-relocs_apart : (f k : ℕ) (p q : Reloc) (d e : Defect) → RelocsUp p q → OfReloc f k p d → OfReloc f k q e → NotAfter d e
+pub relocs_apart : (f k : ℕ) (p q : Reloc) (d e : Defect) → RelocsUp p q → OfReloc f k p d → OfReloc f k q e → NotAfter d e
 relocs_apart f k p q d e up here there =
     later_place e d (omega (arith, here.own.file, there.own.file)) (omega (arith, here.own.section, there.own.section)) (omega (arith, up, here.place, there.place))
 

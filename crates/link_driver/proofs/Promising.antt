@@ -11,6 +11,7 @@ use Rattle.link_driver.specs.Link.{link}
 use Rattle.link_driver.specs.Ends.{Accepts, Ends, links, finds_defect, refuses, cannot_read_input, cannot_write_output, cannot_write_map, cannot_say, lacks_memory}
 use Rattle.link_driver.specs.Promises.{IsGiven, IsFaultless, Promises}
 use Rattle.link_driver.proofs.Laws.{are_least, link_of_any}
+use Rattle.link_driver.proofs.Sparing.{spares}
 
 -- told files have one list of contents
 one_content : (files : Option Files) (names a b : List (List ℕ)) → IsSome files → AreContents files names a → AreContents files names b → a ≡ b
@@ -178,6 +179,7 @@ module _ (words : List (List ℕ)) (before after : Store) (say say' : Output) (s
     only_sound = only_sound_end ends;
     missing = missing_end ends;
     least = λ asked given few. are_least asked (sources_for asked given) few;
+    spared = λ asked given. spares asked (sources_for asked given);
     any_workers = link_of_any;
     begun = begun_end ends;
   }

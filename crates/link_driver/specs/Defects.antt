@@ -44,7 +44,7 @@ reading_defects limits ss =
     ++ (count_defects limits.files (length ss) ++ count_defects limits.symbols (symbol_total (heads_in ss)))
 
 -- phase 2: the body of each file that takes part; then how many sections there are
-unfoldable pub opening_defects : Limits → List Source → List Defect
-opening_defects limits ss =
-    flat_map (body_defects_at ss (live_in ss)) (range_with_len 0 (length ss))
-    ++ count_defects limits.sections (section_total (files_in ss))
+unfoldable pub opening_defects : Limits → (undefined : List (List ℕ)) → List Source → List Defect
+opening_defects limits undefined ss =
+    flat_map (body_defects_at ss (live_in undefined ss)) (range_with_len 0 (length ss))
+    ++ count_defects limits.sections (section_total (files_in undefined ss))

@@ -4,8 +4,8 @@ use Rattle.comdat.specs.Discarded.{discarded}
 use Rattle.file_live.specs.Live.{IsLive}
 use Rattle.link_command.specs.Command.{Asked}
 use Rattle.link_driver.specs.Given.{contents_for}
-use Rattle.link_driver.specs.Link.{bound_names}
-use Rattle.link_driver.specs.Sources.{Source, files_in, heads_in, live_in, sources}
+use Rattle.link_driver.specs.Link.{bound_in, linked_files}
+use Rattle.link_driver.specs.Sources.{Source, heads_in, live_in, sources}
 use Rattle.lk_base.specs.declared.defects.Defect.{Defect}
 use Rattle.lk_base.specs.declared.defects.LinkStop.{LinkStop}
 use Rattle.lk_base.specs.declared.defects.LinkStop.TheVariants as stops
@@ -30,6 +30,8 @@ with_workers n asked = record {
   icf = asked.icf;
   relax = asked.relax;
   strip = asked.strip;
+  undefined = asked.undefined;
+  unique = asked.unique;
   generated = asked.generated;
   inputs = asked.inputs;
 }
@@ -39,11 +41,11 @@ pub record AreCounted (ss : List Source) : Type 0 where
   pub files : length ss ≤ standard.files
   pub symbols : symbol_total (heads_in ss) ≤ standard.symbols
 
--- the files that take part are the least set with the command's objects and all that they pull; each name is bound to the least offer of it,
+-- the files that take part are the least set with the command's objects, the members that it asks for and all that these pull; each name is bound to the least offer of it,
 -- if there is one, and bound COMMON symbols get the greatest room asked for
 pub record AreLeast (asked : Asked) (ss : List Source) : Type 0 where
-  pub taking_part : IsLive (heads_in ss) (live_in ss)
-  pub bound : IsLawful (files_in ss) (discarded (files_in ss)) asked.entry (bound_names (files_in ss) asked.entry)
+  pub taking_part : IsLive asked.undefined (heads_in ss) (live_in asked.undefined ss)
+  pub bound : IsLawful (linked_files asked ss) (discarded (linked_files asked ss)) asked.entry (bound_in asked ss)
 
 -- a defect of a file comes before another by file, section and place; one of no file comes before none
 abbrev pub comes_before : Defect → Defect → Bool

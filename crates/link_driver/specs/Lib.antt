@@ -13,6 +13,7 @@ pub mod Promises
 pub mod Reading
 pub mod Reports
 pub mod Sources
+pub mod Spared
 pub mod Stops
 pub mod Tables
 pub use Rattle.link_command.specs.Command

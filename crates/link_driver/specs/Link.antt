@@ -1,6 +1,7 @@
 -- What a link is: the command, the defects, and the one-thread definition of all that a user gets.
-use Rattle.std.specs.Prelude.{ℕ, ◌-◌, ◌^◌, min, Bool, Option, Some, None, is_some, Result, Ok, Err, if◌then◌else◌, List, [], ◌∷◌, ◌++◌, slice_get, codes}
+use Rattle.std.specs.Prelude.{ℕ, ◌-◌, ◌^◌, ◌==◌, ◌&&◌, ◌||◌, min, map, Bool, Option, Some, None, is_some, Result, Ok, Err, if◌then◌else◌, List, [], ◌∷◌, ◌++◌, slice_get, codes}
 use Rattle.std.specs.Option.{option_map_or}
+use Rattle.std.specs.List.{list_any, range_with_len}
 use Rattle.lk_base.specs.declared.defects.Defect.{Defect}
 use Rattle.lk_base.specs.declared.defects.Flaw.{Flaw}
 use Rattle.lk_base.specs.declared.limits.Limits.{Limits}
@@ -8,6 +9,7 @@ use Rattle.lk_base.specs.Defects.{count_defects}
 use Rattle.lk_base.specs.Kinds.{names_entry, names_symbol}
 use Rattle.lk_base.specs.Limits.{standard}
 use Rattle.lk_base.specs.Lines.{defect_line, escaped}
+use Rattle.asked_names.specs.AskedNames.{named_sections}
 use Rattle.comdat.specs.Discarded.{discarded}
 use Rattle.layout.specs.Layout.{layout_defects, layout_of}
 use Rattle.link_sections.specs.InputSections.{all_kept}
@@ -24,13 +26,14 @@ use Rattle.lk_tables.specs.declared.heads.Place.TheVariants.{Undef, Absolute, Co
 use Rattle.lk_tables.specs.declared.heads.Symbol.{Symbol}
 use Rattle.lk_tables.specs.Binding.{Bindings, flag_defects, duplicate_defects, first_phase}
 use Rattle.lk_tables.specs.BoundNames.{bindings, entry_defects}
-use Rattle.lk_tables.specs.Files.{File, is_section_symbol}
+use Rattle.lk_tables.specs.Files.{File, is_section_symbol, section_total}
 use Rattle.lk_tables.specs.Heads.{HeadView, head_of}
 use Rattle.lk_tables.specs.Names.{text_of}
 use Rattle.elf_out.specs.Executable.{executable}
 use Rattle.got_tls.specs.GotList.{got_of}
 use Rattle.icf_part.specs.Leaders.{leaders_of}
-use Rattle.link_command.specs.Command.{Asked}
+use Rattle.link_command.specs.declared.command.IcfMode.{IcfMode}
+use Rattle.link_command.specs.Command.{Asked, folds, is_safe}
 use Rattle.link_driver.specs.Defects.{opening_defects, reading_defects}
 use Rattle.link_driver.specs.Given.{contents_for, names_for}
 use Rattle.link_driver.specs.Reports.{report_text}
@@ -43,37 +46,57 @@ use Rattle.relax.specs.CallSizes.{cuts_of}
 use Rattle.reloc_apply.specs.Relocated.{relocation_defects}
 use Rattle.sec_gc.specs.Kept.{reached}
 use Rattle.sec_gc.specs.Roots.{roots}
-use Rattle.sec_graph.specs.Foldable.{items}
+use Rattle.sec_graph.specs.Foldable.{is_barred, items}
 use Rattle.sec_graph.specs.Graph.{edges}
+use Rattle.sec_graph.specs.Taken.{address_taken}
 use Rattle.sec_graph.specs.Undefined.{undefined_defects}
 
 -- what the names of these files are bound to: of the COMDAT groups of one signature one copy counts
 unfoldable pub bound_names : List File → (entry : List ℕ) → Bindings
 bound_names files entry = bindings files (discarded files) entry
 
--- by section number, which sections are kept: all, or those that the roots lead to
-unfoldable pub kept_of : (gc : Bool) → List File → Bindings → List Bool
-kept_of gc files b = if gc then reached (roots files b) (edges files b) else all_kept files b
+-- by section number, which sections are kept: all, or those that the roots lead to, among them those of the names that are asked for
+unfoldable pub kept_of : (gc : Bool) → (undefined : List (List ℕ)) → List File → Bindings → List Bool
+kept_of gc undefined files b = if gc then reached (roots files b undefined) (edges files b) else all_kept files b
 
--- what the command asks of a link beside its names: which sections are kept, whether equal code is folded, whether calls are relaxed,
--- whether symbols are left out, whether there is a map, and whether there is a report, of so many generated objects
+-- a section is to be folded with no other: a name that is to be kept unique stands in it, or folding is to be safe and its address is taken
+abbrev pub is_apart : IcfMode → (unique : List (List ℕ)) → List File → Bindings → (kept : List Bool) → (section : ℕ) → Bool
+is_apart icf unique files b kept section =
+    list_any (λ s. s == section) (named_sections files b unique) || (is_safe icf && is_barred (address_taken files b kept) section)
+
+-- the same of all sections, by their numbers
+unfoldable pub barred_of : IcfMode → (unique : List (List ℕ)) → List File → Bindings → (kept : List Bool) → List Bool
+barred_of icf unique files b kept = map (is_apart icf unique files b kept) (range_with_len 0 (section_total files))
+
+-- what the command asks of a link beside its names: which sections are kept, whether equal code is folded and by section number which code is
+-- to be folded with no other, whether calls are relaxed, whether symbols are left out, whether there is a map, and whether there is a report, of
+-- so many generated objects
 pub record Wishes : Type 0 where
   pub gc : Bool
   pub icf : Bool
+  pub barred : List Bool
   pub relax : Bool
   pub strip : Bool
   pub map : Bool
   pub generated : Option ℕ
 
-abbrev pub wishes_of : Asked → Wishes
-wishes_of asked = record {
+abbrev pub wishes_of : Asked → (barred : List Bool) → Wishes
+wishes_of asked barred = record {
   gc = asked.gc;
-  icf = asked.icf;
+  icf = folds asked.icf;
+  barred = barred;
   relax = asked.relax;
   strip = asked.strip;
   map = is_some asked.map;
   generated = asked.generated;
 }
+
+-- of these files, what a command keeps, and what it asks where this is kept
+abbrev pub kept_for : Asked → List File → Bindings → List Bool
+kept_for asked files b = kept_of asked.gc asked.undefined files b
+
+abbrev pub wishes_for : Asked → List File → Bindings → (kept : List Bool) → Wishes
+wishes_for asked files b kept = wishes_of asked (barred_of asked.icf asked.unique files b kept)
 
 module _ (w : Wishes) (files : List File) (b : Bindings) (kept : List Bool) where
   -- by section number, what is merged of kept sections
@@ -82,7 +105,7 @@ module _ (w : Wishes) (files : List File) (b : Bindings) (kept : List Bool) wher
 
   -- by section number, which section is written in the place of each: those that are merged stand in pools, and equal code is folded
   abbrev pub fold_items_of : List FoldItem
-  fold_items_of = items files b merged_of kept
+  fold_items_of = items files b merged_of kept w.barred
 
   unfoldable pub leaders_in : List (Option ℕ)
   leaders_in = if w.icf then folded_leaders fold_items_of (leaders_of fold_items_of) (own_leaders kept merged_of) else own_leaders kept merged_of
@@ -134,20 +157,21 @@ binding_phases limits asked files =
 abbrev pub later_phases : Limits → Asked → List File → List (List Defect)
 later_phases limits asked files =
     binding_phases limits asked files
-    ++ last_phases limits (wishes_of asked) files (bound_names files asked.entry) (kept_of asked.gc files (bound_names files asked.entry))
+    ++ last_phases limits (wishes_for asked files (bound_names files asked.entry) (kept_for asked files (bound_names files asked.entry)))
+    files (bound_names files asked.entry) (kept_for asked files (bound_names files asked.entry))
 
 -- the defects are those of the first phase that has any
 unfoldable pub defects_in : Limits → Asked → List Source → List Defect
 defects_in limits asked ss =
-    first_phase (reading_defects limits ss ∷ opening_defects limits ss ∷ later_phases limits asked (files_in ss))
+    first_phase (reading_defects limits ss ∷ opening_defects limits asked.undefined ss ∷ later_phases limits asked (files_in asked.undefined ss))
 
 -- the same of the phases up to the layout alone: if there is none, only the values of relocations are left to fail
 unfoldable pub placing_defects : Limits → Asked → List Source → List Defect
 placing_defects limits asked ss =
-    let files = files_in ss in
+    let files = files_in asked.undefined ss in
     let b = bound_names files asked.entry in
-    first_phase (reading_defects limits ss ∷ opening_defects limits ss
-    ∷ (binding_phases limits asked files ++ placing_phases limits (wishes_of asked) files b (kept_of asked.gc files b)))
+    first_phase (reading_defects limits ss ∷ opening_defects limits asked.undefined ss
+    ∷ (binding_phases limits asked files ++ placing_phases limits (wishes_for asked files b (kept_for asked files b)) files b (kept_for asked files b)))
 
 abbrev pub defects_of : Limits → Asked → List (List ℕ) → List Defect
 defects_of limits asked inputs = defects_in limits asked (sources limits inputs)
@@ -169,21 +193,28 @@ module _ (w : Wishes) (files : List File) (b : Bindings) (kept : List Bool) wher
   report_with = report_by w.generated files kept (leaders_in w files b kept) (laid_out w files b kept)
 
 module _ (asked : Asked) (ss : List Source) where
-  -- what the names of the files of these sources are bound to, and what is kept of them
+  -- the files of these sources, what their names are bound to, and what is kept of them
+  abbrev pub linked_files : List File
+  linked_files = files_in asked.undefined ss
+
   abbrev pub bound_in : Bindings
-  bound_in = bound_names (files_in ss) asked.entry
+  bound_in = bound_names linked_files asked.entry
 
   abbrev pub kept_in : List Bool
-  kept_in = kept_of asked.gc (files_in ss) bound_in
+  kept_in = kept_for asked linked_files bound_in
+
+  -- and what is asked of the link
+  abbrev pub wishes_in : Wishes
+  wishes_in = wishes_for asked linked_files bound_in kept_in
 
   unfoldable pub executable_in : List ℕ
-  executable_in = executable_with (wishes_of asked) (files_in ss) bound_in kept_in
+  executable_in = executable_with wishes_in linked_files bound_in kept_in
 
   unfoldable pub map_in : (names : List (List ℕ)) → List ℕ
-  map_in names = map_with (wishes_of asked) (files_in ss) bound_in kept_in names
+  map_in names = map_with wishes_in linked_files bound_in kept_in names
 
   unfoldable pub report_in : List ℕ
-  report_in = report_with (wishes_of asked) (files_in ss) bound_in kept_in
+  report_in = report_with wishes_in linked_files bound_in kept_in
 
 -- the name of section k by its header, empty if there is no such section
 abbrev pub section_name : List ℕ → HeadView → (k : ℕ) → List ℕ

@@ -17,8 +17,8 @@ use Rattle.sym_resolve.specs.Law.{IsLawful}
 use Rattle.link_driver.specs.declared.linking.Linked.{Linked}
 use Rattle.comdat.specs.Discarded.{discarded}
 use Rattle.link_driver.specs.Laws.{StopsAtLeast}
-use Rattle.link_driver.specs.Link.{Wishes, bound_names, defects_in, executable_in, executable_with, kept_in, laid_out, leaders_in, link, map_in, map_with, placing_defects, report_by, report_in, report_with, wishes_of}
-use Rattle.link_driver.specs.Sources.{Source, files_in, heads_in, live_in}
+use Rattle.link_driver.specs.Link.{Wishes, bound_in, defects_in, executable_in, executable_with, kept_in, laid_out, leaders_in, link, linked_files, map_in, map_with, placing_defects, report_by, report_in, report_with, wishes_in}
+use Rattle.link_driver.specs.Sources.{Source, heads_in, live_in}
 use Rattle.link_driver.specs.Tables.{IsCollected}
 
 -- what files give that have no defect and are laid out so: `names` are those by which they are shown
@@ -62,16 +62,16 @@ abbrev pub LinkStands : Wishes → List File → Bindings → (kept : List Bool)
 LinkStands w files b kept exe = StandsWhole w files b kept (leaders_in w files b kept) (laid_out w files b kept) exe
 
 -- a link without a defect gives Link. Of Link's own words it is said, as laws: the files that take part are the least set with
--- the command's objects and all that they pull; each name is bound to the least offer of it, if there is one, and bound COMMON
+-- the command's objects, the members that it asks for and all that these pull; each name is bound to the least offer of it, if there is one, and bound COMMON
 -- symbols get the greatest room asked for; what garbage collection keeps is the least set with the roots that the rules close; each
 -- piece of the executable, and each section, stands whole in it; and each shortened call reaches its target
 pub record Links (limits : Limits) (asked : Asked) (names : List (List ℕ)) (ss : List Source) (linked : Linked) : Type 0 where
   pub sound : defects_in limits asked ss ≡ []
-  pub taking_part : IsLive (heads_in ss) (live_in ss)
-  pub bound : IsLawful (files_in ss) (discarded (files_in ss)) asked.entry (bound_names (files_in ss) asked.entry)
-  pub collected : asked.gc ≡ true → IsCollected (files_in ss) (bound_names (files_in ss) asked.entry) (kept_in asked ss)
-  pub stands : LinkStands (wishes_of asked) (files_in ss) (bound_names (files_in ss) asked.entry) (kept_in asked ss) linked.exe.items
-  pub reach : ShortenedCallsReach (wishes_of asked) (files_in ss) (bound_names (files_in ss) asked.entry) (kept_in asked ss)
+  pub taking_part : IsLive asked.undefined (heads_in ss) (live_in asked.undefined ss)
+  pub bound : IsLawful (linked_files asked ss) (discarded (linked_files asked ss)) asked.entry (bound_in asked ss)
+  pub collected : asked.gc ≡ true → IsCollected asked.undefined (linked_files asked ss) (bound_in asked ss) (kept_in asked ss)
+  pub stands : LinkStands (wishes_in asked ss) (linked_files asked ss) (bound_in asked ss) (kept_in asked ss) linked.exe.items
+  pub reach : ShortenedCallsReach (wishes_in asked ss) (linked_files asked ss) (bound_in asked ss) (kept_in asked ss)
   pub gives : Gives asked names ss linked
 
 -- a link stops at the first of its defects, and none of them comes before it; or memory ran out. If none is of a phase up to the layout,
@@ -79,7 +79,7 @@ pub record Links (limits : Limits) (asked : Asked) (names : List (List ℕ)) (ss
 pub record Stops (limits : Limits) (asked : Asked) (ss : List Source) (stop : LinkStop) : Type 0 where
   pub ends : StopsAtLeast stop (defects_in limits asked ss)
   pub reach : HoldsAtStop stop (placing_defects limits asked ss)
-      (ShortenedCallsReach (wishes_of asked) (files_in ss) (bound_names (files_in ss) asked.entry) (kept_in asked ss))
+      (ShortenedCallsReach (wishes_in asked ss) (linked_files asked ss) (bound_in asked ss) (kept_in asked ss))
 
 -- Link if there is no defect, the first defect if there is one, before which none stands, or out of memory
 abbrev pub AfterLink : Limits → Asked → (names : List (List ℕ)) → List Source → Result Linked LinkStop → Type 0

@@ -84,9 +84,9 @@ headed ss f = record {
 unfoldable pub heads_in : List Source → List File
 heads_in ss = map (headed ss) (range_with_len 0 (length ss))
 
--- which of them take part in the link
-unfoldable pub live_in : List Source → List Bool
-live_in ss = live_of (heads_in ss)
+-- which of them take part in a link that asks for these names
+unfoldable pub live_in : (undefined : List (List ℕ)) → List Source → List Bool
+live_in undefined ss = live_of undefined (heads_in ss)
 
 -- an archive by itself has no body
 abbrev pub has_body : List Source → List Bool → ℕ → Bool
@@ -103,9 +103,9 @@ opened ss live f = if has_body ss live f then with_body (headed ss f) else heade
 unfoldable pub opened_files : List Source → List Bool → List File
 opened_files ss live = map (opened ss live) (range_with_len 0 (length ss))
 
--- the files of a link
-abbrev pub files_in : List Source → List File
-files_in ss = opened_files ss (live_in ss)
+-- the files of a link that asks for these names
+abbrev pub files_in : (undefined : List (List ℕ)) → List Source → List File
+files_in undefined ss = opened_files ss (live_in undefined ss)
 
 -- the name of a file as lines show it: a member's after its archive's, as `lib.a(m.o)`
 abbrev pub labelled : (name : List ℕ) → List ℕ → Option Span → List ℕ

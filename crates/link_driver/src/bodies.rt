@@ -11,6 +11,7 @@ ghost use Rattle.lk_tables.specs.Gathering.{IsBodyOf};
 ghost use Rattle.lk_tables.specs.Heads.{head_of, head_view};
 ghost use Rattle.lk_tables.specs.TablesView.{files_of, heads_of};
 ghost use Rattle.work_split.specs.Shares.{IsShare};
+ghost use Rattle.link_command.specs.Command.{lists_of};
 ghost use Rattle.link_driver.specs.Contents.{sources_of};
 ghost use Rattle.link_driver.specs.Defects.{body_defects, body_defects_at, opening_defects};
 ghost use Rattle.link_driver.specs.Reading.{IsBodyAt};
@@ -151,6 +152,7 @@ pub fn read_bodies<'a, R: Threads + Sync, G: Gate>(
     alloc: Global,
     limits: &Limits,
     sources: &[Source],
+    undefined: &[Vec<u8>],
     mut heads: Heads<'a>,
     live: &[bool],
     workers: u32,
@@ -158,13 +160,13 @@ pub fn read_bodies<'a, R: Threads + Sync, G: Gate>(
 ) -> Result<Tables<'a>, LinkStop>
     requires limits { IsWithinStandard limits.now }
     requires heads_are { heads_of heads ≡ heads_in (sources_of sources.now) }
-    requires live { live.now ≡ live_in (sources_of sources.now) }
+    requires live { live.now ≡ live_in (lists_of undefined.now) (sources_of sources.now) }
     requires headed { (f : ℕ) → f < length sources.now → has_body (sources_of sources.now) live.now f ≡ true → IsHeaded (source_at (sources_of sources.now) f).bytes }
     requires symbols { symbol_total (heads_of heads) < 2 ^ 31 }
     requires some { 1 ≤ workers }
     requires most { workers ≤ 64 }
-    ensures goes { Goes result (opening_defects limits.now (sources_of sources.now)) }
-    ensures tables { IfOk result (λ tables. files_of tables ≡ files_in (sources_of sources.now)) }
+    ensures goes { Goes result (opening_defects limits.now (lists_of undefined.now) (sources_of sources.now)) }
+    ensures tables { IfOk result (λ tables. files_of tables ≡ files_in (lists_of undefined.now) (sources_of sources.now)) }
 {
     let objects = match read_numbered(rt, alloc, sources, live, &mut heads, workers, gate) {
         Ok(objects) => objects,

@@ -11,6 +11,7 @@
 //! what they hand on.
 #![tactic(auto)]
 
+mod barring;
 mod bodies;
 mod diagnostics;
 mod driving;
@@ -27,6 +28,7 @@ mod shown;
 mod sources;
 mod symbol_names;
 
+pub use barring::find_barred;
 pub use driving::run;
 pub use finding::find_sources;
 pub use inputs::Inputs;

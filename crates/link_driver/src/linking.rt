@@ -1,6 +1,6 @@
 //! The link of one command, pass after pass.
 
-ghost use Rattle.std.specs.Prelude.{◌≡◌, ℕ, ◌<◌, ◌≤◌, ◌^◌, ◌∷◌, [], true, if◌then◌else◌, All, length, slice_index, IfOk};
+ghost use Rattle.std.specs.Prelude.{◌≡◌, ℕ, ◌<◌, ◌≤◌, ◌^◌, ◌∷◌, [], true, Bool, List, if◌then◌else◌, All, length, slice_index, IfOk};
 ghost use Rattle.std.specs.List.Sorted.{IsStrictlyIncreasing};
 ghost use Rattle.call_reach.specs.Reach.{AreAlike, CallsReach};
 ghost use Rattle.comdat.specs.Discarded.{discarded};
@@ -10,7 +10,7 @@ ghost use Rattle.icf_part.specs.Folding.{AreLeaders as ItemLeaders};
 ghost use Rattle.icf_part.specs.Leaders.{leaders_of};
 ghost use Rattle.output_sections.specs.Items.{AreLeaders};
 ghost use Rattle.layout.specs.Layout.{layout_defects};
-ghost use Rattle.link_command.specs.Command.{asks, generated_of};
+ghost use Rattle.link_command.specs.Command.{asks, generated_of, lists_of};
 ghost use Rattle.link_sections.specs.FoldItems.{item_views, sections_of};
 ghost use Rattle.link_sections.specs.GotView.{entries_of};
 ghost use Rattle.link_sections.specs.LaidOut.{layout_view, with_contents};
@@ -37,6 +37,7 @@ ghost use Rattle.map_file.specs.MapView.{map_in};
 ghost use Rattle.reloc_apply.specs.Relocated.{relocation_defects};
 ghost use Rattle.sym_resolve.specs.Law.{IsLawful};
 
+use crate::barring::find_barred;
 use crate::bodies::read_bodies;
 use crate::finding::find_sources;
 use crate::heads::read_heads;
@@ -52,7 +53,7 @@ use elf_out::write_executable;
 use file_live::live;
 use icf_part::{Steps, fold};
 use layout::place;
-use link_command::{Command, IcfMode, Wanted};
+use link_command::{Command, Wanted};
 use link_sections::{FoldItem, Got, Layout, Pools, View, all_kept, fold_leaders, own_leaders};
 use lk_base::{Limits, LinkStop, SecNo, check_count};
 use lk_tables::{Binding, NameNumbers, Tables, Uppers};
@@ -92,27 +93,29 @@ pub fn read_files<'a, R: Threads + Sync, G: Gate>(
     alloc: Global,
     limits: &Limits,
     sources: &[Source<'a>],
+    undefined: &[Vec<u8>],
     workers: u32,
     gate: &G,
 ) -> Result<Tables<'a>, LinkStop>
     requires limits { IsWithinStandard limits.now }
     requires some { 1 ≤ workers }
     requires most { workers ≤ 64 }
-    ensures goes { Goes result (first_phase (reading_defects limits.now (sources_of sources.now) ∷ opening_defects limits.now (sources_of sources.now) ∷ [])) }
-    ensures tables { IfOk result (λ tables. files_of tables ≡ files_in (sources_of sources.now)) }
-    ensures taking_part { IfOk result (λ _. IsLive (heads_in (sources_of sources.now)) (live_in (sources_of sources.now))) }
+    ensures goes { Goes result (first_phase (reading_defects limits.now (sources_of sources.now) ∷ opening_defects limits.now (lists_of undefined.now) (sources_of sources.now) ∷ [])) }
+    ensures tables { IfOk result (λ tables. files_of tables ≡ files_in (lists_of undefined.now) (sources_of sources.now)) }
+    ensures taking_part { IfOk result (λ _. IsLive (lists_of undefined.now) (heads_in (sources_of sources.now)) (live_in (lists_of undefined.now) (sources_of sources.now))) }
 {
     let mut heads = match read_heads(rt, alloc, limits, sources, workers, gate) {
         Ok(heads) => heads,
         Err(stop) => return Err(stop),
     };
     number_for_members(rt, alloc, sources, &mut heads, workers)?;
-    let live = live(rt, alloc, &heads, workers, gate)?;
+    let live = live(rt, alloc, &heads, undefined, workers, gate)?;
     read_bodies(
         rt,
         alloc,
         limits,
         sources,
+        undefined,
         heads,
         live.as_slice(),
         workers,
@@ -151,7 +154,8 @@ pub fn bind_names<R: Threads + Sync, G: Gate>(
     )
 }
 
-/// By section number, which sections are kept: with `gc` those that the roots lead to, else all that may stay. It is as long as the tables have
+/// By section number, which sections are kept: with `gc` those that the roots lead to, of which the sections are some in which the names of
+/// `undefined` stand, else all that may stay. It is as long as the tables have
 /// sections. The only error is out of memory.
 #[tactic(auto, unfolding(crate::specs::Link::kept_of))]
 pub fn find_kept<R: Threads + Sync, G: Gate>(
@@ -160,21 +164,22 @@ pub fn find_kept<R: Threads + Sync, G: Gate>(
     tables: &Tables,
     binding: &Binding,
     gc: bool,
+    undefined: &[Vec<u8>],
     workers: u32,
     gate: &G,
 ) -> Result<Vec<bool>, AllocError>
     requires some { 1 ≤ workers }
     requires most { workers ≤ 64 }
     requires bound { IsBindingOf (files_of tables.now) (binding_view binding.now) }
-    ensures kept { IfOk result (λ kept. kept.items ≡ kept_of gc (files_of tables.now) (binding_view binding.now)) }
+    ensures kept { IfOk result (λ kept. kept.items ≡ kept_of gc (lists_of undefined.now) (files_of tables.now) (binding_view binding.now)) }
     ensures stay { IfOk result (λ kept. MayStay (files_of tables.now) (binding_view binding.now) kept.items) }
-    ensures collected { gc ≡ true → IfOk result (λ kept. IsCollected (files_of tables.now) (binding_view binding.now) kept.items) }
+    ensures collected { gc ≡ true → IfOk result (λ kept. IsCollected (lists_of undefined.now) (files_of tables.now) (binding_view binding.now) kept.items) }
 {
     tables.is_few();
     if !gc {
         return all_kept(alloc, tables, binding);
     }
-    let roots = roots(alloc, tables, binding)?;
+    let roots = roots(alloc, tables, binding, undefined)?;
     let edges = edges(rt, alloc, tables, binding, workers, gate)?;
     keep(rt, alloc, roots.as_slice(), &edges, workers, gate)
 }
@@ -184,7 +189,7 @@ pub fn find_kept<R: Threads + Sync, G: Gate>(
 pub struct Options {
     /// `--gc-sections`: whether sections that nothing refers to are left out.
     pub gc: bool,
-    /// `--icf all`: whether equal code is folded.
+    /// `--icf all` or `safe`: whether equal code is folded.
     pub icf: bool,
     /// Without `--no-relax`: whether calls are relaxed.
     pub relax: bool,
@@ -208,11 +213,11 @@ fn generated_of(inputs: &Wanted) -> Option<u32>
 
 /// Those of a command.
 fn options_of(command: &Command) -> Options
-    ensures { wished result ≡ wishes_of (asks command.now) }
+    ensures { (barred : List Bool) → wished result barred ≡ wishes_of (asks command.now) barred }
 {
     Options {
         gc: command.gc,
-        icf: command.icf == IcfMode::All,
+        icf: command.icf.folds(),
         relax: command.relax,
         strip: command.strip,
         map: command.map.is_some(),
@@ -221,7 +226,7 @@ fn options_of(command: &Command) -> Options
 }
 
 /// By section number, which section is written in the place of each: none where it is not kept or is merged into a pool; itself where its own
-/// bytes are written; with `icf` the first section that it is folded with. The only error is out of memory.
+/// bytes are written; with `icf` the first section that it is folded with, if it is not `barred`, by its number. The only error is out of memory.
 #[tactic(auto, unfolding(crate::specs::Link::leaders_in))]
 pub fn find_leaders<R: Threads + Sync, G: Gate>(
     rt: &R,
@@ -229,6 +234,7 @@ pub fn find_leaders<R: Threads + Sync, G: Gate>(
     tables: &Tables,
     binding: &Binding,
     kept: &[bool],
+    barred: &[bool],
     pools: &Pools,
     options: Options,
     workers: u32,
@@ -238,7 +244,7 @@ pub fn find_leaders<R: Threads + Sync, G: Gate>(
     requires most { workers ≤ 64 }
     requires stay { MayStay (files_of tables.now) (binding_view binding.now) kept.now }
     requires pools { pools_view (files_of tables.now) pools.now ≡ pools_of (files_of tables.now) kept.now }
-    ensures leaders { IfOk result (λ leaders. leaders.items ≡ leaders_in (wished options) (files_of tables.now) (binding_view binding.now) kept.now) }
+    ensures leaders { IfOk result (λ leaders. leaders.items ≡ leaders_in (wished options barred.now) (files_of tables.now) (binding_view binding.now) kept.now) }
     ensures stay { IfOk result (λ leaders. AreLeaders (files_of tables.now) (binding_view binding.now) leaders.items) }
     ensures alike { IfOk result (λ leaders. AreAlike (files_of tables.now) (binding_view binding.now) leaders.items) }
 {
@@ -247,7 +253,7 @@ pub fn find_leaders<R: Threads + Sync, G: Gate>(
     if !options.icf {
         return Ok(leaders);
     }
-    let items = items(alloc, tables, binding, pools, kept)?;
+    let items = items(alloc, tables, binding, pools, kept, barred)?;
     let places = fold_items::<R, G, Brand>(
         rt,
         alloc,
@@ -296,6 +302,7 @@ pub fn lay_out<'a, R: Threads + Sync, G: Gate>(
     tables: &Tables<'a>,
     binding: &Binding,
     kept: &[bool],
+    barred: &[bool],
     pools: &Pools,
     leaders: &[Option<SecNo>],
     got: &Got,
@@ -311,10 +318,10 @@ pub fn lay_out<'a, R: Threads + Sync, G: Gate>(
     requires lead { AreLeaders (files_of tables.now) (binding_view binding.now) leaders.now }
     requires alike { AreAlike (files_of tables.now) (binding_view binding.now) leaders.now }
     requires pools { pools_view (files_of tables.now) pools.now ≡ pools_of (files_of tables.now) kept.now }
-    requires leaders { leaders.now ≡ leaders_in (wished options) (files_of tables.now) (binding_view binding.now) kept.now }
-    requires table { entries_of got.now ≡ table_of (wished options) (files_of tables.now) (binding_view binding.now) kept.now }
-    ensures goes { Goes result (layout_defects limits.now (files_of tables.now) (laid_out (wished options) (files_of tables.now) (binding_view binding.now) kept.now)) }
-    ensures laid { IfOk result (λ layout. with_contents (layout_view layout) (pools_view (files_of tables.now) pools.now) (entries_of got.now) ≡ laid_out (wished options) (files_of tables.now) (binding_view binding.now) kept.now) }
+    requires leaders { leaders.now ≡ leaders_in (wished options barred.now) (files_of tables.now) (binding_view binding.now) kept.now }
+    requires table { entries_of got.now ≡ table_of (wished options barred.now) (files_of tables.now) (binding_view binding.now) kept.now }
+    ensures goes { Goes result (layout_defects limits.now (files_of tables.now) (laid_out (wished options barred.now) (files_of tables.now) (binding_view binding.now) kept.now)) }
+    ensures laid { IfOk result (λ layout. with_contents (layout_view layout) (pools_view (files_of tables.now) pools.now) (entries_of got.now) ≡ laid_out (wished options barred.now) (files_of tables.now) (binding_view binding.now) kept.now) }
     ensures sound { IfOk result (λ layout. IsSound (files_of tables.now) (binding_view binding.now) leaders.now (with_contents (layout_view layout) (pools_view (files_of tables.now) pools.now) (entries_of got.now))) }
     ensures room { IfOk result (λ layout. HasHeaderRoom layout.bounds) }
     ensures reach { IfOk result (λ layout. CallsReach (files_of tables.now) (binding_view binding.now) leaders.now (with_contents (layout_view layout) (pools_view (files_of tables.now) pools.now) (entries_of got.now))) }
@@ -365,6 +372,7 @@ fn write<R: Threads + Sync, G: Gate>(
     tables: &Tables,
     binding: &Binding,
     kept: &[bool],
+    barred: &[bool],
     placement: &Placement,
     uppers: &Uppers,
     numbers: &NameNumbers,
@@ -381,8 +389,8 @@ fn write<R: Threads + Sync, G: Gate>(
     requires sound { IsSound (files_of tables.now) (binding_view binding.now) placement.now.leaders.items (laid_by (files_of tables.now) placement.now) }
     requires room { HasHeaderRoom placement.now.layout.bounds }
     ensures goes { Goes result (relocation_defects (files_of tables.now) (binding_view binding.now) placement.now.leaders.items (laid_by (files_of tables.now) placement.now)) }
-    ensures written { IfOk result (λ linked. IsWritten (wished options) (names_of names.now) (files_of tables.now) (binding_view binding.now) kept.now placement.now.leaders.items (laid_by (files_of tables.now) placement.now) linked) }
-    ensures stands { IfOk result (λ linked. StandsWhole (wished options) (files_of tables.now) (binding_view binding.now) kept.now placement.now.leaders.items (laid_by (files_of tables.now) placement.now) linked.exe.items) }
+    ensures written { IfOk result (λ linked. IsWritten (wished options barred.now) (names_of names.now) (files_of tables.now) (binding_view binding.now) kept.now placement.now.leaders.items (laid_by (files_of tables.now) placement.now) linked) }
+    ensures stands { IfOk result (λ linked. StandsWhole (wished options barred.now) (files_of tables.now) (binding_view binding.now) kept.now placement.now.leaders.items (laid_by (files_of tables.now) placement.now) linked.exe.items) }
 {
     let leaders = placement.leaders.as_slice();
     let addresses = find_addresses(
@@ -428,6 +436,7 @@ fn link_numbered<R: Threads + Sync, G: Gate>(
     tables: &Tables,
     binding: &Binding,
     kept: &[bool],
+    barred: &[bool],
     numbers: &NameNumbers,
     names: &[Vec<u8>],
     options: Options,
@@ -440,21 +449,21 @@ fn link_numbered<R: Threads + Sync, G: Gate>(
     requires bound { IsBindingOf (files_of tables.now) (binding_view binding.now) }
     requires numbers { NumbersNames (heads_alone (files_of tables.now)) numbers.now }
     requires stay { MayStay (files_of tables.now) (binding_view binding.now) kept.now }
-    ensures goes { Goes result (first_phase (last_phases limits.now (wished options) (files_of tables.now) (binding_view binding.now) kept.now)) }
-    ensures written { IfOk result (λ linked. Makes (wished options) (names_of names.now) (files_of tables.now) (binding_view binding.now) kept.now linked) }
-    ensures stands { IfOk result (λ linked. LinkStands (wished options) (files_of tables.now) (binding_view binding.now) kept.now linked.exe.items) }
-    ensures reach { HoldsPast result (first_phase (placing_phases limits.now (wished options) (files_of tables.now) (binding_view binding.now) kept.now)) (ShortenedCallsReach (wished options) (files_of tables.now) (binding_view binding.now) kept.now) }
+    ensures goes { Goes result (first_phase (last_phases limits.now (wished options barred.now) (files_of tables.now) (binding_view binding.now) kept.now)) }
+    ensures written { IfOk result (λ linked. Makes (wished options barred.now) (names_of names.now) (files_of tables.now) (binding_view binding.now) kept.now linked) }
+    ensures stands { IfOk result (λ linked. LinkStands (wished options barred.now) (files_of tables.now) (binding_view binding.now) kept.now linked.exe.items) }
+    ensures reach { HoldsPast result (first_phase (placing_phases limits.now (wished options barred.now) (files_of tables.now) (binding_view binding.now) kept.now)) (ShortenedCallsReach (wished options barred.now) (files_of tables.now) (binding_view binding.now) kept.now) }
 {
     // What kept sections refer to is defined, and nothing moves, from here on.
     let (uppers, placement) = match place_beside(
-        rt, alloc, limits, tables, binding, kept, numbers, options, workers, gate,
+        rt, alloc, limits, tables, binding, kept, barred, numbers, options, workers, gate,
     ) {
         Ok(both) => both,
         Err(stop) => return Err(stop),
     };
     write(
-        rt, alloc, tables, binding, kept, &placement, &uppers, numbers, names, options, workers,
-        gate,
+        rt, alloc, tables, binding, kept, barred, &placement, &uppers, numbers, names, options,
+        workers, gate,
     )
 }
 
@@ -466,6 +475,7 @@ fn link_kept<R: Threads + Sync, G: Gate>(
     tables: &Tables,
     binding: &Binding,
     kept: &[bool],
+    barred: &[bool],
     names: &[Vec<u8>],
     options: Options,
     workers: u32,
@@ -476,20 +486,21 @@ fn link_kept<R: Threads + Sync, G: Gate>(
     requires most { workers ≤ 64 }
     requires bound { IsBindingOf (files_of tables.now) (binding_view binding.now) }
     requires stay { MayStay (files_of tables.now) (binding_view binding.now) kept.now }
-    ensures goes { Goes result (first_phase (last_phases limits.now (wished options) (files_of tables.now) (binding_view binding.now) kept.now)) }
-    ensures written { IfOk result (λ linked. Makes (wished options) (names_of names.now) (files_of tables.now) (binding_view binding.now) kept.now linked) }
-    ensures stands { IfOk result (λ linked. LinkStands (wished options) (files_of tables.now) (binding_view binding.now) kept.now linked.exe.items) }
-    ensures reach { HoldsPast result (first_phase (placing_phases limits.now (wished options) (files_of tables.now) (binding_view binding.now) kept.now)) (ShortenedCallsReach (wished options) (files_of tables.now) (binding_view binding.now) kept.now) }
+    ensures goes { Goes result (first_phase (last_phases limits.now (wished options barred.now) (files_of tables.now) (binding_view binding.now) kept.now)) }
+    ensures written { IfOk result (λ linked. Makes (wished options barred.now) (names_of names.now) (files_of tables.now) (binding_view binding.now) kept.now linked) }
+    ensures stands { IfOk result (λ linked. LinkStands (wished options barred.now) (files_of tables.now) (binding_view binding.now) kept.now linked.exe.items) }
+    ensures reach { HoldsPast result (first_phase (placing_phases limits.now (wished options barred.now) (files_of tables.now) (binding_view binding.now) kept.now)) (ShortenedCallsReach (wished options barred.now) (files_of tables.now) (binding_view binding.now) kept.now) }
 {
     if let Some(numbers) = tables.names() {
         return link_numbered(
-            rt, alloc, limits, tables, binding, kept, numbers, names, options, workers, gate,
+            rt, alloc, limits, tables, binding, kept, barred, numbers, names, options, workers,
+            gate,
         );
     }
     tables.is_few();
     let numbers = number_names(rt, alloc, tables.files(), workers)?;
     link_numbered(
-        rt, alloc, limits, tables, binding, kept, &numbers, names, options, workers, gate,
+        rt, alloc, limits, tables, binding, kept, barred, &numbers, names, options, workers, gate,
     )
 }
 
@@ -556,10 +567,12 @@ pub fn link_sources<'a, R: Threads + Sync, G: Gate>(
     requires some { 1 ≤ command.now.threads }
     requires most { command.now.threads ≤ 64 }
     ensures after { AfterLink limits.now (asks command.now) (shown_files (input_names inputs.now) (input_contents inputs.now) (sources_of sources.now)) (sources_of sources.now) (linked_of result) }
-    ensures tables { IfOk result (λ both. files_of both.1 ≡ files_in (sources_of sources.now)) }
+    ensures tables { IfOk result (λ both. files_of both.1 ≡ files_in (asks command.now).undefined (sources_of sources.now)) }
 {
     let workers = command.threads;
-    let tables = match read_files(rt, alloc, limits, sources, workers, gate) {
+    let undefined = command.undefined.as_slice();
+    let unique = command.unique.as_slice();
+    let tables = match read_files(rt, alloc, limits, sources, undefined, workers, gate) {
         Ok(tables) => tables,
         Err(stop) => return Err(stop),
     };
@@ -575,7 +588,17 @@ pub fn link_sources<'a, R: Threads + Sync, G: Gate>(
         Err(stop) => return Err(stop),
     };
     // What nothing refers to is left out from here on.
-    let kept = find_kept(rt, alloc, &tables, &binding, command.gc, workers, gate)?;
+    let kept = find_kept(
+        rt, alloc, &tables, &binding, command.gc, undefined, workers, gate,
+    )?;
+    let barred = find_barred(
+        alloc,
+        &tables,
+        &binding,
+        kept.as_slice(),
+        command.icf,
+        unique,
+    )?;
     let options = options_of(command);
     let names = names_if(alloc, options.map, inputs, sources)?;
     let linked = match link_kept(
@@ -585,6 +608,7 @@ pub fn link_sources<'a, R: Threads + Sync, G: Gate>(
         &tables,
         &binding,
         kept.as_slice(),
+        barred.as_slice(),
         names.as_slice(),
         options,
         workers,
@@ -636,7 +660,7 @@ pub fn link_with_tables<'a, R: Threads + Sync, G: Gate>(
     requires some { 1 ≤ command.now.threads }
     requires most { command.now.threads ≤ 64 }
     ensures after { AfterLink limits.now (asks command.now) (shown_files (input_names inputs.now) (input_contents inputs.now) (sources limits.now (input_contents inputs.now))) (sources limits.now (input_contents inputs.now)) (linked_of result) }
-    ensures tables { IfOk result (λ both. files_of both.1 ≡ files_in (sources limits.now (input_contents inputs.now))) }
+    ensures tables { IfOk result (λ both. files_of both.1 ≡ files_in (asks command.now).undefined (sources limits.now (input_contents inputs.now))) }
 {
     let sources = find_sources(alloc, limits, inputs)?;
     link_sources(rt, alloc, command, inputs, sources.as_slice(), limits, gate)

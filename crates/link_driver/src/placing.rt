@@ -66,6 +66,7 @@ fn find_placement<'a, R: Threads + Sync, G: Gate>(
     tables: &Tables<'a>,
     binding: &Binding,
     kept: &[bool],
+    barred: &[bool],
     numbers: &NameNumbers,
     options: Options,
     workers: u32,
@@ -77,14 +78,14 @@ fn find_placement<'a, R: Threads + Sync, G: Gate>(
     requires bound { IsBindingOf (files_of tables.now) (binding_view binding.now) }
     requires numbers { NumbersNames (heads_alone (files_of tables.now)) numbers.now }
     requires stay { MayStay (files_of tables.now) (binding_view binding.now) kept.now }
-    ensures goes { Goes result (layout_defects limits.now (files_of tables.now) (laid_out (wished options) (files_of tables.now) (binding_view binding.now) kept.now)) }
-    ensures placed { IfOk result (IsPlacement (wished options) (files_of tables.now) (binding_view binding.now) kept.now) }
+    ensures goes { Goes result (layout_defects limits.now (files_of tables.now) (laid_out (wished options barred.now) (files_of tables.now) (binding_view binding.now) kept.now)) }
+    ensures placed { IfOk result (IsPlacement (wished options barred.now) (files_of tables.now) (binding_view binding.now) kept.now) }
 {
     // Equal strings and constants stand once from here on.
     let pools = merge(rt, alloc, tables, kept, workers, gate)?;
     // Which section is written in the place of each is settled from here on.
     let leaders = find_leaders(
-        rt, alloc, tables, binding, kept, &pools, options, workers, gate,
+        rt, alloc, tables, binding, kept, barred, &pools, options, workers, gate,
     )?;
     let got = entries(alloc, tables, numbers, leaders.as_slice())?;
     // Nothing moves from here on.
@@ -95,6 +96,7 @@ fn find_placement<'a, R: Threads + Sync, G: Gate>(
         tables,
         binding,
         kept,
+        barred,
         &pools,
         leaders.as_slice(),
         &got,
@@ -122,6 +124,7 @@ pub fn place_beside<'a, R: Threads + Sync, G: Gate>(
     tables: &Tables<'a>,
     binding: &Binding,
     kept: &[bool],
+    barred: &[bool],
     numbers: &NameNumbers,
     options: Options,
     workers: u32,
@@ -133,9 +136,9 @@ pub fn place_beside<'a, R: Threads + Sync, G: Gate>(
     requires bound { IsBindingOf (files_of tables.now) (binding_view binding.now) }
     requires numbers { NumbersNames (heads_alone (files_of tables.now)) numbers.now }
     requires stay { MayStay (files_of tables.now) (binding_view binding.now) kept.now }
-    ensures goes { Goes result (first_phase (placing_phases limits.now (wished options) (files_of tables.now) (binding_view binding.now) kept.now)) }
+    ensures goes { Goes result (first_phase (placing_phases limits.now (wished options barred.now) (files_of tables.now) (binding_view binding.now) kept.now)) }
     ensures listed { IfOk result (λ both. AreListed (section_uppers (files_of tables.now)) both.0) }
-    ensures placed { IfOk result (λ both. IsPlacement (wished options) (files_of tables.now) (binding_view binding.now) kept.now both.1) }
+    ensures placed { IfOk result (λ both. IsPlacement (wished options barred.now) (files_of tables.now) (binding_view binding.now) kept.now both.1) }
 {
     if workers == 1 {
         let uppers = match find_defined_uppers(alloc, tables, binding, kept) {
@@ -143,7 +146,7 @@ pub fn place_beside<'a, R: Threads + Sync, G: Gate>(
             Err(stop) => return Err(stop),
         };
         return match find_placement(
-            rt, alloc, limits, tables, binding, kept, numbers, options, workers, gate,
+            rt, alloc, limits, tables, binding, kept, barred, numbers, options, workers, gate,
         ) {
             Ok(placement) => Ok((uppers, placement)),
             Err(stop) => Err(stop),
@@ -156,10 +159,10 @@ pub fn place_beside<'a, R: Threads + Sync, G: Gate>(
         { find_defined_uppers(alloc, tables, binding, kept) },
         &mut || -> Result<Placement, LinkStop>
             requires { IsWithinStandard limits.now × (1 ≤ workers) × (workers ≤ 64) × IsBindingOf (files_of tables.now) (binding_view binding.now) × NumbersNames (heads_alone (files_of tables.now)) numbers.now × MayStay (files_of tables.now) (binding_view binding.now) kept.now }
-            ensures { Goes result (layout_defects limits.entry.now (files_of tables.entry.now) (laid_out (wished options) (files_of tables.entry.now) (binding_view binding.entry.now) kept.entry.now)) × IfOk result (IsPlacement (wished options) (files_of tables.entry.now) (binding_view binding.entry.now) kept.entry.now) }
+            ensures { Goes result (layout_defects limits.entry.now (files_of tables.entry.now) (laid_out (wished options barred.entry.now) (files_of tables.entry.now) (binding_view binding.entry.now) kept.entry.now)) × IfOk result (IsPlacement (wished options barred.entry.now) (files_of tables.entry.now) (binding_view binding.entry.now) kept.entry.now) }
         {
             find_placement(
-                rt, alloc, limits, tables, binding, kept, numbers, options, workers, gate,
+                rt, alloc, limits, tables, binding, kept, barred, numbers, options, workers, gate,
             )
         },
     );

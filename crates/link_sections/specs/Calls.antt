@@ -1,9 +1,10 @@
 -- What a call becomes of which not all bytes stay (RISC-V ELF psABI, "Function Call Relaxation").
 use Rattle.std.specs.Prelude.{◌≡◌, ℕ, ◌==◌, ◌&&◌, ◌⊎◌, not, Bool, true, false, if◌then◌else◌, List, [], ◌∷◌, find}
 use Rattle.std.specs.Option.{option_map_or}
-use Rattle.lk_base.specs.RelocKinds.{Kind, is_among, kind_of}
+use Rattle.lk_base.specs.RelocKinds.{Kind, is_among, is_uleb, kind_of}
 use Rattle.lk_base.specs.declared.abi.TheConstants.{R_RISCV_CALL, R_RISCV_CALL_PLT, R_RISCV_JAL, R_RISCV_RVC_JUMP}
 use Rattle.lk_tables.specs.declared.objects.Reloc.{Reloc}
+use Rattle.lk_tables.specs.Relocations.{value_len}
 use Rattle.link_sections.specs.Cuts.{Cut}
 
 -- a call: auipc and jalr
@@ -36,6 +37,10 @@ acting_number cuts r = if is_call r.kind then kind_by_size (call_size cuts r.off
 abbrev pub acting_kind : List Cut → Reloc → Kind
 acting_kind cuts r = kind_of (acting_number cuts r)
 
--- the bytes of its place
+-- the bytes of its place, by its kind
 abbrev pub acting_width : List Cut → Reloc → ℕ
 acting_width cuts r = (acting_kind cuts r).width
+
+-- the same in a section of these contents: a ULEB128 number is as long as its bytes say
+unfoldable pub width_in : (contents : List ℕ) → List Cut → Reloc → ℕ
+width_in contents cuts r = if is_uleb r.kind then value_len contents r else acting_width cuts r

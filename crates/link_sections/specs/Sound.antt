@@ -4,14 +4,14 @@ use Rattle.std.specs.List.{list_any}
 use Rattle.lk_base.specs.declared.abi.TheConstants.{EHDR_SIZE, IMAGE_BASE, SHT_NOBITS}
 use Rattle.lk_tables.specs.Binding.{Bindings}
 use Rattle.lk_tables.specs.Files.{File, section_total}
-use Rattle.lk_tables.specs.Sites.{relocs_of}
+use Rattle.lk_tables.specs.Sites.{contents_at, relocs_of}
 use Rattle.link_sections.specs.declared.members.Content.{Content}
 use Rattle.link_sections.specs.declared.members.Content.TheVariants.{Section, Pool, Got}
 use Rattle.link_sections.specs.declared.members.Member.{Member}
 use Rattle.link_sections.specs.Cuts.{AreApart, new_offset}
 use Rattle.link_sections.specs.InputSections.{input_at, may_stay_at}
 use Rattle.link_sections.specs.Addresses.{no_pool}
-use Rattle.link_sections.specs.Calls.{acting_width}
+use Rattle.link_sections.specs.Calls.{width_in}
 use Rattle.link_sections.specs.GotEntries.{word_count}
 use Rattle.link_sections.specs.LaidOut.{LaidOut, OutputPlace, cuts_at, start_at}
 use Rattle.link_sections.specs.Leaders.{leads}
@@ -45,7 +45,7 @@ pub record IsSectionMember (files : List File) (b : Bindings) (leaders : List (O
   pub start : m.start ≡ start_at laid n
   pub size : m.size ≡ new_offset (cuts_at laid n) (input_at files b n).size
   pub cuts : All (λ c. c.at + c.whole ≤ (input_at files b n).size) (cuts_at laid n)
-  pub relocs : All (λ r. new_offset (cuts_at laid n) r.offset + acting_width (cuts_at laid n) r ≤ m.size) (relocs_of files n)
+  pub relocs : All (λ r. new_offset (cuts_at laid n) r.offset + width_in (contents_at files n) (cuts_at laid n) r ≤ m.size) (relocs_of files n)
 
 -- a member that is pool p: it is one of them, and stands where the layout says with all its bytes
 pub record IsPoolMember (laid : LaidOut) (p : ℕ) (m : Member) : Type 0 where

@@ -6,7 +6,7 @@ use Rattle.std.proofs.lemmas.List.{get_or_past}
 use Rattle.std.proofs.lemmas.List.FromFn.{get_or-map-range_with_len}
 use Rattle.std.proofs.Math.ListN.{get_or-map}
 use Rattle.lk_base.specs.RelocKinds.{Kind, Line, is_among, IsTable, is_linked, kind_in, kind_of, kind_view, line_at, line_view, lines, unknown}
-use Rattle.lk_base.specs.declared.abi.TheConstants.{R_RISCV_PLT32}
+use Rattle.lk_base.specs.declared.abi.TheConstants.{R_RISCV_SUB_ULEB128}
 use Rattle.lk_base.specs.declared.relocations.Kind as code
 use Rattle.lk_base.proofs.TableLines.{width_few}
 
@@ -29,19 +29,19 @@ not_among_past most (l ∷ ls) n all past =
     let parts = and_parts (nat_lt l.number most) (all_below most ls) all in
     ap (λ b. b || is_among (map (λ (l : Line). l.number) ls) n) (differs l.number n most parts.0 past) ∙ not_among_past most ls n parts.1 past
 
-not_linked_past : (n : ℕ) → 60 ≤ n → is_linked n ≡ false
+not_linked_past : (n : ℕ) → 62 ≤ n → is_linked n ≡ false
 unfolding is_linked
-not_linked_past n past = not_among_past 60 lines n refl past
+not_linked_past n past = not_among_past 62 lines n refl past
 
 -- the table has what is line_at at each number that it reaches, so at every number
 same_at : (table : List (Option code.Kind)) → IsTable table → (n : ℕ) → line_view (get_or table n None) ≡ line_at n
 unfolding IsTable
 same_at table same n =
     let read = sym (get_or-map line_view table n None) ∙ ap (λ (rows : List (Option Kind)). get_or rows n None) same in
-    read ∙ elim (cases_lt n 60) [
-      | inl low ↦ get_or-map-range_with_len line_at 0 60 n n None low (omega arith)
+    read ∙ elim (cases_lt n 62) [
+      | inl low ↦ get_or-map-range_with_len line_at 0 62 n n None low (omega arith)
       | inr past ↦
-          get_or_past (map line_at (range_with_len 0 (R_RISCV_PLT32 + 1))) n None past
+          get_or_past (map line_at (range_with_len 0 (R_RISCV_SUB_ULEB128 + 1))) n None past
           ∙ sym (ap (λ b. if b then Some (kind_of n) else None) (not_linked_past n past))
     ]
 

@@ -1,7 +1,7 @@
 -- What holds of each line of the table of kinds, and of no line, holds of each number's kind.
-use Rattle.std.proofs.Common.{ℕ, ◌≤◌, Bool, true, false, nat_le, ◌==◌, ◌&&◌, ◌||◌, not, if◌then◌else◌, IsTrue, List, [], ◌∷◌, refl, arith}
+use Rattle.std.proofs.Common.{◌≡◌, ℕ, ◌≤◌, Bool, true, false, nat_le, ◌==◌, ◌&&◌, ◌||◌, not, if◌then◌else◌, IsTrue, List, [], ◌∷◌, refl, arith}
 use Rattle.std.proofs.lemmas.Bool.Decides.{nat_tests}
-use Rattle.lk_base.specs.RelocKinds.{Kind, Line, HasValue, has_value, kind_in, kind_of, lines, puts_value, unknown}
+use Rattle.lk_base.specs.RelocKinds.{FillsField, Kind, Line, HasValue, fills_field, has_value, is_uleb, kind_in, kind_of, lines, puts_value, unknown}
 
 abbrev pub all_pass : (Kind → Bool) → List Line → Bool
 all_pass test [] = true
@@ -45,3 +45,16 @@ unfolding has_value
 width_some n there =
     some (puts_value (kind_of n).calculation) (kind_of n).width there
     (each_kind (λ k. not (puts_value k.calculation) || nat_le 1 k.width) n refl refl)
+
+-- what fills a field has a value, and a value that is put into no ULEB128 number fills a field
+pub has_value_if : (n : ℕ) → FillsField n → HasValue n
+unfolding fills_field
+has_value_if n fills = first (has_value n) (not (is_uleb n)) fills
+
+both : (a b : Bool) → IsTrue a → b ≡ false → IsTrue (a && not b)
+both true b h e = rw e refl
+both false b h e = h
+
+pub fills_if : (n : ℕ) → HasValue n → is_uleb n ≡ false → FillsField n
+unfolding fills_field
+fills_if n has other = both (has_value n) (is_uleb n) has other

@@ -9,7 +9,8 @@ use Rattle.lk_base.specs.declared.relocations.Calculation.{Calculation}
 use Rattle.lk_base.specs.declared.relocations.Calculation.TheVariants.{Nothing, Hint, Padding, Address, Distance, Partner, GotDistance, ThreadOffset, Increase, Decrease}
 use Rattle.lk_base.specs.declared.relocations.Kind as code
 
--- what there is to know of a kind: the bytes of its place, what is computed, the values it takes and its field
+-- what there is to know of a kind: the bytes of its place (of a ULEB128 number, which has one at least, 1), what is computed, the values it
+-- takes and its field
 pub record Kind : Type 0 where
   pub width : ℕ
   pub calculation : Calculation
@@ -71,6 +72,8 @@ lines =
     ∷ line R_RISCV_SET32 4 Address any (plain whole_32)
     ∷ line R_RISCV_32_PCREL 4 Distance (from_to (minus 2147483648) (pos 2147483647)) (plain whole_32)
     ∷ line R_RISCV_PLT32 4 Distance (from_to (minus 2147483648) (pos 2147483647)) (plain whole_32)
+    ∷ line R_RISCV_SET_ULEB128 1 Nothing any no_bits
+    ∷ line R_RISCV_SUB_ULEB128 1 Decrease any no_bits
     ∷ []
 
 -- the kind of a number that has no line: nothing is written
@@ -166,4 +169,4 @@ line_at number = if is_linked number then Some (kind_of number) else None
 
 -- a table by number: the line of each number up to the last that has one
 unfoldable pub IsTable : List (Option code.Kind) → Type 0
-IsTable table = map line_view table ≡ map line_at (range_with_len 0 (R_RISCV_PLT32 + 1))
+IsTable table = map line_view table ≡ map line_at (range_with_len 0 (R_RISCV_SUB_ULEB128 + 1))

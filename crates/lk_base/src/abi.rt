@@ -254,7 +254,7 @@ pub const PAGE: u64 = 4096;
 pub const FILE_MAX: u64 = 0x7fff_ffff;
 /// The most section headers of a file.
 pub const SECTIONS_MAX: u64 = 0x1000_0000;
-/// The most bytes of a relocation's place: those of a ULEB128 number.
+/// The most bytes that the value of a relocation is put into: those of a ULEB128 number.
 pub const PLACE_MAX: u64 = 10;
 /// The greatest alignment.
 pub const ALIGN_MAX: u64 = 0x10_0000;

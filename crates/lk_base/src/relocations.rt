@@ -31,7 +31,7 @@ pub enum Calculation {
     ThreadOffset,
     /// V + S + A
     Increase,
-    /// V - S - A
+    /// V - S - A; at the end of a pair V is S + A of the pair's first part
     Decrease,
 }
 
@@ -82,7 +82,7 @@ pub enum Format {
 /// What there is to know of a kind.
 #[derive(Clone, Copy, Debug, PartialEq, Eq)]
 pub struct Kind {
-    /// The bytes of its place; 0 if nothing is written.
+    /// The bytes of its place; 0 if nothing is written, and 1 if the place is a ULEB128 number, which has one byte at least.
     pub width: u64,
     pub calculation: Calculation,
     pub rule: Rule,
@@ -173,6 +173,8 @@ const LINES: &[Option<Kind>] = &[
     kind!(4, Distance, Rule::FromTo(-2147483648, 2147483647), Word), // R_RISCV_32_PCREL
     None, // R_RISCV_IRELATIVE
     kind!(4, Distance, Rule::FromTo(-2147483648, 2147483647), Word), // R_RISCV_PLT32
+    kind!(1, Nothing, Rule::Any, Empty), // R_RISCV_SET_ULEB128
+    kind!(1, Decrease, Rule::Any, Empty), // R_RISCV_SUB_ULEB128
 ];
 
 /// The kind of a number. If the table has no line for it, nothing is written.

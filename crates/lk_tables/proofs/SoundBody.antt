@@ -1,10 +1,11 @@
 -- What holds of the lists of a body in which no check is broken.
-use Rattle.std.proofs.Common.{◌≡◌, ◌≢◌, ℕ, ◌+◌, ◌%◌, ◌<◌, ◌≤◌, zero, suc, Bool, true, false, not, ◌&&◌, ◌||◌, ◌==◌, nat_lt, length, get_or, List, [], ◌∷◌, ◌++◌, map, refl, sym, ap, ◌∙◌, arith, Option, Some, None, subst, inl, inr}
-use Rattle.std.specs.Prelude.{Ok, unwrap_or, if◌then◌else◌, ℤ, pos, negsuc, unsigned_abs, int_lt, bit_and}
+use Rattle.std.proofs.Common.{◌≡◌, ◌≢◌, ℕ, ◌+◌, ◌%◌, ◌<◌, ◌≤◌, zero, suc, Bool, true, false, not, ◌&&◌, ◌||◌, ◌==◌, nat_lt, length, get_or, drop, List, [], ◌∷◌, ◌++◌, map, refl, sym, ap, ◌∙◌, arith, Option, Some, None, subst, inl, inr}
+use Rattle.std.specs.Prelude.{Ok, is_some, if◌then◌else◌, ℤ, pos, negsuc, unsigned_abs, int_lt, bit_and}
 use Rattle.std.specs.Int.{is_power_of_two}
 use Rattle.std.specs.List.{All, AllByRecursion, AllPairs, filter, range_with_len}
 use Rattle.std.specs.List.Sorted.{IsNonDecreasingBy}
 use Rattle.std.specs.Ordering.{int_eq}
+use Rattle.std.proofs.lemmas.List.{length-take}
 use Rattle.std.proofs.lemmas.Bool.{cond_both, cond-true, cond-false, cases_Bool, cases_eq, and_parts, or_parts, eqb-true, ne_eqb, ltb-true, ltb-false}
 use Rattle.std.proofs.lemmas.Bool.Decides.{nat_tests, Decides-int_eq}
 use Rattle.std.proofs.lemmas.List.Elements.{All-from_recursion, recursion_from_All, All-nil}
@@ -24,7 +25,7 @@ use Rattle.lk_tables.specs.Heads.{HeadView, HeadOf, head_of}
 use Rattle.lk_tables.specs.Inside.{IsAlignment, IsLinked, IsPadding, IsRelocBefore, IsRelocWithin, IsCommonWithin, IsGroupWithin, IsGroupBefore, IsBodyInside}
 use Rattle.lk_tables.specs.Objects.{ObjectView, BodyOf, object_of, object_checks, parts_of, group_of, relocs_in, relocs_for}
 use Rattle.lk_base.specs.Order.{put_in, stable_order}
-use Rattle.lk_tables.specs.Relocations.{end_of, width_of, rela_count, reloc, target_of, target_bytes, is_alignment, is_past_target, is_bad_addend, is_bad_padding, entry_checks, in_order, overlap_checks, entries_checks, relocs_of}
+use Rattle.lk_tables.specs.Relocations.{end_of, pair_checks, place_width, width_of, rela_count, reloc, target_of, target_bytes, is_alignment, is_past_target, is_bad_addend, is_bad_padding, entry_checks, in_order, overlap_checks, entries_checks, relocs_of}
 use Rattle.lk_tables.specs.Sections.{section_of, is_null, is_written, written_at, takes_relocs, is_loaded, loaded_types, contents_of}
 use Rattle.lk_tables.specs.Symbols.{symtab_of, symbol_of, symbol_count, symbol_place, is_common, is_undef}
 use Rattle.lk_tables.proofs.BodyFacts.{symbol_at, length_symbols, section_inside, sections_pass, sections_are, symbols_are}
@@ -33,6 +34,7 @@ use Rattle.lk_tables.proofs.Passing.{each, both_pass, none_from_ok, ok_from_none
 use Rattle.lk_tables.proofs.Ranges.{found}
 use Rattle.lk_tables.proofs.RelocsApart.{relocs_apart}
 use Rattle.lk_tables.proofs.SoundGroups.{IsSoundGroup, group_at, groups_within, groups_apart}
+use Rattle.lk_tables.proofs.Widths.{end_inside}
 use Rattle.lk_tables.proofs.SoundHead.{second_false, not_false, written_type, written_live, null_is, head_is, head_inside}
 use Rattle.lk_base.proofs.StableOrder.{Rises, rises_order}
 
@@ -122,14 +124,15 @@ within_of b n i j counted e written =
     let s = target_of b i in
     let lines : NoneBroken (entry_checks b i j) = none_from_ok (entry_checks b i j) (tt {0}) (tt {0}) e in
     let c = target_bytes b i in
-    let p = or_parts (s.sh_type == SHT_NOBITS) (ends_past s.size r.offset (unwrap_or (width_of c r) 0)) lines.1.1.0 in
-    let q = or_parts (is_alignment r && is_bad_padding r.addend) (not (int_eq r.addend (pos 0)) && is_lower r.kind) lines.1.1.1.0 in
+    let p = or_parts (s.sh_type == SHT_NOBITS) (ends_past s.size r.offset (place_width r)) lines.1.1.0 in
+    let kind : is_some (width_of c r) ≡ true = not_false _ lines.1.1.1.0 in
+    let q = or_parts (is_alignment r && is_bad_padding r.addend) (not (int_eq r.addend (pos 0)) && is_lower r.kind) lines.1.1.1.1.0 in
     record {
       written = written;
       bits = λ z. let no : ⊥ = grind (arith, nat_tests, p.0) in no;
       symbol = grind (arith, nat_tests, lines.0);
-      kind = not_false _ lines.1.0;
-      fits = ltb-false s.size (end_of c r) p.1;
+      kind = kind;
+      fits = end_inside c r s.size (omega (arith, length-take s.size (drop s.offset b))) kind (ltb-false s.size (r.offset + place_width r) p.1);
       addend = λ lower.
           (Decides-int_eq r.addend (pos 0)).0 (not_false _ (first_false (not (int_eq r.addend (pos 0))) (is_lower r.kind) q.1 lower));
       padding = λ align. padding_of r.addend (second_false (is_alignment r) (is_bad_padding r.addend) q.0 align);
@@ -222,8 +225,10 @@ entries_pass b k r e is =
     let here : relocates b (section_of b r).info r ≡ true = ap (λ i. relocates b i r) (is_rela_of b k r is).target ∙ is in
     let all = sym (ap passes (cond-true (relocates b (section_of b r).info r) (entries_checks b r) [] here))
     ∙ (both_pass (header_line b r) lines (tt {0}) (tt {0}) e).1 in
-    let both = both_pass (from_on (entry_checks b r) 0 (rela_count b r)) (overlap_checks b r [] (in_order b r)) (tt {0}) (tt {0}) all in
-    (λ j lt. each (entry_checks b r) 0 (rela_count b r) j both.0 (omega arith) lt, both.1)
+    let later = overlap_checks b r [] (in_order b r) ++ pair_checks b r in
+    let both = both_pass (from_on (entry_checks b r) 0 (rela_count b r)) later (tt {0}) (tt {0}) all in
+    let apart = both_pass (overlap_checks b r [] (in_order b r)) (pair_checks b r) (tt {0}) (tt {0}) both.1 in
+    (λ j lt. each (entry_checks b r) 0 (rela_count b r) j both.0 (omega arith) lt, apart.0)
 
 -- the relocations of section k
 record AreWithin (b : List ℕ) (n k : ℕ) (list : List Reloc) : Type 0 where

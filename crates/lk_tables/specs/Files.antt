@@ -2,7 +2,7 @@
 -- A place past the end of a table names something that takes no part in the link.
 use Rattle.std.specs.Prelude.{◌≡◌, ℕ, ◌+◌, ◌^◌, ◌<◌, ◌≤◌, ◌&&◌, ◌==◌, not, nat_lt, pos, Bool, true, false, Ok, if◌then◌else◌, List, [], length, map, take, slice_index_or, sum, count_by, flat_map}
 use Rattle.std.specs.List.{range_with_len}
-use Rattle.lk_base.specs.declared.abi.TheConstants.{STB_LOCAL, STT_NOTYPE, SHT_NULL, FILE_MAX, R_RISCV_NONE}
+use Rattle.lk_base.specs.declared.abi.TheConstants.{STB_LOCAL, STT_NOTYPE, SHT_NULL, FILE_MAX}
 use Rattle.lk_tables.specs.declared.heads.Section.{Section}
 use Rattle.lk_tables.specs.declared.heads.Symbol.{Symbol}
 use Rattle.lk_tables.specs.declared.heads.Place.TheVariants.{Undef}
@@ -12,6 +12,7 @@ use Rattle.lk_tables.specs.declared.objects.Reloc.{Reloc}
 use Rattle.lk_tables.specs.Heads.{HeadView, fields_of, head_of}
 use Rattle.lk_tables.specs.Objects.{ObjectView, parts_of, object_of}
 use Rattle.lk_tables.specs.Names.{no_name, text_of}
+pub use Rattle.lk_tables.specs.Relocations.{no_reloc}
 use Rattle.lk_tables.specs.Sections.{is_written}
 
 -- a file: whether it takes part in the link, whether it is of an archive, its bytes and what they say
@@ -29,9 +30,6 @@ no_section = record { name = no_name; sh_type = SHT_NULL; flags = 0; offset = 0;
 
 abbrev pub no_symbol : Symbol
 no_symbol = record { name = no_name; binding = STB_LOCAL; sort = STT_NOTYPE; place = Undef; value = 0; size = 0 }
-
-abbrev pub no_reloc : Reloc
-no_reloc = record { offset = 0; kind = R_RISCV_NONE; symbol = 0; addend = pos 0 }
 
 abbrev pub no_head : HeadView
 no_head = record { flags = 0; sections = []; symtab = 0; symbols = [] }

@@ -1,6 +1,6 @@
 -- What holds of a head and of a body in which no check is broken, as facts about their lists: each number, offset and
 -- size lies where it must (System V gABI, "Sections", "Symbol Table", "Relocation").
-use Rattle.std.specs.Prelude.{◌≡◌, ◌≢◌, ℕ, ◌+◌, ◌*◌, ◌^◌, ◌%◌, ℤ, pos, unsigned_abs, ◌<◌, ◌≤◌, ◌||◌, true, is_some, bit_and, List, [], length, slice_index_or}
+use Rattle.std.specs.Prelude.{◌≡◌, ◌≢◌, ℕ, ◌+◌, ◌*◌, ◌%◌, ℤ, pos, unsigned_abs, ◌<◌, ◌≤◌, ◌||◌, true, is_some, bit_and, List, [], length, slice_index_or}
 use Rattle.std.specs.List.{All, AllPairs}
 use Rattle.std.specs.List.Sorted.{IsNonDecreasingBy}
 use Rattle.lk_tables.specs.declared.heads.Place.{Place}
@@ -11,7 +11,7 @@ use Rattle.lk_tables.specs.declared.objects.Reloc.{Reloc}
 use Rattle.lk_tables.specs.declared.spans.Span.{Span}
 use Rattle.std.specs.Int.{is_power_of_two}
 use Rattle.lk_base.specs.RelocKinds.{is_among, is_lower, moves_bytes}
-use Rattle.lk_base.specs.declared.abi.TheConstants.{ALIGN_MAX, NOBITS_MAX, SHDR_SIZE, SYM_SIZE, SHF_WRITE, SHF_EXECINSTR, SHF_LINK_ORDER, SHT_NOBITS, STB_LOCAL, STT_NOTYPE}
+use Rattle.lk_base.specs.declared.abi.TheConstants.{ALIGN_MAX, NOBITS_MAX, SECTIONS_MAX, SHDR_SIZE, SYM_SIZE, SHF_WRITE, SHF_EXECINSTR, SHF_LINK_ORDER, SHT_NOBITS, STB_LOCAL, STT_NOTYPE}
 use Rattle.lk_tables.specs.FileHeader.{section_count}
 use Rattle.lk_tables.specs.Heads.{HeadView}
 use Rattle.lk_tables.specs.Names.{no_name}
@@ -62,7 +62,7 @@ pub record HasLocalsFirst (symbols : List Symbol) : Type 0 where
 pub record IsHeadInside (b : List ℕ) (head : HeadView) : Type 0 where
   pub counted : length head.sections ≡ section_count b
   pub some : 0 < length head.sections
-  pub few : length head.sections ≤ 2 ^ 28
+  pub few : length head.sections ≤ SECTIONS_MAX
   pub table : SHDR_SIZE * length head.sections ≤ length b
   pub symtab : head.symtab < length head.sections
   pub entries : SYM_SIZE * length head.symbols ≤ length b

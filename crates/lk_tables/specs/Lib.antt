@@ -28,5 +28,6 @@ pub mod Sites
 pub mod Symbols
 pub mod TablesView
 pub mod Targets
+pub mod UlebLengths
 pub mod Uppers
 pub mod Walks

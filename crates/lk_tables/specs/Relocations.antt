@@ -1,15 +1,15 @@
 -- The relocations of a section and the checks of their entries (System V gABI, "Relocation"; RISC-V ELF psABI,
 -- "Relocations").
-use Rattle.std.specs.Prelude.{ℕ, ◌+◌, ◌*◌, ◌/◌, ◌%◌, ℤ, pos, unsigned_abs, int_lt, Bool, true, false, not, ◌&&◌, ◌||◌, ◌==◌, nat_lt, nat_le, Option, Some, None, is_some, unwrap_or, if◌then◌else◌, List, [], ◌∷◌, ◌++◌, map}
+use Rattle.std.specs.Prelude.{ℕ, ◌+◌, ◌*◌, ◌/◌, ◌%◌, ℤ, pos, unsigned_abs, int_lt, Bool, true, false, not, ◌&&◌, ◌||◌, ◌==◌, nat_lt, nat_le, Option, Some, None, is_some, unwrap_or, if◌then◌else◌, List, [], ◌∷◌, ◌++◌, length, map, ◌-◌, slice_index, slice_index_or}
 use Rattle.std.specs.List.{list_any, range_with_len}
 use Rattle.std.specs.Ordering.{int_eq}
 use Rattle.lk_base.specs.Order.{stable_order}
-use Rattle.lk_base.specs.RelocKinds.{kind_of, is_linked, is_lower, moves_bytes}
-use Rattle.lk_base.specs.declared.abi.TheConstants.{RELA_SIZE, SHT_NOBITS}
+use Rattle.lk_base.specs.RelocKinds.{kind_of, is_linked, is_lower, is_uleb, moves_bytes}
+use Rattle.lk_base.specs.declared.abi.TheConstants.{RELA_SIZE, R_RISCV_NONE, R_RISCV_SET_ULEB128, R_RISCV_SUB_ULEB128, SHT_NOBITS}
 use Rattle.lk_base.specs.declared.defects.Flaw.{Flaw}
 use Rattle.lk_base.specs.declared.relocations.Calculation.{Calculation}
 use Rattle.lk_base.specs.declared.relocations.Calculation.TheVariants.{Padding}
-use Rattle.lk_base.specs.declared.kinds.TheConstants.{BAD_RELOC, RELOC_KIND}
+use Rattle.lk_base.specs.declared.kinds.TheConstants.{BAD_RELOC, BAD_ULEB, RELOC_KIND}
 use Rattle.lk_tables.specs.declared.objects.Reloc.{Reloc}
 use Rattle.lk_tables.specs.declared.heads.Section.{Section}
 use Rattle.lk_tables.specs.Checks.{Check, ◌says◌, flaw_at, from_on}
@@ -17,6 +17,7 @@ use Rattle.lk_tables.specs.Entries.{reloc_at}
 use Rattle.lk_tables.specs.FileHeader.{ends_past}
 use Rattle.lk_tables.specs.Sections.{section_of, contents_of}
 use Rattle.lk_tables.specs.Symbols.{symbol_count}
+use Rattle.lk_tables.specs.UlebLengths.{uleb_len}
 
 abbrev pub is_padding : Calculation → Bool
 is_padding Padding = true
@@ -34,9 +35,13 @@ place_width r = if is_alignment r then unsigned_abs r.addend else (kind_of r.kin
 unfoldable pub linked_width : Reloc → Option ℕ
 linked_width r = if is_linked r.kind then Some (place_width r) else None
 
--- the same in a section of these contents, on which no kind that is linked depends
-abbrev pub width_of : (contents : List ℕ) → Reloc → Option ℕ
-width_of contents r = linked_width r
+-- the same in a section of these contents: a ULEB128 number is as long as its bytes say
+unfoldable pub width_of : (contents : List ℕ) → Reloc → Option ℕ
+width_of contents r = if is_uleb r.kind then uleb_len contents r.offset else linked_width r
+
+-- how many bytes its value is put into
+unfoldable pub value_len : (contents : List ℕ) → Reloc → ℕ
+value_len contents r = if is_uleb r.kind then unwrap_or (uleb_len contents r.offset) 0 else (kind_of r.kind).width
 
 -- the end of its bytes in the section
 abbrev pub end_of : (contents : List ℕ) → Reloc → ℕ
@@ -59,9 +64,9 @@ target_of b i = section_of b (section_of b i).info
 abbrev pub target_bytes : List ℕ → ℕ → List ℕ
 target_bytes b i = contents_of b (target_of b i)
 
--- the relocation's bytes end past its section, or the section has none in the file
-unfoldable pub is_past_target : (contents : List ℕ) → Section → Reloc → Bool
-is_past_target contents target r = target.sh_type == SHT_NOBITS || ends_past target.size r.offset (unwrap_or (width_of contents r) 0)
+-- the relocation's bytes, of a ULEB128 number the first one, end past its section, or the section has none in the file
+unfoldable pub is_past_target : Section → Reloc → Bool
+is_past_target target r = target.sh_type == SHT_NOBITS || ends_past target.size r.offset (place_width r)
 
 -- fewer bytes of nops than none, or half a nop
 unfoldable pub is_bad_padding : (addend : ℤ) → Bool
@@ -78,8 +83,9 @@ unknown_kind section place kind = record { kind = RELOC_KIND; section = section;
 unfoldable pub entry_checks : List ℕ → ℕ → ℕ → List Check
 entry_checks b i j =
     (nat_le (symbol_count b) (reloc b i j).symbol says flaw_at BAD_RELOC i (rela_place b i j))
-    ∷ (not (is_some (width_of (target_bytes b i) (reloc b i j))) says unknown_kind i (rela_place b i j) (reloc b i j).kind)
-    ∷ (is_past_target (target_bytes b i) (target_of b i) (reloc b i j) says flaw_at BAD_RELOC i (rela_place b i j))
+    ∷ (not (is_linked (reloc b i j).kind) says unknown_kind i (rela_place b i j) (reloc b i j).kind)
+    ∷ (is_past_target (target_of b i) (reloc b i j) says flaw_at BAD_RELOC i (rela_place b i j))
+    ∷ (not (is_some (width_of (target_bytes b i) (reloc b i j))) says flaw_at BAD_ULEB i (rela_place b i j))
     ∷ (is_bad_addend (reloc b i j) says flaw_at BAD_RELOC i (rela_place b i j))
     ∷ []
 
@@ -106,6 +112,27 @@ overlap_checks b i before (j ∷ js) =
     (list_any (meets (target_bytes b i) (reloc b i j)) before says flaw_at BAD_RELOC i (rela_place b i j))
     ∷ overlap_checks b i (before ++ (reloc b i j ∷ [])) js
 
+-- what stands past the end of a list of relocations
+abbrev pub no_reloc : Reloc
+no_reloc = record { offset = 0; kind = R_RISCV_NONE; symbol = 0; addend = pos 0 }
+
+-- the two parts of a pair, at one offset
+unfoldable pub is_pair : Reloc → Reloc → Bool
+is_pair first second = first.kind == R_RISCV_SET_ULEB128 && (second.kind == R_RISCV_SUB_ULEB128 && first.offset == second.offset)
+
+-- of relocations in order, one of a pair that the other part is not next to
+unfoldable pub is_unpaired : List Reloc → (k : ℕ) → Bool
+is_unpaired rs k =
+    is_uleb (slice_index_or rs k no_reloc).kind
+    && not (is_pair (slice_index_or rs k no_reloc) (slice_index_or rs (k + 1) no_reloc) || is_pair (slice_index_or rs (k - 1) no_reloc) (slice_index_or rs k no_reloc))
+
+-- the check of the relocation at place k in order of offset: if it is of a pair, the other part is next to it
+unfoldable pub pair_check : List ℕ → (i k : ℕ) → Check
+pair_check b i k = is_unpaired (relocs_of b i) k says flaw_at BAD_ULEB i (rela_place b i (slice_index (in_order b i) k))
+
+unfoldable pub pair_checks : List ℕ → (i : ℕ) → List Check
+pair_checks b i = map (pair_check b i) (range_with_len 0 (length (in_order b i)))
+
 -- the entries of the relocation section i: each in file order, then all in order of offset
 unfoldable pub entries_checks : List ℕ → ℕ → List Check
-entries_checks b i = from_on (entry_checks b i) 0 (rela_count b i) ++ overlap_checks b i [] (in_order b i)
+entries_checks b i = from_on (entry_checks b i) 0 (rela_count b i) ++ (overlap_checks b i [] (in_order b i) ++ pair_checks b i)

@@ -5,7 +5,8 @@ use Rattle.lk_tables.specs.declared.bounds.Target.{Target}
 use Rattle.lk_tables.specs.declared.objects.Reloc.{Reloc}
 use Rattle.lk_tables.specs.declared.section_places.SectionPlace.{SectionPlace}
 use Rattle.lk_tables.specs.Binding.{Bindings}
-use Rattle.lk_tables.specs.Files.{File, file_at, relocs_at, no_reloc, section_no, section_count, first_section}
+use Rattle.lk_tables.specs.Files.{File, file_at, relocs_at, no_reloc, section_at, section_no, section_count, first_section}
+use Rattle.lk_tables.specs.Sections.{contents_of}
 use Rattle.lk_tables.specs.Targets.{target_of}
 
 -- the file of a section's number: the first of which the sections end after it
@@ -27,6 +28,11 @@ pub record IsPlaceOf (files : List File) (section : ℕ) (place : SectionPlace) 
 -- the relocations of a section, by its number
 abbrev pub relocs_of : List File → (section : ℕ) → List Reloc
 relocs_of files section = relocs_at (file_at files (place_of files section).file) (place_of files section).index
+
+-- the bytes of a section in its file, by its number
+abbrev pub contents_at : List File → (section : ℕ) → List ℕ
+contents_at files section =
+    contents_of (file_at files (place_of files section).file).bytes (section_at (file_at files (place_of files section).file) (place_of files section).index)
 
 -- what relocation number `reloc` of a section stands for
 abbrev pub target_at : List File → Bindings → (section reloc : ℕ) → Target

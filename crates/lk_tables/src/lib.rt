@@ -28,6 +28,7 @@ mod spans;
 mod starts;
 mod tables;
 mod targets;
+mod uleb_lengths;
 mod uppers;
 mod walks;
 
@@ -60,5 +61,6 @@ pub use spans::Span;
 pub use starts::{first_symbols, section_count};
 pub use tables::{Heads, Tables};
 pub use targets::{is_undefined, target_in, target_of};
+pub use uleb_lengths::{contents_of, uleb_len};
 pub use uppers::Uppers;
 pub use walks::{RelocTest, first_over_relocs, reloc_defect};

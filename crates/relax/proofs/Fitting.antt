@@ -16,13 +16,13 @@ use Rattle.lk_tables.specs.declared.tables.Tables.{Tables}
 use Rattle.lk_tables.specs.Binding.{Bindings}
 use Rattle.lk_tables.specs.Files.{File, commons_before, file_at, no_reloc, no_section, relocs_at, section_at, section_count, section_total}
 use Rattle.lk_tables.specs.Inside.{IsBodyInside, IsRelocBefore}
-use Rattle.lk_tables.specs.Relocations.{end_of, has_bytes, is_alignment, is_padding, place_width, width_of}
+use Rattle.lk_tables.specs.Relocations.{end_of, has_bytes, is_alignment, is_padding, place_width, value_len, width_of}
 use Rattle.lk_tables.specs.Sections.{contents_of}
 use Rattle.lk_tables.specs.Sites.{place_of, relocs_of}
 use Rattle.lk_tables.specs.TablesView.{files_of}
 use Rattle.lk_tables.proofs.Owners.{place_of_number}
 use Rattle.lk_tables.proofs.SoundFiles.{inside_body, sound_file}
-use Rattle.lk_tables.proofs.Widths.{alignment_moves, alignment_width, width_is, width_least}
+use Rattle.lk_tables.proofs.Widths.{alignment_moves, alignment_width, moves_plain, value_least, value_plain, width_is}
 use Rattle.link_sections.specs.Calls.{IsOwnCall, is_call}
 use Rattle.link_sections.specs.Cuts.{AreApart, Cut}
 use Rattle.link_sections.specs.InputSections.{common_in, input_at, input_of, room_input, section_input}
@@ -34,11 +34,11 @@ use Rattle.relax.specs.Sizes.{FitSections, has_nops}
 abbrev pub IsOfKind : (contents : List ℕ) → Reloc → Type 0
 IsOfKind contents r = is_some (width_of contents r) ≡ true
 
-pub end_is : (contents : List ℕ) (r : Reloc) → IsOfKind contents r → end_of contents r ≡ r.offset + place_width r
-end_is contents r kind = ap (λ w. r.offset + w) (width_is contents r kind)
+pub end_is : (contents : List ℕ) (r : Reloc) → moves_bytes r.kind ≡ true → IsOfKind contents r → end_of contents r ≡ r.offset + place_width r
+end_is contents r moves kind = ap (λ w. r.offset + w) (width_is contents r (moves_plain r.kind moves) kind)
 
-pub bytes_if : (contents : List ℕ) (r : Reloc) → IsOfKind contents r → 0 < place_width r → has_bytes contents r ≡ true
-bytes_if contents r kind some = lt-ltb r.offset (end_of contents r) (omega (arith, end_is contents r kind))
+pub bytes_if : (contents : List ℕ) (r : Reloc) → moves_bytes r.kind ≡ true → IsOfKind contents r → 0 < place_width r → has_bytes contents r ≡ true
+bytes_if contents r moves kind some = lt-ltb r.offset (end_of contents r) (omega (arith, end_is contents r moves kind))
 
 -- what is known of the relocations of section k of a file
 pub record AreSound (contents : List ℕ) (size : ℕ) (relocs : List Reloc) : Type 0 where
@@ -226,23 +226,19 @@ module _ (contents : List ℕ) (size : ℕ) (relocs : List Reloc) (sound : AreSo
       omega (arith, less, get_or-range_with_len 0 (length relocs) i d (omega (arith, few, less, lt)), get_or-range_with_len 0 (length relocs) j d (omega (arith, few, lt)))
 
   -- the bytes of one end before those of a later one
-  one_before : (k j : ℕ) → k < j → j < length relocs → wanted k ≡ true → 0 < place_width (at j) → (at k).offset + place_width (at k) ≤ (at j).offset
+  one_before : (k j : ℕ) → k < j → j < length relocs → wanted k ≡ true → has_bytes contents (at j) ≡ true → (at k).offset + place_width (at k) ≤ (at j).offset
   one_before k j less lt first some =
       let is = is_one k first in
       let pk = sound.kinds k no_reloc (omega (arith, less, lt)) in
-      let qk = sound.kinds j no_reloc lt in
-      let end = end_is contents (at k) pk in
-      let before = sound.apart k j no_reloc less lt (bytes_if contents (at k) pk is.some) (bytes_if contents (at j) qk some) (ap (λ b. b || moves_bytes (at j).kind) is.moves) in
+      let end = end_is contents (at k) is.moves pk in
+      let before = sound.apart k j no_reloc less lt (bytes_if contents (at k) is.moves pk is.some) some (ap (λ b. b || moves_bytes (at j).kind) is.moves) in
       omega (arith, before, end)
 
-  one_after : (j k : ℕ) → j < k → k < length relocs → wanted k ≡ true → 0 < place_width (at j) → (at j).offset + place_width (at j) ≤ (at k).offset
+  one_after : (j k : ℕ) → j < k → k < length relocs → wanted k ≡ true → has_bytes contents (at j) ≡ true → end_of contents (at j) ≤ (at k).offset
   one_after j k less lt second some =
       let is = is_one k second in
       let pk = sound.kinds k no_reloc lt in
-      let qk = sound.kinds j no_reloc (omega (arith, less, lt)) in
-      let end = end_is contents (at j) qk in
-      let before = sound.apart j k no_reloc less lt (bytes_if contents (at j) qk some) (bytes_if contents (at k) pk is.some) (or_second (moves_bytes (at j).kind) (moves_bytes (at k).kind) is.moves) in
-      omega (arith, before, end)
+      sound.apart j k no_reloc less lt some (bytes_if contents (at k) is.moves pk is.some) (or_second (moves_bytes (at j).kind) (moves_bytes (at k).kind) is.moves)
     where
       or_second : (a b : Bool) → b ≡ true → (a || b) ≡ true
       or_second true b e = refl
@@ -262,7 +258,8 @@ module _ (contents : List ℕ) (size : ℕ) (relocs : List Reloc) (sound : AreSo
         let ki = is_one k kc in
         let ji = is_one j jc in
         let less = AllPairs-filter (λ a b. a < b) wanted (range_with_len 0 (length relocs)) in_order p (p + 1) 0 (omega arith) (omega (arith, lt, few)) in
-        let before = one_before k j less (number_low (p + 1) 0 (omega (arith, lt, few))) kc ji.some in
+        let high = number_low (p + 1) 0 (omega (arith, lt, few)) in
+        let before = one_before k j less high kc (bytes_if contents (at j) ji.moves (sound.kinds j no_reloc high) ji.some) in
         omega (arith, before, ki.at, ki.whole, ji.at, ap (λ (c : Cut). c.at) first, ap (λ (c : Cut). c.whole) first, ap (λ (c : Cut). c.at) second);
   }
 
@@ -275,40 +272,40 @@ module _ (contents : List ℕ) (size : ℕ) (relocs : List Reloc) (sound : AreSo
       let k = get_or kept_ones p d in
       let is = is_one k (number_cut p d lt) in
       let low = number_low p d lt in
-      omega (arith, is.at, is.whole, sound.fits k no_reloc low, end_is contents (at k) (sound.kinds k no_reloc low)))
+      omega (arith, is.at, is.whole, sound.fits k no_reloc low, end_is contents (at k) is.moves (sound.kinds k no_reloc low)))
 
   abbrev pub IsClear : Reloc → Cut → Type 0
-  IsClear r c = (c.at + c.whole ≤ r.offset) ⊎ ((r.offset + (kind_of r.kind).width ≤ c.at) ⊎ IsOwnCall c r)
+  IsClear r c = (c.at + c.whole ≤ r.offset) ⊎ ((r.offset + value_len contents r ≤ c.at) ⊎ IsOwnCall c r)
 
-  clear_of : (j k : ℕ) → j < length relocs → k < length relocs → 0 < (kind_of (at j).kind).width → wanted k ≡ true → IsClear (at j) (cut k)
+  clear_of : (j k : ℕ) → j < length relocs → k < length relocs → 0 < value_len contents (at j) → wanted k ≡ true → IsClear (at j) (cut k)
   clear_of j k high lt wide is =
       let m = is_one k is in
       let rk = sound.kinds j no_reloc high in
-      let least = width_least contents (at j) rk in
-      let re = end_is contents (at j) rk in
-      let some : 0 < place_width (at j) = omega (arith, wide, least, re) in
+      let least = value_least contents (at j) rk in
+      let some : has_bytes contents (at j) ≡ true = lt-ltb (at j).offset (end_of contents (at j)) (omega (arith, wide, least)) in
       elim (cases_lt k j) [
         | inl before ↦ inl (omega (arith, one_before k j before high is some, m.at, m.whole))
         | inr from ↦ elim (cases_lt j k) [
-          | inl after ↦ inr (inl (omega (arith, one_after j k after lt is some, m.at, least, re)))
+          | inl after ↦ inr (inl (omega (arith, one_after j k after lt is some, m.at, least)))
           | inr le ↦
               let same : k ≡ j = omega (arith, from, le) in
               elim m.own [
                 | inl align ↦
                     let none = alignment_width (at k) align in
-                    let own : (kind_of (at k).kind).width ≡ (kind_of (at j).kind).width = ap (λ n. (kind_of (at n).kind).width) same in
-                    absurd (omega (arith, none, own, wide))
+                    let plain = value_plain contents (at k) (moves_plain (at k).kind m.moves) in
+                    let own : value_len contents (at k) ≡ value_len contents (at j) = ap (λ n. value_len contents (at n)) same in
+                    absurd (omega (arith, none, plain, own, wide))
                 | inr call ↦ inr (inr (subst (λ n. IsOwnCall (cut k) (at n)) same call))
               ]
         ]
       ]
 
-  pub cuts_clear : All (λ (r : Reloc). 0 < (kind_of r.kind).width → All (IsClear r) (cuts_by sizes relocs)) relocs
+  pub cuts_clear : All (λ (r : Reloc). 0 < value_len contents r → All (IsClear r) (cuts_by sizes relocs)) relocs
   cuts_clear j d high wide =
       let same : get_or relocs j d ≡ at j = get_or_default relocs j d no_reloc high in
       let P : Reloc → Type 0 = λ r. All (IsClear r) (cuts_by sizes relocs) in
       subst P (sym same) (All-map (IsClear (at j)) cut kept_ones (λ p e lt.
-      clear_of j (get_or kept_ones p e) high (number_low p e lt) (subst (λ (r : Reloc). 0 < (kind_of r.kind).width) same wide) (number_cut p e lt)))
+      clear_of j (get_or kept_ones p e) high (number_low p e lt) (subst (λ (r : Reloc). 0 < value_len contents r) same wide) (number_cut p e lt)))
 
 -- the size of a section that has relocations is that of its header
 pub size_is : (tables : Tables) (b : Bindings) (n : ℕ) → n < section_total (files_of tables) → 0 < length (relocs_of (files_of tables) n) →
@@ -361,6 +358,6 @@ fit_sections tables cuts sizes count row lawful =
       clear = λ n lt.
           let file = file_at files (place_of files n).file in
           let s = section_at file (place_of files n).index in
-          let P : List Cut → Type 0 = λ cs. All (λ (r : Reloc). 0 < (kind_of r.kind).width → All (λ (c : Cut). (c.at + c.whole ≤ r.offset) ⊎ ((r.offset + (kind_of r.kind).width ≤ c.at) ⊎ IsOwnCall c r)) cs) (relocs_of files n) in
+          let P : List Cut → Type 0 = λ cs. All (λ (r : Reloc). 0 < value_len (contents_of file.bytes s) r → All (λ (c : Cut). (c.at + c.whole ≤ r.offset) ⊎ ((r.offset + value_len (contents_of file.bytes s) r ≤ c.at) ⊎ IsOwnCall c r)) cs) (relocs_of files n) in
           subst P (sym (row n lt)) (cuts_clear (contents_of file.bytes s) s.size (relocs_of files n) (sound_of tables n lt) (sizes n) (lawful n));
     }

@@ -149,8 +149,10 @@ module _ (tables : Tables) (b : Bindings) (merged : List (Option Merged)) (leade
       let qk = sound.kinds j no_reloc high in
       let rw_is = call_width r first in
       let qw_is = call_width q second in
-      let before = sound.apart k j no_reloc less high (bytes_if contents r rk (omega (arith, rw_is))) (bytes_if contents q qk (omega (arith, qw_is))) (ap (λ m. m || moves_bytes q.kind) (call_kind r.kind first).moves) in
-      omega (arith, before, end_is contents r rk, rw_is)
+      let rm = (call_kind r.kind first).moves in
+      let qm = (call_kind q.kind second).moves in
+      let before = sound.apart k j no_reloc less high (bytes_if contents r rm rk (omega (arith, rw_is))) (bytes_if contents q qm qk (omega (arith, qw_is))) (ap (λ m. m || moves_bytes q.kind) rm) in
+      omega (arith, before, end_is contents r rm rk, rw_is)
 
   call_inside : (k : ℕ) → k < length relocs → is_at_call k → (reloc_of files n k).offset + 8 ≤ (input_at files b n).size
   call_inside k high is =
@@ -160,7 +162,7 @@ module _ (tables : Tables) (b : Bindings) (merged : List (Option Merged)) (leade
       let sound = sound_of tables n lt in
       let r = reloc_of files n k in
       let fits = sound.fits k no_reloc high in
-      omega (arith, fits, end_is contents r (sound.kinds k no_reloc high), call_width r is, size_is tables b n lt (omega (arith, high)))
+      omega (arith, fits, end_is contents r (call_kind r.kind is).moves (sound.kinds k no_reloc high), call_width r is, size_is tables b n lt (omega (arith, high)))
 
   follow_from : (a m from : ℕ) → a + m ≤ length relocs → ((k : ℕ) → a ≤ k → k < a + m → is_at_call k → from ≤ (reloc_of files n k).offset) →
       Follow from (input_at files b n).size (flat_map f (range_with_len a m))

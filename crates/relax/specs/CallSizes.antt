@@ -3,7 +3,7 @@
 use Rattle.std.specs.Prelude.{◌≡◌, ℕ, zero, suc, ◌+◌, ◌-◌, ◌*◌, ◌/◌, ◌%◌, ◌<◌, ◌≤◌, ◌==◌, ◌&&◌, ◌||◌, not, nat_lt, nat_le, pos, bit_and, Bool, true, false, if◌then◌else◌, Option, Some, None, List, [], ◌∷◌, length, map, flat_map, slice_index, slice_index_or}
 use Rattle.std.specs.List.{list_all, list_any, filter, position_or_len, range_with_len, sum_by}
 use Rattle.std.specs.Ordering.{int_eq}
-use Rattle.lk_base.specs.declared.abi.TheConstants.{EF_RISCV_RVC, R_RISCV_RELAX}
+use Rattle.lk_base.specs.declared.abi.TheConstants.{EF_RISCV_RVC, R_RISCV_RELAX, SHT_NULL}
 use Rattle.lk_tables.specs.declared.objects.Reloc.{Reloc}
 use Rattle.lk_tables.specs.Binding.{Bindings}
 use Rattle.lk_tables.specs.Files.{File, file_at, no_reloc, section_at, section_total}
@@ -63,7 +63,7 @@ abbrev pub hint_offsets : List Reloc → List ℕ
 hint_offsets relocs = map (λ r. r.offset) (filter (λ r. r.kind == R_RISCV_RELAX) relocs)
 
 abbrev pub no_member : Row
-no_member = record { number = 0; content = Got; group = 0; rank = 0; priority = 0; sh_type = 0; flags = 0; size = 0; align = 1 }
+no_member = record { number = 0; content = Got; group = 0; rank = 0; priority = 0; sh_type = SHT_NULL; flags = 0; size = 0; align = 1 }
 
 -- the place of section n among the members, or how many these are
 abbrev pub is_at : (n : ℕ) → Row → Bool

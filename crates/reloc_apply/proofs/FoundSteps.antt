@@ -1,5 +1,5 @@
 -- The least defect of relocations that touch some bytes, over the members that meet them.
-use Rattle.std.proofs.Common.{◌≡◌, ◌⊎◌, inl, inr, ℕ, ◌+◌, ◌<◌, ◌≤◌, Bool, true, false, nat_lt, List, [], length, flat_map, get_or, refl, sym, ap, ◌∙◌, arith, subst, Option, Some, None}
+use Rattle.std.proofs.Common.{◌≡◌, ◌⊎◌, inl, inr, ℕ, ◌+◌, ◌-◌, ◌<◌, ◌≤◌, Bool, true, false, nat_lt, List, [], length, flat_map, get_or, refl, sym, ap, ◌∙◌, arith, subst, Option, Some, None}
 use Rattle.std.specs.Prelude.{if◌then◌else◌, IfSome}
 use Rattle.std.specs.List.{range_with_len}
 use Rattle.std.proofs.lemmas.Bool.{cases_Bool, cases_lt, ltb-true, ltb-false}
@@ -10,13 +10,13 @@ use Rattle.lk_base.specs.declared.defects.Defect.{Defect}
 use Rattle.lk_base.proofs.Loops.{found_at}
 use Rattle.lk_tables.specs.declared.objects.Reloc.{Reloc}
 use Rattle.lk_tables.specs.Binding.{Bindings}
-use Rattle.lk_tables.specs.Files.{File, section_total}
+use Rattle.lk_tables.specs.Files.{File, no_reloc, section_total}
 use Rattle.lk_tables.specs.Sites.{relocs_of}
 use Rattle.link_sections.specs.LaidOut.{LaidOut}
 use Rattle.link_sections.specs.Sound.{IsSound}
 use Rattle.reloc_apply.specs.declared.founds.Found.{Found}
 use Rattle.reloc_apply.specs.Founds.{IsFound, earlier}
-use Rattle.reloc_apply.specs.Relocated.{is_laid, reloc_defects, section_touching, touches, touching_defects, written_in}
+use Rattle.reloc_apply.specs.Relocated.{defects_at, is_laid, reloc_at, reloc_defects, section_touching, touches, touching_defects, written_in}
 use Rattle.reloc_apply.proofs.LaidFacts.{IsMemberOf, member_of}
 use Rattle.reloc_apply.proofs.MemberFacts.{member, written}
 use Rattle.reloc_apply.proofs.MemberSteps.{quiet_first, quiet_last}
@@ -127,7 +127,7 @@ module _ (files : List File) (b : Bindings) (leaders : List (Option ℕ)) (laid 
     off_by : (from len n : ℕ) → is_laid files b leaders laid n ≡ false → section_touching files b leaders laid from len n ≡ []
     unfolding section_touching
     off_by from len n off =
-        ap (λ d. if d then flat_map (λ (r : Reloc). if touches files b leaders laid from len n r then reloc_defects files b leaders laid n r else []) (relocs_of files n) else []) off
+        ap (λ d. if d then flat_map (λ k. if touches files b leaders laid from len n (reloc_at files b leaders laid n k) then defects_at files b leaders laid n k else []) (range_with_len 0 (length (relocs_of files n))) else []) off
 
     written_is : (n k : ℕ) → IsMemberOf files b leaders laid n k → written_in files b leaders laid (member files b leaders laid k).content ≡ Some n
     written_is n k is =
@@ -170,10 +170,16 @@ module _ (files : List File) (b : Bindings) (leaders : List (Option ℕ)) (laid 
   laid_by true xs is = refl
   laid_by false xs is = let none : ⊥ = cc in absurd none
 
+  -- by a list of relocations that are those of the section
+  abbrev pub touching_by : (from len m : ℕ) → List Reloc → List Defect
+  touching_by from len m rs =
+      flat_map (λ k. if touches files b leaders laid from len m (get_or rs k no_reloc) then reloc_defects files b leaders laid m (get_or rs (k - 1) no_reloc) (get_or rs k no_reloc) else [])
+      (range_with_len 0 (length rs))
+
   pub touching_is : (from len n m : ℕ) (rs : List Reloc) → is_laid files b leaders laid n ≡ true → m ≡ n → rs ≡ relocs_of files m →
-      flat_map (λ (r : Reloc). if touches files b leaders laid from len m r then reloc_defects files b leaders laid m r else []) rs ≡ section_touching files b leaders laid from len n
+      touching_by from len m rs ≡ section_touching files b leaders laid from len n
   unfolding section_touching
   touching_is from len n m rs is same relocs =
-      ap (flat_map (λ (r : Reloc). if touches files b leaders laid from len m r then reloc_defects files b leaders laid m r else [])) relocs
-      ∙ ap (λ i. flat_map (λ (r : Reloc). if touches files b leaders laid from len i r then reloc_defects files b leaders laid i r else []) (relocs_of files i)) same
+      ap (touching_by from len m) relocs
+      ∙ ap (λ i. touching_by from len i (relocs_of files i)) same
       ∙ sym (laid_by (is_laid files b leaders laid n) _ is)

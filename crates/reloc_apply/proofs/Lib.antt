@@ -14,6 +14,7 @@ pub mod MemberFacts
 pub mod MemberSteps
 pub mod NumberWalks
 pub mod PieceWalks
+mod PlaceWidths
 pub mod Placing
 mod PlainSymbols
 pub mod PoolSteps

@@ -19,7 +19,7 @@ use Rattle.link_sections.specs.Leaders.{is_number}
 use Rattle.link_sections.specs.Sound.{IsSectionMember, IsSound}
 use Rattle.reloc_apply.specs.Founds.{AreOneAfterOther, no_member}
 use Rattle.reloc_apply.specs.Relocated.{has_bits, is_laid, section_bytes, written_in}
-use Rattle.reloc_apply.proofs.BytesAfter.{AllFit, whole_length}
+use Rattle.reloc_apply.proofs.BytesAfter.{whole_length}
 use Rattle.reloc_apply.proofs.LaidFacts.{content_is, known, stay_size}
 use Rattle.reloc_apply.proofs.SitePlaces.{live_place}
 use Rattle.reloc_apply.proofs.SoundLists.{AllSound, all_sound}
@@ -85,8 +85,7 @@ module _ (files : List File) (b : Bindings) (leaders : List (Option ℕ)) (laid 
       let found = known files b leaders laid n sound is.laid_is in
       let stay = stay_size files b leaders laid n sound (file_sound n all own.number) found in
       let same : found.member.size ≡ (member k).size = found.section.size ∙ sym own.size in
-      let fit : AllFit files b leaders laid n = λ i d lt. let within = own.relocs i d lt in omega (arith, within, stay, same) in
-      whole_length files b leaders laid n fit ∙ stay ∙ same
+      whole_length files b leaders laid n ∙ stay ∙ same
 
 -- the bytes of a member that is a section with bytes in its file are as many as the member has
 pub sized : (v : View) (i : ℕ) (d : Member) → i < length (laid_in v).members → (n : ℕ) → (get_or (laid_in v).members i d).content ≡ Section n →

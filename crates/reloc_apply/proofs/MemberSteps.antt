@@ -2,6 +2,7 @@
 use Rattle.std.proofs.Common.{◌≡◌, ◌⊎◌, inl, inr, ℕ, ◌+◌, ◌-◌, ◌<◌, ◌≤◌, Bool, true, false, List, [], ◌∷◌, length, flat_map, get_or, min, max, refl, sym, ap, ◌∙◌, arith, subst, Option, Some, None}
 use Rattle.std.specs.Prelude.{if◌then◌else◌}
 use Rattle.std.proofs.lemmas.Bool.{le-ltb}
+use Rattle.std.specs.List.{range_with_len}
 use Rattle.lk_base.specs.declared.abi.TheConstants.{IMAGE_BASE}
 use Rattle.lk_tables.specs.declared.objects.Reloc.{Reloc}
 use Rattle.lk_tables.specs.Binding.{Bindings}
@@ -12,20 +13,19 @@ use Rattle.link_sections.specs.declared.members.Content.TheVariants.{Section, Po
 use Rattle.link_sections.specs.declared.members.Member.{Member}
 use Rattle.link_sections.specs.declared.views.View.{View}
 use Rattle.link_sections.specs.Addresses.{no_pool}
-use Rattle.link_sections.specs.Calls.{acting_width}
-use Rattle.link_sections.specs.LaidOut.{LaidOut, cuts_at, start_at}
+use Rattle.link_sections.specs.LaidOut.{LaidOut, start_at}
 use Rattle.link_sections.specs.Sound.{IsSound}
 use Rattle.link_sections.specs.Views.{binding_in, files_in, laid_in, leaders_in}
 use Rattle.reloc_apply.specs.Founds.{no_member}
 use Rattle.reloc_apply.specs.Image.{piece}
-use Rattle.reloc_apply.specs.Relocated.{content_pieces, has_bits, is_laid, member_pieces, pool_pieces, reloc_defects, section_bytes, section_touching, table_bytes, touches, written_in}
+use Rattle.reloc_apply.specs.Relocated.{content_pieces, has_bits, is_laid, defects_at, member_pieces, pool_pieces, reloc_at, section_bytes, section_touching, table_bytes, touches, width_at, written_in}
 use Rattle.reloc_apply.specs.Values.{offset_of}
 use Rattle.reloc_apply.proofs.MemberFacts.{bytes_size, member, written}
 use Rattle.reloc_apply.proofs.PieceWalks.{AreAway, IsBeside, piece_away}
 use Rattle.reloc_apply.proofs.PoolSteps.{none as no_held_pool, pool_away, pool_is}
 use Rattle.reloc_apply.proofs.SoundLists.{AllSound}
 use Rattle.reloc_apply.proofs.TableSteps.{table_size}
-use Rattle.reloc_apply.proofs.TouchingSteps.{rest_none}
+use Rattle.reloc_apply.proofs.TouchingSteps.{none_from}
 
 module _ (files : List File) (b : Bindings) (leaders : List (Option ℕ)) (laid : LaidOut) where
   -- a pool that is away from some bytes has no piece among them
@@ -84,22 +84,22 @@ module _ (files : List File) (b : Bindings) (leaders : List (Option ℕ)) (laid 
 
   -- a member that is away from some bytes has no relocation that touches them
   touches_none : (from len n : ℕ) (r : Reloc) →
-      (start_at laid n - IMAGE_BASE + offset_of files b leaders laid n r + acting_width (cuts_at laid n) r ≤ from) ⊎ (from + len ≤ start_at laid n - IMAGE_BASE + offset_of files b leaders laid n r) →
+      (start_at laid n - IMAGE_BASE + offset_of files b leaders laid n r + width_at files b leaders laid n r ≤ from) ⊎ (from + len ≤ start_at laid n - IMAGE_BASE + offset_of files b leaders laid n r) →
       touches files b leaders laid from len n r ≡ false
   unfolding touches
   touches_none from len n r side =
       let at : ℕ = start_at laid n - IMAGE_BASE + offset_of files b leaders laid n r in
-      le-ltb (max at from) (min (at + acting_width (cuts_at laid n) r) (from + len)) (elim side [
+      le-ltb (max at from) (min (at + width_at files b leaders laid n r) (from + len)) (elim side [
         | inl low ↦ omega (arith, low)
         | inr high ↦ omega (arith, high)
       ])
 
   quiet_by : (d : Bool) (from len n : ℕ) → ((i : ℕ) → i < length (relocs_of files n) → touches files b leaders laid from len n (get_or (relocs_of files n) i no_reloc) ≡ false) →
-      (if d then flat_map (λ (r : Reloc). if touches files b leaders laid from len n r then reloc_defects files b leaders laid n r else []) (relocs_of files n) else []) ≡ []
+      (if d then flat_map (λ k. if touches files b leaders laid from len n (reloc_at files b leaders laid n k) then defects_at files b leaders laid n k else []) (range_with_len 0 (length (relocs_of files n))) else []) ≡ []
   quiet_by false from len n none = refl
   quiet_by true from len n none =
-      rest_none (λ (r : Reloc). if touches files b leaders laid from len n r then reloc_defects files b leaders laid n r else []) (relocs_of files n) 0 no_reloc
-      (λ i le lt. ap (λ t. if t then reloc_defects files b leaders laid n (get_or (relocs_of files n) i no_reloc) else []) (none i lt))
+      none_from (λ k. if touches files b leaders laid from len n (reloc_at files b leaders laid n k) then defects_at files b leaders laid n k else []) 0 (length (relocs_of files n))
+      (λ i le lt. ap (λ t. if t then defects_at files b leaders laid n i else []) (none i (omega (arith, lt))))
 
   touching_none : (from len n : ℕ) → ((i : ℕ) → i < length (relocs_of files n) → touches files b leaders laid from len n (get_or (relocs_of files n) i no_reloc) ≡ false) →
       section_touching files b leaders laid from len n ≡ []

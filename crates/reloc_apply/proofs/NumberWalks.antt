@@ -3,21 +3,19 @@ use Rattle.std.proofs.Common.{◌≡◌, ℕ, zero, suc, ◌+◌, ◌-◌, ◌<�
 use Rattle.std.specs.List.{range_with_len}
 use Rattle.std.proofs.lemmas.Grind.{flat_map-append}
 use Rattle.std.proofs.lemmas.Bool.{cases_lt}
-use Rattle.std.proofs.lemmas.List.{append-nil, get_or-map, get_or_past, length-append, length-map, map-id}
+use Rattle.std.proofs.lemmas.List.{append-nil, get_or_past, length-append, map-id}
 use Rattle.std.proofs.lemmas.List.Concat.{get_or-flat_map}
-use Rattle.std.proofs.lemmas.List.Folds.{flat_map-map}
-use Rattle.std.proofs.lemmas.List.FromFn.{fill_by_all, length-range_with_len, take-map-range_with_len}
+use Rattle.std.proofs.lemmas.List.FromFn.{get_or-map-range_with_len, length-map-range_with_len, length-range_with_len, take-map-range_with_len}
 use Rattle.lk_base.specs.Firsts.{BeginsWith}
 use Rattle.lk_base.specs.declared.defects.Defect.{Defect}
 use Rattle.lk_base.proofs.Loops.{count_step, flat_step}
 use Rattle.lk_base.proofs.Ranges.{range_parts, range_read, two_parts}
-use Rattle.lk_tables.specs.declared.objects.Reloc.{Reloc}
 use Rattle.lk_tables.specs.Binding.{Bindings}
-use Rattle.lk_tables.specs.Files.{File, no_reloc, section_total}
+use Rattle.lk_tables.specs.Files.{File, section_total}
 use Rattle.lk_tables.specs.Sites.{relocs_of}
 use Rattle.link_sections.specs.LaidOut.{LaidOut}
 use Rattle.link_sections.specs.Leaders.{leads}
-use Rattle.reloc_apply.specs.Relocated.{reloc_defects, relocation_defects, section_defects}
+use Rattle.reloc_apply.specs.Relocated.{defects_at, relocation_defects, section_defects}
 
 take_range : (n m : ℕ) → m ≤ n → take m (range_with_len 0 n) ≡ range_with_len 0 m
 take_range n m le =
@@ -34,12 +32,6 @@ flat_same : {X : Type 0} (f g : ℕ → List X) (ks : List ℕ) → ((k : ℕ) �
 flat_same f g [] same = refl
 flat_same f g (k ∷ ks) same = ap (λ l. l ++ flat_map f ks) (same k) ∙ ap (λ l. g k ++ l) (flat_same f g ks same)
 
--- a list by its indexes
-by_index : {X : Type 0} (f : X → List Defect) (xs : List X) (d : X) → flat_map (λ k. f (get_or xs k d)) (range_with_len 0 (length xs)) ≡ flat_map f xs
-by_index f xs d =
-    sym (flat_map-map f (λ k. get_or xs k d) (range_with_len 0 (length xs)))
-    ∙ ap (flat_map f) (sym (fill_by_all (λ k. get_or xs k d) xs (length xs) d refl (λ k lt. refl)))
-
 abbrev nothing : {X : Type 0} → X → List Defect
 nothing x = []
 
@@ -52,10 +44,10 @@ pub given_if : {X : Type 0} (on : Bool) (f : X → List Defect) (xs : List X) �
 given_if true f xs = refl
 given_if false f xs = none_given xs
 
--- what is given for each relocation of section n
-module _ {X : Type 0} (relocs : ℕ → List X) (d : X) (f : ℕ → X → List Defect) where
+-- what is given for each relocation of section n, by its place there
+module _ {X : Type 0} (relocs : ℕ → List X) (give : (n x : ℕ) → List Defect) where
   abbrev row : ℕ → List (List Defect)
-  row n = map (f n) (relocs n)
+  row n = map (give n) (range_with_len 0 (length (relocs n)))
 
   -- of all sections before n
   abbrev rows : ℕ → List (List Defect)
@@ -63,9 +55,6 @@ module _ {X : Type 0} (relocs : ℕ → List X) (d : X) (f : ℕ → X → List 
 
   abbrev count : ℕ → ℕ
   count n = length (relocs n)
-
-  abbrev give : (n x : ℕ) → List Defect
-  give n x = f n (get_or (relocs n) x d)
 
   -- how many come before those of section n
   abbrev pub first : ℕ → ℕ
@@ -82,7 +71,7 @@ module _ {X : Type 0} (relocs : ℕ → List X) (d : X) (f : ℕ → X → List 
   first_next n = count_step relocs n
 
   first_row : (n : ℕ) → length (rows n) ≡ first n
-  first_row n = same_lengths row relocs (range_with_len 0 n) (λ k. length-map (relocs k) (f k))
+  first_row n = same_lengths row relocs (range_with_len 0 n) (λ k. length-map-range_with_len (give k) 0 (length (relocs k)))
 
   read : (total n x : ℕ) → n < total → x < count n → given_at total (first n + x) ≡ give n x
   read total n x lt less =
@@ -91,9 +80,9 @@ module _ {X : Type 0} (relocs : ℕ → List X) (d : X) (f : ℕ → X → List 
       let start : length (flat_map row (take n range)) ≡ first n = ap (λ l. length (flat_map row l)) (take_range total n (omega (arith, lt))) ∙ first_row n in
       ap (λ k. get_or (rows total) (k + x) []) (sym start)
       ∙ get_or-flat_map row range n x n [] (omega (arith, lt, length-range_with_len 0 total))
-      (omega (arith, less, ap (λ k. length (row k)) own, length-map (relocs n) (f n)))
+      (omega (arith, less, ap (λ k. length (row k)) own, length-map-range_with_len (give n) 0 (length (relocs n))))
       ∙ ap (λ k. get_or (row k) x []) own
-      ∙ get_or-map (f n) (relocs n) x d [] less
+      ∙ get_or-map-range_with_len (give n) 0 (length (relocs n)) x x [] less (omega arith)
 
   -- the things of section n from number x on
   part : (total n x k : ℕ) → n < total → ((j : ℕ) → x ≤ j → j < x + k → j < count n) →
@@ -130,7 +119,7 @@ module _ {X : Type 0} (relocs : ℕ → List X) (d : X) (f : ℕ → X → List 
       ap (λ l. l ++ flat_map (given_at total) (range_with_len (x + 1) k)) (get_or_past (rows total) x [] (omega (arith, past, first_row total)))
       ∙ past_none total (x + 1) k (omega (arith, past))
 
-  pub all_sections : (whole : ℕ → List Defect) (total end : ℕ) → first total ≤ end → ((n : ℕ) → flat_map (f n) (relocs n) ≡ whole n) →
+  pub all_sections : (whole : ℕ → List Defect) (total end : ℕ) → first total ≤ end → ((n : ℕ) → of_section n ≡ whole n) →
       flat_map (given_at total) (range_with_len 0 end) ≡ flat_map whole (range_with_len 0 total)
   all_sections whole total end past is =
       let g = given_at total in
@@ -141,7 +130,7 @@ module _ {X : Type 0} (relocs : ℕ → List X) (d : X) (f : ℕ → X → List 
       ∙ ap (λ l. flat_map g (range_with_len 0 (first total)) ++ l) (past_none total (0 + first total) (end - first total) (omega arith))
       ∙ append-nil (flat_map g (range_with_len 0 (first total)))
       ∙ upto total total (omega arith)
-      ∙ flat_same of_section whole (range_with_len 0 total) (λ n. by_index (f n) (relocs n) d ∙ is n)
+      ∙ flat_same of_section whole (range_with_len 0 total) is
 
   -- the first number from a on and before b that is not of a section before n, and what is left from there on
   abbrev next : (a b n : ℕ) → ℕ
@@ -156,7 +145,7 @@ module _ {X : Type 0} (relocs : ℕ → List X) (d : X) (f : ℕ → X → List 
 
   -- the same by where the section's relocations begin, and by the first of them that counts
   pub here_is : (a b n from x : ℕ) → from ≡ first n → x ≡ a - from →
-      flat_map (λ k. f n (get_or (relocs n) k d)) (range_with_len x (min (b - from) (length (relocs n)) - x)) ≡ here a b n
+      flat_map (give n) (range_with_len x (min (b - from) (length (relocs n)) - x)) ≡ here a b n
   here_is a b n from x is at =
       ap (λ k. flat_map (give n) (range_with_len k (min (b - from) (count n) - k))) at
       ∙ ap (λ k. flat_map (give n) (range_with_len (a - k) (min (b - k) (count n) - (a - k)))) is
@@ -207,13 +196,13 @@ pub last_is : (numbers : List ℕ) (n total : ℕ) → length numbers ≡ n + 1 
 last_is numbers n total count is = let e : length numbers - 1 ≡ n = omega (arith, count) in ap (λ k. slice_index numbers k) e ∙ is
 
 module _ (files : List File) (b : Bindings) (leaders : List (Option ℕ)) (laid : LaidOut) where
-  -- the defects of a relocation of section n, if that leads itself
-  abbrev pub own_defects : (n : ℕ) → Reloc → List Defect
-  own_defects n r = if leads leaders n then reloc_defects files b leaders laid n r else []
+  -- the defects of relocation k of section n, if that leads itself
+  abbrev pub own_defects : (n k : ℕ) → List Defect
+  own_defects n k = if leads leaders n then defects_at files b leaders laid n k else []
 
-  pub all_defects : (end : ℕ) → first (relocs_of files) no_reloc own_defects (section_total files) ≤ end →
-      flat_map (given_at (relocs_of files) no_reloc own_defects (section_total files)) (range_with_len 0 end) ≡ relocation_defects files b leaders laid
+  pub all_defects : (end : ℕ) → first (relocs_of files) own_defects (section_total files) ≤ end →
+      flat_map (given_at (relocs_of files) own_defects (section_total files)) (range_with_len 0 end) ≡ relocation_defects files b leaders laid
   unfolding relocation_defects section_defects
   all_defects end past =
-      all_sections (relocs_of files) no_reloc own_defects (section_defects files b leaders laid) (section_total files) end past
-      (λ n. given_if (leads leaders n) (reloc_defects files b leaders laid n) (relocs_of files n))
+      all_sections (relocs_of files) own_defects (section_defects files b leaders laid) (section_total files) end past
+      (λ n. given_if (leads leaders n) (defects_at files b leaders laid n) (range_with_len 0 (length (relocs_of files n))))

@@ -3,21 +3,22 @@ use Rattle.std.proofs.Common.{◌≡◌, ℕ, ◌+◌, ◌-◌, ◌<◌, ◌≤�
 use Rattle.std.specs.Prelude.{if◌then◌else◌, option_and_then}
 use Rattle.std.proofs.lemmas.Bool.{and_parts}
 use Rattle.std.proofs.lemmas.List.{length-drop, length-take-le}
-use Rattle.lk_base.specs.RelocKinds.{Kind, is_lower, is_partner, kind_of}
-use Rattle.lk_base.specs.declared.abi.TheConstants.{R_RISCV_32, R_RISCV_32_PCREL, R_RISCV_64, R_RISCV_SET16, R_RISCV_SET32, R_RISCV_SET8}
+use Rattle.lk_base.specs.RelocKinds.{Kind, is_lower, is_partner, is_uleb, kind_of}
+use Rattle.lk_base.specs.declared.abi.TheConstants.{R_RISCV_32, R_RISCV_32_PCREL, R_RISCV_64, R_RISCV_PLT32, R_RISCV_SET16, R_RISCV_SET32, R_RISCV_SET8}
 use Rattle.lk_base.specs.declared.relocations.Calculation.{Calculation}
 use Rattle.lk_base.specs.declared.relocations.Calculation.TheVariants.{Nothing, Hint, Padding, Address, Distance, Partner, GotDistance, ThreadOffset, Increase, Decrease}
 use Rattle.lk_base.proofs.TableLines.{width_few}
+use Rattle.lk_tables.proofs.Widths.{no_uleb}
 use Rattle.lk_tables.specs.declared.objects.Reloc.{Reloc}
 use Rattle.lk_tables.specs.Binding.{Bindings}
 use Rattle.lk_tables.specs.Files.{File}
 use Rattle.link_sections.specs.Calls.{acting_kind, acting_number, is_call, kind_by_size, call_size}
 use Rattle.link_sections.specs.Cuts.{Cut}
 use Rattle.link_sections.specs.LaidOut.{LaidOut, cuts_at}
-use Rattle.reloc_apply.specs.Relocated.{filled, put}
+use Rattle.reloc_apply.specs.Relocated.{filled, operand, put}
 use Rattle.reloc_apply.specs.Sites.{sets_all}
 use Rattle.reloc_apply.specs.Values.{computed, direct_value, entry_of, held_in, partner_of, place_of, sum_of, thread_of, value_of}
-use Rattle.reloc_apply.proofs.States.{Fits, at_of, kind_at, put_within, width_of}
+use Rattle.reloc_apply.proofs.States.{Fits, at_of, kind_at, plain_width, put_within, width_of}
 use Rattle.reloc_apply.proofs.ValueKinds.{among_each}
 use Rattle.reloc_apply.proofs.WholeFields.{covers, patched_same}
 
@@ -32,11 +33,15 @@ is_set k = is_sum k.calculation && covers k.field k.width
 
 set_kind : (n : ℕ) → sets_all n ≡ true → is_set (kind_of n) ≡ true
 unfolding sets_all kind_of
-set_kind n is = among_each (λ m. is_set (kind_of m)) (R_RISCV_32 ∷ R_RISCV_64 ∷ R_RISCV_SET8 ∷ R_RISCV_SET16 ∷ R_RISCV_SET32 ∷ R_RISCV_32_PCREL ∷ []) n refl is
+set_kind n is = among_each (λ m. is_set (kind_of m)) (R_RISCV_32 ∷ R_RISCV_64 ∷ R_RISCV_SET8 ∷ R_RISCV_SET16 ∷ R_RISCV_SET32 ∷ R_RISCV_32_PCREL ∷ R_RISCV_PLT32 ∷ []) n refl is
 
 no_call : (n : ℕ) → sets_all n ≡ true → not (is_call n) ≡ true
 unfolding sets_all is_call
-no_call n is = among_each (λ m. not (is_call m)) (R_RISCV_32 ∷ R_RISCV_64 ∷ R_RISCV_SET8 ∷ R_RISCV_SET16 ∷ R_RISCV_SET32 ∷ R_RISCV_32_PCREL ∷ []) n refl is
+no_call n is = among_each (λ m. not (is_call m)) (R_RISCV_32 ∷ R_RISCV_64 ∷ R_RISCV_SET8 ∷ R_RISCV_SET16 ∷ R_RISCV_SET32 ∷ R_RISCV_32_PCREL ∷ R_RISCV_PLT32 ∷ []) n refl is
+
+no_number : (n : ℕ) → sets_all n ≡ true → is_uleb n ≡ false
+unfolding sets_all is_uleb
+no_number n is = no_uleb n (R_RISCV_32 ∷ R_RISCV_64 ∷ R_RISCV_SET8 ∷ R_RISCV_SET16 ∷ R_RISCV_SET32 ∷ R_RISCV_32_PCREL ∷ R_RISCV_PLT32 ∷ []) refl is
 
 own_if : (c : Bool) (x n : ℕ) → not c ≡ true → (if c then x else n) ≡ n
 own_if true x n is = cc
@@ -73,21 +78,26 @@ module _ (files : List File) (b : Bindings) (leaders : List (Option ℕ)) (laid 
       (sum_of files b leaders laid n r) (place_of files b leaders laid n r) (thread_of files b leaders laid n r) (entry_of files b leaders laid n r)
       (and_parts (is_sum (kind_of r.kind).calculation) (covers (kind_of r.kind).field (kind_of r.kind).width) (set_kind r.kind is)).0
 
-  pub put_same : (r : Reloc) (s t : List ℕ) (q : ℕ) → sets_all r.kind ≡ true → Fits files b leaders laid n s r → Fits files b leaders laid n t r →
+  pub put_same : (p r : Reloc) (s t : List ℕ) (q : ℕ) → sets_all r.kind ≡ true → Fits files b leaders laid n s r → Fits files b leaders laid n t r →
       at_of files b leaders laid n r ≤ q → q < at_of files b leaders laid n r + width_of files b leaders laid n r →
-      slice_index (put files b leaders laid n r s) q ≡ slice_index (put files b leaders laid n r t) q
-  put_same r s t q is one two le lt =
+      slice_index (put files b leaders laid n p r s) q ≡ slice_index (put files b leaders laid n p r t) q
+  put_same p r s t q is one two le lt =
       let at = at_of files b leaders laid n r in
       let w = width_of files b leaders laid n r in
       let kind = kind_at files b leaders laid n r in
+      let plain = no_number r.kind is in
+      let wide = plain_width files b leaders laid n r plain in
       let value = set_value r is in
       let v = value.0 in
       let few = width_few (acting_number (cuts_at laid n) r) in
-      let p = take w (drop at s) in
-      let p2 = take w (drop at t) in
-      put_within files b leaders laid n r s q one le lt
-      ∙ ap (λ o. slice_index (filled kind o p) (q - at)) (value.1 (held_in w at s))
-      ∙ patched_same kind.field w v p p2 (q - at) (covers_acting (cuts_at laid n) r is) few
-      (length-take-le w (drop at s) (omega (arith, length-drop at s, one))) (length-take-le w (drop at t) (omega (arith, length-drop at t, two))) (omega (arith, le, lt))
-      ∙ sym (ap (λ o. slice_index (filled kind o p2) (q - at)) (value.1 (held_in w at t)))
-      ∙ sym (put_within files b leaders laid n r t q two le lt)
+      let x = take w (drop at s) in
+      let y = take w (drop at t) in
+      let one_is = length-take-le w (drop at s) (omega (arith, length-drop at s, one)) in
+      let two_is = length-take-le w (drop at t) (omega (arith, length-drop at t, two)) in
+      put_within files b leaders laid n p r s q one le lt
+      ∙ ap (λ o. slice_index (filled (is_uleb r.kind) kind o x) (q - at)) (value.1 (operand files b leaders laid n p r (held_in w at s)))
+      ∙ ap (λ c. slice_index (filled c kind (Some v) x) (q - at)) plain
+      ∙ patched_same kind.field kind.width v x y (q - at) (covers_acting (cuts_at laid n) r is) few (one_is ∙ wide) (two_is ∙ wide) (omega (arith, le, lt, wide))
+      ∙ sym (ap (λ c. slice_index (filled c kind (Some v) y) (q - at)) plain)
+      ∙ sym (ap (λ o. slice_index (filled (is_uleb r.kind) kind o y) (q - at)) (value.1 (operand files b leaders laid n p r (held_in w at t))))
+      ∙ sym (put_within files b leaders laid n p r t q two le lt)

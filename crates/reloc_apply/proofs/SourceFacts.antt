@@ -8,13 +8,12 @@ use Rattle.lk_tables.specs.declared.objects.Reloc.{Reloc}
 use Rattle.lk_tables.specs.Binding.{Bindings}
 use Rattle.lk_tables.specs.Files.{File}
 use Rattle.lk_tables.specs.Sites.{place_of, relocs_of}
-use Rattle.link_sections.specs.Calls.{acting_width}
 use Rattle.link_sections.specs.Cuts.{Cut}
 use Rattle.link_sections.specs.CutsView.{AreCuts, cut_views}
 use Rattle.link_sections.specs.LaidOut.{LaidOut, cuts_at, start_at}
 use Rattle.link_sections.specs.Sound.{IsSound}
 use Rattle.reloc_apply.specs.declared.sources.Source.{Source}
-use Rattle.reloc_apply.specs.Relocated.{contents_at, is_laid, staying_at}
+use Rattle.reloc_apply.specs.Relocated.{contents_at, is_laid, staying_at, width_at}
 use Rattle.reloc_apply.specs.Sites.{HasSymbol, IsSite, IsSource}
 use Rattle.reloc_apply.specs.Values.{offset_of}
 use Rattle.reloc_apply.proofs.LaidFacts.{known, places_rise, raw_short, raw_size, stay_size}
@@ -35,7 +34,7 @@ source_is files b leaders laid s sound all is site at raw cuts relocs are =
     let stay = stay_size files b leaders laid n sound own k in
     let long = ap length raw in
     let P : List Cut → Type 0 = λ cs. All (λ (c : Cut). c.at + c.whole ≤ length s.raw.now) cs in
-    let Q : List Reloc → Type 0 = λ rs. All (λ (r : Reloc). offset_of files b leaders laid n r + acting_width (cuts_at laid n) r ≤ length (staying_at files b leaders laid n)) rs in
+    let Q : List Reloc → Type 0 = λ rs. All (λ (r : Reloc). offset_of files b leaders laid n r + width_at files b leaders laid n r ≤ length (staying_at files b leaders laid n)) rs in
     let R : List Reloc → Type 0 = λ rs. IsNonDecreasingBy (offset_of files b leaders laid n) rs in
     let S : List Reloc → Type 0 = λ rs. All (HasSymbol files s.site) rs in
     let high = k.high in

@@ -14,7 +14,7 @@ use Rattle.lk_tables.specs.Inside.{IsBodyInside, IsRelocWithin}
 use Rattle.lk_tables.specs.Sections.{contents_of}
 use Rattle.lk_tables.specs.Sites.{place_of, relocs_of}
 use Rattle.lk_tables.proofs.SoundFiles.{inside_body}
-use Rattle.lk_tables.proofs.Widths.{width_least}
+use Rattle.lk_tables.proofs.Widths.{value_least, value_some}
 use Rattle.link_sections.specs.declared.members.Content.{Content}
 use Rattle.link_sections.specs.declared.members.Content.TheVariants.{Section, Pool, Got}
 use Rattle.link_sections.specs.declared.members.Member.{Member}
@@ -114,11 +114,13 @@ module _ (files : List File) (b : Bindings) (leaders : List (Option ℕ)) (laid 
       let is = reloc_of n k all number lt in
       let input = own_input files b f i is.index in
       let some = width_some (reloc_at n k).kind has in
-      let least = width_least (contents_of (file_at files f).bytes (section_at (file_at files f) i)) (reloc_at n k) is.within.kind in
+      let contents = contents_of (file_at files f).bytes (section_at (file_at files f) i) in
+      let least = value_least contents (reloc_at n k) is.within.kind in
+      let more = value_some contents (reloc_at n k) is.within.kind some in
       let fits = is.within.fits in
       let size = input.0 in
       let bits : (input_at files b n).sh_type ≢ SHT_NOBITS = λ e. is.within.bits (sym input.1 ∙ e) in
-      let listed = sound.listed n number own bits (omega (arith, some, least, fits, size)) in
+      let listed = sound.listed n number own bits (omega (arith, more, least, fits, size)) in
       let found = any_at (λ (m : Member). is_section n m.content) laid.members no_member listed in
       any_from (λ (m : Member). is_number (written_in files b leaders laid m.content) n) laid.members found.0 no_member found.1
       (content_has n (get_or laid.members found.0 no_member).content (bits_from (input_at files b n).sh_type bits) found.2)

@@ -1,10 +1,10 @@
 -- The bytes of a section with its relocations done, and what is wrong with them (RISC-V ELF psABI, "Relocations").
-use Rattle.std.specs.Prelude.{ℕ, ◌+◌, ◌-◌, ◌==◌, ◌&&◌, not, nat_lt, min, max, ℤ, pos, ◌-ℤ◌, Bool, Option, Some, None, is_some, if◌then◌else◌, List, [], ◌∷◌, ◌++◌, take, drop, flat_map, slice_index_or}
+use Rattle.std.specs.Prelude.{ℕ, ◌+◌, ◌-◌, ◌==◌, ◌&&◌, not, nat_lt, min, max, ℤ, pos, ◌-ℤ◌, Bool, Option, Some, None, is_some, if◌then◌else◌, List, [], ◌∷◌, ◌++◌, zero, suc, length, take, drop, flat_map, slice_index_or}
 use Rattle.std.specs.Int.{to_le_bytes, w64}
 use Rattle.std.specs.List.{list_any, range_with_len}
 use Rattle.lk_base.specs.Arithmetic.{bits_of}
-use Rattle.lk_base.specs.Reaches.{misfit_of}
-use Rattle.lk_base.specs.RelocKinds.{Kind, is_lower}
+use Rattle.lk_base.specs.Reaches.{Reach, misfit_of}
+use Rattle.lk_base.specs.RelocKinds.{Kind, is_lower, is_uleb}
 use Rattle.lk_base.specs.declared.abi.TheConstants.{IMAGE_BASE, SHT_NOBITS}
 use Rattle.lk_base.specs.declared.defects.Defect.{Defect}
 use Rattle.lk_base.specs.declared.defects.Misfit.{Misfit}
@@ -16,8 +16,7 @@ use Rattle.lk_tables.specs.declared.bounds.Bound.TheVariants.{InSection, Number,
 use Rattle.lk_tables.specs.declared.objects.Reloc.{Reloc}
 use Rattle.lk_tables.specs.declared.section_places.SectionPlace.{SectionPlace}
 use Rattle.lk_tables.specs.Binding.{Bindings}
-use Rattle.lk_tables.specs.Files.{File, file_at, no_reloc, section_at, section_total}
-use Rattle.lk_tables.specs.Sections.{contents_of}
+use Rattle.lk_tables.specs.Files.{File, no_reloc, section_total}
 use Rattle.lk_tables.specs.Sites as sites
 use Rattle.lk_tables.specs.Sites.{relocs_of}
 use Rattle.lk_tables.specs.Targets.{bound}
@@ -28,14 +27,15 @@ use Rattle.link_sections.specs.declared.members.Content.{Content}
 use Rattle.link_sections.specs.declared.members.Content.TheVariants.{Section, Pool, Got}
 use Rattle.link_sections.specs.declared.members.Member.{Member}
 use Rattle.link_sections.specs.Addresses.{no_pool, symbol_address}
-use Rattle.link_sections.specs.Calls.{acting_kind, acting_width}
+use Rattle.link_sections.specs.Calls.{acting_kind, width_in}
 use Rattle.link_sections.specs.InputSections.{input_at}
 use Rattle.link_sections.specs.LaidOut.{LaidOut, cuts_at, start_at}
 use Rattle.link_sections.specs.Leaders.{is_number, leads}
 use Rattle.rv_code.specs.Places.{patched}
+use Rattle.rv_code.specs.Uleb.{uleb_patched, uleb_reach}
 use Rattle.reloc_apply.specs.Image.{Piece, piece}
 use Rattle.reloc_apply.specs.Staying.{staying}
-use Rattle.reloc_apply.specs.Values.{held_in, offset_of, partner_of, value_of}
+use Rattle.reloc_apply.specs.Values.{held_in, offset_of, partner_of, sum_of, value_of}
 
 -- a defect of relocation r of a section
 abbrev pub reloc_defect : DefectKind → SectionPlace → Reloc → (other : ℕ) → Defect
@@ -48,14 +48,18 @@ misfit_defects place r v (Some Odd) = reloc_defect kinds.ODD place r (bits_of v)
 misfit_defects place r v (Some Range) = reloc_defect kinds.RANGE place r (bits_of v) ∷ []
 
 -- a value that its field does not take
-abbrev pub value_defects : SectionPlace → Reloc → Kind → Option ℤ → List Defect
-value_defects place r kind None = []
-value_defects place r kind (Some v) = misfit_defects place r v (misfit_of kind.reach v)
+abbrev pub value_defects : SectionPlace → Reloc → Reach → Option ℤ → List Defect
+value_defects place r reach None = []
+value_defects place r reach (Some v) = misfit_defects place r v (misfit_of reach v)
 
--- the bytes of a place with a value in its field; without a value as they were
-abbrev pub filled : Kind → Option ℤ → (place : List ℕ) → List ℕ
-filled kind None place = place
-filled kind (Some v) place = patched kind.field v place
+-- which values a place takes that a kind fills: one that is a ULEB128 number as many bits as its bytes have
+abbrev pub reach_in : (uleb : Bool) → Kind → (width : ℕ) → Reach
+reach_in uleb kind width = if uleb then uleb_reach width else kind.reach
+
+-- the bytes of a place with a value in it; without a value as they were
+abbrev pub filled : (uleb : Bool) → Kind → Option ℤ → (place : List ℕ) → List ℕ
+filled uleb kind None place = place
+filled uleb kind (Some v) place = if uleb then uleb_patched v place else patched kind.field v place
 
 -- the words of an entry of the linker's table: the address; the offset from the thread pointer; module 1 and the offset there, of which the
 -- ABI takes 0x800 away. A symbol that nothing defines gives 0
@@ -71,56 +75,69 @@ entry_words ThreadOffset bound address thread = offset_word bound address thread
 entry_words GeneralDynamic bound address thread = 1 ∷ offset_word bound address (thread + 0x800) ∷ []
 
 module _ (files : List File) (b : Bindings) (leaders : List (Option ℕ)) (laid : LaidOut) where
-  -- a lower part without a partner, or a value that does not fit; the kinds that add to what their place holds take every value
-  unfoldable pub reloc_defects : (n : ℕ) → Reloc → List Defect
-  reloc_defects n r = if is_lower r.kind && not (is_some (partner_of files b leaders laid n r))
+  -- how many bytes the place of relocation r of section n has
+  abbrev pub width_at : (n : ℕ) → Reloc → ℕ
+  width_at n r = width_in (sites.contents_at files n) (cuts_at laid n) r
+
+  -- relocation number k of section n
+  abbrev pub reloc_at : (n k : ℕ) → Reloc
+  reloc_at n k = slice_index_or (relocs_of files n) k no_reloc
+
+  -- V of relocation r: the number that its place holds; if the place is a ULEB128 number, S + A of p, the relocation before it, which is the
+  -- first part of the pair
+  unfoldable pub operand : (n : ℕ) → (p r : Reloc) → (held : ℤ) → ℤ
+  operand n p r held = if is_uleb r.kind then sum_of files b leaders laid n p else held
+
+  -- of relocation r, which comes after p: a lower part without a partner, or a value that does not fit; the kinds that add to what their
+  -- place holds take every value
+  unfoldable pub reloc_defects : (n : ℕ) → (p r : Reloc) → List Defect
+  reloc_defects n p r = if is_lower r.kind && not (is_some (partner_of files b leaders laid n r))
       then reloc_defect kinds.NO_PARTNER (sites.place_of files n) r 0 ∷ []
-      else value_defects (sites.place_of files n) r (acting_kind (cuts_at laid n) r) (value_of files b leaders laid n r (pos 0))
+      else value_defects (sites.place_of files n) r (reach_in (is_uleb r.kind) (acting_kind (cuts_at laid n) r) (width_at n r))
+      (value_of files b leaders laid n r (operand n p r (pos 0)))
+
+  -- of relocation number k of a section; before the first one nothing comes but that one itself
+  abbrev pub defects_at : (n k : ℕ) → List Defect
+  defects_at n k = reloc_defects n (reloc_at n (k - 1)) (reloc_at n k)
 
   -- of the relocations of a section, if it leads itself
   unfoldable pub section_defects : (n : ℕ) → List Defect
-  section_defects n = if leads leaders n then flat_map (reloc_defects n) (relocs_of files n) else []
+  section_defects n = if leads leaders n then flat_map (defects_at n) (range_with_len 0 (length (relocs_of files n))) else []
 
   -- of all, in order of section number and offset, which is that of file, section and offset
   unfoldable pub relocation_defects : List Defect
   relocation_defects = flat_map section_defects (range_with_len 0 (section_total files))
 
-  -- what relocation r of section n makes of the section's bytes
-  abbrev pub put : (n : ℕ) → Reloc → List ℕ → List ℕ
-  put n r bytes =
+  -- what relocation r of section n, which comes after p, makes of the section's bytes
+  abbrev pub put : (n : ℕ) → (p r : Reloc) → List ℕ → List ℕ
+  put n p r bytes =
       let at = offset_of files b leaders laid n r in
-      let kind = acting_kind (cuts_at laid n) r in
-      let width = kind.width in
+      let width = width_at n r in
       take at bytes
-      ++ (filled kind (value_of files b leaders laid n r (held_in width at bytes)) (take width (drop at bytes)) ++ drop (at + width) bytes)
-
-  -- relocations of section n done, in order
-  abbrev pub relocated : (n : ℕ) → List Reloc → List ℕ → List ℕ
-  relocated n [] bytes = bytes
-  relocated n (r ∷ rs) bytes = relocated n rs (put n r bytes)
+      ++ (filled (is_uleb r.kind) (acting_kind (cuts_at laid n) r) (value_of files b leaders laid n r (operand n p r (held_in width at bytes))) (take width (drop at bytes))
+      ++ drop (at + width) bytes)
 
   -- the bytes that section n has in its file, and those of them that stay
   abbrev pub contents_at : (n : ℕ) → List ℕ
-  contents_at n =
-      let file = file_at files (sites.place_of files n).file in
-      contents_of file.bytes (section_at file (sites.place_of files n).index)
+  contents_at n = sites.contents_at files n
 
   unfoldable pub staying_at : (n : ℕ) → List ℕ
   staying_at n = staying (cuts_at laid n) 0 (contents_at n)
 
-  -- the same once the first k of its relocations are done
+  -- the same once the first k of its relocations are done, in order
   unfoldable pub bytes_after : (n k : ℕ) → List ℕ
-  bytes_after n k = relocated n (take k (relocs_of files n)) (staying_at n)
+  bytes_after n zero = staying_at n
+  bytes_after n (suc k) = put n (reloc_at n (k - 1)) (reloc_at n k) (bytes_after n k)
 
   -- the value of relocation k of section n: its place holds what the relocations before it left there
   unfoldable pub value_at : (n k : ℕ) → Option ℤ
   value_at n k =
-      let r = slice_index_or (relocs_of files n) k no_reloc in
-      value_of files b leaders laid n r (held_in (acting_width (cuts_at laid n) r) (offset_of files b leaders laid n r) (bytes_after n k))
+      let r = reloc_at n k in
+      value_of files b leaders laid n r (operand n (reloc_at n (k - 1)) r (held_in (width_at n r) (offset_of files b leaders laid n r) (bytes_after n k)))
 
   -- the bytes of section n in the executable
   unfoldable pub section_bytes : (n : ℕ) → List ℕ
-  section_bytes n = relocated n (relocs_of files n) (staying_at n)
+  section_bytes n = bytes_after n (length (relocs_of files n))
 
   -- section n has bytes in its file
   abbrev pub has_bits : (n : ℕ) → Bool
@@ -169,12 +186,12 @@ module _ (files : List File) (b : Bindings) (leaders : List (Option ℕ)) (laid 
   unfoldable pub touches : (from len n : ℕ) → Reloc → Bool
   touches from len n r =
       let at = start_at laid n - IMAGE_BASE + offset_of files b leaders laid n r in
-      nat_lt (max at from) (min (at + acting_width (cuts_at laid n) r) (from + len))
+      nat_lt (max at from) (min (at + width_at n r) (from + len))
 
   -- the defects of the relocations that touch them, in the same order
   unfoldable pub section_touching : (from len n : ℕ) → List Defect
   section_touching from len n =
-      if is_laid n then flat_map (λ r. if touches from len n r then reloc_defects n r else []) (relocs_of files n) else []
+      if is_laid n then flat_map (λ k. if touches from len n (reloc_at n k) then defects_at n k else []) (range_with_len 0 (length (relocs_of files n))) else []
 
   unfoldable pub touching_defects : (from len : ℕ) → List Defect
   touching_defects from len = flat_map (section_touching from len) (range_with_len 0 (section_total files))

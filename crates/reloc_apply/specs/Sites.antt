@@ -1,23 +1,25 @@
 -- A section by its number, and what its bytes in the executable are made from.
-use Rattle.std.specs.Prelude.{◌≡◌, ℕ, ◌+◌, ◌-◌, ◌<◌, ◌≤◌, ◌^◌, false, Bool, Option, if◌then◌else◌, List, [], ◌∷◌, length, slice_index, All}
+use Rattle.std.specs.Prelude.{◌≡◌, ℕ, ◌+◌, ◌-◌, ◌<◌, ◌≤◌, ◌^◌, false, Bool, Option, if◌then◌else◌, List, [], ◌∷◌, length, slice_index, slice_index_or, All}
 use Rattle.std.specs.List.Sorted.{IsNonDecreasingBy}
-use Rattle.lk_base.specs.RelocKinds.{is_among}
-use Rattle.lk_base.specs.declared.abi.TheConstants.{IMAGE_BASE, R_RISCV_32, R_RISCV_32_PCREL, R_RISCV_64, R_RISCV_SET16, R_RISCV_SET32, R_RISCV_SET8}
+use Rattle.lk_base.specs.RelocKinds.{is_among, is_uleb}
+use Rattle.lk_base.specs.declared.abi.TheConstants.{IMAGE_BASE, R_RISCV_32, R_RISCV_32_PCREL, R_RISCV_64, R_RISCV_PLT32, R_RISCV_SET16, R_RISCV_SET32, R_RISCV_SET8}
+use Rattle.lk_base.specs.declared.defects.Defect.{Defect}
 use Rattle.lk_tables.specs.declared.objects.Reloc.{Reloc}
 use Rattle.lk_tables.specs.Binding.{Bindings}
-use Rattle.lk_tables.specs.Files.{File, file_at, section_total}
+use Rattle.lk_tables.specs.Files.{File, file_at, no_reloc, section_total}
 use Rattle.lk_tables.specs.Sites.{IsPlaceOf, place_of, relocs_of}
 use Rattle.link_sections.specs.declared.cuts.Cut.{Cut as HeldCut}
 use Rattle.link_sections.specs.declared.views.View.{View}
-use Rattle.link_sections.specs.Calls.{acting_width}
 use Rattle.link_sections.specs.CutsView.{AreCuts, cut_views}
 use Rattle.link_sections.specs.LaidOut.{LaidOut, cuts_at, start_at}
 use Rattle.link_sections.specs.Views.{binding_in, files_in, laid_in, leaders_in}
 use Rattle.reloc_apply.specs.declared.sites.Site.{Site}
 use Rattle.reloc_apply.specs.declared.sources.Source.{Source}
 use Rattle.reloc_apply.specs.Image.{over, piece}
-use Rattle.reloc_apply.specs.Relocated.{bytes_after, contents_at, staying_at}
+use Rattle.reloc_apply.specs.Relocated.{bytes_after, contents_at, reach_in, reloc_defects, staying_at, touches, width_at}
+use Rattle.lk_base.specs.Reaches.{Reach}
 use Rattle.reloc_apply.specs.Values.{offset_of}
+use Rattle.link_sections.specs.Calls.{acting_kind}
 
 -- the place is that of the section's number
 pub record IsSite (files : List File) (site : Site) : Type 0 where
@@ -41,7 +43,7 @@ pub record IsSource (files : List File) (b : Bindings) (leaders : List (Option �
   pub within : All (λ c. c.at + c.whole ≤ length s.raw.now) (cut_views s.cuts.now)
   pub low : s.at < 2 ^ 32
   pub short : length s.raw.now < 2 ^ 33
-  pub places : All (λ r. offset_of files b leaders laid s.site.section r + acting_width (cuts_at laid s.site.section) r ≤ length (staying_at files b leaders laid s.site.section)) s.relocs.now
+  pub places : All (λ r. offset_of files b leaders laid s.site.section r + width_at files b leaders laid s.site.section r ≤ length (staying_at files b leaders laid s.site.section)) s.relocs.now
   pub size : length (staying_at files b leaders laid s.site.section) < 2 ^ 32
   pub rising : IsNonDecreasingBy (offset_of files b leaders laid s.site.section) s.relocs.now
 
@@ -58,15 +60,30 @@ IsMadeFrom view s = IsSource (files_in view) (binding_in view) (leaders_in view)
 abbrev pub offset_by : View → Source → Reloc → ℕ
 offset_by view s r = offset_of (files_in view) (binding_in view) (leaders_in view) (laid_in view) s.site.section r
 
+abbrev pub width_by : View → Source → Reloc → ℕ
+width_by view s r = width_at (files_in view) (binding_in view) (leaders_in view) (laid_in view) s.site.section r
+
+-- which values the place of a relocation of a section takes
+abbrev pub reach_of : View → (section : ℕ) → Reloc → Reach
+reach_of view section r =
+    reach_in (is_uleb r.kind) (acting_kind (cuts_at (laid_in view) section) r) (width_at (files_in view) (binding_in view) (leaders_in view) (laid_in view) section r)
+
+-- the defects of relocation k, if it touches so many bytes of the file from an offset on
+abbrev pub touching_at : View → Source → (from len k : ℕ) → List Defect
+touching_at view s from len k =
+    if touches (files_in view) (binding_in view) (leaders_in view) (laid_in view) from len s.site.section (slice_index_or s.relocs.now k no_reloc)
+    then reloc_defects (files_in view) (binding_in view) (leaders_in view) (laid_in view) s.site.section (slice_index_or s.relocs.now (k - 1) no_reloc) (slice_index_or s.relocs.now k no_reloc)
+    else []
+
 abbrev pub end_by : View → Source → Reloc → ℕ
-end_by view s r = offset_by view s r + acting_width (cuts_at (laid_in view) s.site.section) r
+end_by view s r = offset_by view s r + width_by view s r
 
 -- the kinds whose values set all bits of their places, whatever these held; and how many bytes a relocation sets so
 unfoldable pub sets_all : (kind : ℕ) → Bool
-sets_all = is_among (R_RISCV_32 ∷ R_RISCV_64 ∷ R_RISCV_SET8 ∷ R_RISCV_SET16 ∷ R_RISCV_SET32 ∷ R_RISCV_32_PCREL ∷ [])
+sets_all = is_among (R_RISCV_32 ∷ R_RISCV_64 ∷ R_RISCV_SET8 ∷ R_RISCV_SET16 ∷ R_RISCV_SET32 ∷ R_RISCV_32_PCREL ∷ R_RISCV_PLT32 ∷ [])
 
 abbrev pub set_by : View → Source → Reloc → ℕ
-set_by view s r = if sets_all r.kind then acting_width (cuts_at (laid_in view) s.site.section) r else 0
+set_by view s r = if sets_all r.kind then width_by view s r else 0
 
 abbrev pub first_bytes : View → Source → List ℕ
 first_bytes view s = staying_at (files_in view) (binding_in view) (leaders_in view) (laid_in view) s.site.section

@@ -13,7 +13,7 @@ use lk_base::abi::{R_RISCV_CALL, R_RISCV_CALL_PLT, R_RISCV_JAL, R_RISCV_RVC_JUMP
 use lk_base::relocations::kind_of;
 use lk_tables::Reloc;
 
-/// How many bytes the place of a relocation of a section has: those of the kind that fills it.
+/// How many bytes the place of a relocation of a section has that is no ULEB128 number: those of the kind that fills it.
 pub fn width_of(view: &View, section: SecNo, reloc: &Reloc) -> u64
     ensures value { result ≡ spec.acting_width (cuts_at (laid_in view.now) section) reloc.now }
     ensures few { result ≤ 8 }

@@ -1,25 +1,29 @@
 //! Which relocations can't be done: the first that lacks its partner, or whose value its field does not take.
 
-ghost use Rattle.std.specs.Prelude.{◌≡◌, ℕ, ◌+◌, ◌-◌, ◌<◌, ◌≤◌, [], ◌∷◌, true, false, length, map, flat_map, min, slice_index, slice_index_or, Some, All, if◌then◌else◌};
+ghost use Rattle.std.specs.Prelude.{◌≡◌, ℕ, ◌+◌, ◌-◌, ◌<◌, ◌≤◌, [], ◌∷◌, true, false, length, map, flat_map, min, slice_index, slice_index_or, None, Some, MatchResult, All, if◌then◌else◌};
 ghost use Rattle.std.specs.List.{range_with_len};
 ghost use Rattle.lk_base.specs.Firsts.{Goes, IsFirst};
+ghost use Rattle.lk_base.specs.Reaches.{misfit_of};
+ghost use Rattle.lk_base.specs.RelocKinds.{HasValue};
 ghost use Rattle.lk_tables.specs.Files.{file_at, is_section_symbol, no_reloc, section_total, symbol_at};
 ghost use Rattle.lk_tables.specs.Sites.{relocs_of};
 ghost use Rattle.link_sections.specs.Leaders.{leads};
 ghost use Rattle.link_sections.specs.Views.{binding_in, files_in, laid_in, leaders_in};
 ghost use Rattle.reloc_apply.specs.Relocated as spec;
-ghost use Rattle.reloc_apply.specs.Sites.{HasSymbol, IsSite};
+ghost use Rattle.reloc_apply.specs.Sites.{HasSymbol, IsSite, reach_of};
 
 use crate::calls::acting_kind;
 use crate::numbered::{first_numbers, pieces_of, section_of};
+use crate::operands::{number_width, operand};
 use crate::plain::plain_from;
 use crate::sites::{Site, relocs_at, site_of};
 use crate::values::value_of;
 use link_sections::{View, leads};
 use lk_base::kinds::{NO_PARTNER, ODD, RANGE};
+use lk_base::relocations::is_uleb;
 use lk_base::{Defect, DefectKind, LinkStop, Misfit, SecNo, low_bits};
 use lk_tables::{Reloc, SectionPlace};
-use rv_code::fits;
+use rv_code::{fits, fits_uleb};
 use std::alloc::Global;
 use std::ops::Range;
 use std::thread::Threads;
@@ -50,7 +54,7 @@ pub fn check_relocations<R: Threads + Sync, G: Gate>(
             requires order { piece.start ≤ piece.end }
             requires count { length firsts.now ≡ section_total (files_in view.now) + 1 }
             requires firsts { (n : ℕ) → n ≤ section_total (files_in view.now) → slice_index firsts.now n ≡ length (flat_map (relocs_of (files_in view.now)) (range_with_len 0 n)) }
-            ensures { Goes result (flat_map (λ i. slice_index_or (flat_map (λ n. map (λ r. if leads (leaders_in view.entry.now) n then spec.reloc_defects (files_in view.entry.now) (binding_in view.entry.now) (leaders_in view.entry.now) (laid_in view.entry.now) n r else []) (relocs_of (files_in view.entry.now) n)) (range_with_len 0 (section_total (files_in view.entry.now)))) i []) (range_with_len piece.start (piece.end - piece.start))) }
+            ensures { Goes result (flat_map (λ i. slice_index_or (flat_map (λ n. map (λ k. if leads (leaders_in view.entry.now) n then spec.defects_at (files_in view.entry.now) (binding_in view.entry.now) (leaders_in view.entry.now) (laid_in view.entry.now) n k else []) (range_with_len 0 (length (relocs_of (files_in view.entry.now) n)))) (range_with_len 0 (section_total (files_in view.entry.now)))) i []) (range_with_len piece.start (piece.end - piece.start))) }
         { check_numbers(alloc, view, firsts, piece) },
     );
     match checked {
@@ -69,7 +73,7 @@ fn check_numbers(
     requires order { piece.start ≤ piece.end }
     requires count { length firsts.now ≡ section_total (files_in view.now) + 1 }
     requires firsts { (n : ℕ) → n ≤ section_total (files_in view.now) → slice_index firsts.now n ≡ length (flat_map (relocs_of (files_in view.now)) (range_with_len 0 n)) }
-    ensures { Goes result (flat_map (λ i. slice_index_or (flat_map (λ n. map (λ r. if leads (leaders_in view.now) n then spec.reloc_defects (files_in view.now) (binding_in view.now) (leaders_in view.now) (laid_in view.now) n r else []) (relocs_of (files_in view.now) n)) (range_with_len 0 (section_total (files_in view.now)))) i []) (range_with_len piece.start (piece.end - piece.start))) }
+    ensures { Goes result (flat_map (λ i. slice_index_or (flat_map (λ n. map (λ k. if leads (leaders_in view.now) n then spec.defects_at (files_in view.now) (binding_in view.now) (leaders_in view.now) (laid_in view.now) n k else []) (range_with_len 0 (length (relocs_of (files_in view.now) n)))) (range_with_len 0 (section_total (files_in view.now)))) i []) (range_with_len piece.start (piece.end - piece.start))) }
 {
     view.tables.is_few();
     let from = piece.start as u64;
@@ -94,7 +98,7 @@ fn check_numbers(
 /// The first defect of a section's relocations from one on and before another, if it is its own leader.
 fn check_section(view: &View, section: SecNo, from: usize, to: usize) -> Option<Defect>
     requires { section < section_total (files_in view.now) }
-    ensures { IsFirst (flat_map (λ x. if leads (leaders_in view.now) section then spec.reloc_defects (files_in view.now) (binding_in view.now) (leaders_in view.now) (laid_in view.now) section (slice_index_or (relocs_of (files_in view.now) section) x no_reloc) else []) (range_with_len from (min to (length (relocs_of (files_in view.now) section)) - from))) result }
+    ensures { IsFirst (flat_map (λ x. if leads (leaders_in view.now) section then spec.defects_at (files_in view.now) (binding_in view.now) (leaders_in view.now) (laid_in view.now) section x else []) (range_with_len from (min to (length (relocs_of (files_in view.now) section)) - from))) result }
 {
     if !leads(view.leaders, section as usize) {
         return None;
@@ -109,14 +113,15 @@ fn check_relocs(view: &View, site: Site, relocs: &[Reloc], from: usize, to: usiz
     requires site { IsSite (files_in view.now) site }
     requires symbols { All (HasSymbol (files_in view.now) site) relocs.now }
     requires to { to ≤ length relocs.now }
-    ensures { IsFirst (flat_map (λ x. spec.reloc_defects (files_in view.now) (binding_in view.now) (leaders_in view.now) (laid_in view.now) site.section (slice_index_or relocs.now x no_reloc)) (range_with_len from (to - from))) result }
+    ensures { IsFirst (flat_map (λ x. spec.reloc_defects (files_in view.now) (binding_in view.now) (leaders_in view.now) (laid_in view.now) site.section (slice_index_or relocs.now (x - 1) no_reloc) (slice_index_or relocs.now x no_reloc)) (range_with_len from (to - from))) result }
 {
     let plain = plain_from(view, site, relocs.len());
     for k in from..to {
         if let Some(defect) = check_reloc(
             view,
             site,
-            &relocs[k],
+            relocs,
+            k,
             plain <= relocs[k].symbol as usize,
         ) {
             return Some(defect);
@@ -125,24 +130,45 @@ fn check_relocs(view: &View, site: Site, relocs: &[Reloc], from: usize, to: usiz
     None
 }
 
-/// The defect of one relocation of a section, if it can't be done. If it is known to be `plain`, it names no SECTION symbol.
+/// The defect of one relocation of a section, by its place among the section's, if it can't be done. If it is known to be `plain`, it names
+/// no SECTION symbol.
 #[tactic(auto, unfolding(crate::specs::Relocated::reloc_defects))]
-pub fn check_reloc(view: &View, site: Site, reloc: &Reloc, plain: bool) -> Option<Defect>
+pub fn check_reloc(
+    view: &View,
+    site: Site,
+    relocs: &[Reloc],
+    k: usize,
+    plain: bool,
+) -> Option<Defect>
     requires site { IsSite (files_in view.now) site }
-    requires symbol { HasSymbol (files_in view.now) site reloc.now }
-    requires plain { plain ≡ true → is_section_symbol (symbol_at (file_at (files_in view.now) site.place.file) reloc.now.symbol) ≡ false }
-    ensures { IsFirst (spec.reloc_defects (files_in view.now) (binding_in view.now) (leaders_in view.now) (laid_in view.now) site.section reloc.now) result }
+    requires reloc { k < length relocs.now }
+    requires symbol { HasSymbol (files_in view.now) site (slice_index_or relocs.now k no_reloc) }
+    requires plain { plain ≡ true → is_section_symbol (symbol_at (file_at (files_in view.now) site.place.file) (slice_index_or relocs.now k no_reloc).symbol) ≡ false }
+    ensures { IsFirst (spec.reloc_defects (files_in view.now) (binding_in view.now) (leaders_in view.now) (laid_in view.now) site.section (slice_index_or relocs.now (k - 1) no_reloc) (slice_index_or relocs.now k no_reloc)) result }
 {
-    let Ok(value) = value_of(view, site, reloc, plain, 0) else {
+    let reloc = &relocs[k];
+    let Ok(value) = value_of(view, site, reloc, plain, operand(view, site, relocs, k, 0)) else {
         return Some(reloc_defect(NO_PARTNER, site.place, reloc, 0));
     };
     let Some(v) = value else {
         return None;
     };
-    if let Err(misfit) = fits(acting_kind(view, site.section, reloc), v) {
+    if let Err(misfit) = fits_place(view, site, reloc, v) {
         return Some(misfit_defect(site.place, reloc, v, misfit));
     }
     None
+}
+
+/// Whether the place of a relocation holds a value.
+fn fits_place(view: &View, site: Site, reloc: &Reloc, v: i128) -> Result<(), Misfit>
+    requires site { IsSite (files_in view.now) site }
+    requires kind { HasValue reloc.now.kind }
+    ensures { MatchResult result (λ _. misfit_of (reach_of view.now site.section reloc.now) v ≡ None) (λ misfit. misfit_of (reach_of view.now site.section reloc.now) v ≡ Some misfit) }
+{
+    if is_uleb(reloc.kind) {
+        return fits_uleb(number_width(view, site, reloc) as u32, v);
+    }
+    fits(acting_kind(view, site.section, reloc), v)
 }
 
 /// The defect of a value that its field does not take.

@@ -2,7 +2,7 @@
 //! psABI, "Relocations"). The addresses of symbols, sections and pieces are those of `symbol_addresses`.
 //!
 //! `uppers` lists the upper parts of each section, `values` computes what a relocation puts into its place, `plain` looks ahead whether
-//! relocations name SECTION symbols, `calls` says what becomes of a call that loses bytes, `numbered` numbers the relocations of all
+//! relocations name SECTION symbols, `operands` reads what pairs of relocations need, `calls` says what becomes of a call that loses bytes, `numbered` numbers the relocations of all
 //! sections, `checks` finds the first that can't be done, `image` writes a piece of a file into a block of it, `staying` the bytes of a
 //! section that stay, `scanning` does the relocations of a section that reach a block, `pool_pieces` writes the merged pieces and
 //! `table_words` the global offset table, and `relocated` writes all members of the layout that meet a block.
@@ -13,6 +13,7 @@ mod checks;
 mod founds;
 mod image;
 mod numbered;
+mod operands;
 mod plain;
 mod pool_pieces;
 mod relocated;

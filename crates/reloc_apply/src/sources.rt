@@ -1,6 +1,6 @@
 //! What the bytes of a section in the executable are made from.
 
-ghost use Rattle.std.specs.Prelude.{◌≡◌, ◌<◌, true, take, drop, length, ◌+◌, ◌≤◌};
+ghost use Rattle.std.specs.Prelude.{◌≡◌, true};
 ghost use Rattle.lk_base.specs.declared.abi.TheConstants.{SHT_NOBITS};
 ghost use Rattle.link_sections.specs.Views.{binding_in, files_in, laid_in, leaders_in};
 ghost use Rattle.reloc_apply.specs.Relocated.{contents_at, has_bits, is_laid};
@@ -10,7 +10,7 @@ use crate::sites::{Site, relocs_at, site_of};
 use link_sections::{Cut, View, input_in};
 use lk_base::SecNo;
 use lk_base::abi::{IMAGE_BASE, SHT_NOBITS};
-use lk_tables::Reloc;
+use lk_tables::{Reloc, contents_of};
 use symbol_addresses::start_of;
 
 /// A section with bytes in its file, which stand in the executable.
@@ -44,22 +44,13 @@ pub fn source_of<'t, 'a>(view: &View<'t, 'a>, section: SecNo) -> Source<'t, 'a>
 }
 
 /// The bytes of a section in its file.
-fn contents<'a>(view: &View<'_, 'a>, site: Site) -> &'a [u8]
-    requires site { IsSite (files_in view.now) site }
-    requires laid { is_laid (files_in view.now) (binding_in view.now) (leaders_in view.now) (laid_in view.now) site.section ≡ true }
+pub fn contents<'a>(view: &View<'_, 'a>, site: Site) -> &'a [u8]
+    requires { IsSite (files_in view.now) site }
     ensures { result.now ≡ contents_at (files_in view.now) (binding_in view.now) (leaders_in view.now) (laid_in view.now) site.section }
 {
     let entry = view.tables.file(site.place.file);
     let header = entry.section(site.place.index as usize);
-    cut(entry.bytes(), header.offset as usize, header.size as usize)
-}
-
-/// So many bytes from a place on.
-fn cut(bytes: &[u8], from: usize, size: usize) -> &[u8]
-    requires { from + size ≤ length bytes.now }
-    ensures { result.now ≡ take size (drop from bytes.now) }
-{
-    &bytes[from..from + size]
+    contents_of(entry.bytes(), &header)
 }
 
 /// Whether a section has bytes in its file.

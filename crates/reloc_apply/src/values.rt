@@ -22,19 +22,21 @@ use symbol_addresses::{offset_in, piece_address, section_address, start_of, symb
 #[derive(Clone, Copy, Debug)]
 pub struct NoPartner;
 
-/// The value of a relocation of a section whose place holds a number. If it is known to be `plain`, it names no SECTION symbol.
+/// The value of a relocation of a section by the number that V is. If it is known to be `plain`, it names no SECTION symbol.
 #[tactic(auto, unfolding(crate::specs::Values::value_of))]
 pub fn value_of(
     view: &View,
     site: Site,
     reloc: &Reloc,
     plain: bool,
-    held: u64,
+    held: i128,
 ) -> Result<Option<i128>, NoPartner>
     requires site { IsSite (files_in view.now) site }
     requires symbol { HasSymbol (files_in view.now) site reloc.now }
     requires plain { plain ≡ true → is_section_symbol (symbol_at (file_at (files_in view.now) site.place.file) reloc.now.symbol) ≡ false }
-    ensures value { IfOk result (λ v. v ≡ spec.value_of (files_in view.now) (binding_in view.now) (leaders_in view.now) (laid_in view.now) site.section reloc.now (pos held)) }
+    requires low { negsuc (2 ^ 63) ≤ℤ held }
+    requires high { held ≤ℤ pos (2 ^ 67) }
+    ensures value { IfOk result (λ v. v ≡ spec.value_of (files_in view.now) (binding_in view.now) (leaders_in view.now) (laid_in view.now) site.section reloc.now held) }
     ensures kind { IfOk result (λ v. IfSome v (λ x. HasValue reloc.now.kind)) }
     ensures partner { MatchResult result (λ _. (is_lower reloc.now.kind && not (is_some (spec.partner_of (files_in view.now) (binding_in view.now) (leaders_in view.now) (laid_in view.now) site.section reloc.now))) ≡ false)
         (λ _. (is_lower reloc.now.kind && not (is_some (spec.partner_of (files_in view.now) (binding_in view.now) (leaders_in view.now) (laid_in view.now) site.section reloc.now))) ≡ true) }
@@ -50,11 +52,13 @@ pub fn value_of(
 
 /// The value of a relocation that takes it from its own symbol.
 #[tactic(auto, unfolding(crate::specs::Values::direct_value, lk_base::specs::RelocKinds::has_value))]
-fn direct_value(view: &View, site: Site, reloc: &Reloc, plain: bool, held: u64) -> Option<i128>
+fn direct_value(view: &View, site: Site, reloc: &Reloc, plain: bool, held: i128) -> Option<i128>
     requires site { IsSite (files_in view.now) site }
     requires symbol { HasSymbol (files_in view.now) site reloc.now }
     requires plain { plain ≡ true → is_section_symbol (symbol_at (file_at (files_in view.now) site.place.file) reloc.now.symbol) ≡ false }
-    ensures value { result ≡ spec.direct_value (files_in view.now) (binding_in view.now) (leaders_in view.now) (laid_in view.now) site.section reloc.now (pos held) }
+    requires low { negsuc (2 ^ 63) ≤ℤ held }
+    requires high { held ≤ℤ pos (2 ^ 67) }
+    ensures value { result ≡ spec.direct_value (files_in view.now) (binding_in view.now) (leaders_in view.now) (laid_in view.now) site.section reloc.now held }
     ensures kind { IfSome result (λ _. HasValue reloc.now.kind) }
 {
     match kind_of(reloc.kind).calculation {
@@ -66,15 +70,15 @@ fn direct_value(view: &View, site: Site, reloc: &Reloc, plain: bool, held: u64) 
             Some(entry_of(view, site, reloc) - place_of(view, site.section, reloc))
         }
         Calculation::ThreadOffset => Some(thread_of(view, site, reloc)),
-        Calculation::Increase => Some(held as i128 + sum_of(view, site, reloc, plain)),
-        Calculation::Decrease => Some(held as i128 - sum_of(view, site, reloc, plain)),
+        Calculation::Increase => Some(held + sum_of(view, site, reloc, plain)),
+        Calculation::Decrease => Some(held - sum_of(view, site, reloc, plain)),
         _ => None,
     }
 }
 
 /// S + A: the address of a relocation's symbol, and its addend. A SECTION symbol's addend chooses a byte of its section, which moves
 /// where the section loses bytes or is merged.
-fn sum_of(view: &View, site: Site, reloc: &Reloc, plain: bool) -> i128
+pub fn sum_of(view: &View, site: Site, reloc: &Reloc, plain: bool) -> i128
     requires site { IsSite (files_in view.now) site }
     requires plain { plain ≡ true → is_section_symbol (symbol_at (file_at (files_in view.now) site.place.file) reloc.now.symbol) ≡ false }
     ensures value { result ≡ spec.sum_of (files_in view.now) (binding_in view.now) (leaders_in view.now) (laid_in view.now) site.section reloc.now }

@@ -10,7 +10,7 @@ use lk_base::abi::{R_RISCV_JAL, R_RISCV_RVC_JUMP};
 
 /// `jal`: a jump by an offset in bytes, even, from -1048576 to 1048574, which leaves the address of the next instruction in the register
 /// `rd`, below 32.
-#[tactic(auto, unfolding(lk_base::specs::RelocKinds::kind_of, lk_base::specs::RelocKinds::has_value))]
+#[tactic(auto, unfolding(lk_base::specs::RelocKinds::kind_of, lk_base::specs::RelocKinds::fills_field, lk_base::specs::RelocKinds::has_value, lk_base::specs::RelocKinds::is_uleb))]
 pub fn jal(rd: u32, offset: i64) -> u32
     requires register { rd < 32 }
     requires fits { Takes (kind_of R_RISCV_JAL).reach offset }
@@ -22,7 +22,7 @@ pub fn jal(rd: u32, offset: i64) -> u32
 }
 
 /// `c.j`: a jump by an offset in bytes, even, from -2048 to 2046, in two bytes.
-#[tactic(auto, unfolding(lk_base::specs::RelocKinds::kind_of, lk_base::specs::RelocKinds::has_value))]
+#[tactic(auto, unfolding(lk_base::specs::RelocKinds::kind_of, lk_base::specs::RelocKinds::fills_field, lk_base::specs::RelocKinds::has_value, lk_base::specs::RelocKinds::is_uleb))]
 pub fn cj(offset: i64) -> u16
     requires { Takes (kind_of R_RISCV_RVC_JUMP).reach offset }
     ensures { IsShortJump offset result }

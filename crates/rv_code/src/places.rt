@@ -6,7 +6,7 @@ ghost use Rattle.byteorder.specs.Endian.{little_bytes};
 ghost use Rattle.lk_base.specs.Fields.{field_bit};
 ghost use Rattle.lk_base.specs.Formats.{field_of};
 ghost use Rattle.lk_base.specs.Reaches.{Takes};
-ghost use Rattle.lk_base.specs.RelocKinds.{HasValue, kind_of};
+ghost use Rattle.lk_base.specs.RelocKinds.{FillsField, kind_of};
 ghost use Rattle.rv_code.specs.Parts.{IsPart, run_of, runs_of};
 ghost use Rattle.rv_code.specs.Places.{HoldsValue, ReadsBack, patched, placed_bit};
 ghost use Rattle.rv_code.specs.Transfers.{Goes};
@@ -60,11 +60,11 @@ fn write_number(place: &mut [u8], number: u64)
     place.copy_from_slice(&number.to_le_bytes()[..count]);
 }
 
-/// Puts a value into the place of a kind of relocation, one that puts a value there: the value fits, and `place` has the kind's bytes. The
+/// Puts a value into the place of a kind of relocation, one that puts a value into a field there: the value fits, and `place` has the kind's bytes. The
 /// bits that the kind's field does not name stay. What was put is read from the place again, and a branch, a jump or a call there goes by
 /// the value.
 pub fn patch(kind: u32, place: &mut [u8], v: i128)
-    requires value { HasValue kind }
+    requires value { FillsField kind }
     requires fits { Takes (kind_of kind).reach v }
     requires width { length place.old ≡ (kind_of kind).width }
     ensures value { place.new ≡ patched (kind_of kind).field v place.old }
@@ -80,7 +80,7 @@ pub fn patch(kind: u32, place: &mut [u8], v: i128)
 
 /// Puts a value into the place of a kind of relocation, and of one that its field does not take the bits that the field has.
 pub fn patch_bits(kind: u32, place: &mut [u8], v: i128)
-    requires value { HasValue kind }
+    requires value { FillsField kind }
     requires width { length place.old ≡ (kind_of kind).width }
     ensures { place.new ≡ patched (kind_of kind).field v place.old }
 {

@@ -1,7 +1,7 @@
 //! Which values a field takes.
 
 ghost use Rattle.std.specs.Prelude.{◌≡◌, MatchResult, None, Some};
-ghost use Rattle.lk_base.specs.RelocKinds.{HasValue, kind_of};
+ghost use Rattle.lk_base.specs.RelocKinds.{FillsField, kind_of};
 ghost use Rattle.lk_base.specs.Reaches.{Refuses, Takes, misfit_of, reach_of};
 
 use lk_base::Misfit;
@@ -31,10 +31,10 @@ fn fits_rule(rule: Rule, v: i128) -> Result<(), Misfit>
     }
 }
 
-/// Whether the field of a kind of relocation, one that puts a value into its place, holds the value: `Odd` if the field has no bit for an odd value, and
+/// Whether the field of a kind of relocation, one that puts a value into a field of its place, holds the value: `Odd` if the field has no bit for an odd value, and
 /// `Range` if the value is out of its reach and not odd.
 pub fn fits(kind: u32, v: i128) -> Result<(), Misfit>
-    requires { HasValue kind }
+    requires { FillsField kind }
     ensures value { MatchResult result (λ _. Takes (kind_of kind).reach v) (λ misfit. Refuses (kind_of kind).reach v misfit) }
     ensures exact { MatchResult result (λ _. misfit_of (kind_of kind).reach v ≡ None) (λ misfit. misfit_of (kind_of kind).reach v ≡ Some misfit) }
 {

@@ -18,7 +18,7 @@ use lk_base::abi::{
     R_RISCV_SUB32, R_RISCV_SUB64, R_RISCV_TLS_GD_HI20, R_RISCV_TLS_GOT_HI20, R_RISCV_TPREL_HI20,
     R_RISCV_TPREL_LO12_I, R_RISCV_TPREL_LO12_S,
 };
-use lk_base::relocations::{has_value, kind_of};
+use lk_base::relocations::{fills_field, kind_of};
 
 /// A value, and a place that holds it.
 #[derive(Clone, Copy)]
@@ -319,7 +319,7 @@ const REACHES: [Reach; 8] = [
 
 /// Why a value is refused, if it is.
 fn misfit(kind: u32, v: i128) -> Option<Misfit> {
-    if !has_value(kind) {
+    if !fills_field(kind) {
         return None;
     }
     fits(kind, v).err()
@@ -328,7 +328,7 @@ fn misfit(kind: u32, v: i128) -> Option<Misfit> {
 /// Whether the patch of a place makes the row's.
 fn is_met(kind: u32, old: u64, row: Encoding) -> bool {
     let width = kind_of(kind).width;
-    if width > 8 || !has_value(kind) || fits(kind, row.v).is_err() {
+    if width > 8 || !fills_field(kind) || fits(kind, row.v).is_err() {
         return false;
     }
     let mut bytes = old.to_le_bytes();
@@ -354,7 +354,7 @@ fn the_bytes_of_the_assembler(rt: HostRuntime) {
     }
     for kind in 0..256 {
         let listed = FIELDS.iter().any(|field| field.kinds.contains(&kind));
-        assert_eq!(rt; has_value(kind), listed, "kind {kind}");
+        assert_eq!(rt; fills_field(kind), listed, "kind {kind}");
     }
 }
 
@@ -383,12 +383,12 @@ fn values_that_fit(rt: HostRuntime) {
     }
     for kind in 0..256 {
         let listed = REACHES.iter().any(|reach| reach.kinds.contains(&kind));
-        assert_eq!(rt; has_value(kind), listed, "kind {kind}");
+        assert_eq!(rt; fills_field(kind), listed, "kind {kind}");
     }
 }
 
 /// `jal` by the offset, where it reaches so far.
-#[tactic(auto, unfolding(lk_base::specs::RelocKinds::kind_of, lk_base::specs::RelocKinds::has_value))]
+#[tactic(auto, unfolding(lk_base::specs::RelocKinds::kind_of, lk_base::specs::RelocKinds::fills_field, lk_base::specs::RelocKinds::has_value, lk_base::specs::RelocKinds::is_uleb))]
 fn jump(rd: u32, v: i128) -> Option<u64> {
     let offset = i64::try_from(v).ok()?;
     if rd >= 32 || fits(R_RISCV_JAL, i128::from(offset)).is_err() {
@@ -398,7 +398,7 @@ fn jump(rd: u32, v: i128) -> Option<u64> {
 }
 
 /// `c.j` by the offset, where it reaches so far.
-#[tactic(auto, unfolding(lk_base::specs::RelocKinds::kind_of, lk_base::specs::RelocKinds::has_value))]
+#[tactic(auto, unfolding(lk_base::specs::RelocKinds::kind_of, lk_base::specs::RelocKinds::fills_field, lk_base::specs::RelocKinds::has_value, lk_base::specs::RelocKinds::is_uleb))]
 fn short_jump(v: i128) -> Option<u64> {
     let offset = i64::try_from(v).ok()?;
     if fits(R_RISCV_RVC_JUMP, i128::from(offset)).is_err() {

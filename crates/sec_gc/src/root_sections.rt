@@ -7,27 +7,36 @@ ghost use Rattle.lk_tables.specs.Files.{section_total};
 ghost use Rattle.lk_tables.specs.Targets.{entry_bound};
 ghost use Rattle.lk_tables.specs.TablesView.{files_of};
 ghost use Rattle.link_sections.specs.InputViews.{input_view};
+ghost use Rattle.asked_names.specs.AskedNames.{lists_of, section_bound};
 ghost use Rattle.sec_gc.specs.Roots as spec;
 
 use crate::listing::push_if;
+use asked_names::sections_of_names;
 use link_sections::{InputSection, input_in, may_stay};
 use lk_base::abi::{SHF_GNU_RETAIN, SHT_FINI_ARRAY, SHT_INIT_ARRAY, SHT_NOTE, SHT_PREINIT_ARRAY};
 use lk_base::{FileNo, SecNo};
 use lk_tables::{Binding, Bound, Tables, section_count};
 use std::alloc::{AllocError, Global};
 
-/// The numbers of the sections that garbage collection keeps whatever refers to them: first the entry's, if it stands in a section;
-/// then, in order of number, those that may stay and are arrays of functions or notes by their type, are named `.init` or `.fini`, or are
-/// flagged GNU_RETAIN. The entry's may be the room of a COMMON symbol, and may stand in the list once more. The only error is out of
+/// The numbers of the sections that garbage collection keeps whatever refers to them: first the entry's, if it stands in a section; then those in
+/// which names stand that the command asks for, in order of `undefined`; then, in order of number, those that may stay and are arrays of functions or notes by their type, are named `.init` or `.fini`, or are
+/// flagged GNU_RETAIN. The entry's, and a name's, may be the room of a COMMON symbol, and may stand in the list once more. The only error is out of
 /// memory.
 #[tactic(auto, unfolding(crate::specs::Roots::roots))]
-pub fn roots(alloc: Global, tables: &Tables, binding: &Binding) -> Result<Vec<SecNo>, AllocError>
+pub fn roots(
+    alloc: Global,
+    tables: &Tables,
+    binding: &Binding,
+    undefined: &[Vec<u8>],
+) -> Result<Vec<SecNo>, AllocError>
     requires bound { IsBindingOf (files_of tables.now) (binding_view binding.now) }
-    ensures roots { IfOk result (λ list. list.items ≡ spec.roots (files_of tables.now) (binding_view binding.now)) }
+    ensures roots { IfOk result (λ list. list.items ≡ spec.roots (files_of tables.now) (binding_view binding.now) (lists_of undefined.now)) }
     ensures within { IfOk result (λ list. All (λ r. r < section_total (files_of tables.now)) list.items) }
 {
     tables.is_few();
     let mut roots = entry_section(alloc, binding.entry_bound(tables))?;
+    let asked = sections_of_names(alloc, tables, binding, undefined)?;
+    roots.extend_from_slice(asked.as_slice())?;
     for file in 0..tables.file_count() as u32 {
         push_roots(&mut roots, tables, binding, file)?;
     }
@@ -36,7 +45,7 @@ pub fn roots(alloc: Global, tables: &Tables, binding: &Binding) -> Result<Vec<Se
 
 /// The section in which the entry stands, if it stands in one.
 fn entry_section(alloc: Global, bound: Bound) -> Result<Vec<SecNo>, AllocError>
-    ensures { IfOk result (λ list. list.items ≡ spec.section_bound bound) }
+    ensures { IfOk result (λ list. list.items ≡ section_bound bound) }
 {
     let mut list = Vec::new(alloc);
     if let Bound::InSection { section, .. } = bound {

@@ -13,9 +13,9 @@ use Rattle.sec_graph.specs.Foldable.{is_foldable, is_foldable_input, items}
 use Rattle.sec_graph.proofs.FoldOrder.{sections_are}
 use Rattle.sec_graph.proofs.ListParts.{each_passed}
 
-pub items_kept : (files : List File) (b : Bindings) (merged : List (Option Merged)) (kept : List Bool) → All (λ n. is_kept kept n ≡ true) (sections_of (items files b merged kept))
+pub items_kept : (files : List File) (b : Bindings) (merged : List (Option Merged)) (kept barred : List Bool) → All (λ n. is_kept kept n ≡ true) (sections_of (items files b merged kept barred))
 unfolding is_foldable
-items_kept files b merged kept =
+items_kept files b merged kept barred =
     let P : List ℕ → Type 0 = All (λ n. is_kept kept n ≡ true) in
-    subst P (sym (sections_are files b merged kept)) (each_passed (λ n. is_kept kept n ≡ true) (is_foldable files b kept) 0 (section_total files) (λ n lt is.
-    (and_parts (is_kept kept n) (is_foldable_input (input_of files b (place_of files n).file (place_of files n).index)) is).0))
+    subst P (sym (sections_are files b merged kept barred)) (each_passed (λ n. is_kept kept n ≡ true) (is_foldable files b kept barred) 0 (section_total files) (λ n lt is.
+    (and_parts (is_kept kept n) _ is).0))

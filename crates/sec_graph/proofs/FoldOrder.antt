@@ -30,30 +30,30 @@ one_section : (b : Bool) (i : FoldItem) (n : ℕ) (rest : List FoldItem) (list :
 one_section true i n rest list e f = ap (λ k. k ∷ map section_of rest) e ∙ ap (λ l. n ∷ l) f
 one_section false i n rest list e f = f
 
-module _ (files : List File) (b : Bindings) (merged : List (Option Merged)) (kept : List Bool) where
+module _ (files : List File) (b : Bindings) (merged : List (Option Merged)) (kept barred : List Bool) where
   own_section : (n : ℕ) → section_of (item_of files b merged n) ≡ n
   unfolding item_in
   own_section n = refl
 
-  sections_kept : (ns : List ℕ) → map section_of (flat_map (item_if files b merged kept) ns) ≡ filter (is_foldable files b kept) ns
+  sections_kept : (ns : List ℕ) → map section_of (flat_map (item_if files b merged kept barred) ns) ≡ filter (is_foldable files b kept barred) ns
   sections_kept [] = refl
   sections_kept (n ∷ ns) =
-      one_section (is_foldable files b kept n) (item_of files b merged n) n (flat_map (item_if files b merged kept) ns) (filter (is_foldable files b kept) ns)
+      one_section (is_foldable files b kept barred n) (item_of files b merged n) n (flat_map (item_if files b merged kept barred) ns) (filter (is_foldable files b kept barred) ns)
       (own_section n) (sections_kept ns)
 
-  pub sections_are : sections_of (items files b merged kept) ≡ filter (is_foldable files b kept) (range_with_len 0 (section_total files))
+  pub sections_are : sections_of (items files b merged kept barred) ≡ filter (is_foldable files b kept barred) (range_with_len 0 (section_total files))
   unfolding items sections_of
   sections_are = sections_kept (range_with_len 0 (section_total files))
 
-  pub items_rise : IsStrictlyIncreasing (sections_of (items files b merged kept))
+  pub items_rise : IsStrictlyIncreasing (sections_of (items files b merged kept barred))
   items_rise =
       let P : List ℕ → Type 0 = IsStrictlyIncreasing in
-      subst P (sym sections_are) (IsStrictlyIncreasing-filter (is_foldable files b kept) (range_with_len 0 (section_total files)) (range_rises (section_total files)))
+      subst P (sym sections_are) (IsStrictlyIncreasing-filter (is_foldable files b kept barred) (range_with_len 0 (section_total files)) (range_rises (section_total files)))
 
-  items_wide : length (sections_of (items files b merged kept)) ≡ length (items files b merged kept)
+  items_wide : length (sections_of (items files b merged kept barred)) ≡ length (items files b merged kept barred)
   unfolding sections_of
-  items_wide = length-map (items files b merged kept) section_of
+  items_wide = length-map (items files b merged kept barred) section_of
 
-  pub items_few : length (items files b merged kept) ≤ section_total files
+  pub items_few : length (items files b merged kept barred) ≤ section_total files
   items_few =
-      omega (arith, sym items_wide ∙ ap length sections_are, filter_short (is_foldable files b kept) (range_with_len 0 (section_total files)), length-range_with_len 0 (section_total files))
+      omega (arith, sym items_wide ∙ ap length sections_are, filter_short (is_foldable files b kept barred) (range_with_len 0 (section_total files)), length-range_with_len 0 (section_total files))

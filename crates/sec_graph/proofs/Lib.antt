@@ -8,3 +8,5 @@ pub mod Runs
 pub mod Standing
 pub mod Unbound
 pub mod Within
+pub mod Marking
+mod TakenKept

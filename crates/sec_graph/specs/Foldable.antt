@@ -1,5 +1,5 @@
 -- Which sections may be folded, and what decides with which others (System V gABI, "Sections": what a section's header says of it).
-use Rattle.std.specs.Prelude.{ℕ, ◌+◌, ◌&&◌, ◌||◌, ◌==◌, not, bit_and, Bool, Option, Some, None, if◌then◌else◌, List, [], ◌∷◌, map, flat_map, codes}
+use Rattle.std.specs.Prelude.{ℕ, ◌+◌, ◌&&◌, ◌||◌, ◌==◌, not, bit_and, Bool, false, slice_index_or, Option, Some, None, if◌then◌else◌, List, [], ◌∷◌, map, flat_map, codes}
 use Rattle.std.specs.List.{range_with_len}
 use Rattle.std.specs.Str.{bytes_eq}
 use Rattle.lk_base.specs.RelocKinds.{names_a_symbol}
@@ -39,10 +39,14 @@ barring = SHF_WRITE + SHF_MERGE + SHF_TLS + SHF_GNU_RETAIN + SHF_LINK_ORDER
 unfoldable pub is_foldable_input : InputSection → Bool
 is_foldable_input i = i.sh_type == SHT_PROGBITS && (is_code i.flags && (bit_and i.flags barring == 0 && (not (i.size == 0) && is_foldable_name i.name)))
 
+-- a section is barred, by its number; past the end of the list none is
+abbrev pub is_barred : (barred : List Bool) → (section : ℕ) → Bool
+is_barred barred section = slice_index_or barred section false
+
 module _ (files : List File) (b : Bindings) where
-  -- a section that may be folded
-  unfoldable pub is_foldable : (kept : List Bool) → (section : ℕ) → Bool
-  is_foldable kept section = is_kept kept section && is_foldable_input (input_of files b (place_of files section).file (place_of files section).index)
+  -- a section that may be folded: it is kept, and not barred
+  unfoldable pub is_foldable : (kept barred : List Bool) → (section : ℕ) → Bool
+  is_foldable kept barred section = is_kept kept section && (not (is_barred barred section) && is_foldable_input (input_of files b (place_of files section).file (place_of files section).index))
 
 module _ (files : List File) (b : Bindings) (merged : List (Option Merged)) where
   -- relocation r of file f; RELAX and ALIGN name no symbol
@@ -74,9 +78,9 @@ module _ (files : List File) (b : Bindings) (merged : List (Option Merged)) wher
   item_of section = item_in section (place_of files section).file (place_of files section).index
 
   -- a section, if it may be folded
-  abbrev pub item_if : (kept : List Bool) → (section : ℕ) → List FoldItem
-  item_if kept section = if is_foldable files b kept section then item_of section ∷ [] else []
+  abbrev pub item_if : (kept barred : List Bool) → (section : ℕ) → List FoldItem
+  item_if kept barred section = if is_foldable files b kept barred section then item_of section ∷ [] else []
 
   -- all of them, in order of section number
-  unfoldable pub items : (kept : List Bool) → List FoldItem
-  items kept = flat_map (item_if kept) (range_with_len 0 (section_total files))
+  unfoldable pub items : (kept barred : List Bool) → List FoldItem
+  items kept barred = flat_map (item_if kept barred) (range_with_len 0 (section_total files))

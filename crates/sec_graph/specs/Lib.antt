@@ -4,4 +4,5 @@ pub mod Kept
 pub mod NamedSections
 pub mod Prevailing
 pub mod Rows
+pub mod Taken
 pub mod Undefined

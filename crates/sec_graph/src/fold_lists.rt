@@ -22,7 +22,7 @@ use lk_tables::{
 use std::alloc::{AllocError, Global};
 
 /// The sections that may be folded, in order of number: kept code that nothing writes, not empty, whose name has no meaning to the
-/// linker. `kept` has one entry for each section number. The only error is out of memory.
+/// linker, and that is not barred. `kept` and `barred` go by section number; a number past the end of a list is not kept, or not barred. The only error is out of memory.
 #[tactic(auto, unfolding(crate::specs::Foldable::items))]
 pub fn items<'a>(
     alloc: Global,
@@ -30,8 +30,9 @@ pub fn items<'a>(
     binding: &Binding,
     pools: &Pools,
     kept: &[bool],
+    barred: &[bool],
 ) -> Result<Vec<FoldItem<'a>>, AllocError>
-    ensures items { IfOk result (λ list. item_views list.items ≡ spec.items (files_of tables.now) (binding_view binding.now) (merged_views pools.now) kept.now) }
+    ensures items { IfOk result (λ list. item_views list.items ≡ spec.items (files_of tables.now) (binding_view binding.now) (merged_views pools.now) kept.now barred.now) }
     ensures order { IfOk result (λ list. IsStrictlyIncreasing (sections_of (item_views list.items))) }
     ensures few { IfOk result (λ list. length list.items < 2 ^ 31) }
 {
@@ -45,6 +46,7 @@ pub fn items<'a>(
             binding,
             pools,
             kept,
+            barred,
             section as u32,
         )?;
     }
@@ -59,12 +61,13 @@ fn push_item<'a>(
     binding: &Binding,
     pools: &Pools,
     kept: &[bool],
+    barred: &[bool],
     section: SecNo,
 ) -> Result<(), AllocError>
     requires { section < section_total (files_of tables.now) }
-    ensures { OnOk result (item_views list.new.items ≡ item_views list.old.items ++ spec.item_if (files_of tables.now) (binding_view binding.now) (merged_views pools.now) kept.now section) }
+    ensures { OnOk result (item_views list.new.items ≡ item_views list.old.items ++ spec.item_if (files_of tables.now) (binding_view binding.now) (merged_views pools.now) kept.now barred.now section) }
 {
-    if !is_foldable(tables, binding, kept, section) {
+    if !is_foldable(tables, binding, kept, barred, section) {
         return Ok(());
     }
     let place = tables.place_of(section);
@@ -83,11 +86,19 @@ fn push_item<'a>(
 
 /// Whether a section may be folded.
 #[tactic(auto, unfolding(crate::specs::Foldable::is_foldable))]
-fn is_foldable(tables: &Tables, binding: &Binding, kept: &[bool], section: SecNo) -> bool
+fn is_foldable(
+    tables: &Tables,
+    binding: &Binding,
+    kept: &[bool],
+    barred: &[bool],
+    section: SecNo,
+) -> bool
     requires { section < section_total (files_of tables.now) }
-    ensures { result ≡ spec.is_foldable (files_of tables.now) (binding_view binding.now) kept.now section }
+    ensures { result ≡ spec.is_foldable (files_of tables.now) (binding_view binding.now) kept.now barred.now section }
 {
-    is_kept(kept, section) && is_foldable_input(&input_section(tables, binding, section))
+    is_kept(kept, section)
+        && (!is_barred(barred, section)
+            && is_foldable_input(&input_section(tables, binding, section)))
 }
 
 fn is_kept(kept: &[bool], section: SecNo) -> bool
@@ -95,6 +106,16 @@ fn is_kept(kept: &[bool], section: SecNo) -> bool
 {
     match kept.get(section as usize) {
         Some(kept) => *kept,
+        None => false,
+    }
+}
+
+/// Whether a section is barred; past the end of the list none is.
+fn is_barred(barred: &[bool], section: SecNo) -> bool
+    ensures { result ≡ spec.is_barred barred.now section }
+{
+    match barred.get(section as usize) {
+        Some(barred) => *barred,
         None => false,
     }
 }

@@ -152,7 +152,7 @@ fn check_reloc(
 }
 
 /// Whether a section is kept, by its number.
-fn is_kept(kept: &[bool], section: usize) -> bool
+pub fn is_kept(kept: &[bool], section: usize) -> bool
     ensures { result ≡ kept_spec.is_kept kept.now section }
 {
     match kept.get(section) {

@@ -1,6 +1,6 @@
 //! One pass over many things by several workers: the work is cut into pieces, each piece is done by a task in a thread
-//! of its own, and what the tasks give is joined in order. Every pass that runs workers runs them here, so its answers
-//! are those of its tasks, whatever the threads did.
+//! of its own, and what the tasks give is joined in order: the answer is that of the tasks, whatever the threads did. Most
+//! passes of the linker run their workers so.
 #![tactic(auto)]
 
 mod cuts;

@@ -29,7 +29,7 @@ loop-entry-preserved c =
       so_far = step_passes f j n (g j) _ (passes (from_on f 0 n)) (search rules) c.loop-entry.invariant.so_far read;
       items = step_items (f j) g j _ _ _ c.loop-entry.invariant.items c.in_ok-push.ensures.items read;
       ends =
-          let P : Reloc → Type 0 = λ r. end_of [] r < 2 ^ 64 in
+          let P : Reloc → Type 0 = λ r. end_of c.args.contents.now r < 2 ^ 64 in
           subst (λ (rs : List Reloc). All P rs) (sym c.in_ok-push.ensures.items)
           (All-append P _ _ c.loop-entry.invariant.ends (All-cons P _ [] c.in_ok-read_entry.ensures.end (All-nil P)));
     }

@@ -9,7 +9,7 @@ use Rattle.lk_tables.specs.Reach.{IsReach}
 use Rattle.name_numbers.proofs.NameWords.{words_count}
 use Rattle.file_live.specs.Claims.{claims}
 use Rattle.file_live.specs.Live.{IsLive, live_of}
-use Rattle.file_live.specs.Pulls.{commands, ends}
+use Rattle.file_live.specs.Pulls.{ends, first_files, lists_of}
 use Rattle.file_live.proofs.Claimed.{claims_in_row}
 use Rattle.file_live.proofs.TakePart.{live_marked, live_is}
 use Rattle.file_live.proofs.live_files.live_by.Goals as goal
@@ -38,15 +38,17 @@ reach-requires-clause-row g c =
 
 pub returns-clause-live : goal.returns-clause-live
 returns-clause-live g c =
+    let undefined = lists_of c.args.undefined.now in
     let files = file_views c.args.files.now in
     let few : length files < 16777216 = omega (arith, c.requires.files, length-map c.args.files.now file_view) in
-    let A : Vec Bool Global → Type 0 = λ v. IsReach (commands files) (ends files) v.items in
-    let B : Vec Bool Global → Type 0 = λ v. v.items ≡ live_of files in
-    IfOk-weaker c.reach.result A B (λ v r. live_is files v.items few c.requires.symbols (live_marked files v.items r)) c.reach.ensures
+    let A : Vec Bool Global → Type 0 = λ v. IsReach (first_files undefined files) (ends files) v.items in
+    let B : Vec Bool Global → Type 0 = λ v. v.items ≡ live_of undefined files in
+    IfOk-weaker c.reach.result A B (λ v r. live_is undefined files v.items few c.requires.symbols (live_marked undefined files v.items r)) c.reach.ensures
 
 pub returns-clause-least : goal.returns-clause-least
 returns-clause-least g c =
+    let undefined = lists_of c.args.undefined.now in
     let files = file_views c.args.files.now in
-    let A : Vec Bool Global → Type 0 = λ v. IsReach (commands files) (ends files) v.items in
-    let B : Vec Bool Global → Type 0 = λ v. IsLive files v.items in
-    IfOk-weaker c.reach.result A B (λ v r. live_marked files v.items r) c.reach.ensures
+    let A : Vec Bool Global → Type 0 = λ v. IsReach (first_files undefined files) (ends files) v.items in
+    let B : Vec Bool Global → Type 0 = λ v. IsLive undefined files v.items in
+    IfOk-weaker c.reach.result A B (λ v r. live_marked undefined files v.items r) c.reach.ensures

@@ -1,7 +1,9 @@
 use Rattle.std.proofs.Common.{◌≡◌, map, take}
-use Rattle.link_sections.specs.declared.fold_items.FoldItem.{FoldItem as LentItem}
+use Rattle.link_sections.specs.FoldItems.{item_views}
 use Rattle.name_numbers.specs.Texts.{lent_texts}
+use Rattle.icf_part.specs.Folding.{item_at}
+use Rattle.icf_part.specs.Signatures.{output_of}
 use Rattle.icf_part.proofs.numbering.outputs_of.Given as goal
 
-abbrev pub invariant-loop-a : goal.invariant-loop-a
-invariant-loop-a l = lent_texts l.texts.items ≡ map (λ (i : LentItem). i.output.now) (take l.a l.items)
+abbrev pub invariant-loop-k : goal.invariant-loop-k
+invariant-loop-k l = lent_texts l.texts.items ≡ map (λ a. output_of (item_at (item_views l.items) a)) (take l.k l.chosen)

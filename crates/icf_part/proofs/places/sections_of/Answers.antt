@@ -1,14 +1,17 @@
-use Rattle.std.proofs.Common.{arith}
-use Rattle.link_sections.specs.declared.fold_items.FoldItem.{FoldItem as LentItem}
-use Rattle.link_sections.specs.FoldItems.{section_of, sections_of}
-use Rattle.icf_part.proofs.Collected.{mapped_at, mapped_views}
+use Rattle.std.proofs.Common.{◌++◌, ◌∷◌, [], ap, ◌∙◌, get_or, arith}
+use Rattle.link_sections.specs.FoldItems.{FoldItem, item_views, section_of, sections_of}
+use Rattle.icf_part.specs.Folding.{item_at}
+use Rattle.icf_part.proofs.ChosenItems.{chosen_all}
+use Rattle.icf_part.proofs.Collected.{mapped_at}
+use Rattle.icf_part.proofs.PartSteps.{viewed_there}
 use Rattle.icf_part.proofs.places.sections_of.Goals as goal
 
-pub loop-a-preserved : goal.loop-a-preserved
-loop-a-preserved c =
-    mapped_at (λ (i : LentItem). i.section) c.args.items.now c.loop-a.a c.index-items-a.result c.loop-a.sections.items c.push.new.self.items
-    c.loop-a-test.true c.loop-a.invariant c.in_ok-push.ensures.items
+pub loop-k-preserved : goal.loop-k-preserved
+loop-k-preserved c =
+    let view = viewed_there c.args.items.now (get_or c.args.chosen.now c.loop-k.k 0) c.index-items-chosen.result (c.requires c.loop-k.k 0 c.loop-k-test.true) in
+    mapped_at (λ a. section_of (item_at (item_views c.args.items.now) a)) c.args.chosen.now c.loop-k.k 0 c.loop-k.sections.items c.push.new.self.items
+    c.loop-k-test.true c.loop-k.invariant (c.in_ok-push.ensures.items ∙ ap (λ (i : FoldItem). c.loop-k.sections.items ++ i.section ∷ []) view)
 
 pub returns : goal.returns
 unfolding sections_of
-returns c = mapped_views section_of c.args.items.now c.loop-a.a c.loop-a.sections.items (omega arith) c.loop-a.invariant
+returns c = chosen_all section_of c.args.items.now c.args.chosen.now c.loop-k.k c.loop-k.sections.items (omega arith) c.loop-k.invariant

@@ -16,5 +16,7 @@ returns c =
     let six = c.in_ok-arg-6.ensures.shape c.icf_option.ensures.local ∙ ap₂ with_rule five c.icf_option.ensures.rule in
     let seven = c.in_ok-arg-7.ensures.shape c.relax_option.ensures.local ∙ ap₂ with_rule six c.relax_option.ensures.rule in
     let eight = c.in_ok-arg-8.ensures.shape c.strip_option.ensures.local ∙ ap₂ with_rule seven c.strip_option.ensures.rule in
-    let nine = c.in_ok-arg-9.ensures.shape c.generated_option.ensures.local ∙ ap₂ with_rule eight c.generated_option.ensures.rule in
-    IfOk-weaker c.arg-10.result _ _ (λ m h. h.shape c.files_argument.ensures.local ∙ ap₂ with_rule nine c.files_argument.ensures.rule) c.arg-10.ensures
+    let nine = c.in_ok-arg-9.ensures.shape c.undefined_option.ensures.local ∙ ap₂ with_rule eight c.undefined_option.ensures.rule in
+    let ten = c.in_ok-arg-10.ensures.shape c.unique_option.ensures.local ∙ ap₂ with_rule nine c.unique_option.ensures.rule in
+    let eleven = c.in_ok-arg-11.ensures.shape c.generated_option.ensures.local ∙ ap₂ with_rule ten c.generated_option.ensures.rule in
+    IfOk-weaker c.arg-12.result _ _ (λ m h. h.shape c.files_argument.ensures.local ∙ ap₂ with_rule eleven c.files_argument.ensures.rule) c.arg-12.ensures

@@ -10,6 +10,7 @@ use Rattle.lk_tables.specs.FileView.{file_view, file_views}
 use Rattle.lk_tables.specs.Gathering.{AreBodies, with_objects}
 use Rattle.work_split.specs.Shares.{EachFrom}
 use Rattle.work_split.proofs.Sharing.{each_rises, whole_goes}
+use Rattle.link_command.specs.Command.{lists_of}
 use Rattle.link_driver.specs.Contents.{source_view, sources_of}
 use Rattle.link_driver.specs.Counts.{count_of}
 use Rattle.link_driver.specs.Defects.{body_defects_at, opening_defects}
@@ -23,18 +24,21 @@ pub read_numbered-requires-clause-files : goal.read_numbered-requires-clause-fil
 unfolding heads_in
 read_numbered-requires-clause-files g c κs within =
     let ss = sources_of c.args.sources.now in
+    let undefined = lists_of c.args.undefined.now in
     let n : length c.args.sources.now ≡ length ss = sym (length-map c.args.sources.now source_view) in
     c.requires.heads_are ∙ ap (λ k. map (headed ss) (range_with_len 0 k)) (sym n)
 
 pub read_numbered-requires-clause-live : goal.read_numbered-requires-clause-live
 read_numbered-requires-clause-live g c κs within =
     let ss = sources_of c.args.sources.now in
+    let undefined = lists_of c.args.undefined.now in
     let n : length c.args.sources.now ≡ length ss = sym (length-map c.args.sources.now source_view) in
-    ap length c.requires.live ∙ how_many_live ss ∙ sym n
+    ap length c.requires.live ∙ how_many_live undefined ss ∙ sym n
 
 pub read_numbered-requires-clause-few : goal.read_numbered-requires-clause-few
 read_numbered-requires-clause-few g c κs within =
     let ss = sources_of c.args.sources.now in
+    let undefined = lists_of c.args.undefined.now in
     let n : length c.args.sources.now ≡ length ss = sym (length-map c.args.sources.now source_view) in
     let few = c.args.heads.few in
     omega (arith, few, n, how_many ss, ap length c.requires.heads_are, length-map c.args.heads.files.items file_view)
@@ -42,6 +46,7 @@ read_numbered-requires-clause-few g c κs within =
 pub count_sections-count-requires-clause-each : goal.count_sections-count-requires-clause-each
 count_sections-count-requires-clause-each g c =
     let ss = sources_of c.args.sources.now in
+    let undefined = lists_of c.args.undefined.now in
     let n : length c.args.sources.now ≡ length ss = sym (length-map c.args.sources.now source_view) in
     let live = c.args.live.now in
     let To : ℕ → Type 0 = λ k. EachFrom (IsBodyAt ss live) 0 k c.in-Ok.objects.items in
@@ -53,6 +58,7 @@ count_sections-count-requires-clause-each g c =
 pub count_sections-count-requires-clause-few : goal.count_sections-count-requires-clause-few
 count_sections-count-requires-clause-few g c = λ f lt.
     let ss = sources_of c.args.sources.now in
+    let undefined = lists_of c.args.undefined.now in
     let n : length c.args.sources.now ≡ length ss = sym (length-map c.args.sources.now source_view) in
     let live = c.args.live.now in
     let To : ℕ → Type 0 = λ k. EachFrom (IsBodyAt ss live) 0 k c.in-Ok.objects.items in
@@ -68,26 +74,28 @@ pub returns-in-Err-check_count-clause-goes : goal.returns-in-Err-check_count-cla
 unfolding opening_defects
 returns-in-Err-check_count-clause-goes g c =
     let ss = sources_of c.args.sources.now in
+    let undefined = lists_of c.args.undefined.now in
     let n : length c.args.sources.now ≡ length ss = sym (length-map c.args.sources.now source_view) in
     let live = c.args.live.now in
     let To : ℕ → Type 0 = λ k. EachFrom (IsBodyAt ss live) 0 k c.in-Ok.objects.items in
     let each : To (length ss) = subst To n c.in-Ok.ensures.share.each in
     let objects : c.as_slice.result.now ≡ c.in-Ok.objects.items = c.as_slice.ensures.value in
     let files : file_views c.files.result.now ≡ heads_in ss = c.files.ensures ∙ c.read_numbered.ensures.same ∙ c.requires.heads_are in
-    let goes : flat_map (body_defects_at ss (live_in ss)) (range_with_len 0 (length ss)) ≡ [] =
-    sym (same_defects ss live (length c.args.sources.now) n c.requires.live)
+    let goes : flat_map (body_defects_at ss (live_in undefined ss)) (range_with_len 0 (length ss)) ≡ [] =
+    sym (same_defects undefined ss live (length c.args.sources.now) n c.requires.live)
     ∙ whole_goes (body_defects_at ss live) (IsBodyAt ss live) (length c.args.sources.now) (Ok c.in-Ok.objects) c.in-Ok.ensures.share in
-    let total : c.count_sections-count.result ≡ section_total (files_in ss) =
+    let total : c.count_sections-count.result ≡ section_total (files_in undefined ss) =
     c.count_sections-count.ensures
     ∙ ap (λ (l : List File). section_total (with_objects l c.as_slice.result.now)) files
     ∙ ap (λ (l : List (Option Object)). section_total (with_objects (heads_in ss) l)) objects
-    ∙ ap section_total (with_bodies ss live c.in-Ok.objects.items each c.requires.live) in
+    ∙ ap section_total (with_bodies ss live c.in-Ok.objects.items each undefined c.requires.live) in
     let P : ℕ → Type 0 = λ m. BeginsWith (count_defects c.args.limits.now.sections m) c.in-Err-check_count.defect in
-    second_part _ (count_defects c.args.limits.now.sections (section_total (files_in ss))) c.in-Err-check_count.defect goes (subst P total c.in-Err-check_count.ensures)
+    second_part _ (count_defects c.args.limits.now.sections (section_total (files_in undefined ss))) c.in-Err-check_count.defect goes (subst P total c.in-Err-check_count.ensures)
 
 pub of-requires-clause-each : goal.of-requires-clause-each
 of-requires-clause-each g c =
     let ss = sources_of c.args.sources.now in
+    let undefined = lists_of c.args.undefined.now in
     let n : length c.args.sources.now ≡ length ss = sym (length-map c.args.sources.now source_view) in
     let live = c.args.live.now in
     let To : ℕ → Type 0 = λ k. EachFrom (IsBodyAt ss live) 0 k c.in-Ok.objects.items in
@@ -97,6 +105,7 @@ of-requires-clause-each g c =
 pub of-requires-clause-bodies : goal.of-requires-clause-bodies
 of-requires-clause-bodies g c =
     let ss = sources_of c.args.sources.now in
+    let undefined = lists_of c.args.undefined.now in
     let n : length c.args.sources.now ≡ length ss = sym (length-map c.args.sources.now source_view) in
     let live = c.args.live.now in
     let To : ℕ → Type 0 = λ k. EachFrom (IsBodyAt ss live) 0 k c.in-Ok.objects.items in
@@ -108,29 +117,31 @@ pub returns-clause-goes : goal.returns-clause-goes
 unfolding opening_defects
 returns-clause-goes g c =
     let ss = sources_of c.args.sources.now in
+    let undefined = lists_of c.args.undefined.now in
     let n : length c.args.sources.now ≡ length ss = sym (length-map c.args.sources.now source_view) in
     let live = c.args.live.now in
     let To : ℕ → Type 0 = λ k. EachFrom (IsBodyAt ss live) 0 k c.in-Ok.objects.items in
     let each : To (length ss) = subst To n c.in-Ok.ensures.share.each in
     let objects : c.as_slice.result.now ≡ c.in-Ok.objects.items = c.as_slice.ensures.value in
     let files : file_views c.files.result.now ≡ heads_in ss = c.files.ensures ∙ c.read_numbered.ensures.same ∙ c.requires.heads_are in
-    let goes : flat_map (body_defects_at ss (live_in ss)) (range_with_len 0 (length ss)) ≡ [] =
-    sym (same_defects ss live (length c.args.sources.now) n c.requires.live)
+    let goes : flat_map (body_defects_at ss (live_in undefined ss)) (range_with_len 0 (length ss)) ≡ [] =
+    sym (same_defects undefined ss live (length c.args.sources.now) n c.requires.live)
     ∙ whole_goes (body_defects_at ss live) (IsBodyAt ss live) (length c.args.sources.now) (Ok c.in-Ok.objects) c.in-Ok.ensures.share in
-    let total : c.count_sections-count.result ≡ section_total (files_in ss) =
+    let total : c.count_sections-count.result ≡ section_total (files_in undefined ss) =
     c.count_sections-count.ensures
     ∙ ap (λ (l : List File). section_total (with_objects l c.as_slice.result.now)) files
     ∙ ap (λ (l : List (Option Object)). section_total (with_objects (heads_in ss) l)) objects
-    ∙ ap section_total (with_bodies ss live c.in-Ok.objects.items each c.requires.live) in
-    both_parts _ (count_defects c.args.limits.now.sections (section_total (files_in ss))) goes
+    ∙ ap section_total (with_bodies ss live c.in-Ok.objects.items each undefined c.requires.live) in
+    both_parts _ (count_defects c.args.limits.now.sections (section_total (files_in undefined ss))) goes
     (ap (count_defects c.args.limits.now.sections) (sym total) ∙ c.in_default.ensures)
 
 pub returns-clause-tables : goal.returns-clause-tables
 returns-clause-tables g c =
     let ss = sources_of c.args.sources.now in
+    let undefined = lists_of c.args.undefined.now in
     let n : length c.args.sources.now ≡ length ss = sym (length-map c.args.sources.now source_view) in
     let live = c.args.live.now in
     let To : ℕ → Type 0 = λ k. EachFrom (IsBodyAt ss live) 0 k c.in-Ok.objects.items in
     let each : To (length ss) = subst To n c.in-Ok.ensures.share.each in
     c.in_ok-of.ensures.files ∙ ap (λ (l : List File). with_objects l c.in-Ok.objects.items) (c.read_numbered.ensures.same ∙ c.requires.heads_are)
-    ∙ with_bodies ss live c.in-Ok.objects.items each c.requires.live
+    ∙ with_bodies ss live c.in-Ok.objects.items each undefined c.requires.live

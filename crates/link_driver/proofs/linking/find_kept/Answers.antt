@@ -3,6 +3,7 @@ use Rattle.std.specs.List.{All}
 use Rattle.lk_tables.specs.BindingView.{binding_view}
 use Rattle.lk_tables.specs.TablesView.{files_of}
 use Rattle.link_sections.specs.Edges.{ends_of}
+use Rattle.link_command.specs.Command.{lists_of}
 use Rattle.link_driver.specs.Tables.{MayStay}
 use Rattle.link_driver.proofs.Handing.{on_each}
 use Rattle.link_driver.proofs.Keeping.{all_stay, collected_stay, ends_count, is_collected}
@@ -30,7 +31,7 @@ returns-clause-stay g c =
     let b = binding_view c.args.binding.now in
     let roots_are = c.as_slice.ensures.value ∙ c.in_ok-roots.ensures.roots in
     let count = ends_count files b (ends_of c.in_ok-edges.edges) c.in_ok-edges.ensures.value in
-    on_each c.keep.result (λ kept reach. collected_stay files b (ends_of c.in_ok-edges.edges) c.as_slice.result.now kept.items c.requires.bound c.is_few.ensures
+    on_each c.keep.result (λ kept reach. collected_stay (lists_of c.args.undefined.now) files b (ends_of c.in_ok-edges.edges) c.as_slice.result.now kept.items c.requires.bound c.is_few.ensures
     count roots_are c.in_ok-edges.ensures.law reach) c.keep.ensures.reach
 
 pub returns-clause-collected : goal.returns-clause-collected
@@ -39,4 +40,4 @@ returns-clause-collected g c = λ gc.
     let b = binding_view c.args.binding.now in
     let roots_are = c.as_slice.ensures.value ∙ c.in_ok-roots.ensures.roots in
     on_each c.keep.result (λ kept reach.
-    is_collected files b (ends_of c.in_ok-edges.edges) c.as_slice.result.now kept.items roots_are c.in_ok-edges.ensures.law reach) c.keep.ensures.reach
+    is_collected (lists_of c.args.undefined.now) files b (ends_of c.in_ok-edges.edges) c.as_slice.result.now kept.items roots_are c.in_ok-edges.ensures.law reach) c.keep.ensures.reach

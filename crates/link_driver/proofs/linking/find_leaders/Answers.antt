@@ -22,7 +22,7 @@ on_of false is = cc
 
 pub returns-then-not-options-clause-leaders : goal.returns-then-not-options-clause-leaders
 returns-then-not-options-clause-leaders g c =
-    own_are (wished c.args.options) (files_of c.args.tables.now) (binding_view c.args.binding.now) c.args.kept.now c.args.pools.now c.requires.pools
+    own_are (wished c.args.options c.args.barred.now) (files_of c.args.tables.now) (binding_view c.args.binding.now) c.args.kept.now c.args.pools.now c.requires.pools
     c.in_ok-leaders.leaders.items (off_of c.args.options.icf c.if-not-options.true) c.in_ok-leaders.ensures
 
 pub returns-then-not-options-clause-stay : goal.returns-then-not-options-clause-stay
@@ -36,7 +36,7 @@ returns-clause-leaders g c =
     let same = c.as_slice-2.ensures.value ∙ sym c.as_slice.ensures.value in
     let is = c.fold_leaders.ensures ∙ ap (λ l. folded_leaders (item_views l) c.as_slice-3.result.now c.in_ok-leaders.leaders.items) same
     ∙ ap (λ ps. folded_leaders (item_views lent) ps c.in_ok-leaders.leaders.items) c.as_slice-3.ensures.value in
-    folded_are (wished c.args.options) (files_of c.args.tables.now) (binding_view c.args.binding.now) c.args.kept.now c.args.pools.now c.requires.pools
+    folded_are (wished c.args.options c.args.barred.now) (files_of c.args.tables.now) (binding_view c.args.binding.now) c.args.kept.now c.args.pools.now c.requires.pools
     c.in_ok-leaders.leaders.items c.fold_leaders.new.leaders.items (item_views lent) c.in_ok-places.places.items
     (on_of c.args.options.icf c.if-not-options.false) c.in_ok-leaders.ensures (ap item_views c.as_slice.ensures.value ∙ c.in_ok-items.ensures.items)
     c.in_ok-places.ensures.value is
@@ -56,7 +56,7 @@ returns-clause-stay g c =
     let same = c.as_slice-2.ensures.value ∙ sym c.as_slice.ensures.value in
     let is = c.fold_leaders.ensures ∙ ap (λ l. folded_leaders (item_views l) c.as_slice-3.result.now c.in_ok-leaders.leaders.items) same
     ∙ ap (λ ps. folded_leaders (item_views lent) ps c.in_ok-leaders.leaders.items) c.as_slice-3.ensures.value in
-    folded_stay files b c.args.kept.now c.args.pools.now c.in_ok-leaders.leaders.items c.fold_leaders.new.leaders.items (item_views lent) places
+    folded_stay files b c.args.kept.now c.args.barred.now c.args.pools.now c.in_ok-leaders.leaders.items c.fold_leaders.new.leaders.items (item_views lent) places
     c.in_ok-leaders.ensures found order lead is c.requires.stay
 
 pub returns-then-not-options-clause-alike : goal.returns-then-not-options-clause-alike
@@ -72,5 +72,5 @@ returns-clause-alike g c =
     let same = c.as_slice-2.ensures.value ∙ sym c.as_slice.ensures.value in
     let is = c.fold_leaders.ensures ∙ ap (λ l. folded_leaders (item_views l) c.as_slice-3.result.now c.in_ok-leaders.leaders.items) same
     ∙ ap (λ ps. folded_leaders (item_views lent) ps c.in_ok-leaders.leaders.items) c.as_slice-3.ensures.value in
-    folded_so c.args.tables.now (binding_view c.args.binding.now) c.args.kept.now c.args.pools.now c.in_ok-leaders.leaders.items
+    folded_so c.args.tables.now (binding_view c.args.binding.now) c.args.kept.now c.args.barred.now c.args.pools.now c.in_ok-leaders.leaders.items
     c.fold_leaders.new.leaders.items (item_views lent) places c.in_ok-leaders.ensures found c.in_ok-places.ensures.leaders is c.requires.stay

@@ -40,7 +40,7 @@ pub returns-in-Ok-clause-goes : goal.returns-in-Ok-clause-goes
 returns-in-Ok-clause-goes g c =
     let files = files_of c.args.tables.now in
     let b = binding_view c.args.binding.now in
-    let w = wished c.args.options in
+    let w = wished c.args.options c.args.barred.now in
     sym (defects_are w files b c.args.kept.now c.args.pools.now c.requires.pools c.args.leaders.now c.requires.leaders (entries_of c.args.got.now) c.requires.table
     c.in_ok-sections.sections.rows c.in_ok-sections.ensures.order (sizes_of c.in_ok-sizes.sizes) c.in_ok-sizes.ensures.cuts c.args.limits.now) ∙ c.in-Ok.ensures.goes
 
@@ -48,7 +48,7 @@ pub returns-in-Ok-clause-laid : goal.returns-in-Ok-clause-laid
 returns-in-Ok-clause-laid g c =
     let files = files_of c.args.tables.now in
     let b = binding_view c.args.binding.now in
-    let w = wished c.args.options in
+    let w = wished c.args.options c.args.barred.now in
     laid_are w files b c.args.kept.now c.args.pools.now c.requires.pools c.args.leaders.now c.requires.leaders (entries_of c.args.got.now) c.requires.table
     c.in_ok-sections.sections.rows c.in_ok-sections.ensures.order (sizes_of c.in_ok-sizes.sizes) c.in_ok-sizes.ensures.cuts (layout_view c.in-Ok.layout) c.in-Ok.ensures.found
 
@@ -56,7 +56,7 @@ pub returns-clause-goes : goal.returns-clause-goes
 returns-clause-goes g c =
     let files = files_of c.args.tables.now in
     let b = binding_view c.args.binding.now in
-    let w = wished c.args.options in
+    let w = wished c.args.options c.args.barred.now in
     let P : List Defect → Type 0 = λ ds. StopsAt c.in-Err.stop ds in
     subst P (defects_are w files b c.args.kept.now c.args.pools.now c.requires.pools c.args.leaders.now c.requires.leaders (entries_of c.args.got.now) c.requires.table
     c.in_ok-sections.sections.rows c.in_ok-sections.ensures.order (sizes_of c.in_ok-sizes.sizes) c.in_ok-sizes.ensures.cuts c.args.limits.now) c.in-Err.ensures.goes

@@ -16,7 +16,7 @@ pub returns-clause-goes : goal.returns-clause-goes
 returns-clause-goes g c =
     let files = files_of c.args.tables.now in
     let b = binding_view c.args.binding.now in
-    let w = wished c.args.options in
+    let w = wished c.args.options c.args.barred.now in
     let kept = c.args.kept.now in
     let placed = c.in-Ok.ensures.placed in
     goes_next c.write.result (placing_phases c.args.limits.now w files b kept) (relocation_defects files b (leaders_in w files b kept) (laid_out w files b kept))
@@ -27,14 +27,14 @@ returns-clause-written g c =
     let files = files_of c.args.tables.now in
     let b = binding_view c.args.binding.now in
     on_each c.write.result (λ linked written.
-    made_of (wished c.args.options) (names_of c.args.names.now) files b c.args.kept.now _ _ linked
+    made_of (wished c.args.options c.args.barred.now) (names_of c.args.names.now) files b c.args.kept.now _ _ linked
     c.in-Ok.ensures.placed.leaders c.in-Ok.ensures.placed.laid written) c.write.ensures.written
 
 pub returns-in-Err-clause-reach : goal.returns-in-Err-clause-reach
 returns-in-Err-clause-reach g c =
     let files = files_of c.args.tables.now in
     let b = binding_view c.args.binding.now in
-    let w = wished c.args.options in
+    let w = wished c.args.options c.args.barred.now in
     not_past c.in-Err.stop (first_phase (placing_phases c.args.limits.now w files b c.args.kept.now)) (ShortenedCallsReach w files b c.args.kept.now)
     c.in-Err.ensures.goes
 
@@ -42,7 +42,7 @@ pub returns-clause-reach : goal.returns-clause-reach
 returns-clause-reach g c =
     let files = files_of c.args.tables.now in
     let b = binding_view c.args.binding.now in
-    let w = wished c.args.options in
+    let w = wished c.args.options c.args.barred.now in
     let placed = c.in-Ok.ensures.placed in
     past_all c.write.result (first_phase (placing_phases c.args.limits.now w files b c.args.kept.now)) (ShortenedCallsReach w files b c.args.kept.now)
     (reaches_so w files b c.args.kept.now _ _ placed.leaders placed.laid placed.reach)
@@ -51,5 +51,5 @@ pub returns-clause-stands : goal.returns-clause-stands
 returns-clause-stands g c =
     let placed = c.in-Ok.ensures.placed in
     on_each c.write.result (λ linked whole.
-    stands_in (wished c.args.options) (files_of c.args.tables.now) (binding_view c.args.binding.now) c.args.kept.now _ _ linked.exe.items placed.leaders placed.laid whole)
+    stands_in (wished c.args.options c.args.barred.now) (files_of c.args.tables.now) (binding_view c.args.binding.now) c.args.kept.now _ _ linked.exe.items placed.leaders placed.laid whole)
     c.write.ensures.stands

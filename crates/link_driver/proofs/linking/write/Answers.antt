@@ -13,6 +13,6 @@ returns-clause-stands g c =
     let b = binding_view c.args.binding.now in
     let laid = laid_by files c.args.placement.now in
     let exe = c.in-Ok.exe.items in
-    let P : List (Option ℕ) → Type 0 = λ l. StandsWhole (wished c.args.options) files b c.args.kept.now l laid exe in
+    let P : List (Option ℕ) → Type 0 = λ l. StandsWhole (wished c.args.options c.args.barred.now) files b c.args.kept.now l laid exe in
     subst P c.as_slice-leaders.ensures.value
-    (stands_so (wished c.args.options) files b c.args.kept.now c.as_slice-leaders.result.now laid exe exe refl (c.in-Ok.ensures.headers c.requires.room) c.in-Ok.ensures.pieces c.in-Ok.ensures.stands)
+    (stands_so (wished c.args.options c.args.barred.now) files b c.args.kept.now c.as_slice-leaders.result.now laid exe exe refl (c.in-Ok.ensures.headers c.requires.room) c.in-Ok.ensures.pieces c.in-Ok.ensures.stands)

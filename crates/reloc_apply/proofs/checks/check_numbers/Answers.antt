@@ -1,7 +1,7 @@
 use Rattle.std.proofs.Common.{◌≡◌, List, ◌∙◌, ap, arith, slice_index, subst, sym}
 use Rattle.lk_base.specs.Firsts.{BeginsWith}
 use Rattle.lk_base.specs.declared.defects.Defect.{Defect}
-use Rattle.lk_tables.specs.Files.{no_reloc, section_total}
+use Rattle.lk_tables.specs.Files.{section_total}
 use Rattle.lk_tables.specs.Sites.{relocs_of}
 use Rattle.link_sections.specs.Views.{binding_in, files_in, laid_in, leaders_in}
 use Rattle.reloc_apply.proofs.NumberWalks.{first, here_is, own_defects, left, walk_done, walk_end, walk_found, walk_next, walk_start}
@@ -21,7 +21,7 @@ loop-section-init c =
     let b = c.args.piece.end in
     let n = c.section_of-section.result in
     let own = c.requires.firsts n (omega (arith, c.section_of-section.ensures.within, c.requires.count)) in
-    walk_start relocs no_reloc f total a b n c.requires.order (omega (arith, own, c.section_of-section.ensures.before))
+    walk_start relocs f total a b n c.requires.order (omega (arith, own, c.section_of-section.ensures.before))
 
 pub returns-then-to-first : goal.returns-then-to-first
 returns-then-to-first c =
@@ -34,7 +34,7 @@ returns-then-to-first c =
     let n = c.loop-section.section in
     let own = c.requires.firsts n (omega arith) in
     let past = c.if-to-first.true in
-    walk_end relocs no_reloc f total a b n _ c.requires.order (omega (arith, past, own)) c.loop-section.invariant
+    walk_end relocs f total a b n _ c.requires.order (omega (arith, past, own)) c.loop-section.invariant
 
 pub returns-in-Some : goal.returns-in-Some
 returns-in-Some c =
@@ -45,12 +45,12 @@ returns-in-Some c =
     let a = c.args.piece.start in
     let b = c.args.piece.end in
     let n = c.loop-section.section in
-    let own : slice_index c.args.firsts.now n ≡ first relocs no_reloc f n = c.requires.firsts n (omega arith) in
+    let own : slice_index c.args.firsts.now n ≡ first relocs f n = c.requires.firsts n (omega arith) in
     let low = c.if-to-first.false in
     let from = slice_index c.args.firsts.now n in
-    let same = here_is relocs no_reloc f a b n from c.saturating_sub.result own c.saturating_sub.ensures in
+    let same = here_is relocs f a b n from c.saturating_sub.result own c.saturating_sub.ensures in
     let P : List Defect → Type 0 = λ l. BeginsWith l c.in-Some.defect in
-    walk_found relocs no_reloc f total a b n _ c.in-Some.defect (omega arith) c.requires.order (omega (arith, low, own)) c.loop-section.invariant (subst P same c.in-Some.ensures)
+    walk_found relocs f total a b n _ c.in-Some.defect (omega arith) c.requires.order (omega (arith, low, own)) c.loop-section.invariant (subst P same c.in-Some.ensures)
 
 pub loop-section-preserved : goal.loop-section-preserved
 loop-section-preserved c =
@@ -61,11 +61,11 @@ loop-section-preserved c =
     let a = c.args.piece.start in
     let b = c.args.piece.end in
     let n = c.loop-section.section in
-    let own : slice_index c.args.firsts.now n ≡ first relocs no_reloc f n = c.requires.firsts n (omega arith) in
+    let own : slice_index c.args.firsts.now n ≡ first relocs f n = c.requires.firsts n (omega arith) in
     let low = c.if-to-first.false in
     let from = slice_index c.args.firsts.now n in
-    let same = here_is relocs no_reloc f a b n from c.saturating_sub.result own c.saturating_sub.ensures in
-    walk_next relocs no_reloc f total a b n _ (omega arith) c.requires.order (omega (arith, low, own)) c.loop-section.invariant (sym same ∙ c.in_default.ensures)
+    let same = here_is relocs f a b n from c.saturating_sub.result own c.saturating_sub.ensures in
+    walk_next relocs f total a b n _ (omega arith) c.requires.order (omega (arith, low, own)) c.loop-section.invariant (sym same ∙ c.in_default.ensures)
 
 pub returns : goal.returns
 returns c =
@@ -77,4 +77,4 @@ returns c =
     let b = c.args.piece.end in
     let n = c.loop-section.section in
     let all : n ≡ total = omega (arith, c.section_of-section.ensures.within, c.requires.count) in
-    walk_done relocs no_reloc f total a b _ c.requires.order (sym (ap (left relocs no_reloc f total a b) all) ∙ c.loop-section.invariant)
+    walk_done relocs f total a b _ c.requires.order (sym (ap (left relocs f total a b) all) ∙ c.loop-section.invariant)

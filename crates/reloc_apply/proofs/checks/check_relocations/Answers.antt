@@ -4,8 +4,7 @@ use Rattle.std.specs.List.{range_with_len}
 use Rattle.lk_base.specs.Firsts.{Goes}
 use Rattle.lk_base.specs.declared.defects.Defect.{Defect}
 use Rattle.lk_base.specs.declared.defects.LinkStop.{LinkStop}
-use Rattle.lk_tables.specs.declared.objects.Reloc.{Reloc}
-use Rattle.lk_tables.specs.Files.{no_reloc, section_total}
+use Rattle.lk_tables.specs.Files.{section_total}
 use Rattle.lk_tables.specs.Sites.{relocs_of}
 use Rattle.link_sections.specs.Views.{binding_in, files_in, laid_in, leaders_in}
 use Rattle.work_split.specs.Pieces.{Tiles}
@@ -34,9 +33,9 @@ pub returns-in-Ok : goal.returns-in-Ok
 returns-in-Ok g c =
     let view = c.args.view.now in
     let files = files_in view in
-    let f : ℕ → Reloc → List Defect = own_defects files (binding_in view) (leaders_in view) (laid_in view) in
+    let f : ℕ → ℕ → List Defect = own_defects files (binding_in view) (leaders_in view) (laid_in view) in
     let n = section_total files in
-    let total = first (relocs_of files) no_reloc f n in
+    let total = first (relocs_of files) f n in
     let numbers = c.as_slice-firsts.result.now in
     let same = c.as_slice-firsts.ensures.value in
     let count : length numbers ≡ n + 1 = ap length same ∙ c.in_ok-numbers.ensures.count in
@@ -45,7 +44,7 @@ returns-in-Ok g c =
     let P : List (Range ℕ) → Type 0 = λ ps. Tiles 0 end ps in
     let tiles : Tiles 0 end c.as_slice.result.now = subst P (sym c.as_slice.ensures.value) c.in_ok-pieces.ensures.tiles in
     let past : total ≤ end = omega (arith, last_is numbers n total count last) in
-    let goes = joined_checks (given_at (relocs_of files) no_reloc f n) _ end c.as_slice.result.now c.over_shares-checked.result (λ p s h. h.1) tiles c.over_shares-checked.ensures in
+    let goes = joined_checks (given_at (relocs_of files) f n) _ end c.as_slice.result.now c.over_shares-checked.result (λ p s h. h.1) tiles c.over_shares-checked.ensures in
     let R : List Defect → Type 0 = λ ds. Goes c.over_shares-checked.result ds in
     let S : Result (Vec (Unit {0}) Global) LinkStop → Type 0 = λ r. Goes r (relocation_defects files (binding_in view) (leaders_in view) (laid_in view)) in
     subst S c.in-Ok.is (subst R (all_defects files (binding_in view) (leaders_in view) (laid_in view) end past) goes)
@@ -54,9 +53,9 @@ pub returns : goal.returns
 returns g c =
     let view = c.args.view.now in
     let files = files_in view in
-    let f : ℕ → Reloc → List Defect = own_defects files (binding_in view) (leaders_in view) (laid_in view) in
+    let f : ℕ → ℕ → List Defect = own_defects files (binding_in view) (leaders_in view) (laid_in view) in
     let n = section_total files in
-    let total = first (relocs_of files) no_reloc f n in
+    let total = first (relocs_of files) f n in
     let numbers = c.as_slice-firsts.result.now in
     let same = c.as_slice-firsts.ensures.value in
     let count : length numbers ≡ n + 1 = ap length same ∙ c.in_ok-numbers.ensures.count in
@@ -65,7 +64,7 @@ returns g c =
     let P : List (Range ℕ) → Type 0 = λ ps. Tiles 0 end ps in
     let tiles : Tiles 0 end c.as_slice.result.now = subst P (sym c.as_slice.ensures.value) c.in_ok-pieces.ensures.tiles in
     let past : total ≤ end = omega (arith, last_is numbers n total count last) in
-    let goes = joined_checks (given_at (relocs_of files) no_reloc f n) _ end c.as_slice.result.now c.over_shares-checked.result (λ p s h. h.1) tiles c.over_shares-checked.ensures in
+    let goes = joined_checks (given_at (relocs_of files) f n) _ end c.as_slice.result.now c.over_shares-checked.result (λ p s h. h.1) tiles c.over_shares-checked.ensures in
     let R : List Defect → Type 0 = λ ds. Goes c.over_shares-checked.result ds in
     let S : Result (Vec (Unit {0}) Global) LinkStop → Type 0 = λ r. Goes r (relocation_defects files (binding_in view) (leaders_in view) (laid_in view)) in
     subst S c.in-Err.is (subst R (all_defects files (binding_in view) (leaders_in view) (laid_in view) end past) goes)

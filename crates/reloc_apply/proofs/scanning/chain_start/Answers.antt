@@ -1,12 +1,10 @@
 use Rattle.std.proofs.Common.{◌+◌, ◌-◌, ◌≤◌, arith, inl, inr, get_or}
 use Rattle.std.proofs.lemmas.Bool.{cases_lt}
-use Rattle.lk_base.proofs.TableLines.{width_few}
 use Rattle.lk_tables.specs.Files.{no_reloc}
-use Rattle.link_sections.specs.Calls.{acting_number}
-use Rattle.link_sections.specs.LaidOut.{cuts_at}
-use Rattle.link_sections.specs.Views.{laid_in}
+use Rattle.link_sections.specs.Views.{binding_in, files_in, laid_in, leaders_in}
 use Rattle.reloc_apply.specs.Sites.{end_by}
 use Rattle.reloc_apply.proofs.ScanSteps.{rise}
+use Rattle.reloc_apply.proofs.States.{wide_few}
 use Rattle.reloc_apply.proofs.scanning.chain_start.Goals as goal
 
 pub returns-then-offset-limit-clause-clear : goal.returns-then-offset-limit-clause-clear
@@ -19,7 +17,7 @@ returns-then-offset-limit-clause-clear c = λ j lt.
     let end : end_by c.args.view.now c.args.source.now r ≤ c.loop-back.limit = elim (cases_lt (j + c.loop-back.back) c.args.k) [
       | inl low ↦
           let up = rise c.args.view.now c.args.source.now c.requires.source j at (omega (arith, low)) (omega (arith, c.requires.reloc)) in
-          omega (arith, up, far, own, width_few (acting_number (cuts_at (laid_in c.args.view.now) c.args.source.now.site.section) r))
+          omega (arith, up, far, own, wide_few (files_in c.args.view.now) (binding_in c.args.view.now) (leaders_in c.args.view.now) (laid_in c.args.view.now) c.args.source.now.site.section r)
       | inr high ↦ c.loop-back.invariant.clear j high lt
     ] in
     omega (arith, end, most)
@@ -34,6 +32,6 @@ returns-then-offset-limit-clause-own c = λ same j lt.
     elim (cases_lt (j + c.loop-back.back) c.args.k) [
       | inl low ↦
           let up = rise c.args.view.now c.args.source.now c.requires.source j at (omega (arith, low)) (omega (arith, c.requires.reloc)) in
-          omega (arith, up, far, own, start, width_few (acting_number (cuts_at (laid_in c.args.view.now) c.args.source.now.site.section) r))
+          omega (arith, up, far, own, start, wide_few (files_in c.args.view.now) (binding_in c.args.view.now) (leaders_in c.args.view.now) (laid_in c.args.view.now) c.args.source.now.site.section r)
       | inr high ↦ let end = c.loop-back.invariant.clear j high lt in omega (arith, end, start)
     ]

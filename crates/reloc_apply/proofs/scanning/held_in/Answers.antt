@@ -3,4 +3,4 @@ use Rattle.reloc_apply.proofs.LittleNumbers.{first_number}
 use Rattle.reloc_apply.proofs.scanning.held_in.Goals as goal
 
 pub returns : goal.returns
-returns c = c.read_uint.ensures ∙ first_number c.args.width c.args.window.now (omega (arith, c.requires.few, c.requires.window))
+returns c = λ few. c.read_uint.ensures ∙ first_number c.args.width c.args.window.now (omega (arith, few, c.requires))

@@ -2,13 +2,13 @@ use Rattle.std.proofs.Common.{arith, ◌∙◌}
 use Rattle.std.proofs.lemmas.Int.{to_z-of_z}
 use Rattle.lk_base.specs.Formats.{field_of}
 use Rattle.lk_base.specs.RelocKinds.{kind_of}
-use Rattle.lk_base.proofs.TableLines.{width_few, width_some}
+use Rattle.lk_base.proofs.TableLines.{has_value_if, width_few, width_some}
 use Rattle.rv_code.proofs.WholePlaces.{patched_by}
 use Rattle.rv_code.proofs.ReadingBack.{same_field}
 use Rattle.rv_code.proofs.places.patch_bits.Goals as goal
 
 pub read_uint-old-requires-clause-low : goal.read_uint-old-requires-clause-low
-read_uint-old-requires-clause-low c = omega (arith, c.requires.width, width_some c.args.kind c.requires.value)
+read_uint-old-requires-clause-low c = omega (arith, c.requires.width, width_some c.args.kind (has_value_if c.args.kind c.requires.value))
 
 pub read_uint-old-requires-clause-high : goal.read_uint-old-requires-clause-high
 read_uint-old-requires-clause-high c = omega (arith, c.requires.width, width_few c.args.kind)

@@ -18,7 +18,7 @@ overflow_cast-section c = omega (arith, c.is_few.ensures.section_count_is, c.sec
 
 pub loop-section-preserved : goal.loop-section-preserved
 loop-section-preserved c =
-    flat_step (spec.item_if (files_of c.args.tables.now) (binding_view c.args.binding.now) (merged_views c.args.pools.now) c.args.kept.now) c.loop-section.section
+    flat_step (spec.item_if (files_of c.args.tables.now) (binding_view c.args.binding.now) (merged_views c.args.pools.now) c.args.kept.now c.args.barred.now) c.loop-section.section
     (item_views c.loop-section.list.items) (item_views c.push_item.new.list.items) c.loop-section.invariant c.in_ok-push_item.ensures
 
 pub returns-clause-order : goal.returns-clause-order
@@ -28,9 +28,9 @@ returns-clause-order c =
     let b = binding_view c.args.binding.now in
     let merged = merged_views c.args.pools.now in
     let n : c.loop-section.section ≡ section_total files = omega (arith, c.section_count-section-end.ensures) in
-    let all : item_views c.loop-section.list.items ≡ spec.items files b merged c.args.kept.now = c.loop-section.invariant ∙ ap (λ k. flat_map (spec.item_if files b merged c.args.kept.now) (range_with_len 0 k)) n in
+    let all : item_views c.loop-section.list.items ≡ spec.items files b merged c.args.kept.now c.args.barred.now = c.loop-section.invariant ∙ ap (λ k. flat_map (spec.item_if files b merged c.args.kept.now c.args.barred.now) (range_with_len 0 k)) n in
     let P : List FoldItem → Type 0 = λ l. IsStrictlyIncreasing (sections_of l) in
-    subst P (sym all) (items_rise files b merged c.args.kept.now)
+    subst P (sym all) (items_rise files b merged c.args.kept.now c.args.barred.now)
 
 pub returns-clause-few : goal.returns-clause-few
 unfolding items
@@ -39,5 +39,5 @@ returns-clause-few c =
     let b = binding_view c.args.binding.now in
     let merged = merged_views c.args.pools.now in
     let n : c.loop-section.section ≡ section_total files = omega (arith, c.section_count-section-end.ensures) in
-    let all : item_views c.loop-section.list.items ≡ spec.items files b merged c.args.kept.now = c.loop-section.invariant ∙ ap (λ k. flat_map (spec.item_if files b merged c.args.kept.now) (range_with_len 0 k)) n in
-    omega (arith, items_few files b merged c.args.kept.now, sym (length-map c.loop-section.list.items item_view) ∙ ap length all, c.is_few.ensures.section_count_is)
+    let all : item_views c.loop-section.list.items ≡ spec.items files b merged c.args.kept.now c.args.barred.now = c.loop-section.invariant ∙ ap (λ k. flat_map (spec.item_if files b merged c.args.kept.now c.args.barred.now) (range_with_len 0 k)) n in
+    omega (arith, items_few files b merged c.args.kept.now c.args.barred.now, sym (length-map c.loop-section.list.items item_view) ∙ ap length all, c.is_few.ensures.section_count_is)

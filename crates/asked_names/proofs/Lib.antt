@@ -1,0 +1,3 @@
+pub mod NameBounds
+mod FirstNamed
+mod HavingNames

@@ -1,8 +1,0 @@
-use Rattle.std.proofs.Common.{◌≡◌, ◌<◌, All, length}
-use Rattle.image_rows.proofs.tests.kept.star.Given as goal
-
-abbrev pub invariant-loop-section : goal.invariant-loop-section
-invariant-loop-section l = record {
-  within : All (All (λ end. end < 50000)) l.rows;
-  count : length l.rows ≡ l.section;
-}

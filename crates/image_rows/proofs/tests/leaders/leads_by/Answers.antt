@@ -1,5 +1,0 @@
-use Rattle.image_rows.proofs.InOrder.{numbered_rise}
-use Rattle.image_rows.proofs.tests.leaders.leads_by.Goals as goal
-
-pub fold-requires-clause-order : goal.fold-requires-clause-order
-fold-requires-clause-order g c κs bound = numbered_rise c.args.items.now c.requires.numbered

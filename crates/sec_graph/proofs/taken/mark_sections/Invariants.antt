@@ -1,0 +1,6 @@
+use Rattle.std.proofs.Common.{◌≡◌, drop}
+use Rattle.sec_graph.specs.Taken.{with_marked}
+use Rattle.sec_graph.proofs.taken.mark_sections.Given as goal
+
+abbrev pub invariant-loop-n : goal.invariant-loop-n
+invariant-loop-n l = with_marked l.marks.items (drop l.n l.sections) ≡ with_marked l.fn.marks.items l.sections

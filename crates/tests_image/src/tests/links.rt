@@ -1,0 +1,269 @@
+//! Links of objects, pass after pass.
+
+ghost use Rattle.std.specs.Prelude.{◌≡◌, ◌≤◌};
+ghost use Rattle.link_driver.specs.Tables.{MayStay};
+ghost use Rattle.link_sections.specs.GotView.{entries_of};
+ghost use Rattle.link_sections.specs.LaidOut.{layout_view, with_contents};
+ghost use Rattle.link_sections.specs.PoolViews.{pools_view};
+ghost use Rattle.link_sections.specs.Sound.{IsSound};
+ghost use Rattle.lk_base.specs.Limits.{IsWithinStandard};
+ghost use Rattle.lk_tables.specs.BindingView.{binding_view};
+ghost use Rattle.lk_tables.specs.BoundNames.{IsBindingOf};
+ghost use Rattle.lk_tables.specs.NameNumbers.{NumbersNames, heads_alone};
+ghost use Rattle.lk_tables.specs.TablesView.{files_of};
+
+use super::blocks::{Lengths, blocks_agree};
+use elf_bytes::{Object, object_of};
+use elf_out::{SymbolTables, symtab, write_executable};
+use got_tls::entries;
+use link_driver::{
+    Inputs, Options, bind_names, find_kept, find_leaders, find_sources, lay_out, read_files,
+};
+use link_sections::{Addresses, Got, Layout, Pools, View};
+use lk_base::{Limits, LinkStop, SecNo};
+use lk_tables::{Binding, NameNumbers, Tables};
+use map_file::map_text;
+use name_numbers::number_names;
+use reloc_apply::find_uppers;
+use std::alloc::{AllocError, Global};
+use std::thread::Threads;
+use str_merge::merge;
+use symbol_addresses::find_addresses;
+use symbol_table::table_symbols;
+use work_split::OpenGate;
+
+/// What is asked of a link: its entry, what it does, and the lengths of the blocks by which its executable is written once more, if it is.
+#[derive(Clone, Copy)]
+pub struct Asked<'a> {
+    pub entry: &'a str,
+    pub options: Options,
+    pub lengths: Option<Lengths>,
+}
+
+/// Calls are shortened.
+pub const PLAIN: Asked = Asked {
+    entry: "_start",
+    options: Options {
+        gc: false,
+        icf: false,
+        relax: true,
+        strip: false,
+        map: false,
+        generated: None,
+    },
+    lengths: None,
+};
+
+/// What the passes after the layout give.
+#[derive(Drop)]
+pub struct Written {
+    pub addresses: Addresses,
+    pub exe: Vec<u8>,
+    pub tables: Option<SymbolTables>,
+    pub map: Vec<u8>,
+    /// The values of the symbols in order, by one worker and by two.
+    pub by_one: Vec<u64>,
+    pub by_two: Vec<u64>,
+    /// Whether the executable is the same by blocks.
+    pub agrees: bool,
+}
+
+/// What the passes of a link give.
+#[derive(Drop)]
+pub struct Made<'a> {
+    pub pools: Pools,
+    pub layout: Layout<'a>,
+    pub written: Written,
+}
+
+/// The inputs of a link of these objects.
+pub fn inputs_of(alloc: Global, objects: &[Object]) -> Result<Inputs, AllocError> {
+    let mut files = Vec::new(alloc);
+    for object in objects {
+        files.push(("object".to_string(alloc)?, object_of(alloc, object)?))?;
+    }
+    Ok(Inputs { files })
+}
+
+/// The names by which the map shows so many files.
+fn names_of(alloc: Global, count: usize) -> Result<Vec<Vec<u8>>, AllocError> {
+    let mut names = Vec::new(alloc);
+    for _ in 0..count {
+        names.push(Vec::from_slice(alloc, b"object")?)?;
+    }
+    Ok(names)
+}
+
+/// The values of the symbols in order, by so many workers.
+fn values_by<R: Threads + Sync>(
+    rt: &R,
+    alloc: Global,
+    view: &View,
+    workers: u32,
+) -> Result<Vec<u64>, AllocError>
+    requires some { 1 ≤ workers }
+    requires most { workers ≤ 64 }
+{
+    let mut values = Vec::new(alloc);
+    let symbols = table_symbols(rt, alloc, view, workers, &OpenGate)?;
+    for symbol in symbols.iter() {
+        values.push(symbol.value)?;
+    }
+    Ok(values)
+}
+
+/// What the passes after the layout give.
+fn answers_of<R: Threads + Sync>(
+    rt: &R,
+    alloc: Global,
+    tables: &Tables,
+    binding: &Binding,
+    kept: &[bool],
+    pools: &Pools,
+    leaders: &[Option<SecNo>],
+    got: &Got,
+    layout: &Layout,
+    numbers: &NameNumbers,
+    asked: &Asked,
+) -> Result<Written, LinkStop>
+    requires bound { IsBindingOf (files_of tables.now) (binding_view binding.now) }
+    requires numbers { NumbersNames (heads_alone (files_of tables.now)) numbers.now }
+    requires sound { IsSound (files_of tables.now) (binding_view binding.now) leaders.now (with_contents (layout_view layout.now) (pools_view (files_of tables.now) pools.now) (entries_of got.now)) }
+{
+    let addresses = find_addresses(
+        rt, alloc, tables, binding, pools, leaders, got, layout, 2, &OpenGate,
+    )?;
+    let uppers = find_uppers(alloc, tables)?;
+    let names = names_of(alloc, tables.file_count())?;
+    let view = View {
+        tables,
+        binding,
+        kept,
+        pools,
+        leaders,
+        got,
+        layout,
+        addresses: &addresses,
+        uppers: &uppers,
+        numbers,
+        names: names.as_slice(),
+        strip: asked.options.strip,
+    };
+    let exe = write_executable(rt, alloc, &view, 2, &OpenGate)?;
+    let tables = symtab(rt, alloc, &view, 2, &OpenGate)?;
+    let agrees = blocks_agree(alloc, &view, &tables, &exe, asked.lengths)?;
+    let map = map_text(rt, alloc, &view, 2, &OpenGate)?;
+    let by_one = values_by(rt, alloc, &view, 1)?;
+    let by_two = values_by(rt, alloc, &view, 2)?;
+    Ok(Written {
+        addresses,
+        exe,
+        tables,
+        map,
+        by_one,
+        by_two,
+        agrees,
+    })
+}
+
+/// What the passes after the names are bound give.
+fn kept_made<'a, R: Threads + Sync>(
+    rt: &R,
+    alloc: Global,
+    limits: &Limits,
+    tables: &Tables<'a>,
+    binding: &Binding,
+    kept: &[bool],
+    asked: &Asked,
+) -> Result<Made<'a>, LinkStop>
+    requires limits { IsWithinStandard limits.now }
+    requires bound { IsBindingOf (files_of tables.now) (binding_view binding.now) }
+    requires stay { MayStay (files_of tables.now) (binding_view binding.now) kept.now }
+{
+    tables.is_few();
+    let options = asked.options;
+    let numbers = number_names(rt, alloc, tables.files(), 2)?;
+    let pools = merge(rt, alloc, tables, kept, 2, &OpenGate)?;
+    let leaders = find_leaders(
+        rt,
+        alloc,
+        tables,
+        binding,
+        kept,
+        &[],
+        &pools,
+        options,
+        2,
+        &OpenGate,
+    )?;
+    let got = entries(alloc, tables, &numbers, leaders.as_slice())?;
+    let layout = match lay_out(
+        rt,
+        alloc,
+        limits,
+        tables,
+        binding,
+        kept,
+        &[],
+        &pools,
+        leaders.as_slice(),
+        &got,
+        options,
+        2,
+        &OpenGate,
+    ) {
+        Ok(layout) => layout,
+        Err(stop) => return Err(stop),
+    };
+    let written = answers_of(
+        rt,
+        alloc,
+        tables,
+        binding,
+        kept,
+        &pools,
+        leaders.as_slice(),
+        &got,
+        &layout,
+        &numbers,
+        asked,
+    )?;
+    Ok(Made {
+        pools,
+        layout,
+        written,
+    })
+}
+
+/// What the passes of a link within limits give.
+pub fn run_within<'a, R: Threads + Sync>(
+    rt: &R,
+    alloc: Global,
+    limits: &Limits,
+    inputs: &'a Inputs,
+    asked: &Asked,
+) -> Result<Made<'a>, LinkStop>
+    requires { IsWithinStandard limits.now }
+{
+    let sources = find_sources(alloc, limits, inputs)?;
+    let tables = match read_files(rt, alloc, limits, sources.as_slice(), &[], 2, &OpenGate) {
+        Ok(tables) => tables,
+        Err(stop) => return Err(stop),
+    };
+    let binding = match bind_names(rt, alloc, &tables, asked.entry, 2, &OpenGate) {
+        Ok(binding) => binding,
+        Err(stop) => return Err(stop),
+    };
+    let kept = find_kept(rt, alloc, &tables, &binding, false, &[], 2, &OpenGate)?;
+    kept_made(rt, alloc, limits, &tables, &binding, kept.as_slice(), asked)
+}
+
+/// What the passes of a link give.
+pub fn run_passes<'a, R: Threads + Sync>(
+    rt: &R,
+    alloc: Global,
+    inputs: &'a Inputs,
+    asked: &Asked,
+) -> Result<Made<'a>, LinkStop> {
+    run_within(rt, alloc, &Limits::standard(), inputs, asked)
+}
