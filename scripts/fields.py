@@ -17,6 +17,7 @@ import shutil
 import subprocess
 import sys
 import tempfile
+import textwrap
 
 AS, OBJDUMP = 'riscv64-linux-gnu-as', 'riscv64-linux-gnu-objdump'
 TABLE = os.path.join(os.path.dirname(os.path.realpath(__file__)), '..', 'crates', 'rv_code', 'src', 'tests', 'encodings.rt')
@@ -105,9 +106,10 @@ def made():
         for name, width, text, values in FORMS:
             values = list(dict.fromkeys(values))
             yield f'\n// {text}'
-            yield f'pub(super) const {name}: &[Encoding] = &['
-            for v, code in zip(values, encoded(width, text, values, folder)):
-                yield f'    row!({v}, 0x{int.from_bytes(code, "little"):0{2 * width}x}),'
+            yield f'pub(super) const {name}: &[Encoding] = rows!['
+            rows = ', '.join(f'{v}=0x{int.from_bytes(code, "little"):0{2 * width}x}' for v, code in zip(values, encoded(width, text, values, folder)))
+            for line in textwrap.wrap(rows, 120, break_long_words=False, break_on_hyphens=False):
+                yield '    ' + line.replace('=', ' => ')
             yield '];'
 
 
@@ -115,12 +117,9 @@ HEAD = '''//! Values V, and the bytes that GNU as makes of instructions and numb
 
 use super::Encoding;
 
-macro_rules! row {
-    ($v:literal, $place:literal) => {
-        Encoding {
-            v: $v,
-            place: $place,
-        }
+macro_rules! rows {
+    ($($v:literal => $place:literal),+) => {
+        &[$(Encoding { v: $v, place: $place }),+]
     };
 }'''
 
@@ -140,7 +139,7 @@ def main():
     for line in difflib.unified_diff(there, lines, 'encodings.rt', 'GNU as', n=0, lineterm=''):
         print(line)
         count += line[0] != '@'
-    rows = sum(line.startswith('    row!') for line in lines)
+    rows = sum(line.count('=> 0x') for line in lines)
     print(f'fields: {rows} rows, ' + (f'{count - 2} lines differ' if count else 'all as in encodings.rt'))
     return count != 0
 

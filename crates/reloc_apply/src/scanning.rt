@@ -337,8 +337,20 @@ fn fresh(window: &mut [u8], raw: &[u8], cuts: &[Cut], at: u64)
     requires low { at < 2 ^ 34 }
     ensures { Shows (staying (cut_views cuts.now) 0 raw.now) at window.new }
 {
+    if cuts.is_empty() && at + window.len() as u64 <= raw.len() as u64 {
+        copy_part(window, raw, at as usize);
+        return;
+    }
     window.fill(0);
     fill_staying(window, at, 0, raw, cuts);
+}
+
+/// Fills a window with bytes from an offset on, which are all there.
+fn copy_part(window: &mut [u8], bytes: &[u8], at: usize)
+    requires { at + length window.old ≤ length bytes.now }
+    ensures { Shows bytes.now at window.new }
+{
+    window.copy_from_slice(&bytes[at..at + window.len()]);
 }
 
 /// Moves a window on from an offset to another; from the end of what it held on no relocation is done yet.

@@ -37,7 +37,7 @@ pub fn items<'a>(
     ensures few { IfOk result (λ list. length list.items < 2 ^ 31) }
 {
     tables.is_few();
-    let mut list = Vec::new(alloc);
+    let mut list = Vec::with_capacity(alloc, tables.section_count())?;
     for section in 0..tables.section_count() {
         push_item(
             &mut list,
