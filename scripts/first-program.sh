@@ -12,7 +12,7 @@ trap 'rm -rf "$work"' EXIT
 rvld=$(realpath -m "${RVLD:-$top/crates/rvld/out/rvld}")
 if [ "${1:-}" = --unproved ]; then
     rvld=$work/rvld
-    "$top/scripts/unproved.sh" "$rvld"
+    "$top/scripts/unproved.sh" --tested "$rvld"
 elif [ ! -x "$rvld" ]; then
     echo "first-program: proving and building rvld"
     (cd "$top/crates/rvld" && rt run >/dev/null 2>&1) || true

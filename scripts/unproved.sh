@@ -1,13 +1,20 @@
 #!/usr/bin/env bash
 # Builds rvld optimized and with NOTHING PROVED, for a first look, or to measure a change before its proof. The toolchain's `rt try` compiles without a
 # proof, at -O0 and with a memory checker, and takes its program away; here it finds a folder of links to the toolchain in which the compiler is called
-# with -O3 and without the checker, and what was linked is kept. Each index and sum is tested still, so times are about double those of the proved program.
-# Usage: scripts/unproved.sh [--quick] FILE     FILE: where the program goes, outside crates/; --quick: -O1, to try what it does and not how fast
+# with -O3 and without the checker, and what was linked is kept. The tests of each index, sum and value, which a proved program has not, are taken out of
+# the module before it is compiled (scripts/untested.py), so times and memory are those of the proved program; with --tested they stay.
+# Usage: scripts/unproved.sh [--quick] [--tested] FILE     FILE: where the program goes, outside crates/; --quick: -O1, to try what it does and not how fast
 set -eu
-level=-O3
-[ "${1:-}" != --quick ] || { level=-O1; shift; }
+level=-O3 tested=
+while :; do
+    case ${1:-} in
+        --quick) level=-O1 tested=1; shift;;
+        --tested) tested=1; shift;;
+        *) break;;
+    esac
+done
 top=$(cd "$(dirname "${BASH_SOURCE[0]}")/.." && pwd)
-[ $# = 1 ] || { echo "usage: scripts/unproved.sh [--quick] FILE"; exit 2; }
+[ $# = 1 ] || { echo "usage: scripts/unproved.sh [--quick] [--tested] FILE"; exit 2; }
 to=$(realpath -m "$1")
 case $to in "$top"/crates/*) echo "unproved: $1 is in crates/, where proved programs stand"; exit 2;; esac
 kit=$(dirname "$(rt doc)")
@@ -31,15 +38,30 @@ cat > "$work/kit/toolchain/bin/clang" <<WRAP
 #!/usr/bin/env bash
 words=()
 for word; do
-    case \$word in -O0) words+=($level);; -fsanitize=address) ;; *) words+=("\$word");; esac
+    case \$word in
+        -O0) words+=($level);;
+        -fsanitize=address) ;;
+        -march=x86-64) words+=(-march=x86-64-v2);;
+        *.bc)
+            if [ -z "$tested" ]; then
+                "$kit/toolchain/bin/clang" --target=x86_64-unknown-linux-gnu -x ir "\$word" -S -emit-llvm -o tested.ll -O0 -Xclang -disable-llvm-passes
+                python3 "$top/scripts/untested.py" tested.ll untested.ll
+                rm tested.ll
+                word=untested.ll
+            fi
+            words+=("\$word");;
+        *) words+=("\$word");;
+    esac
 done
 exec "$kit/toolchain/bin/clang" "\${words[@]}"
 WRAP
+# (the checker's library stands whole, by a name that doesn't tell it)
 cat > "$work/kit/toolchain/bin/ld.lld" <<WRAP
 #!/usr/bin/env bash
-words=() out= last=
+words=() out= last= whole=
 for word; do
-    case \$word in *asan.a) continue;; esac
+    case \$word in --whole-archive) whole=1; continue;; --no-whole-archive) whole=; continue;; esac
+    [ -z "\$whole" ] || continue
     [ "\$last" = -o ] && out=\$word
     last=\$word
     words+=("\$word")

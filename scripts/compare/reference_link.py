@@ -21,6 +21,7 @@ ENTRIES = R_GOT_HI20, R_TLS_GOT_HI20, R_TLS_GD_HI20     # they ask for an entry 
 LOWER = R_PCREL_LO12_I, R_PCREL_LO12_S          # their value is that of an upper part
 ADDS, SUBS, SETS = range(R_ADD8, R_ADD64 + 1), range(R_SUB8, R_SUB64 + 1), range(R_SET8, R_SET32 + 1)
 PAIR = R_SET_ULEB128, R_SUB_ULEB128
+FRAME_KINDS = R_NONE, R_32, R_64, *ADDS, *SUBS, *range(R_RELAX, R_32_PCREL + 1)     # those that unwind records have
 ARRAYS = INIT_ARRAY, FINI_ARRAY, PREINIT_ARRAY
 LINKED = PROGBITS, NOTE, NOBITS, *ARRAYS        # types of sections that are linked
 ABSOLUTE, IN_COMMON = -1, -2                    # in place of a section's number
@@ -154,7 +155,9 @@ class File:
                     raise Flaw(4, i, s.at, 0)
                 self.indexes = i
         for s in self.sections:
-            s.written = not s.null and s.flags & ALLOC and not s.flags & EXCLUDE and s.type in LINKED and s.name != b'.eh_frame'
+            loaded = not s.null and s.flags & ALLOC and not s.flags & EXCLUDE
+            s.written = loaded and s.type in LINKED and s.name != b'.eh_frame'
+            s.frame = loaded and s.type == PROGBITS and s.name == b'.eh_frame'      # it has unwind records
         self.symbols = []
         if not self.symtab:
             return
@@ -204,7 +207,7 @@ class File:
         self.groups = []                        # (section, whether COMDAT, signature, members)
         self.grouped = set()                    # the sections that these groups have
         for s in self.sections:
-            s.relocs = []
+            s.relocs, s.entries, s.rela = [], [], 0
         for i, s in enumerate(self.sections):
             if s.null:
                 continue
@@ -213,7 +216,8 @@ class File:
             if s.type == REL_SECTION:
                 raise Flaw(4, i, s.at, 0)
             if s.flags & ALLOC and not s.flags & EXCLUDE:
-                if s.type not in LINKED or s.flags & WRITE and s.flags & EXECINSTR or (s.flags & LINK_ORDER and s.link >= self.count):
+                if (s.type not in LINKED or s.flags & WRITE and s.flags & EXECINSTR or (s.flags & LINK_ORDER and s.link >= self.count)
+                        or s.written and s.name == b'.eh_frame_hdr'):
                     raise Flaw(4, i, s.at, 0)
                 if s.align & (s.align - 1) and s.align or s.align > 2 ** 20:
                     raise Flaw(15, i, s.at, 0)
@@ -223,7 +227,7 @@ class File:
                 if (s.entsize != 24 or s.size % 24 or not self.symtab or s.link != self.symtab or s.info == 0 or s.info >= self.count
                         or s.info in relocated):
                     raise Flaw(4, i, s.at, 0)
-                if self.sections[s.info].written:
+                if self.sections[s.info].written or self.sections[s.info].frame:
                     relocated.add(s.info)
                     self.read_relocs(i, s, self.sections[s.info])
             if s.type == GROUP:
@@ -238,6 +242,32 @@ class File:
                     raise Flaw(15, self.symtab, y.at, 0)
                 if y.size > 2 ** 32:
                     raise Flaw(8, self.symtab, y.at, 0)
+        self.records = {i: self.records_of(i, s) for i, s in enumerate(self.sections) if s.frame}
+
+    def records_of(self, i, s):
+        """The unwind records of a section, each (start, length, number of its CIE or None for a CIE, relocations)."""
+        data = self.bytes[s.offset:s.offset + s.size]
+        records, cies, at = [], {}, 0
+        while at < len(data) and data[at:at + 4] != bytes(4):
+            length, back = (int.from_bytes(data[at + k:at + k + 4], 'little') for k in (0, 4))
+            end, cie = at + 4 + length, None
+            bad = len(data) - at < 4 or length == 0xffffffff or length < 4 or end > len(data)
+            own = [reloc for reloc in s.relocs if at <= reloc[0] < end]
+            if not bad and back:
+                first = next((reloc for reloc in own if width_of(reloc[1], reloc[3])), None)
+                cie = cies.get(at + 4 - back)
+                bad = length < 12 or cie is None or first is not None and first[:2] != (at + 8, R_32_PCREL)
+            if bad:
+                raise Flaw(19, i, s.offset + at, 0)
+            if not back:
+                cies[at] = len(records)
+            records.append((at, length, cie, own))
+            at = end
+        for offset, kind, _, addend, place in s.entries:
+            width = width_of(kind, addend)
+            if width and not any(at + 8 <= offset and offset + width <= at + 4 + length for at, length, _, _ in records):
+                raise Flaw(19, s.rela, place, 0)
+        return records
 
     def read_group(self, i, s):
         words = [self.number(at, 4) for at in range(s.offset, s.offset + s.size, 4)]
@@ -267,6 +297,8 @@ class File:
             offset, kind, index, addend = ENTRY.unpack_from(self.bytes, at)
             if index >= len(self.symbols):
                 raise Flaw(11, i, at, 0)
+            if target.frame and kind not in FRAME_KINDS:
+                raise Flaw(12, i, at, kind)
             if kind in PAIR:
                 if target.type == NOBITS or offset >= target.size:
                     raise Flaw(11, i, at, 0)
@@ -295,7 +327,7 @@ class File:
             if (kinds[k][0] == R_SET_ULEB128 and kinds[k + 1] != (R_SUB_ULEB128, entry[0])
                     or kinds[k][0] == R_SUB_ULEB128 and kinds[k - 1] != (R_SET_ULEB128, entry[0])):
                 raise Flaw(14, i, entry[4], 0)
-        target.relocs = [entry[:4] for entry in entries]
+        target.relocs, target.entries, target.rela = [entry[:4] for entry in entries], entries, i
 
 
 def members_of(b):
@@ -432,6 +464,7 @@ FIXED = (b'__ehdr_start', b'__rela_iplt_start', b'__rela_iplt_end', b'_etext', b
          b'__init_array_end', b'__fini_array_start', b'__fini_array_end')
 IDENTIFIER = re.compile(rb'[A-Za-z_][A-Za-z0-9_]*')
 ZERO, UNBOUND = ('zero',), ('none',)
+FRAMES_START = 'linker', None                   # the start of what is written of unwind records
 
 
 def set_of(name):
@@ -473,6 +506,7 @@ class Link:
         self.list_sections()
         if self.entry not in self.bound and not self.is_linkers(self.entry):
             raise Defect(line_of(21, None, 0, 0, self.entry))
+        self.list_frames()
         self.kept = self.keep() if gc else set(self.sections)
         self.find_undefined()
         self.merge()
@@ -480,6 +514,7 @@ class Link:
         if icf != 'none':
             self.fold(self.sections_named(unique) | (self.address_taken() if icf == 'safe' else set()))
         self.leaders = sorted(key for key in self.kept if self.leader[key] == key)
+        self.plan_frames()
         self.list_entries()
         self.list_outputs()
         self.shorten()
@@ -541,6 +576,8 @@ class Link:
             return 'section', (n, y.common), 0, addend
         if y.shndx == UNDEF:
             return 'number', 0
+        if y.shndx != ABSOLUTE and self.files[n].sections[y.shndx].frame and y.value == 0:
+            return FRAMES_START
         if y.shndx == ABSOLUTE or not self.files[n].sections[y.shndx].written:
             return 'number', y.value
         if y.binding == LOCAL and y.type == SECTION:
@@ -575,6 +612,55 @@ class Link:
         n, i = key
         return self.files[n].sections[i].relocs if i < self.files[n].count else []
 
+    # unwind records, each (file, section, number in the section's list)
+    def record(self, key):
+        """The start of a record, its bytes, the number of its CIE or None, and its relocations."""
+        n, i, k = key
+        at, length, cie, relocs = self.files[n].records[i][k]
+        start = self.files[n].sections[i].offset + at
+        return at, self.files[n].bytes[start:start + 4 + length], cie, relocs
+
+    def list_frames(self):
+        """`frames`: for each section the FDEs of its functions, in order, each with its first relocation, and the offset and the rest of that."""
+        self.frames = {}
+        for n in self.live:
+            for i, records in sorted(self.files[n].records.items()):
+                if (n, i) in self.discarded:
+                    continue
+                for k, (_, _, cie, relocs) in enumerate(records):
+                    first = next((reloc for reloc in relocs if width_of(reloc[1], reloc[3])), None)
+                    if cie is not None and first is not None:
+                        spot = self.spot(n, first[2], first[1], first[3])
+                        if spot[0] == 'section':
+                            self.frames.setdefault(spot[1], []).append(((n, i, k), first, spot[2:]))
+
+    def frame_relocs(self, key):
+        """For each FDE of a section's functions its other relocations and those of its CIE, with the file and the section that they are of."""
+        for (n, i, k), first, _ in self.frames.get(key, ()):
+            _, _, cie, relocs = self.record((n, i, k))
+            others = list(relocs)
+            others.remove(first)
+            yield n, i, others + self.record((n, i, cie))[3]
+
+    def plan_frames(self):
+        """`written_at`: the records that are written, CIEs first, each with its offset; `uses`: of each FDE its CIE among these."""
+        fdes = sorted(key for leader in self.leaders for key, _, _ in self.frames.get(leader, ()))
+        same, self.uses = {}, {}
+        for n, i, k in fdes:
+            cie = n, i, self.record((n, i, k))[2]
+            at, data, _, relocs = self.record(cie)
+            said = [data]
+            for offset, kind, index, addend in relocs:
+                target = None if kind == R_RELAX else self.target(n, index, kind, addend)
+                said.append((offset - at, kind, target, None if target is None or target[0] in ('section', 'piece') else addend))
+            self.uses[n, i, k] = same.setdefault(tuple(said), cie)
+        self.fdes, self.written_at, at = fdes, {}, 0
+        for key in list(same.values()) + fdes:
+            self.written_at[key] = at
+            at += len(self.record(key)[1])
+        self.frame_size = at + 4 if fdes else 0
+        self.header_size = 12 + 8 * len(fdes) if fdes else 0
+
     # what is kept
     def keep(self):
         by_name, with_it = {}, {key: set() for key in self.sections}
@@ -599,21 +685,29 @@ class Link:
                 continue
             kept.add(key)
             queue += with_it[key]
+            for n, _, relocs in self.frame_relocs(key):
+                spots = [self.spot(n, index, kind, addend) for _, kind, index, addend in relocs if kind != R_RELAX]
+                queue += [spot[1] for spot in spots if spot[0] == 'section']
             for _, kind, index, addend in self.relocs(key):
                 if kind in (R_RELAX, R_ALIGN):
                     continue
                 spot = self.spot(key[0], index, kind, addend)
                 if spot[0] == 'section':
                     queue.append(spot[1])
-                elif spot[0] == 'linker' and set_of(spot[1]) is not None:
+                elif spot[0] == 'linker' and spot != FRAMES_START and set_of(spot[1]) is not None:
                     queue += by_name.get(set_of(spot[1]), ())
         return kept
 
     def find_undefined(self):
-        for n, i in sorted(self.kept):
-            for offset, kind, index, _ in self.relocs((n, i)):
+        asked = {key: set(self.relocs(key)) for key in self.kept}
+        for key in self.kept:
+            for n, i, relocs in self.frame_relocs(key):
+                asked.setdefault((n, i), set()).update(relocs)
+        for n, i in sorted(asked):
+            for reloc in self.relocs((n, i)):
+                offset, kind, index, _ = reloc
                 y = self.files[n].symbols[index]
-                if kind in (R_RELAX, R_ALIGN):
+                if kind in (R_RELAX, R_ALIGN) or reloc not in asked[n, i]:
                     continue
                 if y.binding == LOCAL and (n, y.shndx) in self.discarded or y.binding and self.spot(n, index) == UNBOUND:
                     raise Defect(line_of(22, self.files[n].shown, i, offset, self.files[n].shown_name(y)))
@@ -672,6 +766,15 @@ class Link:
         raise AssertionError('no piece')
 
     # folding
+    def items_of(self, n, relocs, start):
+        """Of each relocation the offset from a start, the kind, the addend and whether its symbol is one of a section."""
+        symbols = self.files[n].symbols
+        return tuple((offset - start, kind, addend, symbols[index].binding == LOCAL and symbols[index].type == SECTION)
+                     for offset, kind, index, addend in relocs)
+
+    def targets_of(self, n, relocs):
+        return [None if kind in (R_RELAX, R_ALIGN) else self.target(n, index, kind, addend) for _, kind, index, addend in relocs]
+
     def fold(self, apart):
         """Folds all sections that may be folded but these."""
         items, parts, targets = [], {}, {}
@@ -684,10 +787,15 @@ class Link:
             file = self.files[n]
             s = file.sections[i]
             items.append(key)
-            parts[key] = (file.bytes[s.offset:s.offset + size], flags, align, output_name(name),
-                          tuple((offset, kind, addend, file.symbols[index].binding == LOCAL and file.symbols[index].type == SECTION)
-                                for offset, kind, index, addend in s.relocs))
-            targets[key] = [None if kind in (R_RELAX, R_ALIGN) else self.target(n, index, kind, addend) for _, kind, index, addend in s.relocs]
+            said, targets[key] = [], self.targets_of(n, s.relocs)
+            for (m, j, k), first, place in self.frames.get(key, ()):
+                at, data, cie, relocs = self.record((m, j, k))
+                cie_at, cie_data, _, cie_relocs = self.record((m, j, cie))
+                others = list(relocs)
+                others.remove(first)
+                said.append((data[:4] + data[8:], cie_data, place, self.items_of(m, others, at), self.items_of(m, cie_relocs, cie_at)))
+                targets[key] += self.targets_of(m, others + cie_relocs)
+            parts[key] = file.bytes[s.offset:s.offset + size], flags, align, output_name(name), self.items_of(n, s.relocs, 0), tuple(said)
         count = 0
         while True:
             numbers, firsts = {}, {}
@@ -809,7 +917,7 @@ class Link:
         full = {row: any(self.member[key][3] for _, list_ in self.outputs[row] for key in list_) for row in CLASSES}
         thread = full['TLS'] or full['TLS NOBITS']
         written = full['TLS'] or full['RW'] or full['NOBITS']
-        cursor = end_of_headers = BASE + 64 + 56 * (2 + full['RX'] + written + thread)
+        cursor = end_of_headers = BASE + 64 + 56 * (2 + full['RX'] + written + thread + bool(self.fdes))
         widest = max([self.member[key][4] for row in ('TLS', 'TLS NOBITS') for _, list_ in self.outputs[row] for key in list_], default=1)
         self.block = None
         for row in CLASSES:
@@ -839,6 +947,13 @@ class Link:
                     first = self.member[list_[0]][2]
                     sort = NOBITS if row in ('NOBITS', 'TLS NOBITS') else PROGBITS if first == NOBITS else first
                     self.shown.append((name, sort, flags & (WRITE | ALLOC | EXECINSTR | TLS), start, cursor - start, greatest, row))
+            if row == 'R' and self.fdes:
+                self.header = up(cursor, 4)
+                self.frame = up(self.header + self.header_size, 8)
+                cursor = self.frame + self.frame_size
+                for name, start, size, align in ((b'.eh_frame_hdr', self.header, self.header_size, 4), (b'.eh_frame', self.frame, self.frame_size, 8)):
+                    self.places.append((row, name, start, start + size))
+                    self.shown.append((name, PROGBITS, ALLOC, start, size, align, row))
             ends[row] = cursor
         if short_nops:
             raise Defect(min(short_nops)[1])
@@ -876,6 +991,8 @@ class Link:
                     return start, end
             return BASE, BASE
 
+        if name is None:
+            return self.frame if self.fdes else BASE
         if name in (b'_etext', b'etext'):
             return self.ends['RX']
         if name in (b'_edata', b'edata'):
@@ -916,8 +1033,9 @@ class Link:
     def place_of(self, key, offset):
         return self.address[key] + self.new_offset(key, offset)
 
-    def value(self, key, reloc, before):
-        """The number v of a relocation; `before` is what its place holds. None where it is a low half without an upper one."""
+    def value(self, key, reloc, before, place=None):
+        """The number v of a relocation; `before` is what its place holds. None where it is a low half without an upper one. The place of an unwind
+        record's relocation is given."""
         n, _ = key
         offset, kind, index, addend = reloc
         target = self.target(n, index, kind, addend)
@@ -926,7 +1044,7 @@ class Link:
                 return None
             upper = next((r for r in self.relocs(key) if r[0] == target[2] and r[1] in (*ENTRIES, R_PCREL_HI20)), None)
             return None if upper is None else self.value(key, upper, 0)
-        place = self.place_of(key, offset)
+        place = self.place_of(key, offset) if place is None else place
         s, a = self.address_of(target), target[3] if target[0] in ('section', 'piece') else addend
         if kind in ENTRIES:
             word, _, _ = self.table[self.entry_key(n, index, kind)]
@@ -983,11 +1101,25 @@ class Link:
             for piece, at in places.items():
                 put(self.address['pool', pool] + at, piece)
         put(self.address['got'], self.table_words())
-        for key in self.leaders:
-            if key not in self.merged:
+        frames = {}
+        for key, at in self.written_at.items():
+            _, data, cie, _ = self.record(key)
+            if cie is not None:
+                data = data[:4] + struct.pack('<I', at + 4 - self.written_at[self.uses[key]]) + data[8:]
+            put(self.frame + at, data)
+            frames.setdefault(key[:2], []).append(key)
+        for key in sorted({*self.leaders, *frames}):
+            if key in frames:
+                for record in sorted(frames[key]):
+                    start, _, _, relocs = self.record(record)
+                    for reloc in relocs:
+                        self.relocate(key, None, reloc, out, self.frame + self.written_at[record] + reloc[0] - start)
+            elif key not in self.merged:
                 relocs = list(self.relocs(key))
                 for first, reloc in zip([None, *relocs], relocs):
                     self.relocate(key, first, reloc, out)
+        if self.fdes:
+            put(self.header, self.frame_table())
 
         # the file's tables
         start = self.address_of(self.entry_target())
@@ -1002,6 +1134,9 @@ class Link:
         if self.thread:
             end = self.ends['TLS'] if self.full['TLS'] else self.block
             segments.append((TLS_SEGMENT, 4, self.block, end, self.ends['TLS NOBITS'], self.widest))
+        if self.fdes:
+            end = self.header + self.header_size
+            segments.append((GNU_EH_FRAME, 4, self.header, end, end, 4))
         rows = [PROGRAM_HEADER.pack(kind, f, at - BASE, at, at, end - at, memory_end - at, align)
                 for kind, f, at, end, memory_end, align in segments]
         rows.append(PROGRAM_HEADER.pack(GNU_STACK, 6, 0, 0, 0, 0, 0, 16))
@@ -1028,14 +1163,26 @@ class Link:
         _, n, i = self.bound[self.entry]
         return self.target(n, i, R_NONE, 0)
 
-    def relocate(self, key, first, reloc, out):
-        """Does a relocation; `first` is the one before it."""
+    def frame_table(self):
+        """The table of functions with unwind records, in order of address."""
+        rows = []
+        for key in self.fdes:
+            n = key[0]
+            _, kind, index, addend = next(reloc for reloc in self.record(key)[3] if width_of(reloc[1], reloc[3]))
+            target = self.target(n, index, kind, addend)
+            rows.append((self.address_of(target) + (target[3] if target[0] in ('section', 'piece') else addend), self.frame + self.written_at[key]))
+        rows.sort(key=lambda row: row[0])
+        words = [self.frame - (self.header + 4), len(rows)] + [address - self.header for row in rows for address in row]
+        return b'\x01\x1b\x03\x3b' + b''.join((word % 2 ** 32).to_bytes(4, 'little') for word in words)
+
+    def relocate(self, key, first, reloc, out, place=None):
+        """Does a relocation; `first` is the one before it. The place of an unwind record's relocation is given."""
         n, i = key
         offset, kind, index, addend = reloc
         file = self.files[n]
         if kind in (R_NONE, R_RELAX, R_ALIGN, R_TPREL_ADD, R_SET_ULEB128):
             return
-        at = self.place_of(key, offset) - BASE
+        at = (self.place_of(key, offset) if place is None else place) - BASE
         width = 0 if kind == R_SUB_ULEB128 else WIDTHS[kind]
 
         def number(where, size):
@@ -1052,7 +1199,7 @@ class Link:
                 word = word & ~(mask << low) | (v >> of - (high - low) & mask) << low
             store(where, size, word)
 
-        v = self.value(key, reloc, self.value(key, first, 0) if kind == R_SUB_ULEB128 else number(at, width))
+        v = self.value(key, reloc, self.value(key, first, 0) if kind == R_SUB_ULEB128 else number(at, width), place)
 
         def stop(defect, v):
             y = file.symbols[index]

@@ -47,6 +47,54 @@ WILD = [R_64, R_BRANCH, R_JAL, R_CALL_PLT, R_PCREL_HI20, R_PCREL_LO12_I, 41, R_A
 BODIES = [bytes.fromhex(body) for body in ('67800000', '73001000', '97000000e780000067800000', '170500001305050067800000',
                                            '97000000e780000097000000e7800000', '17030000670003000100', '1700000067000000')]
 
+# A CIE, and where a relocation stands in it
+CIES = [(bytes.fromhex('1000000000000000017a5200017c01011b0c0200'), None), (bytes.fromhex('1000000000000000017a5200017801011b0c0200'), None),
+        (bytes.fromhex('1400000000000000017a504c5200017801079b1b00000000'), 20), (bytes.fromhex('0c00000000000000017a000001780100'), None)]
+
+
+def chance_records(chance, wild):
+    """Unwind records, and the places of relocations in them: (offset, width, whether it is that of the function)."""
+    contents, places, cies = b'', [], []
+    for _ in range(chance.choice([0, 1, 2, 2, 3, 5, 9])):
+        at = len(contents)
+        if not cies or chance.random() < 0.3:
+            cie, place = chance.choice(CIES)
+            cies.append(at)
+            contents += cie
+            places += [(at + place, 4, False)] if place else []
+        else:
+            rest = chance.choice([b'', bytes(4), bytes(4), bytes(5), b'\x04\0\0\0\0\x0e\x10\0', bytes(12)])
+            numbers = (12 + len(rest), at + 4 - chance.choice(cies), 0, chance.choice([2, 4, 8, 100]))
+            contents += b''.join(number.to_bytes(4, 'little') for number in numbers) + rest
+            places += [(at + 8, 4, True)] if chance.random() < 0.97 else []
+            places += [(at + 12, 4, False)] if chance.random() < 0.2 else []
+            places += [(at + 16 + chance.choice([0, 0, 1]), chance.choice([4, 4, 8]), False)] if len(rest) > 8 and chance.random() < 0.8 else []
+            places += [(at + 16, 4, False)] if len(rest) in (4, 5) and chance.random() < 0.5 else []
+    contents += bytes(4) if chance.random() < 0.5 else b''
+    if chance.random() < 3 * wild:
+        way, at = chance.randrange(4), chance.randrange(len(contents) + 1)
+        contents = [contents[:at], contents[:at] + bytes(4) + contents[at:], contents + chance.randbytes(4), contents[:at] + chance.randbytes(1) + contents[at + 1:]][way]
+    return contents, places
+
+
+def chance_values(chance, places, code, symbols, wild):
+    """Relocations at places of unwind records, where these symbols stand in code."""
+    entries = []
+    for at, width, is_function in places:
+        index = chance.choice(code) if code and (is_function or chance.random() < 0.5) else chance.randrange(symbols + 1)
+        if is_function or width == 4 and chance.random() < 0.7:
+            entries.append(entry(at, index, R_32_PCREL, chance.choice([0, 0, 0, 0, 4, -4, 64])))
+        elif width == 4 and chance.random() < 0.2:
+            entries.append(entry(at, index, chance.choice([R_32, R_PLT32]), 0))
+        else:
+            kinds = chance.choice([(R_ADD32, R_SUB32), (R_SET8, R_SUB8), (R_SET6, R_SUB6), (R_ADD16, R_SUB16)] if width == 4 else [(R_64,), (R_ADD64, R_SUB64)])
+            entries += [entry(at, k, kind, 0) for k, kind in zip((index, chance.choice(code or [0])), kinds)]
+        if chance.random() < 0.05:
+            entries.append(entry(at, 0, R_RELAX, 0))
+    if chance.random() < wild:
+        entries.append(entry(chance.randrange(100), chance.randrange(symbols + 1), chance.choice(WILD + ANY), 0))
+    return entries
+
 
 def chance_pieces(chance, flags, width):
     """Bytes of a section that is merged, most often: few different pieces, so that many are equal."""
@@ -61,6 +109,7 @@ def chance_pieces(chance, flags, width):
 def chance_object(chance, names, wild, entry_point):
     """An object. `wild` is the chance of what is a defect, or is rare."""
     rows, relocated = [], []
+    recorded = {}                               # the places of relocations in unwind records, by section
     symbols = []                                # (name, binding, type, section, value, size)
     forms = [FORMS[0]] if entry_point else []
     if chance.random() < 0.15:                  # output sections in which members stand by their number
@@ -71,6 +120,7 @@ def chance_object(chance, names, wild, entry_point):
         forms += [FORMS[min(int(chance.expovariate(0.1)), len(FORMS) - 1)] for _ in range(chance.randrange(5))]
     forms += [chance.choice(RARE_FORMS) for _ in range(chance.choice([0, 0, 0, 1, 2]))]
     forms += [chance.choice(THREAD_FORMS) for _ in range(chance.choice([0, 0, 0, 1, 2]))]
+    forms += [('.eh_frame', PROGBITS, ALLOC)] * chance.choice([0, 0, 0, 1, 1, 2])
     forms += [(chance.choice(SETS[:3]), PROGBITS, chance.choice([ALLOC, ALLOC | WRITE])) for _ in range(chance.choice([0, 0, 0, 1]))]
     merged = [chance.choice(MERGED_FORMS) for _ in range(chance.choice([0, 0, 1, 2]))]
     bodies = chance.choice([0, 0, 0, 1, 3])
@@ -85,6 +135,8 @@ def chance_object(chance, names, wild, entry_point):
         size = chance.choice([0, 4, 8, 12, 16, 24, 40, 64, 100, 2 * chance.randrange(200), chance.randrange(5000)])
         align = chance.choice([0, 1, 1, 2, 4, 4, 8, 16, 64, 4096])
         contents = size if sort == NOBITS else chance.randbytes(size)
+        if form_name == '.eh_frame' and chance.random() > wild / 4:
+            contents, recorded[len(rows) + 1] = chance_records(chance, wild)
         link = chance.randrange(len(forms) + 1) if flags & LINK_ORDER else 0
         rows.append([form_name, sort, flags, contents, link, 0, align, chance.choice([0, 0, 1, 8])])
     sections = list(range(1, len(rows) + 1))
@@ -141,7 +193,11 @@ def chance_object(chance, names, wild, entry_point):
     for place, (name, binding, sort, _, value, size) in zip(places[1:], symbols):
         table.append(symbol(texts.add(name), binding, sort, place, value, size))
     relas = []
+    code = [k + 1 for k, s in enumerate(symbols) if 0 < s[3] <= len(rows) and rows[s[3] - 1][2] & EXECINSTR]
     for i in sections:
+        if i in recorded:
+            relas.append((i, b''.join(chance_values(chance, recorded[i], code, len(symbols), wild))))
+            continue
         if rows[i - 1][1] == NOBITS or chance.random() < 0.4 or rows[i - 1][2] & MERGE and chance.random() < 0.97:
             continue
         entries, at, size = [], 0, size_of(i)

@@ -40,7 +40,7 @@ DEFECT = re.compile(r'rvld: F(\d\d) (\w+) file=(%s+) section=\d+ place=\d+ name=
 NO_FILE = re.compile(r'rvld: cannot (?:read|write) %s+\n' % SHOWN)
 CXX = '-std=c++17 -fno-exceptions -fno-rtti -fno-threadsafe-statics -ffunction-sections -fdata-sections'.split()
 COMPILE = ('clang --target=riscv64-unknown-elf -march=rv64gc -mabi=lp64d -mcmodel=medany -O1 -ffreestanding -fno-builtin '
-           '-nostdlib -fcommon -c -o').split()
+           '-nostdlib -fcommon -fasynchronous-unwind-tables -c -o').split()
 
 
 def compiled(folder, source, options=()):

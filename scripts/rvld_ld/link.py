@@ -93,12 +93,12 @@ def linked(link):
         inputs.notes = []
         again = defect is not None and inputs.mend(defect)
     say(said, 2)
-    if status != 0 or inputs.map or any('c++' in it.name for it in inputs.files):
+    if status != 0 or inputs.map:
         from . import messages
-        if status == 0 and inputs.map:
+        if status == 0:
             messages.report(link, inputs, say)
-        if not os.environ.get('RVLD_PLAIN'):
-            say(messages.after(link, inputs, status, said, defect), 2)
+        elif not os.environ.get('RVLD_PLAIN'):
+            say(messages.after(inputs, said, defect), 2)
     if 'stats' in link.on:
         import resource
         used = resource.getrusage(resource.RUSAGE_CHILDREN)

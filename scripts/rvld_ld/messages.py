@@ -125,16 +125,12 @@ class Explained:
             if name != self.raw and (name == base or name.startswith(in_cplusplus)):
                 yield '>>> did you mean: %s%s, in %s' % ('extern "C" ' if name == base else '', demangled(name), file)
 
-def after(link, inputs, status, said, defect):
+def after(inputs, said, defect):
     """What follows rvld's own lines."""
     told, name = [], said.rstrip('\n').rpartition(' ')[2]
     try:
         if defect is not None:
             told = Explained(defect, inputs).lines
-        elif status == 0 and 'no-warnings' not in link.on and any('stdc++' in it.name or 'c++abi' in it.name for it in inputs.files):
-            if not objects.has(equal.mapped(link.values.get('output', 'a.out')), b'.eh_frame'):    # by objects of the command: libraries throw where asked to
-                throwers = [it.name for it in inputs.files if it.name.endswith('.o') and objects.has(equal.mapped(it.path), b'__cxa_throw')]
-                told = [TEXTS['throws'].format(shown(name)) for name in throwers[:1]]
         elif said.startswith('rvld: cannot read '):
             open(inputs.found(name)[0].path, 'rb').close()
     except OSError as fault:

@@ -29,8 +29,8 @@ step() {
     local name=$1 libc=$2
     (
         cd "$work/build/$libc/$name" || exit 1
-        # with two dashes, since libtool keeps a `-static` to itself
-        [ "$libc" = glibc ] && CC="riscv64-linux-gnu-gcc --static -B $work/drivers" || CC="$work/bin/musl-gcc --static -B $work/drivers"
+        # with two dashes, since libtool keeps a `-static` to itself; `-pthread` asks for libatomic, which is the compiler's and not musl's
+        [ "$libc" = glibc ] && CC="riscv64-linux-gnu-gcc --static -B $work/drivers" || CC="$work/bin/musl-gcc --static -B $work/drivers -L$(dirname "$(riscv64-linux-gnu-gcc -print-file-name=libatomic.a)")"
         export CC HOST=riscv64-linux-gnu LIBC=$libc JOBS=2 BUILDS=$work/build/$libc SOURCES=$top/scripts/real PACKAGES_LINKS=$work/links/$libc/$name
         timeout -k 10 "$limit" nice -n 10 "$top/scripts/packages/recipes.sh" "$name" "$3" </dev/null >"$work/logs/$libc-$name.$3${PACKAGES_BY:+.$PACKAGES_BY}" 2>&1
     )

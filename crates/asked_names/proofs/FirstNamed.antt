@@ -11,7 +11,7 @@ use Rattle.lk_tables.specs.declared.bounds.Bound.TheVariants.{Linker, Nobody}
 use Rattle.lk_tables.specs.Binding.{Bindings, Offer, bound_rank, class_of, is_discarded, is_offer, least_rank, live_rank, offer_at, offered_bindings, offers, offers_in, rank_bound}
 use Rattle.lk_tables.specs.BoundNames.{IsBindingOf, bindings, linked_rank, or_linker, rank_of_linker, with_linker}
 use Rattle.lk_tables.specs.Files.{AreFew, File, file_at, is_visible, section_total, symbol_at, symbol_name, symbol_no}
-use Rattle.lk_tables.specs.LinkerSymbols.{linker_no}
+use Rattle.lk_tables.specs.LinkerSymbols.{fixed_count, linker_no}
 use Rattle.lk_tables.specs.Ranks.{file_of, is_linker_rank, no_rank, rank_of, symbol_of_rank}
 use Rattle.lk_tables.specs.Symbols.{is_undef}
 use Rattle.lk_tables.specs.Targets.{bound, bound_by, definition, rank_at}
@@ -112,7 +112,7 @@ none_bound files b =
     (if is_linker_rank no_rank then Linker (symbol_of_rank no_rank) else definition files b (file_of no_rank) (symbol_of_rank no_rank))
     (eq-eqb no_rank no_rank refl))
 
-few_number : (files : List File) (o : Option ℕ) → AreFew files → IfNumber (λ n. n < 18 + 2 * section_total files) o → IfNumber (λ n. n < 2 ^ 31) o
+few_number : (files : List File) (o : Option ℕ) → AreFew files → IfNumber (λ n. n < fixed_count + 2 * section_total files) o → IfNumber (λ n. n < 2 ^ 31) o
 few_number files None few below = tt
 few_number files (Some n) few below = omega (arith, below, few.section_count_is)
 

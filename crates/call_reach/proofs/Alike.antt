@@ -17,6 +17,7 @@ use Rattle.lk_tables.specs.TablesView.{files_of}
 use Rattle.lk_tables.specs.Targets.{is_gone}
 use Rattle.lk_tables.proofs.Owners.{place_of_number}
 use Rattle.lk_tables.proofs.SoundFiles.{inside_head, sound_file}
+use Rattle.lk_tables.proofs.SoundHead.{written_read}
 use Rattle.output_sections.proofs.Sized.{each_flat, one_if}
 use Rattle.link_sections.specs.FoldItems.{FoldItem}
 use Rattle.link_sections.specs.InputSections.{input_at, may_stay_at}
@@ -114,7 +115,7 @@ module _ (tables : Tables) (b : Bindings) (kept : List Bool) (stay : (n : ℕ) �
         let written = and_parts (nat_lt 0 k) (is_written file.bytes s) (stays_written f k lt stays) in
         let inside = inside_head file (sound_file tables f live) in
         let type_is : s.sh_type ≡ SHT_PROGBITS = sym (ap (λ (i : InputSection). i.sh_type) own) ∙ bits in
-        let fits = inside.contents k no_section lt (ltb-true 0 k written.0) written.1 (λ e. other (sym type_is ∙ e)) in
+        let fits = inside.contents k no_section lt (ltb-true 0 k written.0) (written_read file.bytes s written.1) (λ e. other (sym type_is ∙ e)) in
         let rest = length-drop s.offset file.bytes in
         let long = length-take-le s.size (drop s.offset file.bytes) (omega (arith, rest, fits)) in
         omega (arith, ap (λ (i : InputSection). i.size) own, long)

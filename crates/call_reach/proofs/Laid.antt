@@ -30,7 +30,7 @@ use Rattle.link_sections.specs.PoolViews.{PoolsView, pools_view}
 use Rattle.link_sections.specs.Sound.{IsSound}
 use Rattle.layout.specs.Cutting.{is_short, laid_cuts, short_defect, short_defects}
 use Rattle.output_sections.specs.Items.{AreLeaders, HaveFirsts, IsStaying, Item, items}
-use Rattle.layout.specs.Layout.{bounds_of, cut_defects, cuts_of as laid_cuts_of, laid_by, laid_of, layout_defects, layout_of, limit_defects, no_trail, trail_of}
+use Rattle.layout.specs.Layout.{FrameSizes, bounds_of, cut_defects, cuts_of as laid_cuts_of, laid_by, laid_of, layout_defects, layout_of, limit_defects, no_trail, trail_of}
 use Rattle.output_sections.specs.Order.{members_in, orders_of}
 use Rattle.layout.specs.Spots.{HaveAlignments}
 use Rattle.output_sections.proofs.ItemFacts.{stays_of}
@@ -118,23 +118,23 @@ all_aligned tables b pools words leaders few bound are firsts k d lt =
     one item (inr (inr table)) = omega (arith, ap (λ (x : Item). x.align) table)
 
 -- where a layout has its members, and its cuts
-laid_members : (files : List File) (b : Bindings) (pools : List Pool) (words : ℕ) (leaders : List (Option ℕ)) (sizes : List (List Cut)) (view : PoolsView) (table : List GotEntry)
-    → (with_contents (layout_of files b pools words leaders sizes) view table).members ≡ all_members sizes (orders_of (items files b pools words leaders)) (bounds_of sizes (orders_of (items files b pools words leaders)))
+laid_members : (files : List File) (b : Bindings) (pools : List Pool) (words : ℕ) (leaders : List (Option ℕ)) (sizes : List (List Cut)) (fs : FrameSizes) (view : PoolsView) (table : List GotEntry)
+    → (with_contents (layout_of files b pools words leaders sizes fs) view table).members ≡ all_members sizes (orders_of (items files b pools words leaders)) (bounds_of sizes (orders_of (items files b pools words leaders)) fs)
 unfolding with_contents layout_of laid_of laid_by
-laid_members files b pools words leaders sizes view table =
+laid_members files b pools words leaders sizes fs view table =
     let its = items files b pools words leaders in
-    trail_members sizes its (orders_of its) (bounds_of sizes (orders_of its)) (section_total files) (length pools)
+    trail_members sizes its (orders_of its) (bounds_of sizes (orders_of its) fs) (section_total files) (length pools)
 
 cuts_here : (leaders : List (Option ℕ)) (sizes : List (List Cut)) (starts : List ℕ) (n : ℕ) → leads leaders n ≡ true → laid_cuts_of leaders sizes starts n ≡ laid_cuts (get_or starts n 0) (get_or sizes n [])
 unfolding laid_cuts_of
 cuts_here leaders sizes starts n is = rw is refl
 
-laid_cuts_are : (files : List File) (b : Bindings) (pools : List Pool) (words : ℕ) (leaders : List (Option ℕ)) (sizes : List (List Cut)) (view : PoolsView) (table : List GotEntry) (n : ℕ) → n < section_total files → leads leaders n ≡ true
-    → cuts_at (with_contents (layout_of files b pools words leaders sizes) view table) n ≡ laid_cuts (start_at (with_contents (layout_of files b pools words leaders sizes) view table) n) (get_or sizes n [])
+laid_cuts_are : (files : List File) (b : Bindings) (pools : List Pool) (words : ℕ) (leaders : List (Option ℕ)) (sizes : List (List Cut)) (fs : FrameSizes) (view : PoolsView) (table : List GotEntry) (n : ℕ) → n < section_total files → leads leaders n ≡ true
+    → cuts_at (with_contents (layout_of files b pools words leaders sizes fs) view table) n ≡ laid_cuts (start_at (with_contents (layout_of files b pools words leaders sizes fs) view table) n) (get_or sizes n [])
 unfolding with_contents layout_of laid_of laid_by
-laid_cuts_are files b pools words leaders sizes view table n lt leader =
+laid_cuts_are files b pools words leaders sizes fs view table n lt leader =
     let its = items files b pools words leaders in
-    let starts = (trail_of sizes its (orders_of its) (bounds_of sizes (orders_of its)) (no_trail (section_total files) (length pools))).stands.starts in
+    let starts = (trail_of sizes its (orders_of its) (bounds_of sizes (orders_of its) fs) (no_trail (section_total files) (length pools))).stands.starts in
     get_or-map-range_with_len (laid_cuts_of leaders sizes starts) 0 (section_total files) n n [] lt (omega arith) ∙ cuts_here leaders sizes starts n leader
 
 same_cuts : (l : LaidOut) (view : PoolsView) (table : List GotEntry) → (with_contents l view table).cuts ≡ l.cuts
@@ -149,20 +149,20 @@ same_merging : (l : LaidOut) (view : PoolsView) (table : List GotEntry) → (wit
 unfolding with_contents
 same_merging l view table = refl
 
-module _ (tables : Tables) (b : Bindings) (pools : List Pool) (words : ℕ) (leaders : List (Option ℕ)) (view : PoolsView) (table : List GotEntry) (limits : Limits) (sizes : List (List Cut))
+module _ (tables : Tables) (b : Bindings) (pools : List Pool) (words : ℕ) (leaders : List (Option ℕ)) (view : PoolsView) (table : List GotEntry) (limits : Limits) (sizes : List (List Cut)) (fs : FrameSizes)
     (few : AreFew (files_of tables)) (bound : IsBindingOf (files_of tables) b) (are : AreLeaders (files_of tables) b leaders) (alike : AreAlike (files_of tables) b leaders)
     (firsts : HaveFirsts (files_of tables) b pools)
-    (sound : IsSound (files_of tables) b leaders (with_contents (layout_of (files_of tables) b pools words leaders sizes) view table))
-    (aligned : HaveAlignments (files_of tables) b (layout_of (files_of tables) b pools words leaders sizes))
-    (none : layout_defects limits (files_of tables) (layout_of (files_of tables) b pools words leaders sizes) ≡ []) where
+    (sound : IsSound (files_of tables) b leaders (with_contents (layout_of (files_of tables) b pools words leaders sizes fs) view table))
+    (aligned : HaveAlignments (files_of tables) b (layout_of (files_of tables) b pools words leaders sizes fs))
+    (none : layout_defects limits (files_of tables) (layout_of (files_of tables) b pools words leaders sizes fs) ≡ []) where
   abbrev files : List File
   files = files_of tables
 
   abbrev plain : LaidOut
-  plain = layout_of (files_of tables) b pools words leaders sizes
+  plain = layout_of (files_of tables) b pools words leaders sizes fs
 
   abbrev laid : LaidOut
-  laid = with_contents (layout_of (files_of tables) b pools words leaders sizes) view table
+  laid = with_contents (layout_of (files_of tables) b pools words leaders sizes fs) view table
 
   abbrev ms : List Row
   ms = members_in (orders_of (items (files_of tables) b pools words leaders))
@@ -186,9 +186,9 @@ module _ (tables : Tables) (b : Bindings) (pools : List Pool) (words : ℕ) (lea
     safe = safe;
     ones = safe_sizes ms (rows true) z safe;
     sizes_are = sizes_are;
-    bounds = bounds_of sizes (orders_of (items files b pools words leaders));
-    placed = laid_members files b pools words leaders sizes view table;
-    cuts = λ n lt leader. laid_cuts_are files b pools words leaders sizes view table n lt leader;
+    bounds = bounds_of sizes (orders_of (items files b pools words leaders)) fs;
+    placed = laid_members files b pools words leaders sizes fs view table;
+    cuts = λ n lt leader. laid_cuts_are files b pools words leaders sizes fs view table n lt leader;
     sound = sound;
     aligned = subst (All (λ (m : LaidMember). (n : ℕ) → m.content ≡ Section n → m.start % (input_at files b n).align ≡ 0)) (sym (same_members plain view table)) aligned.members;
     short = λ n lt leader. short_at n lt;
@@ -219,7 +219,7 @@ module _ (tables : Tables) (b : Bindings) (pools : List Pool) (words : ℕ) (lea
       let small = ltb-true (call_size (cuts_at laid n) r.offset) 8 parts.1 in
       let sz : ℕ → ℕ = size_in (rows false) z (place_in ms n) in
       let cuts : cuts_at laid n ≡ laid_cuts (start_at laid n) (cuts_by sz (relocs_of files n)) =
-      laid_cuts_are files b pools words leaders sizes view table n lt leader
+      laid_cuts_are files b pools words leaders sizes fs view table n lt leader
       ∙ ap (λ (l : List (List Cut)). laid_cuts (start_at laid n) (get_or l n [])) sizes_are
       ∙ ap (laid_cuts (start_at laid n)) (cuts_before files ms (rows false) z n lt) in
       let found = short_call sz (relocs_of files n) (start_at laid n) r.offset (omega (arith, small, ap (λ l. call_size l r.offset) cuts)) in
@@ -237,16 +237,16 @@ module _ (tables : Tables) (b : Bindings) (pools : List Pool) (words : ℕ) (lea
   by_on true z safe sizes_are = calls_on z safe sizes_are
   by_on false z safe sizes_are = calls_off z sizes_are
 
-pub calls_reach : (tables : Tables) (b : Bindings) (held : Pools) (words : ℕ) (leaders : List (Option ℕ)) (table : List GotEntry) (limits : Limits) (sizes : List (List Cut)) (on : Bool) (laid : LaidOut)
+pub calls_reach : (tables : Tables) (b : Bindings) (held : Pools) (words : ℕ) (leaders : List (Option ℕ)) (table : List GotEntry) (limits : Limits) (sizes : List (List Cut)) (fs : FrameSizes) (on : Bool) (laid : LaidOut)
     → AreFew (files_of tables) → IsBindingOf (files_of tables) b → AreLeaders (files_of tables) b leaders → AreAlike (files_of tables) b leaders → HaveFirsts (files_of tables) b held.pools.items
     → sizes ≡ cuts_of (files_of tables) b (pools_view (files_of tables) held).merged leaders (members_in (orders_of (items (files_of tables) b held.pools.items words leaders))) on
     → IsLeastSafe (files_of tables) b (pools_view (files_of tables) held).merged leaders (members_in (orders_of (items (files_of tables) b held.pools.items words leaders))) on
-    → laid ≡ layout_of (files_of tables) b held.pools.items words leaders sizes
+    → laid ≡ layout_of (files_of tables) b held.pools.items words leaders sizes fs
     → IsSound (files_of tables) b leaders (with_contents laid (pools_view (files_of tables) held) table) → HaveAlignments (files_of tables) b laid
     → layout_defects limits (files_of tables) laid ≡ []
     → CallsReach (files_of tables) b leaders (with_contents laid (pools_view (files_of tables) held) table)
 unfolding cuts_of
-calls_reach tables b held words leaders table limits sizes on _ few bound are alike firsts sizes_are least laid_is sound aligned none =
+calls_reach tables b held words leaders table limits sizes fs on _ few bound are alike firsts sizes_are least laid_is sound aligned none =
     let files = files_of tables in
     let view = pools_view files held in
     let pools = held.pools.items in
@@ -254,5 +254,5 @@ calls_reach tables b held words leaders table limits sizes on _ few bound are al
     let rows : List (List Call) = call_rows files b view.merged leaders ms on in
     let L : LaidOut → Type 0 = λ l. CallsReach files b leaders (with_contents l view table) in
     let U : LaidOut → Type 0 = λ l. IsSound files b leaders (with_contents l view table) in
-    subst L (sym laid_is) (by_on tables b pools words leaders view table limits sizes few bound are alike firsts (subst U laid_is sound) (subst (HaveAlignments files b) laid_is aligned)
+    subst L (sym laid_is) (by_on tables b pools words leaders view table limits sizes fs few bound are alike firsts (subst U laid_is sound) (subst (HaveAlignments files b) laid_is aligned)
     (subst (λ l. layout_defects limits files l ≡ []) laid_is none) on (least_sizes ms rows) least.safe sizes_are)

@@ -18,13 +18,14 @@ use Rattle.lk_tables.specs.declared.section_places.SectionPlace.{SectionPlace}
 use Rattle.lk_tables.specs.declared.tables.Tables.{Tables}
 use Rattle.lk_tables.specs.Binding.{Bindings, is_discarded}
 use Rattle.lk_tables.specs.BoundNames.{IsBindingOf}
-use Rattle.lk_tables.specs.Files.{AreFew, File, file_at, first_section, is_section_symbol, no_section, no_symbol, section_at, section_count, section_no, section_total, symbol_at, writes}
+use Rattle.lk_tables.specs.Files.{AreFew, File, file_at, is_frame_at, first_section, is_section_symbol, no_section, no_symbol, section_at, section_count, section_no, section_total, symbol_at, writes}
 use Rattle.lk_tables.specs.InputSections.{input_at, input_of, common_in, room_input, section_input}
 use Rattle.lk_tables.specs.Sections.{is_written}
 use Rattle.lk_tables.specs.Sites.{place_of}
 use Rattle.lk_tables.specs.Sites as sites
 use Rattle.lk_tables.specs.TablesView.{files_of}
-use Rattle.lk_tables.specs.Targets.{bound, clamped, commons_at, defined_by, definition, offset_in, room_of, size_of, target_by, target_of}
+use Rattle.lk_tables.specs.FixedSymbols.{frame_start_no}
+use Rattle.lk_tables.specs.Targets.{bound, clamped, commons_at, defined_by, definition, offset_in, room_of, size_of, target_by, target_of, unwritten}
 use Rattle.lk_tables.proofs.BoundHas.{OfDefinitions, bound_has, either}
 use Rattle.lk_tables.proofs.FirstNumbers.{section_more}
 use Rattle.lk_tables.proofs.LiveFiles.{counted}
@@ -87,13 +88,15 @@ module _ (tables : Tables) (b : Bindings) where
       past_symbol past = get_or_past (file_at files f).head.symbols i no_symbol past
 
   written_lies : (f i k : ℕ) (d : Bool) → f < length files → (file_at files f).live ≡ true → (symbol_at (file_at files f) i).place ≡ Within k → writes (file_at files f) k ≡ d
-      → LiesIn files b (if d then InSection (section_no files f k) (offset_in (symbol_at (file_at files f) i)) else Number (symbol_at (file_at files f) i).value)
+      → LiesIn files b (if d then InSection (section_no files f k) (offset_in (symbol_at (file_at files f) i)) else unwritten (file_at files f) k (symbol_at (file_at files f) i))
   written_lies f i k true lt live place written =
       let own = written_within (file_at files f) k written in
       let at = place_at files f k lt (omega (arith, own, counted (file_at files f) live)) in
       let input : input_at files b (section_no files f k) ≡ section_input (file_at files f) k = ap (λ (p : SectionPlace). input_of files b p.file p.index) at ∙ own_input files b f k own in
       omega (arith, value_lies f i k live place written, ap (λ (s : _). s.size) input)
-  written_lies f i k false lt live place written = tt
+  written_lies f i k false lt live place written =
+      let s : Symbol = symbol_at (file_at files f) i in
+      either (LiesIn files b) (is_frame_at (file_at files f) k && s.value == 0) (Linker frame_start_no) (Number s.value) tt tt
 
   defined_lies : (f i : ℕ) (place : Place) → f < length files → (file_at files f).live ≡ true → (symbol_at (file_at files f) i).place ≡ place
       → LiesIn files b (defined_by files b place f i (symbol_at (file_at files f) i))
@@ -102,7 +105,7 @@ module _ (tables : Tables) (b : Bindings) where
   defined_lies f i Common lt live is = room_lies files b (λ c. c.symbol == i) (commons_at b.commons f)
   defined_lies f i (Within k) lt live is =
       either (LiesIn files b) (is_discarded files b.discarded f (Within k)) Nobody
-      (if writes (file_at files f) k then InSection (section_no files f k) (offset_in (symbol_at (file_at files f) i)) else Number (symbol_at (file_at files f) i).value) tt
+      (if writes (file_at files f) k then InSection (section_no files f k) (offset_in (symbol_at (file_at files f) i)) else unwritten (file_at files f) k (symbol_at (file_at files f) i)) tt
       (written_lies f i k (writes (file_at files f) k) lt live is refl)
 
   definitions_lie : OfDefinitions files b (LiesIn files b)

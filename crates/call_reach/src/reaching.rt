@@ -12,14 +12,14 @@ ghost use Rattle.output_sections.specs.Order.{members_in, orders_of};
 ghost use Rattle.link_sections.specs.SizesView.{sizes_of};
 ghost use Rattle.link_sections.specs.Sound.{IsSound};
 ghost use Rattle.output_sections.specs.Items.{AreLeaders, HaveFirsts, items};
-ghost use Rattle.layout.specs.Layout.{layout_defects, layout_of};
+ghost use Rattle.layout.specs.Layout.{frame_sizes, layout_defects, layout_of};
 ghost use Rattle.layout.specs.Spots.{HaveAlignments};
 ghost use Rattle.relax.specs.CallSizes.{IsLeastSafe, cuts_of};
 ghost use Rattle.call_reach.specs.Reach as spec;
 
 use link_sections::{Got, Layout, Pools, Sizes};
 use lk_base::{Limits, SecNo};
-use lk_tables::{Binding, Tables};
+use lk_tables::{Binding, FramePlan, Tables};
 use output_sections::OutputSections;
 
 /// That each shortened call reaches its target, where `sizes` are those of `relax::sizes` and the layout is that of `layout::place` over
@@ -33,6 +33,7 @@ pub fn calls_reach(
     leaders: &[Option<SecNo>],
     sections: &OutputSections,
     sizes: &Sizes,
+    frames: &FramePlan,
     layout: &Layout,
     limits: &Limits,
     on: bool,
@@ -44,7 +45,7 @@ pub fn calls_reach(
     requires order { sections.now.rows ≡ orders_of (items (files_of tables.now) (binding_view binding.now) pools.now.pools.items (word_count (entries_of got.now)) leaders.now) }
     requires sizes { sizes_of sizes.now ≡ cuts_of (files_of tables.now) (binding_view binding.now) (merged_views pools.now) leaders.now (members_in sections.now.rows) on }
     requires safe { IsLeastSafe (files_of tables.now) (binding_view binding.now) (merged_views pools.now) leaders.now (members_in sections.now.rows) on }
-    requires layout { layout_view layout.now ≡ layout_of (files_of tables.now) (binding_view binding.now) pools.now.pools.items (word_count (entries_of got.now)) leaders.now (sizes_of sizes.now) }
+    requires layout { layout_view layout.now ≡ layout_of (files_of tables.now) (binding_view binding.now) pools.now.pools.items (word_count (entries_of got.now)) leaders.now (sizes_of sizes.now) (frame_sizes frames.now) }
     requires sound { IsSound (files_of tables.now) (binding_view binding.now) leaders.now (with_contents (layout_view layout.now) (pools_view (files_of tables.now) pools.now) (entries_of got.now)) }
     requires aligned { HaveAlignments (files_of tables.now) (binding_view binding.now) (layout_view layout.now) }
     requires room { layout_defects limits.now (files_of tables.now) (layout_view layout.now) ≡ [] }

@@ -4,7 +4,7 @@ use Rattle.std.proofs.Math.Seq.{take-append_seam}
 use Rattle.std.proofs.lemmas.List.{ext_get_or, get_or-replicate, get_or-take, get_or-drop, length-replicate, length-take-le, length-drop, take_all}
 use Rattle.std.proofs.lemmas.Bool.Decides.{nat_tests}
 use Rattle.std.proofs.lemmas.List.FromFn.{get_or-map-range_with_len, length-map-range_with_len}
-use Rattle.elf_out.specs.Frames.{StandsFor}
+use Rattle.elf_out.specs.BlockHeaders.{StandsFor}
 use Rattle.reloc_apply.specs.Image.{Piece, ShowsFrom, over, byte_over, byte_at, image, piece}
 
 pub over_append : (u i : ℕ) (ps qs : List Piece) → byte_over u (ps ++ qs) i ≡ byte_over (byte_over u ps i) qs i
@@ -26,12 +26,13 @@ stands_past bytes made from to none short = λ before place low high.
     let right : over (piece 0 bytes) before place ≡ before = grind (arith, nat_tests) in
     left ∙ sym right
 
--- the headers, the sections, and what follows them
-pub shows_all : (from : ℕ) (head : Piece) (middle ends : List Piece) (o0 o1 o2 o3 : List ℕ)
-    → ShowsFrom from o0 o1 (head ∷ []) → ShowsFrom from o1 o2 middle → ShowsFrom from o2 o3 ends
-    → ShowsFrom from o0 o3 (head ∷ middle ++ ends)
-shows_all from head middle ends o0 o1 o2 o3 first second third =
-    shows_both from (head ∷ []) (middle ++ ends) o0 o1 o3 first (shows_both from middle ends o1 o2 o3 second third)
+-- the headers, the unwind records, the sections, and what follows them
+pub shows_all : (from : ℕ) (head : Piece) (frames middle ends : List Piece) (o0 o1 o2 o3 o4 : List ℕ)
+    → ShowsFrom from o0 o1 (head ∷ []) → ShowsFrom from o1 o2 frames → ShowsFrom from o2 o3 middle → ShowsFrom from o3 o4 ends
+    → ShowsFrom from o0 o4 (head ∷ frames ++ (middle ++ ends))
+shows_all from head frames middle ends o0 o1 o2 o3 o4 first second third fourth =
+    shows_both from (head ∷ []) (frames ++ (middle ++ ends)) o0 o1 o4 first
+    (shows_both from frames (middle ++ ends) o1 o2 o4 second (shows_both from middle ends o2 o3 o4 third fourth))
 
 -- a byte of a file, and how long it is
 pub image_byte : (ps : List Piece) (size i : ℕ) → i < size → slice_index (image ps size) i ≡ byte_at ps i

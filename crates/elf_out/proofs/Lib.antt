@@ -3,7 +3,8 @@ pub mod EndPieces
 pub mod EndSteps
 pub mod EntryBytes
 pub mod FlagSteps
-pub mod Framing
+pub mod Away
+pub mod BlockParts
 pub mod Laying
 pub mod MemberPieces
 pub mod NameSteps

@@ -71,7 +71,7 @@ section_up at end bytes true le fits = (omega arith, fits refl)
 section_up at end bytes false le fits = le
 
 -- what each member has lies between its start and its end, so all of it goes up
-abbrev MemberUp : (f : Member → List Piece) → Member → Type 0
+abbrev pub MemberUp : (f : Member → List Piece) → Member → Type 0
 MemberUp f m = GoUp (m.start - IMAGE_BASE) (m.start + m.size - IMAGE_BASE) (f m)
 
 members_up : (f : Member → List Piece) (ms : List Member) (from end : ℕ) → All (MemberUp f) ms → AreOneAfterOther ms → All (λ m. from ≤ m.start) ms
@@ -116,7 +116,7 @@ module _ (v : View) where
   content_up at end (Pool p) le section pool table = let is = pool p refl in pool_up at end p is.0 is.1
   content_up at end Got le section pool table = (omega arith, table refl)
 
-  member_up : All (MemberUp (member_pieces (files_in v) (binding_in v) (leaders_in v) (laid_in v))) (laid_in v).members
+  pub member_up : All (MemberUp (member_pieces (files_in v) (binding_in v) (leaders_in v) (laid_in v))) (laid_in v).members
   unfolding member_pieces
   member_up = λ i d lt.
       let m : Member = slice_index_or (laid_in v).members i d in

@@ -21,6 +21,21 @@ pub count_is : (v : View) → length (laid_in v).outputs ≡ length v.layout.now
 unfolding layout_view with_contents
 count_is v = length-map v.layout.now.outputs.items output_view
 
+-- where the unwind records stand
+pub header_is : (v : View) → (laid_in v).bounds.frame_header ≡ v.layout.now.bounds.frame_header
+unfolding layout_view with_contents
+header_is v = refl
+
+pub frames_is : (v : View) → (laid_in v).bounds.frames ≡ v.layout.now.bounds.frames
+unfolding layout_view with_contents
+frames_is v = refl
+
+pub frames_low : (v : View) → ((laid_in v).bounds.frame_header < IMAGE_BASE + 2 ^ 31) × ((laid_in v).bounds.frames < IMAGE_BASE + 2 ^ 31)
+frames_low v =
+    let small = v.sound.small in
+    let room = v.sound.frames in
+    (omega (arith, small, room.header, room.between, room.frames, room.inside), omega (arith, small, room.frames, room.inside))
+
 -- 16 bits count the section headers
 pub few_outputs : (v : View) → length v.layout.now.outputs.items + 4 < 65536
 few_outputs v = omega (arith, v.sound.few, count_is v)

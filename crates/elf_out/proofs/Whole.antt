@@ -1,9 +1,9 @@
 -- Each piece of the executable of a sound layout stands whole in it, and so do the bytes of each section.
-use Rattle.std.proofs.Common.{◌≡◌, ◌≢◌, ◌==◌, not, ℕ, ◌+◌, ◌-◌, ◌≤◌, true, false, Option, List, [], ◌∷◌, ◌++◌, length, flat_map, take, drop, slice_index_or, append_assoc, sym, ap, ◌∙◌, arith, subst}
+use Rattle.std.proofs.Common.{◌≡◌, ◌≢◌, ◌==◌, not, ℕ, ◌+◌, ◌-◌, ◌≤◌, true, false, inl, inr, Option, List, [], ◌∷◌, ◌++◌, length, flat_map, take, drop, slice_index_or, append_assoc, sym, ap, ◌∙◌, arith, subst}
 use Rattle.std.specs.Prelude.{if◌then◌else◌}
 use Rattle.std.specs.List.{All}
-use Rattle.std.proofs.lemmas.Bool.{eq-eqb, eqb-true}
-use Rattle.std.proofs.lemmas.List.Elements.{All-nil, All-cons, All-head, All-tail}
+use Rattle.std.proofs.lemmas.Bool.{cases_Bool, eq-eqb, eqb-true}
+use Rattle.std.proofs.lemmas.List.Elements.{All-nil, All-cons, All-head, All-tail, All-append}
 use Rattle.lk_base.specs.declared.abi.TheConstants.{EHDR_SIZE, IMAGE_BASE, SHT_NOBITS}
 use Rattle.lk_tables.specs.Binding.{Bindings}
 use Rattle.lk_tables.specs.Files.{File}
@@ -15,25 +15,36 @@ use Rattle.link_sections.specs.InputSections.{input_at}
 use Rattle.link_sections.specs.LaidOut.{LaidOut}
 use Rattle.link_sections.specs.Sound.{IsSectionMember, IsSound, is_section}
 use Rattle.link_sections.specs.Views.{binding_in, files_in, laid_in, leaders_in}
-use Rattle.elf_out.specs.Executable.{end_pieces, file_length, file_with, headers_with, pieces_with}
-use Rattle.elf_out.specs.Frames.{headers_in}
-use Rattle.elf_out.specs.Standing.{AllStand, HasHeaderRoom, HeadersStand, PiecesStand, SectionsStand, Stands, pieces_behind}
+use Rattle.elf_out.specs.Executable.{FrameContents, end_pieces, file_length, file_with, frame_pieces, headers_with, pieces_with}
+use Rattle.elf_out.specs.BlockHeaders.{headers_in}
+use Rattle.elf_out.specs.Standing.{AllStand, FitFrames, FramesStand, HasHeaderRoom, HeadersStand, PiecesStand, SectionsStand, Stands, pieces_behind}
 use Rattle.elf_out.specs.Symbols.{SymbolTables}
 use Rattle.elf_out.proofs.EndPieces.{ends_up}
-use Rattle.elf_out.proofs.MemberPieces.{laid_up}
-use Rattle.elf_out.proofs.OneByOne.{GoUp, first_stands, others_stand, up_append, up_from}
+use Rattle.elf_out.proofs.MemberPieces.{laid_up, member_up}
+use Rattle.elf_out.proofs.Away.{away_after, away_members}
+use Rattle.elf_out.proofs.OneByOne.{GoUp, IsAway, others_stand, shows_alone, shows_more, stands, up_append, up_within}
 use Rattle.elf_out.proofs.Starting.{headers_long}
 use Rattle.reloc_apply.proofs.LaidFacts.{any_at}
 use Rattle.reloc_apply.specs.Founds.{no_member}
 use Rattle.reloc_apply.specs.Image.{Piece, piece}
 use Rattle.reloc_apply.specs.Relocated.{content_pieces, has_bits, member_pieces, relocated_pieces, section_bytes}
 
-module _ (v : View) (tables : Option SymbolTables) where
+module _ (v : View) (frames : FrameContents) (tables : Option SymbolTables) where
   abbrev behind : List Piece
   behind = pieces_behind (files_in v) (binding_in v) (leaders_in v) (laid_in v) tables
 
   abbrev file : List ℕ
-  file = file_with (files_in v) (binding_in v) (leaders_in v) (laid_in v) tables
+  file = file_with (files_in v) (binding_in v) (leaders_in v) (laid_in v) frames tables
+
+  abbrev head : Piece
+  head = piece 0 (headers_in v tables)
+
+  -- `.eh_frame_hdr`, and `.eh_frame`
+  abbrev table_piece : Piece
+  table_piece = piece ((laid_in v).bounds.frame_header - IMAGE_BASE) frames.header
+
+  abbrev frame_piece : Piece
+  frame_piece = piece ((laid_in v).bounds.frames - IMAGE_BASE) frames.frame
 
   behind_up : (from : ℕ) → All (λ m. from ≤ m.start) (laid_in v).members → from ≤ (laid_in v).bounds.file_end
       → GoUp (from - IMAGE_BASE) (file_length (laid_in v) tables) behind
@@ -46,25 +57,105 @@ module _ (v : View) (tables : Option SymbolTables) where
   pub pieces_stand : PiecesStand (files_in v) (binding_in v) (leaders_in v) (laid_in v) tables file
   unfolding file_with pieces_with
   pieces_stand =
-      others_stand (piece 0 (headers_in v tables)) (IMAGE_BASE + EHDR_SIZE - IMAGE_BASE) (file_length (laid_in v) tables) behind
+      others_stand (head ∷ table_piece ∷ frame_piece ∷ []) (IMAGE_BASE + EHDR_SIZE - IMAGE_BASE) (file_length (laid_in v) tables) behind
       (behind_up (IMAGE_BASE + EHDR_SIZE) v.sound.low v.sound.headers)
 
-  -- the headers, if there is room for them
-  pub headers_stand : HasHeaderRoom (laid_in v).bounds → HeadersStand (files_in v) (binding_in v) (leaders_in v) (laid_in v) tables file
-  unfolding file_with pieces_with
-  headers_stand room =
-      let end = room.headers_end in
-      let long = headers_long (files_in v) (binding_in v) (leaders_in v) (laid_in v) tables in
-      first_stands (piece 0 (headers_in v tables)) (file_length (laid_in v) tables) behind
-      (up_from ((laid_in v).bounds.headers_end - IMAGE_BASE) (0 + length (headers_in v tables)) (file_length (laid_in v) tables) behind
-      (omega (arith, end, long)) (behind_up (laid_in v).bounds.headers_end v.sound.above room.inside))
+  -- the file does not end before the last byte of a section
+  file_long : (laid_in v).bounds.file_end - IMAGE_BASE ≤ file_length (laid_in v) tables
+  file_long = up_within ((laid_in v).bounds.file_end - IMAGE_BASE) (file_length (laid_in v) tables) (end_pieces (laid_in v) tables) (ends_up (laid_in v) tables)
 
--- both together are all pieces of the file
-pub all_stand : (files : List File) (b : Bindings) (leaders : List (Option ℕ)) (laid : LaidOut) (tables : Option SymbolTables) (file : List ℕ)
-    → HeadersStand files b leaders laid tables file → PiecesStand files b leaders laid tables file → AllStand files b leaders laid tables file
+  -- a piece of the unwind records has no byte in common with those behind
+  away_behind : (p : Piece) → (laid_in v).bounds.frame_header - IMAGE_BASE ≤ p.at → p.at + length p.bytes ≤ (laid_in v).bounds.frames_end - IMAGE_BASE → All (IsAway p) behind
+  unfolding relocated_pieces
+  away_behind p start end =
+      let inside = v.sound.frames.inside in
+      All-append (IsAway p) (relocated_pieces (files_in v) (binding_in v) (leaders_in v) (laid_in v)) (end_pieces (laid_in v) tables)
+      (away_members p (laid_in v).bounds.frame_header (laid_in v).bounds.frames_end (member_pieces (files_in v) (binding_in v) (leaders_in v) (laid_in v)) (laid_in v).members
+      start end (member_up v) v.sound.frames.apart)
+      (away_after p ((laid_in v).bounds.file_end - IMAGE_BASE) (file_length (laid_in v) tables) (end_pieces (laid_in v) tables)
+      (omega (arith, end, inside)) (ends_up (laid_in v) tables))
+
+  module _ (fit : FitFrames (laid_in v).bounds frames) where
+    table_away : IsAway table_piece frame_piece
+    table_away =
+        let room = v.sound.frames in
+        let long = fit.header in
+        let le : table_piece.at + length table_piece.bytes ≤ frame_piece.at = omega (arith, long, room.from, room.header, room.between) in
+        inl le
+
+    table_behind : All (IsAway table_piece) behind
+    table_behind =
+        let room = v.sound.frames in
+        let long = fit.header in
+        away_behind table_piece (omega arith) (omega (arith, long, room.from, room.header, room.between, room.frames))
+
+    frame_behind : All (IsAway frame_piece) behind
+    frame_behind =
+        let room = v.sound.frames in
+        let long = fit.frame in
+        away_behind frame_piece (omega (arith, room.header, room.between)) (omega (arith, long, room.from, room.header, room.between, room.frames))
+
+    -- both stand whole
+    pub frames_stand : FramesStand (laid_in v) frames file
+    unfolding file_with pieces_with
+    frames_stand =
+        let room = v.sound.frames in
+        let size : ℕ = file_length (laid_in v) tables in
+        let whole : List Piece = head ∷ table_piece ∷ frame_piece ∷ behind in
+        let first = stands whole size table_piece
+        (shows_more head (table_piece ∷ frame_piece ∷ behind) table_piece
+        (shows_alone table_piece (frame_piece ∷ behind) (All-cons (IsAway table_piece) frame_piece behind table_away table_behind)))
+        (omega (arith, fit.header, room.from, room.header, room.between, room.frames, room.inside, file_long)) in
+        let second = stands whole size frame_piece
+        (shows_more head (table_piece ∷ frame_piece ∷ behind) frame_piece
+        (shows_more table_piece (frame_piece ∷ behind) frame_piece (shows_alone frame_piece behind frame_behind)))
+        (omega (arith, fit.frame, room.from, room.header, room.between, room.frames, room.inside, file_long)) in
+        All-cons (Stands file) table_piece (frame_piece ∷ []) first (All-cons (Stands file) frame_piece [] second (All-nil (Stands file)))
+
+    -- the headers end before them, or they have no byte
+    head_away : HasHeaderRoom (laid_in v).bounds → IsAway head table_piece × IsAway head frame_piece
+    head_away ends =
+        let room = v.sound.frames in
+        let table_long = fit.header in
+        let frame_long = fit.frame in
+        let end = ends.headers_end in
+        let long = headers_long (files_in v) (binding_in v) (leaders_in v) (laid_in v) tables in
+        elim (cases_Bool (laid_in v).bounds.has_frames) [
+          | inl has ↦
+              let above = room.above has in
+              let first : head.at + length head.bytes ≤ table_piece.at = omega (arith, long, end, above) in
+              let second : head.at + length head.bytes ≤ frame_piece.at = omega (arith, long, end, above, room.header, room.between) in
+              (inl first, inl second)
+          | inr none ↦
+              let nothing = room.none none in
+              let first : table_piece.at + length table_piece.bytes ≤ head.at = omega (arith, table_long, nothing, room.from, room.header, room.between, room.frames) in
+              let second : frame_piece.at + length frame_piece.bytes ≤ head.at = omega (arith, frame_long, nothing, room.from, room.header, room.between, room.frames) in
+              (inr first, inr second)
+        ]
+
+    -- the headers, if there is room for them
+    pub headers_stand : HasHeaderRoom (laid_in v).bounds → HeadersStand (files_in v) (binding_in v) (leaders_in v) (laid_in v) tables file
+    unfolding file_with pieces_with
+    headers_stand room =
+        let end = room.headers_end in
+        let inside = room.inside in
+        let long = headers_long (files_in v) (binding_in v) (leaders_in v) (laid_in v) tables in
+        let away = head_away room in
+        let others = away_after head ((laid_in v).bounds.headers_end - IMAGE_BASE) (file_length (laid_in v) tables) behind (omega (arith, end, long))
+        (behind_up (laid_in v).bounds.headers_end v.sound.above room.inside) in
+        stands (head ∷ table_piece ∷ frame_piece ∷ behind) (file_length (laid_in v) tables) head
+        (shows_alone head (table_piece ∷ frame_piece ∷ behind)
+        (All-cons (IsAway head) table_piece (frame_piece ∷ behind) away.0 (All-cons (IsAway head) frame_piece behind away.1 others)))
+        (omega (arith, end, long, inside, file_long))
+
+-- all three together are all pieces of the file
+pub all_stand : (files : List File) (b : Bindings) (leaders : List (Option ℕ)) (laid : LaidOut) (frames : FrameContents) (tables : Option SymbolTables) (file : List ℕ)
+    → HeadersStand files b leaders laid tables file → FramesStand laid frames file → PiecesStand files b leaders laid tables file
+    → AllStand files b leaders laid frames tables file
 unfolding pieces_with
-all_stand files b leaders laid tables file head others =
-    All-cons (Stands file) (piece 0 (headers_with files b leaders laid tables)) (pieces_behind files b leaders laid tables) head others
+all_stand files b leaders laid frames tables file head records others =
+    All-cons (Stands file) (piece 0 (headers_with files b leaders laid tables)) (frame_pieces laid frames ++ pieces_behind files b leaders laid tables) head
+    (All-append (Stands file) (frame_pieces laid frames) (pieces_behind files b leaders laid tables) records others)
 
 -- what holds of each piece holds of those of each member
 split_all : (P : Piece → Type 0) (xs ys : List Piece) → All P (xs ++ ys) → All P xs × All P ys

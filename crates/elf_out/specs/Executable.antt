@@ -1,5 +1,5 @@
--- The executable (System V gABI, "Program Loading"): the headers, the sections at their places, and after them the symbol table with the names
--- of its symbols, the names of the sections and the section headers.
+-- The executable (System V gABI, "Program Loading"): the headers, the unwind records and the sections at their places, and after them the symbol
+-- table with the names of its symbols, the names of the sections and the section headers.
 use Rattle.std.specs.Prelude.{ℕ, ◌+◌, ◌-◌, ◌*◌, Bool, Option, Some, None, if◌then◌else◌, List, [], ◌∷◌, ◌++◌, length, flat_map}
 use Rattle.std.specs.List.{range_with_len}
 use Rattle.lk_base.specs.Arithmetic.{up}
@@ -37,6 +37,14 @@ after_tables offset (Some t) = tables_end (up offset 8) (Some t)
 abbrev pub table_count : Option SymbolTables → ℕ
 table_count None = 0
 table_count (Some t) = 2
+
+-- what `.eh_frame_hdr` and `.eh_frame` hold (LSB Core, "Exception Frames")
+pub record FrameContents : Type 0 where
+  pub header : List ℕ
+  pub frame : List ℕ
+
+abbrev pub frame_pieces : LaidOut → FrameContents → List Piece
+frame_pieces laid frames = piece (laid.bounds.frame_header - IMAGE_BASE) frames.header ∷ piece (laid.bounds.frames - IMAGE_BASE) frames.frame ∷ []
 
 -- the symbol table at a file offset, and the names after it
 abbrev pub table_pieces : (at : ℕ) → Option SymbolTables → List Piece
@@ -81,8 +89,9 @@ module _ (files : List File) (b : Bindings) (leaders : List (Option ℕ)) (laid 
       (header_count laid tables)
       ++ program_headers laid.bounds
 
+module _ (files : List File) (b : Bindings) (leaders : List (Option ℕ)) (laid : LaidOut) (frames : FrameContents) (tables : Option SymbolTables) where
   unfoldable pub pieces_with : List Piece
-  pieces_with = piece 0 headers_with ∷ relocated_pieces files b leaders laid ++ end_pieces laid tables
+  pieces_with = piece 0 (headers_with files b leaders laid tables) ∷ frame_pieces laid frames ++ (relocated_pieces files b leaders laid ++ end_pieces laid tables)
 
   unfoldable pub file_with : List ℕ
   file_with = image pieces_with (file_length laid tables)
@@ -91,5 +100,5 @@ module _ (files : List File) (b : Bindings) (kept : List Bool) (strip : Bool) (l
   unfoldable pub headers : List ℕ
   headers = headers_with files b leaders laid (own_tables files b kept strip leaders laid)
 
-  unfoldable pub executable : List ℕ
-  executable = file_with files b leaders laid (own_tables files b kept strip leaders laid)
+  unfoldable pub executable : FrameContents → List ℕ
+  executable frames = file_with files b leaders laid frames (own_tables files b kept strip leaders laid)

@@ -1,7 +1,7 @@
 -- The headers of the executable (System V gABI, "ELF Header", "Program Header", "Section Header").
 use Rattle.std.specs.Prelude.{ℕ, ◌+◌, ◌-◌, ◌%◌, ◌^◌, Option, Some, None, if◌then◌else◌, List, [], ◌∷◌, ◌++◌, length, codes, flat_map, bit_and, bit_or}
 use Rattle.std.specs.List.{fold}
-use Rattle.lk_base.specs.declared.abi.TheConstants.{ELFCLASS64, ELFDATA2LSB, EV_CURRENT, ET_EXEC, EM_RISCV, EHDR_SIZE, PHDR_SIZE, SHDR_SIZE, IMAGE_BASE, PAGE, PT_LOAD, PT_TLS, PT_GNU_STACK, PF_R, PF_W, PF_X, SHT_NULL, SHT_STRTAB, SHT_SYMTAB, SYM_SIZE, EF_RISCV_RVC, EF_RISCV_TSO, EF_RISCV_FLOAT_ABI}
+use Rattle.lk_base.specs.declared.abi.TheConstants.{ELFCLASS64, ELFDATA2LSB, EV_CURRENT, ET_EXEC, EM_RISCV, EHDR_SIZE, PHDR_SIZE, SHDR_SIZE, IMAGE_BASE, PAGE, PT_LOAD, PT_TLS, PT_GNU_EH_FRAME, PT_GNU_STACK, PF_R, PF_W, PF_X, SHT_NULL, SHT_STRTAB, SHT_SYMTAB, SYM_SIZE, EF_RISCV_RVC, EF_RISCV_TSO, EF_RISCV_FLOAT_ABI}
 use Rattle.elf_out.specs.declared.header_bytes.ProgramHeader.{ProgramHeader}
 use Rattle.elf_out.specs.declared.header_bytes.SectionHeader.{SectionHeader}
 use Rattle.link_sections.specs.declared.layouts.Bounds.{Bounds}
@@ -54,16 +54,29 @@ tls_segment b = record {
   align = b.tls_align;
 }
 
+-- the table by which unwind records are found: `.eh_frame_hdr` (LSB Core, "Program Header")
+abbrev pub frame_segment : Bounds → ProgramHeader
+frame_segment b = record {
+  kind = PT_GNU_EH_FRAME;
+  flags = PF_R;
+  offset = b.frame_header - IMAGE_BASE;
+  address = b.frame_header;
+  file_size = b.frame_header_end - b.frame_header;
+  memory_size = b.frame_header_end - b.frame_header;
+  align = 4;
+}
+
 -- the stack is read and written
 abbrev pub stack_segment : ProgramHeader
 stack_segment = record { kind = PT_GNU_STACK; flags = PF_R + PF_W; offset = 0; address = 0; file_size = 0; memory_size = 0; align = 16 }
 
--- read only, with the headers; read and execute; read and write; the thread-local sections; the stack
+-- read only, with the headers; read and execute; read and write; the thread-local sections; the unwind records; the stack
 abbrev pub segments : Bounds → List ProgramHeader
 segments b = loaded PF_R IMAGE_BASE b.r_end b.r_end
     ∷ (if b.has_rx then loaded (PF_R + PF_X) b.rx_start b.rx_end b.rx_end ∷ [] else [])
     ++ ((if b.has_rw then loaded (PF_R + PF_W) b.rw_start b.bits_end b.nobits_end ∷ [] else [])
-    ++ ((if b.has_tls then tls_segment b ∷ [] else []) ++ stack_segment ∷ []))
+    ++ ((if b.has_tls then tls_segment b ∷ [] else [])
+    ++ ((if b.has_frames then frame_segment b ∷ [] else []) ++ stack_segment ∷ [])))
 
 unfoldable pub program_headers : Bounds → List ℕ
 program_headers b = flat_map program_header (segments b)

@@ -2,6 +2,6 @@ pub mod Symbols
 pub mod Headers
 pub mod Executable
 pub mod Ends
-pub mod Frames
+pub mod BlockHeaders
 pub mod Standing
 pub mod TablesView

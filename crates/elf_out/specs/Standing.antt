@@ -7,7 +7,7 @@ use Rattle.link_sections.specs.declared.layouts.Bounds.{Bounds}
 use Rattle.link_sections.specs.InputSections.{input_at}
 use Rattle.link_sections.specs.LaidOut.{LaidOut, start_at}
 use Rattle.link_sections.specs.Leaders.{leads}
-use Rattle.elf_out.specs.Executable.{end_pieces, headers_with, pieces_with}
+use Rattle.elf_out.specs.Executable.{FrameContents, end_pieces, frame_pieces, headers_with, pieces_with}
 use Rattle.elf_out.specs.Headers.{segments}
 use Rattle.elf_out.specs.Symbols.{SymbolTables}
 use Rattle.reloc_apply.specs.Image.{Piece, piece}
@@ -22,6 +22,14 @@ pub record HasHeaderRoom (bounds : Bounds) : Type 0 where
   pub headers_end : bounds.headers_end ≡ IMAGE_BASE + (EHDR_SIZE + PHDR_SIZE * length (segments bounds))
   pub inside : bounds.headers_end ≤ bounds.file_end
 
+-- the unwind records and their table have as many bytes as the layout has room for
+pub record FitFrames (bounds : Bounds) (frames : FrameContents) : Type 0 where
+  pub header : length frames.header ≡ bounds.frame_header_end - bounds.frame_header
+  pub frame : length frames.frame ≡ bounds.frames_end - bounds.frames
+
+abbrev pub FramesStand : LaidOut → FrameContents → (file : List ℕ) → Type 0
+FramesStand laid frames file = All (Stands file) (frame_pieces laid frames)
+
 module _ (files : List File) (b : Bindings) (leaders : List (Option ℕ)) (laid : LaidOut) (tables : Option SymbolTables) where
   -- the sections with their relocations done, the pieces of pools and the linker's table; the symbol table and its names; the names of the
   -- sections and the section headers
@@ -35,9 +43,9 @@ module _ (files : List File) (b : Bindings) (leaders : List (Option ℕ)) (laid 
   abbrev pub HeadersStand : (file : List ℕ) → Type 0
   HeadersStand file = Stands file (piece 0 (headers_with files b leaders laid tables))
 
-  -- all pieces of which the file is made
-  abbrev pub AllStand : (file : List ℕ) → Type 0
-  AllStand file = All (Stands file) (pieces_with files b leaders laid tables)
+-- all pieces of which the file is made
+abbrev pub AllStand : List File → Bindings → List (Option ℕ) → LaidOut → FrameContents → Option SymbolTables → (file : List ℕ) → Type 0
+AllStand files b leaders laid frames tables file = All (Stands file) (pieces_with files b leaders laid frames tables)
 
 module _ (files : List File) (b : Bindings) (leaders : List (Option ℕ)) (laid : LaidOut) where
   -- the bytes of section n, with its relocations done, stand whole at its place

@@ -1,9 +1,10 @@
--- The bytes of the symbol table and of the names of its symbols, as plain lists.
+-- The bytes of the symbol table and of the names of its symbols, and those of the unwind records, as plain lists.
 use Rattle.std.specs.Prelude.{Option, option_map}
+use Rattle.lk_tables.specs.declared.frames.FrameBytes.{FrameBytes}
 use Rattle.link_sections.specs.declared.views.View.{View}
 use Rattle.link_sections.specs.Views.{binding_in, files_in, laid_in, leaders_in}
 use Rattle.elf_out.specs.declared.symbols.SymbolTables.{SymbolTables as HeldTables}
-use Rattle.elf_out.specs.Executable.{own_tables}
+use Rattle.elf_out.specs.Executable.{FrameContents, own_tables}
 use Rattle.elf_out.specs.Symbols.{SymbolTables}
 
 abbrev pub tables_view : HeldTables → SymbolTables
@@ -11,6 +12,9 @@ tables_view t = record { symbols = t.symbols.items; strings = t.strings.items }
 
 abbrev pub tables_if : Option HeldTables → Option SymbolTables
 tables_if t = option_map tables_view t
+
+abbrev pub frame_contents : FrameBytes → FrameContents
+frame_contents f = record { header = f.header.items; frame = f.frame.items }
 
 -- those of a view
 abbrev pub tables_in : View → Option SymbolTables

@@ -1,13 +1,14 @@
 //! The executable of a link (System V gABI, "ELF Header", "Program Header", "Section Header", "Program Loading"): the file
-//! header and the program headers, the sections at their places with their relocations done, and after them the symbol table, the
-//! names of the sections and the section headers. It is written block by block, each block by itself; the symbol table is made once.
+//! header and the program headers, the unwind records and the sections at their places with their relocations done, and after them the symbol
+//! table, the names of the sections and the section headers. It is written block by block, each block by itself; the symbol table is made once.
 //!
 //! `flags` finds what the executable keeps of the flags of its files, `header_bytes` has the bytes of single headers, `segments`
 //! those of all headers that stand at the start, `symbols` those of the symbol table, `sections` those of the names and of the section
-//! headers, `ends` computes where these stand, `frames` makes what a block has of all of them, `blocks` makes one block, and `writer` the
-//! whole file by many workers.
+//! headers, `ends` computes where these stand, `block_headers` makes what a block has of all of them, `frames` copies the unwind records,
+//! `blocks` makes one block, and `writer` the whole file by many workers.
 #![tactic(auto)]
 
+mod block_headers;
 mod blocks;
 mod ends;
 mod flags;

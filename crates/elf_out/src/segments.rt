@@ -3,16 +3,18 @@
 ghost use Rattle.std.specs.Prelude.{◌≡◌, ◌≤◌, ◌++◌, ◌∷◌, [], if◌then◌else◌, flat_map, length, IfOk, OnOk};
 ghost use Rattle.link_sections.specs.Views.{binding_in, files_in, laid_in, leaders_in};
 ghost use Rattle.elf_out.specs.Executable as spec;
-ghost use Rattle.elf_out.specs.Frames.{headers_in};
+ghost use Rattle.elf_out.specs.BlockHeaders.{headers_in};
 ghost use Rattle.elf_out.specs.TablesView.{tables_if, tables_in};
-ghost use Rattle.elf_out.specs.Headers.{loaded, program_header, program_headers, segments, tls_segment};
+ghost use Rattle.elf_out.specs.Headers.{frame_segment, loaded, program_header, program_headers, segments, tls_segment};
 
 use crate::ends::{ends_of, table_count};
 use crate::flags::kept_flags;
 use crate::header_bytes::{ProgramHeader, offset_of, push_file_header, push_program_header};
 use crate::symbols::SymbolTables;
 use link_sections::{Bounds, View};
-use lk_base::abi::{IMAGE_BASE, PAGE, PF_R, PF_W, PF_X, PT_GNU_STACK, PT_LOAD, PT_TLS};
+use lk_base::abi::{
+    IMAGE_BASE, PAGE, PF_R, PF_W, PF_X, PT_GNU_EH_FRAME, PT_GNU_STACK, PT_LOAD, PT_TLS,
+};
 use std::alloc::{AllocError, Global};
 use symbol_addresses::entry_address;
 
@@ -67,6 +69,22 @@ fn thread_local(bounds: &Bounds) -> ProgramHeader
     }
 }
 
+/// The segment of the table by which unwind records are found.
+fn frame_table(bounds: &Bounds) -> ProgramHeader
+    ensures { result ≡ frame_segment bounds.now }
+{
+    let size = bounds.frame_header_end.saturating_sub(bounds.frame_header);
+    ProgramHeader {
+        kind: PT_GNU_EH_FRAME,
+        flags: PF_R,
+        offset: offset_of(bounds.frame_header),
+        address: bounds.frame_header,
+        file_size: size,
+        memory_size: size,
+        align: 4,
+    }
+}
+
 /// Adds the program header of a segment, if there is one.
 fn push_if(out: &mut Vec<u8>, is_there: bool, header: &ProgramHeader) -> Result<(), AllocError>
     ensures { OnOk result (out.new.items ≡ out.old.items ++ flat_map program_header (if is_there then header.now ∷ [] else [])) }
@@ -78,7 +96,7 @@ fn push_if(out: &mut Vec<u8>, is_there: bool, header: &ProgramHeader) -> Result<
 }
 
 /// Adds the program headers: of what is only read, with the headers, of what is executed, of what is written, of thread-local
-/// storage, and of the stack.
+/// storage, of the table of unwind records, and of the stack.
 fn push_program_headers(out: &mut Vec<u8>, bounds: &Bounds) -> Result<(), AllocError>
     ensures { OnOk result (out.new.items ≡ out.old.items ++ program_headers bounds.now) }
 {
@@ -94,6 +112,7 @@ fn push_program_headers(out: &mut Vec<u8>, bounds: &Bounds) -> Result<(), AllocE
     push_if(out, bounds.has_rx, &executed)?;
     push_if(out, bounds.has_rw, &written)?;
     push_if(out, bounds.has_tls, &thread_local(bounds))?;
+    push_if(out, bounds.has_frames, &frame_table(bounds))?;
     push_program_header(out, &STACK)?;
     Ok(())
 }
@@ -111,9 +130,12 @@ fn one_if(is_there: bool) -> u16
 /// How many program headers there are: that of what is only read and that of the stack always.
 pub fn segment_count(bounds: &Bounds) -> u16
     ensures value { result ≡ length (segments bounds.now) }
-    ensures most { result ≤ 5 }
+    ensures most { result ≤ 6 }
 {
-    2 + one_if(bounds.has_rx) + one_if(bounds.has_rw) + one_if(bounds.has_tls)
+    2 + one_if(bounds.has_rx)
+        + one_if(bounds.has_rw)
+        + one_if(bounds.has_tls)
+        + one_if(bounds.has_frames)
 }
 
 /// How many section headers there are with these tables at the file's end.

@@ -2,16 +2,16 @@
 //! order, and mostly stand in order of offset already; else they are sorted. Then the bytes of no call and of no alignment may meet
 //! another entry's, and the two parts of a pair have to stand next to each other.
 
-ghost use Rattle.std.specs.Prelude.{◌≡◌, ◌+◌, ◌-◌, ◌<◌, ◌≤◌, ◌^◌, ◌++◌, ◌||◌, find, is_some, length, map, slice_index_or, IfOk, IfSome, [], true, false};
+ghost use Rattle.std.specs.Prelude.{◌≡◌, ◌+◌, ◌-◌, ◌<◌, ◌≤◌, ◌^◌, ◌++◌, ◌||◌, ◌&&◌, not, find, is_some, length, map, slice_index_or, IfOk, IfSome, [], true, false};
 ghost use Rattle.std.specs.List.{All, range_with_len};
 ghost use Rattle.std.specs.List.Sorted.{IsNonDecreasingBy};
 ghost use Rattle.lk_base.specs.Order.{stable_order};
 ghost use Rattle.lk_tables.specs.Checks.{checked, passes, from_on, Follows};
-ghost use Rattle.lk_base.specs.RelocKinds.{is_linked};
+ghost use Rattle.lk_base.specs.RelocKinds.{is_frame_kind, is_linked};
 ghost use Rattle.lk_tables.specs.declared.objects.Reloc.{Reloc as RelocOf};
 ghost use Rattle.lk_tables.specs.Files.{no_reloc};
 ghost use Rattle.lk_tables.specs.Relocations as read;
-ghost use Rattle.lk_tables.specs.Sections.{section_of};
+ghost use Rattle.lk_tables.specs.Sections.{is_frame, section_of};
 ghost use Rattle.elf_read.specs.Relocations as loops;
 
 use crate::entries::reloc_at;
@@ -19,9 +19,9 @@ use crate::header::{ends_past, flaw};
 use crate::sound_file::SoundFile;
 use lk_base::abi::{R_RISCV_SET_ULEB128, R_RISCV_SUB_ULEB128, RELA_SIZE, SHT_NOBITS};
 use lk_base::kinds::{BAD_RELOC, BAD_ULEB, RELOC_KIND};
-use lk_base::relocations::{is_linked, is_lower, is_uleb, moves_bytes};
+use lk_base::relocations::{is_frame_kind, is_linked, is_lower, is_uleb, moves_bytes};
 use lk_base::{Flaw, ReadFault};
-use lk_tables::{Reloc, Section, contents_of, is_alignment, place_width, uleb_len};
+use lk_tables::{Reloc, Section, contents_of, is_alignment, is_frame, place_width, uleb_len};
 use std::alloc::{AllocError, Global};
 
 /// A relocation with the number of its entry.
@@ -55,7 +55,8 @@ pub fn read_relocations(
     ensures list { IfOk result (λ relocs. relocs.items ≡ read.relocs_of file.now.bytes.now index) }
 {
     let contents = contents_of(file.bytes, target);
-    let relocs = read_entries(alloc, file, index, rela, target, contents)?;
+    let framed = is_frame(file.bytes, target);
+    let relocs = read_entries(alloc, file, index, rela, target, framed, contents)?;
     if rises(relocs.as_slice()) {
         check_rising(file, index, rela, contents, relocs.as_slice())?;
         check_rising_pairs(file, index, rela, relocs.as_slice())?;
@@ -96,17 +97,19 @@ fn sort(
     Ok(sorted)
 }
 
-/// All relocations in file order, if each is sound.
+/// All relocations in file order, if each is sound; `framed` if they are those of unwind records.
 fn read_entries(
     alloc: Global,
     file: &SoundFile,
     index: u32,
     rela: &Section,
     target: &Section,
+    framed: bool,
     contents: &[u8],
 ) -> Result<Vec<Reloc>, ReadFault>
     requires rela { rela.now ≡ section_of file.now.bytes.now index }
     requires target { target.now ≡ read.target_of file.now.bytes.now index }
+    requires framed { framed ≡ is_frame file.now.bytes.now target.now }
     requires contents { contents.now ≡ read.target_bytes file.now.bytes.now index }
     requires within { rela.now.offset + rela.now.size ≤ length file.now.bytes.now }
     ensures checked { Follows result (from_on (read.entry_checks file.now.bytes.now index) 0 (read.rela_count file.now.bytes.now index)) }
@@ -116,23 +119,25 @@ fn read_entries(
     let count = rela.size as usize / RELA_SIZE as usize;
     let mut relocs = Vec::with_capacity(alloc, count)?;
     for entry in 0..count {
-        relocs.push(read_entry(file, index, rela, target, contents, entry)?)?;
+        relocs.push(read_entry(file, index, rela, target, framed, contents, entry)?)?;
     }
     Ok(relocs)
 }
 
 /// The relocation of entry `entry` of the relocation section `index`, if it is sound.
-#[tactic(auto, unfolding(lk_tables::specs::Relocations::entry_checks))]
+#[tactic(auto, unfolding(lk_tables::specs::Relocations::entry_checks, lk_tables::specs::Relocations::is_bad_kind))]
 fn read_entry(
     file: &SoundFile,
     index: u32,
     rela: &Section,
     target: &Section,
+    framed: bool,
     contents: &[u8],
     entry: usize,
 ) -> Result<Reloc, Flaw>
     requires rela { rela.now ≡ section_of file.now.bytes.now index }
     requires target { target.now ≡ read.target_of file.now.bytes.now index }
+    requires framed { framed ≡ is_frame file.now.bytes.now target.now }
     requires contents { contents.now ≡ read.target_bytes file.now.bytes.now index }
     requires within { rela.now.offset + rela.now.size ≤ length file.now.bytes.now }
     requires entry { entry < read.rela_count file.now.bytes.now index }
@@ -144,7 +149,7 @@ fn read_entry(
     if file.symbols.len() <= reloc.symbol as usize {
         return Err(flaw(BAD_RELOC, index, place));
     }
-    if !is_linked(reloc.kind) {
+    if is_bad_kind(framed, reloc.kind) {
         return Err(Flaw {
             kind: RELOC_KIND,
             section: index,
@@ -162,6 +167,14 @@ fn read_entry(
         return Err(flaw(BAD_RELOC, index, place));
     }
     Ok(reloc)
+}
+
+/// Whether a kind is not linked, or not in unwind records.
+fn is_bad_kind(framed: bool, kind: u32) -> bool
+    ensures value { result ≡ (not (is_linked kind) || (framed && not (is_frame_kind kind))) }
+    ensures linked { result ≡ false → is_linked kind ≡ true }
+{
+    !is_linked(kind) || (framed && !is_frame_kind(kind))
 }
 
 /// How many bytes a relocation changes, if its kind is linked.

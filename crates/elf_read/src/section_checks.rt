@@ -12,7 +12,7 @@ use lk_base::abi::{
     SHT_REL,
 };
 use lk_base::kinds::{BAD_ALIGNMENT, BAD_SECTION, COMPRESSED, LIMIT};
-use lk_tables::{Section, is_loaded, is_loaded_type};
+use lk_tables::{Section, is_loaded, is_loaded_type, is_written, text_of};
 
 /// The checks of a section by itself.
 #[tactic(auto, unfolding(lk_tables::specs::Bodies::plain_checks))]
@@ -29,7 +29,7 @@ pub fn check_plain(file: &SoundFile, index: u32, section: &Section) -> Result<()
     )?;
     reject(section.sh_type == SHT_REL, flaw(BAD_SECTION, index, place))?;
     reject(
-        loaded && is_bad_loaded(count, section),
+        loaded && is_bad_loaded(file.bytes, count, section),
         flaw(BAD_SECTION, index, place),
     )?;
     reject(
@@ -50,12 +50,15 @@ pub fn is_bad_alignment(align: u64) -> bool
     (align != 0 && !align.is_power_of_two()) || ALIGN_MAX < align
 }
 
-/// Whether a loaded section has a type that is not linked, is both written to and executed, or is in the order of no section.
+/// Whether a loaded section has a type that is not linked, is both written to and executed, is in the order of no section, or is named like
+/// the table of unwind records, which the linker writes.
 #[tactic(auto, unfolding(lk_tables::specs::Bodies::is_bad_loaded))]
-fn is_bad_loaded(count: usize, section: &Section) -> bool
-    ensures { result ≡ read.is_bad_loaded count section.now }
+fn is_bad_loaded(bytes: &[u8], count: usize, section: &Section) -> bool
+    ensures { result ≡ read.is_bad_loaded bytes.now count section.now }
 {
     !is_loaded_type(section.sh_type)
         || (section.flags & SHF_WRITE != 0 && section.flags & SHF_EXECINSTR != 0)
         || (section.flags & SHF_LINK_ORDER != 0 && count <= section.link as usize)
+        || (is_written(bytes, section)
+            && text_of(bytes, &section.name) == b".eh_frame_hdr".as_slice())
 }

@@ -11,9 +11,9 @@ ghost use Rattle.lk_tables.specs.Sections.{section_of, takes_relocs};
 ghost use Rattle.lk_tables.specs.Symbols as tables;
 
 use crate::header::open;
-use crate::sections::{section_in, written_at};
+use crate::sections::section_in;
 use lk_base::abi::SHDR_SIZE;
-use lk_tables::{Head, Section, Symbol};
+use lk_tables::{Head, Section, Symbol, is_read};
 
 /// A file with its head, which is of its bytes.
 #[derive(Clone, Copy)]
@@ -81,12 +81,12 @@ impl<'a> SoundFile<'a> {
         self.symbols[index]
     }
 
-    /// Whether the relocations of a section are read: those of a written one are.
+    /// Whether the relocations of a section are read: those of a written one are, and of one that has unwind records.
     #[tactic(auto, unfolding(lk_tables::specs::Sections::takes_relocs))]
     pub fn takes_relocs(&self, index: u32) -> bool
         requires { index < length self.now.sections.now }
         ensures { result ≡ takes_relocs self.now.bytes.now index }
     {
-        written_at(self.bytes, self.sections, index as usize)
+        0 < index && is_read(self.bytes, &self.section(index))
     }
 }

@@ -8,9 +8,9 @@ use Rattle.std.proofs.lemmas.Bool.Decides.{Decides-and, Decides-eqb, Decides-int
 use Rattle.std.proofs.lemmas.Slice.Eq.{bytes_eq-Decides, slice_eq-Decides}
 use Rattle.link_sections.specs.declared.targets.Target.{Target}
 use Rattle.link_sections.specs.declared.targets.Target.TheVariants.{Section, Piece, Number, Zero, Linker, Unbound}
-use Rattle.link_sections.specs.FoldItems.{FoldItem}
+use Rattle.link_sections.specs.FoldItems.{FoldFrame, FoldItem}
 use Rattle.icf_part.specs.Folding.{ArePaired, Fits, IsCongruence, Key, Matches, Pair, Site, item_at, key_of, pair, target_at}
-use Rattle.icf_part.specs.Leaders.{are_bytes_of, fits, has_pair, is_congruence, matches, same_key, same_site, same_target}
+use Rattle.icf_part.specs.Leaders.{are_bytes_of, fits, has_pair, is_congruence, matches, same_frame, same_key, same_site, same_target}
 use Rattle.icf_part.proofs.Paired.{from_range, head_or_tail, in_range, in_tail}
 
 -- equal targets
@@ -70,29 +70,91 @@ site_Decides s t =
     (Decides-and (s.kind == t.kind) (int_eq s.addend t.addend && beq s.is_section_symbol t.is_section_symbol) (Decides-eqb s.kind t.kind)
     (Decides-and (int_eq s.addend t.addend) (beq s.is_section_symbol t.is_section_symbol) (Decides-int_eq s.addend t.addend) (booleans_Decides s.is_section_symbol t.is_section_symbol))))
 
-pub key_from : (i j : Key) → i.bytes ≡ j.bytes → i.flags ≡ j.flags → i.sh_type ≡ j.sh_type → i.align ≡ j.align → i.output ≡ j.output → i.sites ≡ j.sites → i ≡ j
-key_from i j bytes flags kind align output sites =
-    let make : List ℕ → ℕ → ℕ → ℕ → List ℕ → List Site → Key = λ b f t n o s. record { bytes = b; flags = f; sh_type = t; align = n; output = o; sites = s } in
-    ap (λ b. make b i.flags i.sh_type i.align i.output i.sites) bytes
-    ∙ ap (λ f. make j.bytes f i.sh_type i.align i.output i.sites) flags
-    ∙ ap (λ t. make j.bytes j.flags t i.align i.output i.sites) kind
-    ∙ ap (λ n. make j.bytes j.flags j.sh_type n i.output i.sites) align
-    ∙ ap (λ o. make j.bytes j.flags j.sh_type j.align o i.sites) output
-    ∙ ap (make j.bytes j.flags j.sh_type j.align j.output) sites
-
 all_six : {A B C D E F : Type 0} (a b c d e f : Bool) → Decides a A → Decides b B → Decides c C → Decides d D → Decides e E → Decides f F →
     Decides (a && (b && (c && (d && (e && f))))) (A × (B × (C × (D × (E × F)))))
 all_six a b c d e f da db dc dd de df =
     Decides-and a (b && (c && (d && (e && f)))) da (Decides-and b (c && (d && (e && f))) db (Decides-and c (d && (e && f)) dc (Decides-and d (e && f) dd (Decides-and e f de df))))
 
+pub frame_from : (f g : FoldFrame) → f.bytes ≡ g.bytes → f.cie ≡ g.cie → f.offset ≡ g.offset → f.rest ≡ g.rest → f.others ≡ g.others → f.shared ≡ g.shared → f ≡ g
+frame_from f g bytes cie offset rest others shared =
+    let make : List ℕ → List ℕ → ℕ → ℤ → ℕ → ℕ → FoldFrame = λ b c o r n m. record { bytes = b; cie = c; offset = o; rest = r; others = n; shared = m } in
+    ap (λ b. make b f.cie f.offset f.rest f.others f.shared) bytes
+    ∙ ap (λ c. make g.bytes c f.offset f.rest f.others f.shared) cie
+    ∙ ap (λ o. make g.bytes g.cie o f.rest f.others f.shared) offset
+    ∙ ap (λ r. make g.bytes g.cie g.offset r f.others f.shared) rest
+    ∙ ap (λ n. make g.bytes g.cie g.offset g.rest n f.shared) others
+    ∙ ap (make g.bytes g.cie g.offset g.rest g.others) shared
+
+frame_Decides : (f g : FoldFrame) → Decides (same_frame f g) (f ≡ g)
+frame_Decides f g =
+    Decides-like (same_frame f g)
+    (λ p. frame_from f g p.0 p.1.0 p.1.1.0 p.1.1.1.0 p.1.1.1.1.0 p.1.1.1.1.1)
+    (λ e. (ap (λ (x : FoldFrame). x.bytes) e, (ap (λ (x : FoldFrame). x.cie) e, (ap (λ (x : FoldFrame). x.offset) e, (ap (λ (x : FoldFrame). x.rest) e, (ap (λ (x : FoldFrame). x.others) e, ap (λ (x : FoldFrame). x.shared) e))))))
+    (all_six (bytes_eq f.bytes g.bytes) (bytes_eq f.cie g.cie) (f.offset == g.offset) (int_eq f.rest g.rest) (f.others == g.others) (f.shared == g.shared)
+    (bytes_eq-Decides f.bytes g.bytes) (bytes_eq-Decides f.cie g.cie) (Decides-eqb f.offset g.offset) (Decides-int_eq f.rest g.rest) (Decides-eqb f.others g.others) (Decides-eqb f.shared g.shared))
+
+-- what a key has beside its header
+record Rest : Type 0 where
+  own : ℕ
+  frames : List FoldFrame
+  sites : List Site
+
+abbrev rest_of : Key → Rest
+rest_of k = record { own = k.own; frames = k.frames; sites = k.sites }
+
+rest_from : (x y : Rest) → x.own ≡ y.own → x.frames ≡ y.frames → x.sites ≡ y.sites → x ≡ y
+rest_from x y own frames sites =
+    let make : ℕ → List FoldFrame → List Site → Rest = λ n f s. record { own = n; frames = f; sites = s } in
+    ap (λ n. make n x.frames x.sites) own ∙ ap (λ f. make y.own f x.sites) frames ∙ ap (make y.own y.frames) sites
+
+header_from : (i j : Key) → i.bytes ≡ j.bytes → i.flags ≡ j.flags → i.sh_type ≡ j.sh_type → i.align ≡ j.align → i.output ≡ j.output → rest_of i ≡ rest_of j → i ≡ j
+header_from i j bytes flags kind align output rest =
+    let make : List ℕ → ℕ → ℕ → ℕ → List ℕ → Rest → Key = λ b f t n o r.
+    record { bytes = b; flags = f; sh_type = t; align = n; output = o; own = r.own; frames = r.frames; sites = r.sites } in
+    ap (λ b. make b i.flags i.sh_type i.align i.output (rest_of i)) bytes
+    ∙ ap (λ f. make j.bytes f i.sh_type i.align i.output (rest_of i)) flags
+    ∙ ap (λ t. make j.bytes j.flags t i.align i.output (rest_of i)) kind
+    ∙ ap (λ n. make j.bytes j.flags j.sh_type n i.output (rest_of i)) align
+    ∙ ap (λ o. make j.bytes j.flags j.sh_type j.align o (rest_of i)) output
+    ∙ ap (make j.bytes j.flags j.sh_type j.align j.output) rest
+
+pub key_from : (i j : Key) → i.bytes ≡ j.bytes → i.flags ≡ j.flags → i.sh_type ≡ j.sh_type → i.align ≡ j.align → i.output ≡ j.output →
+    i.own ≡ j.own → i.frames ≡ j.frames → i.sites ≡ j.sites → i ≡ j
+key_from i j bytes flags kind align output own frames sites = header_from i j bytes flags kind align output (rest_from (rest_of i) (rest_of j) own frames sites)
+
+abbrev same_rest : Key → Key → Bool
+same_rest i j = i.own == j.own && (pointwise same_frame i.frames j.frames && pointwise same_site i.sites j.sites)
+
+rest_Decides : (i j : Key) → Decides (same_rest i j) ((i.own ≡ j.own) × ((i.frames ≡ j.frames) × (i.sites ≡ j.sites)))
+rest_Decides i j =
+    Decides-and (i.own == j.own) (pointwise same_frame i.frames j.frames && pointwise same_site i.sites j.sites) (Decides-eqb i.own j.own)
+    (Decides-and (pointwise same_frame i.frames j.frames) (pointwise same_site i.sites j.sites)
+    (slice_eq-Decides frame_Decides i.frames j.frames (pointwise same_frame i.frames j.frames) refl)
+    (slice_eq-Decides site_Decides i.sites j.sites (pointwise same_site i.sites j.sites) refl))
+
 pub key_Decides : (i j : Key) → Decides (same_key i j) (i ≡ j)
 key_Decides i j =
     Decides-like (same_key i j)
-    (λ p. key_from i j p.0 p.1.0 p.1.1.0 p.1.1.1.0 p.1.1.1.1.0 p.1.1.1.1.1)
-    (λ e. (ap (λ (k : Key). k.bytes) e, (ap (λ (k : Key). k.flags) e, (ap (λ (k : Key). k.sh_type) e, (ap (λ (k : Key). k.align) e, (ap (λ (k : Key). k.output) e, ap (λ (k : Key). k.sites) e))))))
-    (all_six (bytes_eq i.bytes j.bytes) (i.flags == j.flags) (i.sh_type == j.sh_type) (i.align == j.align) (bytes_eq i.output j.output) (pointwise same_site i.sites j.sites)
+    (λ p. key_from i j p.0 p.1.0 p.1.1.0 p.1.1.1.0 p.1.1.1.1.0 p.1.1.1.1.1.0 p.1.1.1.1.1.1.0 p.1.1.1.1.1.1.1)
+    (λ e. (
+      ap (λ (k : Key). k.bytes) e,
+      (
+        ap (λ (k : Key). k.flags) e,
+        (
+          ap (λ (k : Key). k.sh_type) e,
+          (
+            ap (λ (k : Key). k.align) e,
+            (
+              ap (λ (k : Key). k.output) e,
+              (ap (λ (k : Key). k.own) e, (ap (λ (k : Key). k.frames) e, ap (λ (k : Key). k.sites) e)),
+            ),
+          ),
+        ),
+      ),
+    ))
+    (all_six (bytes_eq i.bytes j.bytes) (i.flags == j.flags) (i.sh_type == j.sh_type) (i.align == j.align) (bytes_eq i.output j.output) (same_rest i j)
     (bytes_eq-Decides i.bytes j.bytes) (Decides-eqb i.flags j.flags) (Decides-eqb i.sh_type j.sh_type) (Decides-eqb i.align j.align) (bytes_eq-Decides i.output j.output)
-    (slice_eq-Decides site_Decides i.sites j.sites (pointwise same_site i.sites j.sites) refl))
+    (rest_Decides i j))
 
 -- what passes a test of a list, and a list whose elements all pass
 pub record Passes {X : Type 0} (p : X → Bool) (xs : List X) : Type 0 where

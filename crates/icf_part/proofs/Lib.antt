@@ -1,6 +1,7 @@
 pub mod Collected
 pub mod Counting
 pub mod Deciding
+pub mod Framed
 pub mod Paired
 pub mod PartSteps
 pub mod PlacesWide

@@ -11,6 +11,7 @@ use Rattle.icf_part.specs.Numbered.{AreCarried, AreEnds, AreFirsts, IsNumbering,
 use Rattle.icf_part.specs.Signatures.{all_places, bytes_of, end_classes, key_words, output_of, places, reloc_places, rest_at, rest_words, rest_words_of, site_words}
 use Rattle.icf_part.proofs.Counting.{leads_fewer, news_lead}
 use Rattle.icf_part.proofs.Deciding.{key_Decides, key_from}
+use Rattle.icf_part.proofs.Framed.{frames_apart}
 use Rattle.icf_part.proofs.NumberedRows.{numbers_same, numbers_tell}
 use Rattle.icf_part.proofs.Paired.{classes_have, classes_tell}
 use Rattle.icf_part.proofs.PlacesWide.{places_wide}
@@ -71,16 +72,20 @@ module _ (items : List FoldItem) where
       let align : i.align ≡ j.align = ap (λ (k : Key). k.align) e in
       let bytes = one_number bytes_of items a b la lb (ap (λ (k : Key). k.bytes) e) in
       let output = one_number output_of items a b la lb (ap (λ (k : Key). k.output) e) in
+      let own : i.own ≡ j.own = ap (λ (k : Key). k.own) e in
+      let frames : i.frames ≡ j.frames = ap (λ (k : Key). k.frames) e in
       let relocs = along site_words i.relocs j.relocs sites (λ k lt site. same_words (get_or i.relocs k no_reloc) (get_or j.relocs k no_reloc) site) in
-      cc (bytes, output, flags, kind, align, relocs)
+      cc (bytes, output, flags, kind, align, own, frames, relocs)
 
   key_tells : (a b : ℕ) → a < length items → b < length items → key items a ≡ key items b → key_of (item_at items a) ≡ key_of (item_at items b)
   unfolding key_words
   key_tells a b la lb same =
       let i = item_at items a in
       let j = item_at items b in
+      let rest = frames_apart i.frames j.frames (flat_map site_words i.relocs) (flat_map site_words j.relocs) (ap (λ l. get_or l 6 0) same) (ap (drop 7) same) in
       key_from (key_of i) (key_of j) (one_text bytes_of items a b la lb (ap (λ l. get_or l 0 0) same)) (ap (λ l. get_or l 2 0) same) (ap (λ l. get_or l 3 0) same)
-      (ap (λ l. get_or l 4 0) same) (one_text output_of items a b la lb (ap (λ l. get_or l 1 0) same)) (sites_told i.relocs j.relocs (ap (drop 5) same))
+      (ap (λ l. get_or l 4 0) same) (one_text output_of items a b la lb (ap (λ l. get_or l 1 0) same)) (ap (λ l. get_or l 5 0) same) rest.0
+      (sites_told i.relocs j.relocs rest.1)
 
   -- what a congruence pairs leads to equal classes, where these join the pairs
   ends_fit : IsStrictlyIncreasing (sections_of items) → (pairs : List Pair) → IsCongruence items pairs → (c : List ℕ) → Joins pairs c → (a b : ℕ) → Contains pairs (pair a b) →

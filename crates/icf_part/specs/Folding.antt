@@ -5,7 +5,7 @@ use Rattle.lk_base.specs.declared.abi.TheConstants.{R_RISCV_NONE, SHT_NULL}
 use Rattle.link_sections.specs.declared.targets.Target.{Target}
 use Rattle.link_sections.specs.declared.targets.Target.TheVariants.{Section}
 use Rattle.link_sections.specs.declared.fold_items.FoldReloc.{FoldReloc}
-use Rattle.link_sections.specs.FoldItems.{FoldItem}
+use Rattle.link_sections.specs.FoldItems.{FoldFrame, FoldItem}
 
 -- a relocation without what it stands for
 pub record Site : Type 0 where
@@ -14,13 +14,15 @@ pub record Site : Type 0 where
   pub addend : ℤ
   pub is_section_symbol : Bool
 
--- what must be equal of two items, whatever is folded
+-- what must be equal of two items, whatever is folded: so many of the sites are of their own relocations, and those of their frames follow
 pub record Key : Type 0 where
   pub bytes : List ℕ
   pub flags : ℕ
   pub sh_type : ℕ
   pub align : ℕ
   pub output : List ℕ
+  pub own : ℕ
+  pub frames : List FoldFrame
   pub sites : List Site
 
 abbrev pub site_of : FoldReloc → Site
@@ -33,11 +35,13 @@ key_of i = record {
   sh_type = i.sh_type;
   align = i.align;
   output = i.output;
+  own = i.own;
+  frames = i.frames;
   sites = map site_of i.relocs;
 }
 
 abbrev pub no_item : FoldItem
-no_item = record { section = 0; bytes = []; flags = 0; sh_type = SHT_NULL; align = 0; output = []; relocs = [] }
+no_item = record { section = 0; bytes = []; flags = 0; sh_type = SHT_NULL; align = 0; output = []; own = 0; frames = []; relocs = [] }
 
 abbrev pub no_reloc : FoldReloc
 no_reloc = record { offset = 0; kind = R_RISCV_NONE; addend = pos 0; is_section_symbol = false; target = None }

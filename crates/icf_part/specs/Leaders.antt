@@ -7,7 +7,7 @@ use Rattle.std.specs.List.{list_all, list_any, range_with_len}
 use Rattle.std.specs.Ordering.{int_eq}
 use Rattle.link_sections.specs.declared.targets.Target.{Target}
 use Rattle.link_sections.specs.declared.targets.Target.TheVariants.{Section, Piece, Number, Zero, Linker, Unbound}
-use Rattle.link_sections.specs.FoldItems.{FoldItem}
+use Rattle.link_sections.specs.FoldItems.{FoldFrame, FoldItem}
 use Rattle.icf_part.specs.Folding.{Site, Key, Pair, item_at, key_of, pair, target_at}
 
 -- two targets are equal
@@ -25,9 +25,13 @@ same_target t u = false
 abbrev pub same_site : Site → Site → Bool
 same_site s t = s.offset == t.offset && (s.kind == t.kind && (int_eq s.addend t.addend && beq s.is_section_symbol t.is_section_symbol))
 
+abbrev pub same_frame : FoldFrame → FoldFrame → Bool
+same_frame f g = bytes_eq f.bytes g.bytes && (bytes_eq f.cie g.cie && (f.offset == g.offset && (int_eq f.rest g.rest
+    && (f.others == g.others && f.shared == g.shared))))
+
 abbrev pub same_key : Key → Key → Bool
 same_key i j = bytes_eq i.bytes j.bytes && (i.flags == j.flags && (i.sh_type == j.sh_type && (i.align == j.align
-    && (bytes_eq i.output j.output && pointwise same_site i.sites j.sites))))
+    && (bytes_eq i.output j.output && (i.own == j.own && (pointwise same_frame i.frames j.frames && pointwise same_site i.sites j.sites))))))
 
 -- the one target is section s and the other section t, with one offset and one rest
 abbrev pub are_bytes_of : (s t : ℕ) → Option Target → Option Target → Bool

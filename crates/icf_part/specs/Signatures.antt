@@ -8,7 +8,7 @@ use Rattle.lk_base.specs.declared.defects.LinkStop.{LinkStop}
 use Rattle.link_sections.specs.declared.targets.Target.{Target}
 use Rattle.link_sections.specs.declared.targets.Target.TheVariants.{Section, Piece, Number, Zero, Linker, Unbound}
 use Rattle.link_sections.specs.declared.fold_items.FoldReloc.{FoldReloc}
-use Rattle.link_sections.specs.FoldItems.{FoldItem, sections_of}
+use Rattle.link_sections.specs.FoldItems.{FoldFrame, FoldItem, sections_of}
 use Rattle.icf_part.specs.Folding.{item_at}
 
 -- their contents and their output sections
@@ -48,9 +48,16 @@ flag_of false = 0
 unfoldable pub site_words : FoldReloc → List ℕ
 site_words r = r.offset ∷ r.kind ∷ flag_of r.is_section_symbol ∷ signed_words r.addend
 
+-- an FDE and its CIE, the bytes of each after their number
+unfoldable pub frame_words : FoldFrame → List ℕ
+frame_words f = length f.bytes ∷ length f.cie ∷ f.offset ∷ f.others ∷ f.shared ∷ (signed_words f.rest ++ (f.bytes ++ f.cie))
+
 -- what must be equal of two items, whatever is folded; `bytes` and `output` are the numbers of an item's contents and its output section
+abbrev pub head_words : (bytes output : ℕ) → FoldItem → List ℕ
+head_words bytes output i = bytes ∷ output ∷ i.flags ∷ i.sh_type ∷ i.align ∷ i.own ∷ length i.frames ∷ []
+
 unfoldable pub key_words : (bytes output : ℕ) → FoldItem → List ℕ
-key_words bytes output i = bytes ∷ output ∷ i.flags ∷ i.sh_type ∷ i.align ∷ flat_map site_words i.relocs
+key_words bytes output i = (head_words bytes output i ++ flat_map frame_words i.frames) ++ flat_map site_words i.relocs
 
 abbrev pub key_at : List FoldItem → (bytes outputs : List ℕ) → (a : ℕ) → List ℕ
 key_at items bytes outputs a = key_words (slice_index bytes a) (slice_index outputs a) (item_at items a)

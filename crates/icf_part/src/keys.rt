@@ -1,7 +1,7 @@
 //! What must be equal of two items, whatever is folded.
 
 ghost use Rattle.std.specs.Prelude.{◌≡◌, ◌<◌, ◌≤◌, ◌++◌, All, length, flat_map, IfOk, OnOk};
-ghost use Rattle.link_sections.specs.FoldItems.{item_view};
+ghost use Rattle.link_sections.specs.FoldItems.{frame_view, frame_views, item_view};
 ghost use Rattle.work_split.specs.Pieces.{Tiles};
 ghost use Rattle.icf_part.specs.Chosen.{views_at};
 ghost use Rattle.icf_part.specs.Signatures as spec;
@@ -9,7 +9,7 @@ ghost use Rattle.icf_part.specs.Signatures as spec;
 use crate::parts::one_part;
 use crate::words::{push_row, signed_words};
 use flat_rows::Rows;
-use link_sections::{FoldItem, FoldReloc};
+use link_sections::{FoldFrame, FoldItem, FoldReloc};
 use lk_base::LinkStop;
 use std::alloc::{AllocError, Global};
 use std::ops::Range;
@@ -94,9 +94,52 @@ fn put_key(words: &mut Vec<u64>, item: &FoldItem, bytes: u32, output: u32) -> Re
         item.flags,
         item.sh_type as u64,
         item.align,
+        item.own,
+        item.frames.len() as u64,
     ])?;
+    push_frames(words, item.frames.as_slice())?;
     for k in 0..item.relocs.len() {
         push_site(words, &item.relocs[k])?;
+    }
+    Ok(())
+}
+
+/// Adds what is compared of FDEs and their CIEs.
+fn push_frames(words: &mut Vec<u64>, frames: &[FoldFrame]) -> Result<(), AllocError>
+    ensures { OnOk result (words.new.items ≡ words.old.items ++ flat_map spec.frame_words (frame_views frames.now)) }
+{
+    for frame in frames {
+        push_frame(words, frame)?;
+    }
+    Ok(())
+}
+
+/// Adds what is compared of one of them.
+#[tactic(auto, unfolding(crate::specs::Signatures::frame_words))]
+fn push_frame(words: &mut Vec<u64>, frame: &FoldFrame) -> Result<(), AllocError>
+    ensures { OnOk result (words.new.items ≡ words.old.items ++ spec.frame_words (frame_view frame.now)) }
+{
+    words.extend_from_slice(&[
+        frame.head.len() as u64 + frame.tail.len() as u64,
+        frame.cie.len() as u64,
+        frame.offset,
+        frame.others,
+        frame.shared,
+    ])?;
+    words.extend_from_slice(&signed_words(frame.rest))?;
+    push_bytes(words, frame.head)?;
+    push_bytes(words, frame.tail)?;
+    push_bytes(words, frame.cie)?;
+    Ok(())
+}
+
+/// Adds bytes, each as a number.
+fn push_bytes(words: &mut Vec<u64>, bytes: &[u8]) -> Result<(), AllocError>
+    ensures { OnOk result (words.new.items ≡ words.old.items ++ bytes.now) }
+{
+    words.reserve(bytes.len())?;
+    for byte in bytes {
+        words.push(*byte as u64)?;
     }
     Ok(())
 }

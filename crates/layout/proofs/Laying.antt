@@ -19,7 +19,7 @@ use Rattle.output_sections.specs.declared.items.Item.{Item as HeldItem}
 use Rattle.layout.specs.declared.placing.Walked.{Walked}
 use Rattle.output_sections.specs.Items.{Item, items}
 use Rattle.output_sections.specs.ItemViews.{item_view, items_view}
-use Rattle.layout.specs.Layout.{AreReady, Trail, all_cuts, all_weight, bounds_of, cut_defects, laid_by, laid_of, layout_defects, layout_of, limit_defects, no_trail, trail_of, trail_view}
+use Rattle.layout.specs.Layout.{AreReady, AreSmall, FrameSizes, Trail, all_cuts, all_weight, bounds_of, cut_defects, laid_by, laid_of, layout_defects, layout_of, limit_defects, no_trail, trail_of, trail_view}
 use Rattle.output_sections.specs.Order.{Orders, orders_of}
 use Rattle.layout.specs.Walk.{stands_view}
 use Rattle.layout.proofs.Chain.{AreBounds, bounds_are}
@@ -34,7 +34,7 @@ unfolding trail_view stands_view
 none_counts w sections pools is =
     (ap (λ (t : Trail). length t.stands.starts) is ∙ length-replicate {A = ℕ} sections 0, ap (λ (t : Trail). length t.stands.pools) is ∙ length-replicate {A = ℕ} pools 0)
 
-pub room_of : (list : List HeldItem) → length list ≤ 2 ^ 30 → sum_by (λ item. item.size) (items_view list) < 2 ^ 61 + 2 ^ 40 → all_weight (orders_of (items_view list)) + 2 ^ 32 < 2 ^ 63
+pub room_of : (list : List HeldItem) → length list ≤ 2 ^ 30 → sum_by (λ item. item.size) (items_view list) < 2 ^ 61 + 2 ^ 40 → all_weight (orders_of (items_view list)) + 2 ^ 45 < 2 ^ 63
 room_of list few bytes =
     let most = weight_most (items_view list) in
     let count : length (items_view list) ≡ length list = length-map list item_view in
@@ -58,35 +58,35 @@ unfolding layout_view laid_by trail_view stands_view
 view_is w held b leaders sizes sections cuts = rw cuts refl
 
 pub laid_now : (files : List File) (b : Bindings) (pools lent_pools : List Pool) (words : ℕ) (leaders : List (Option ℕ)) (sizes : List (List Cut)) (list lent : List HeldItem)
-    (w : Walked) (bounds : Bounds) (sections : ℕ) → lent ≡ list → items_view list ≡ items files b pools words leaders → sections ≡ section_total files → lent_pools ≡ pools
-    → bounds ≡ bounds_of sizes (orders_of (items_view lent))
-    → trail_view w ≡ trail_of sizes (items_view lent) (orders_of (items_view lent)) (bounds_of sizes (orders_of (items_view lent))) (no_trail sections (length lent_pools))
-    → laid_by leaders sizes (section_total files) bounds (trail_view w) ≡ layout_of files b pools words leaders sizes
+    (w : Walked) (fs : FrameSizes) (bounds : Bounds) (sections : ℕ) → lent ≡ list → items_view list ≡ items files b pools words leaders → sections ≡ section_total files → lent_pools ≡ pools
+    → bounds ≡ bounds_of sizes (orders_of (items_view lent)) fs
+    → trail_view w ≡ trail_of sizes (items_view lent) (orders_of (items_view lent)) (bounds_of sizes (orders_of (items_view lent)) fs) (no_trail sections (length lent_pools))
+    → laid_by leaders sizes (section_total files) bounds (trail_view w) ≡ layout_of files b pools words leaders sizes fs
 unfolding layout_of laid_of
-laid_now files b pools lent_pools words leaders sizes list lent w bounds sections same view count those bounds_is trail_is =
+laid_now files b pools lent_pools words leaders sizes list lent w fs bounds sections same view count those bounds_is trail_is =
     let parts : items_view lent ≡ items files b pools words leaders = ap items_view same ∙ view in
     let total : ℕ = section_total files in
     ap (λ t. laid_by leaders sizes total bounds t) trail_is
-    ∙ ap (λ k. laid_by leaders sizes total k (trail_of sizes (items_view lent) (orders_of (items_view lent)) (bounds_of sizes (orders_of (items_view lent))) (no_trail sections (length lent_pools)))) bounds_is
-    ∙ ap (λ l. laid_by leaders sizes total (bounds_of sizes (orders_of l)) (trail_of sizes l (orders_of l) (bounds_of sizes (orders_of l)) (no_trail sections (length lent_pools)))) parts
-    ∙ ap (λ n. laid_by leaders sizes total (bounds_of sizes (orders_of (items files b pools words leaders)))
-    (trail_of sizes (items files b pools words leaders) (orders_of (items files b pools words leaders)) (bounds_of sizes (orders_of (items files b pools words leaders))) (no_trail n (length lent_pools)))) count
-    ∙ ap (λ l. laid_by leaders sizes total (bounds_of sizes (orders_of (items files b pools words leaders)))
-    (trail_of sizes (items files b pools words leaders) (orders_of (items files b pools words leaders)) (bounds_of sizes (orders_of (items files b pools words leaders))) (no_trail total (length l)))) those
+    ∙ ap (λ k. laid_by leaders sizes total k (trail_of sizes (items_view lent) (orders_of (items_view lent)) (bounds_of sizes (orders_of (items_view lent)) fs) (no_trail sections (length lent_pools)))) bounds_is
+    ∙ ap (λ l. laid_by leaders sizes total (bounds_of sizes (orders_of l) fs) (trail_of sizes l (orders_of l) (bounds_of sizes (orders_of l) fs) (no_trail sections (length lent_pools)))) parts
+    ∙ ap (λ n. laid_by leaders sizes total (bounds_of sizes (orders_of (items files b pools words leaders)) fs)
+    (trail_of sizes (items files b pools words leaders) (orders_of (items files b pools words leaders)) (bounds_of sizes (orders_of (items files b pools words leaders)) fs) (no_trail n (length lent_pools)))) count
+    ∙ ap (λ l. laid_by leaders sizes total (bounds_of sizes (orders_of (items files b pools words leaders)) fs)
+    (trail_of sizes (items files b pools words leaders) (orders_of (items files b pools words leaders)) (bounds_of sizes (orders_of (items files b pools words leaders)) fs) (no_trail total (length l)))) those
 
 pub cuts_are : (w : Walked) (bounds : Bounds) (leaders : List (Option ℕ)) (sizes : List (List Cut)) (sections : ℕ) (laid : LaidOut)
     → laid_by leaders sizes sections bounds (trail_view w) ≡ laid → all_cuts leaders sizes w.places.starts.items sections ≡ laid.cuts
 unfolding laid_by trail_view stands_view
 cuts_are w bounds leaders sizes sections laid is = ap (λ (l : LaidOut). l.cuts) is
 
-pub low_starts : (w : Walked) (sizes : List (List Cut)) (parts : List Item) (o : Orders) (bounds : Bounds) (sections pools count : ℕ) → All AreApart sizes
-    → AreReady sizes sections pools o → all_weight o + 2 ^ 32 < 2 ^ 63 → bounds ≡ bounds_of sizes o
+pub low_starts : (w : Walked) (sizes : List (List Cut)) (parts : List Item) (o : Orders) (fs : FrameSizes) (bounds : Bounds) (sections pools count : ℕ) → All AreApart sizes
+    → AreReady sizes sections pools o → all_weight o + 2 ^ 45 < 2 ^ 63 → AreSmall fs → bounds ≡ bounds_of sizes o fs
     → trail_view w ≡ trail_of sizes parts o bounds (no_trail sections count) → All (λ start. start < 2 ^ 63) w.places.starts.items
 unfolding trail_view stands_view
-low_starts w sizes parts o bounds sections pools count apart ready room bounds_is t_is =
+low_starts w sizes parts o fs bounds sections pools count apart ready room small bounds_is t_is =
     let fit : AllFit sizes o = all_fit sizes sections pools o apart ready in
-    let is : AreBounds sizes o bounds = subst (AreBounds sizes o) (sym bounds_is) (bounds_are sizes o) in
-    let low = (trail_low sizes parts o bounds sections count fit is (rising sizes o bounds fit room is)).starts in
+    let is : AreBounds sizes o fs bounds = subst (AreBounds sizes o fs) (sym bounds_is) (bounds_are sizes o fs) in
+    let low = (trail_low sizes parts o fs bounds sections count fit is (rising sizes o fs bounds fit room small is)).starts in
     let starts : w.places.starts.items ≡ (trail_of sizes parts o bounds (no_trail sections count)).stands.starts = ap (λ (t : Trail). t.stands.starts) t_is in
     rw starts (λ k d lt. omega (arith, low k d lt))
 

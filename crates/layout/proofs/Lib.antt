@@ -31,3 +31,4 @@ pub mod Seen
 pub mod Segments
 pub mod Apart
 pub mod Aligned
+pub mod FrameSpots

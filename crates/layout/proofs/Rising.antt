@@ -8,12 +8,13 @@ use Rattle.lk_tables.specs.declared.classes.Class.TheVariants.{R, Rx, TlsBits, T
 use Rattle.link_sections.specs.declared.layouts.Bounds.{Bounds}
 use Rattle.link_sections.specs.Cuts.{AreApart, Cut}
 use Rattle.output_sections.specs.declared.rows.Row.{Row}
-use Rattle.layout.specs.Layout.{AreReady, after_tls_bits, all_weight, count_of, has_rw, has_rx, has_tls, headers_of, last_end, tls_align_of, tls_cursor}
+use Rattle.layout.specs.Layout.{AreReady, AreSmall, FrameSizes, after_tls_bits, all_weight, count_of, has_frames, has_rw, has_rx, has_tls, headers_of, last_end, tls_align_of, tls_cursor}
 use Rattle.output_sections.specs.Order.{Orders, rows_in}
 use Rattle.layout.specs.Spots.{AreRising}
 use Rattle.layout.specs.Walk.{IsReady, cursor_at, end_along, greatest, is_empty, runs, weight}
 use Rattle.layout.proofs.Chain.{AreBounds}
 use Rattle.layout.proofs.Cursors.{Moves, RowFits, end_moves, greatest_most}
+use Rattle.layout.proofs.FrameSpots.{r_between}
 use Rattle.layout.proofs.Runs.{each_run}
 use Rattle.layout.proofs.SizeBounds.{size_most}
 
@@ -50,10 +51,10 @@ count_most : (b : Bool) → count_of b ≤ 1
 count_most true = omega arith
 count_most false = omega arith
 
-headers_most : (o : Orders) → (2 ≤ headers_of o) × (headers_of o ≤ 5)
+headers_most : (o : Orders) (fs : FrameSizes) → (2 ≤ headers_of o fs) × (headers_of o fs ≤ 6)
 unfolding headers_of
-headers_most o =
-    (omega arith, omega (arith, count_most (has_rx o), count_most (has_rw o), count_most (has_tls o)))
+headers_most o fs =
+    (omega arith, omega (arith, count_most (has_rx o), count_most (has_rw o), count_most (has_tls o), count_most (has_frames fs)))
 
 -- how each class moves the cursor
 pub record ClassMoves (sizes : List (List Cut)) (o : Orders) (b : Bounds) : Type 0 where
@@ -64,8 +65,8 @@ pub record ClassMoves (sizes : List (List Cut)) (o : Orders) (b : Bounds) : Type
   pub rw_bits : Moves (cursor_at b.tls_bits_end) (end_along sizes (cursor_at b.tls_bits_end) (runs (rows_in o RwBits))) (weight (rows_in o RwBits))
   pub rw_nobits : Moves (cursor_at b.bits_end) (end_along sizes (cursor_at b.bits_end) (runs (rows_in o RwNobits))) (weight (rows_in o RwNobits))
 
-pub class_moves : (sizes : List (List Cut)) (o : Orders) (b : Bounds) → AllFit sizes o → AreBounds sizes o b → ClassMoves sizes o b
-class_moves sizes o b fit is =
+pub class_moves : (sizes : List (List Cut)) (o : Orders) (fs : FrameSizes) (b : Bounds) → AllFit sizes o → AreBounds sizes o fs b → ClassMoves sizes o b
+class_moves sizes o fs b fit is =
     let extra : b.tls_align ≤ ALIGN_MAX = omega (arith, is.tls_align, tls_most sizes o fit) in
     let bits = end_moves sizes (tls_cursor sizes o b.rw_start b.tls_align) (rows_in o TlsBits) extra (each_run (RowFits sizes) (rows_in o TlsBits) (fit TlsBits)) in
     record {
@@ -88,17 +89,19 @@ image_between : (p : Bool) (w n : ℕ) → w ≤ n → (w ≤ (if not p then n e
 image_between true w n le = (omega arith, omega arith)
 image_between false w n le = (omega arith, omega arith)
 
-pub rising : (sizes : List (List Cut)) (o : Orders) (b : Bounds) → AllFit sizes o → all_weight o + 2 ^ 32 < 2 ^ 63 → AreBounds sizes o b → AreRising b
-rising sizes o b fit room is =
-    let m = class_moves sizes o b fit is in
-    let headers = headers_most o in
+pub rising : (sizes : List (List Cut)) (o : Orders) (fs : FrameSizes) (b : Bounds) → AllFit sizes o → all_weight o + 2 ^ 45 < 2 ^ 63 → AreSmall fs → AreBounds sizes o fs b → AreRising b
+rising sizes o fs b fit room small is =
+    let m = class_moves sizes o fs b fit is in
+    let headers = headers_most o fs in
+    let rows = r_between sizes o fs b is in
     let rx_up : b.r_end ≤ up b.r_end PAGE = up_least b.r_end PAGE (omega arith) in
     let rx_near : up b.r_end PAGE < b.r_end + PAGE = up_below b.r_end PAGE (omega arith) in
     let rw_up : b.rx_end ≤ up b.rx_end PAGE = up_least b.rx_end PAGE (omega arith) in
     let rw_near : up b.rx_end PAGE < b.rx_end + PAGE = up_below b.rx_end PAGE (omega arith) in
-    let headers_is : b.headers ≡ headers_of o = is.headers in
+    let headers_is : b.headers ≡ headers_of o fs = is.headers in
     let first : b.headers_end ≡ IMAGE_BASE + (EHDR_SIZE + PHDR_SIZE * b.headers) = is.headers_end in
-    let r : (b.headers_end ≤ b.r_end) × (b.r_end ≤ b.headers_end + weight (rows_in o R)) = (omega (arith, m.r.least, is.r_end), omega (arith, m.r.most, is.r_end)) in
+    let r : (b.headers_end ≤ b.r_end) × (b.r_end ≤ b.headers_end + weight (rows_in o R) + 2 ^ 44) =
+    (omega (arith, m.r.least, rows.0), omega (arith, m.r.most, rows.1, small.header, small.frame)) in
     let rx : (b.rx_start ≤ b.rx_end) × (b.rx_end ≤ b.rx_start + weight (rows_in o Rx)) = (omega (arith, m.rx.least, is.rx_end), omega (arith, m.rx.most, is.rx_end)) in
     let tls : (b.rw_start ≤ b.tls_bits_end) × (b.tls_bits_end ≤ b.rw_start + weight (rows_in o TlsBits)) =
     (omega (arith, m.tls_bits.least, is.tls_bits_end), omega (arith, m.tls_bits.most, is.tls_bits_end)) in

@@ -9,13 +9,14 @@ use Rattle.link_sections.specs.Cuts.{AreApart as AreCutsApart, Cut}
 use Rattle.link_sections.specs.LaidOut.{LaidOut, OutputSection, layout_view}
 use Rattle.lk_tables.specs.declared.classes.Class.TheVariants.{TlsNobits, RwNobits}
 use Rattle.output_sections.specs.Items.{AreLeaders, IsSized, Item, items}
-use Rattle.layout.specs.Layout.{FitSizes, after_tls_bits, all_weight, bounds_of, laid_by, laid_of, layout_of, no_trail, trail_of}
+use Rattle.layout.specs.Layout.{AreSmall, FitSizes, FrameSizes, after_tls_bits, all_weight, bounds_of, laid_by, laid_of, layout_of, no_trail, trail_of}
 use Rattle.output_sections.specs.Order.{Orders, orders_of, rows_in}
-use Rattle.layout.specs.Spots.{AreApart, AreRising, HaveAlignments, HaveSegments, HaveZeros, IsWithinClass, without_tls_zeros}
+use Rattle.layout.specs.Spots.{AreApart, AreRising, HasFrames, HaveAlignments, HaveSegments, HaveZeros, IsWithinClass, without_tls_zeros}
 use Rattle.layout.specs.Walk.{cursor_at, members_along, runs}
 use Rattle.layout.proofs.Aligned.{IsAligned, align_rows, aligned_members, aligned_zeros}
 use Rattle.layout.proofs.Apart.{outputs_apart, outputs_within, trail_outputs}
 use Rattle.layout.proofs.Chain.{AreBounds, bounds_are}
+use Rattle.layout.proofs.FrameSpots.{has_them}
 use Rattle.layout.proofs.ItemFacts.{ready_of}
 use Rattle.layout.proofs.Rising.{AllFit, all_fit, rising}
 use Rattle.layout.proofs.Segments.{segments}
@@ -23,30 +24,31 @@ use Rattle.layout.proofs.Trails.{trail_members, trail_zeros}
 use Rattle.layout.proofs.Zeros.{others_between, threads_between}
 
 -- the laws of a layout
-pub record HasLaws (files : List File) (b : Bindings) (laid : LaidOut) : Type 0 where
+pub record HasLaws (files : List File) (b : Bindings) (fs : FrameSizes) (laid : LaidOut) : Type 0 where
   pub rising : AreRising laid.bounds
   pub segments : HaveSegments laid.bounds
   pub apart : AreApart laid.bounds.headers_end (without_tls_zeros laid.outputs)
   pub inside : All (IsWithinClass laid.bounds) laid.outputs
   pub aligned : HaveAlignments files b laid
   pub zeros : HaveZeros laid
+  pub framed : HasFrames fs laid.bounds
 
-laws_by : (files : List File) (b : Bindings) (leaders : List (Option ℕ)) (sizes : List (List Cut)) (parts : List Item) (o : Orders) (bounds : Bounds) (pools : ℕ) → AllFit sizes o
-    → AreBounds sizes o bounds → AreRising bounds → All (IsAligned files b) (trail_of sizes parts o bounds (no_trail (section_total files) pools)).members
+laws_by : (files : List File) (b : Bindings) (leaders : List (Option ℕ)) (sizes : List (List Cut)) (parts : List Item) (o : Orders) (fs : FrameSizes) (bounds : Bounds) (pools : ℕ) → AllFit sizes o
+    → AreBounds sizes o fs bounds → AreRising bounds → All (IsAligned files b) (trail_of sizes parts o bounds (no_trail (section_total files) pools)).members
     → All (IsAligned files b) (trail_of sizes parts o bounds (no_trail (section_total files) pools)).zeros
-    → HasLaws files b (laid_by leaders sizes (section_total files) bounds (trail_of sizes parts o bounds (no_trail (section_total files) pools)))
+    → HasLaws files b fs (laid_by leaders sizes (section_total files) bounds (trail_of sizes parts o bounds (no_trail (section_total files) pools)))
 unfolding laid_by
-laws_by files b leaders sizes parts o bounds pools fit is rises members zeros =
+laws_by files b leaders sizes parts o fs bounds pools fit is rises members zeros =
     let outputs = trail_outputs sizes parts o bounds (section_total files) pools in
-    let threads = threads_between sizes o bounds fit is in
-    let others = others_between sizes o bounds fit is in
+    let threads = threads_between sizes o fs bounds fit is in
+    let others = others_between sizes o fs bounds fit is in
     let P : List OutputSection → Type 0 = λ l. AreApart bounds.headers_end (without_tls_zeros l) in
     let Q : List OutputSection → Type 0 = λ l. All (IsWithinClass bounds) l in
     record {
       rising = rises;
-      segments = segments sizes o bounds fit is rises;
-      apart = subst P (sym outputs) (outputs_apart sizes parts o bounds fit is rises);
-      inside = subst Q (sym outputs) (outputs_within sizes parts o bounds fit is rises);
+      segments = segments sizes o fs bounds fit is rises;
+      apart = subst P (sym outputs) (outputs_apart sizes parts o fs bounds fit is rises);
+      inside = subst Q (sym outputs) (outputs_within sizes parts o fs bounds fit is rises);
       aligned = record { members = members; zeros = zeros };
       zeros = record {
         threads = members_along sizes (after_tls_bits sizes o bounds.rw_start bounds.tls_align) (runs (rows_in o TlsNobits));
@@ -57,21 +59,22 @@ laws_by files b leaders sizes parts o bounds pools fit is rises members zeros =
         others_order = others.order;
         others_end = others.end;
       };
+      framed = has_them sizes o fs bounds is;
     }
 
-laws_laid : (files : List File) (b : Bindings) (pools : List Pool) (words : ℕ) (leaders : List (Option ℕ)) (sizes : List (List Cut)) → AreLeaders files b leaders
+laws_laid : (files : List File) (b : Bindings) (pools : List Pool) (words : ℕ) (leaders : List (Option ℕ)) (sizes : List (List Cut)) (fs : FrameSizes) → AreLeaders files b leaders
     → FitSizes files b sizes → All AreCutsApart sizes → All IsSized (items files b pools words leaders)
-    → all_weight (orders_of (items files b pools words leaders)) + 2 ^ 32 < 2 ^ 63 → HasLaws files b (layout_of files b pools words leaders sizes)
+    → all_weight (orders_of (items files b pools words leaders)) + 2 ^ 45 < 2 ^ 63 → AreSmall fs → HasLaws files b fs (layout_of files b pools words leaders sizes fs)
 unfolding layout_of laid_of
-laws_laid files b pools words leaders sizes are fit apart sized room =
+laws_laid files b pools words leaders sizes fs are fit apart sized room small =
     let parts : List Item = items files b pools words leaders in
     let o : Orders = orders_of parts in
-    let bounds : Bounds = bounds_of sizes o in
+    let bounds : Bounds = bounds_of sizes o fs in
     let rows : AllFit sizes o = all_fit sizes (section_total files) (length pools) o apart (ready_of files b pools words leaders sizes are fit sized) in
-    let is : AreBounds sizes o bounds = bounds_are sizes o in
+    let is : AreBounds sizes o fs bounds = bounds_are sizes o fs in
     let aligned = align_rows files b pools words leaders in
     let members = subst (All (IsAligned files b)) (sym (trail_members sizes parts o bounds (section_total files) (length pools))) (aligned_members files b sizes o bounds aligned) in
-    laws_by files b leaders sizes parts o bounds (length pools) rows is (rising sizes o bounds rows room is) members
+    laws_by files b leaders sizes parts o fs bounds (length pools) rows is (rising sizes o fs bounds rows room small is) members
     (aligned_zeros files b sizes parts o bounds (section_total files) (length pools) aligned)
 
 bounds_seen : (layout : Layout) → (layout_view layout).bounds ≡ layout.bounds
@@ -79,19 +82,21 @@ unfolding layout_view
 bounds_seen layout = refl
 
 -- the same of its bounds as the code has them
-pub record IsLawful (files : List File) (b : Bindings) (layout : Layout) : Type 0 where
+pub record IsLawful (files : List File) (b : Bindings) (fs : FrameSizes) (layout : Layout) : Type 0 where
   pub rising : AreRising layout.bounds
   pub segments : HaveSegments layout.bounds
   pub apart : AreApart layout.bounds.headers_end (without_tls_zeros (layout_view layout).outputs)
   pub inside : All (IsWithinClass layout.bounds) (layout_view layout).outputs
   pub aligned : HaveAlignments files b (layout_view layout)
   pub zeros : HaveZeros (layout_view layout)
+  pub framed : HasFrames fs layout.bounds
 
-pub laws_seen : (layout : Layout) (files : List File) (b : Bindings) (pools : List Pool) (words : ℕ) (leaders : List (Option ℕ)) (sizes : List (List Cut)) → AreLeaders files b leaders
+pub laws_seen : (layout : Layout) (files : List File) (b : Bindings) (pools : List Pool) (words : ℕ) (leaders : List (Option ℕ)) (sizes : List (List Cut)) (fs : FrameSizes) → AreLeaders files b leaders
     → FitSizes files b sizes → All AreCutsApart sizes → All IsSized (items files b pools words leaders)
-    → all_weight (orders_of (items files b pools words leaders)) + 2 ^ 32 < 2 ^ 63 → layout_view layout ≡ layout_of files b pools words leaders sizes → IsLawful files b layout
-laws_seen layout files b pools words leaders sizes are fit apart sized room is =
-    let laws : HasLaws files b (layout_view layout) = subst (HasLaws files b) (sym is) (laws_laid files b pools words leaders sizes are fit apart sized room) in
+    → all_weight (orders_of (items files b pools words leaders)) + 2 ^ 45 < 2 ^ 63 → AreSmall fs → layout_view layout ≡ layout_of files b pools words leaders sizes fs
+    → IsLawful files b fs layout
+laws_seen layout files b pools words leaders sizes fs are fit apart sized room small is =
+    let laws : HasLaws files b fs (layout_view layout) = subst (HasLaws files b fs) (sym is) (laws_laid files b pools words leaders sizes fs are fit apart sized room small) in
     let same = bounds_seen layout in
     record {
       rising = subst AreRising same laws.rising;
@@ -100,4 +105,5 @@ laws_seen layout files b pools words leaders sizes are fit apart sized room is =
       inside = subst (λ x. All (IsWithinClass x) (layout_view layout).outputs) same laws.inside;
       aligned = laws.aligned;
       zeros = laws.zeros;
+      framed = subst (HasFrames fs) same laws.framed;
     }

@@ -11,12 +11,13 @@ use Rattle.link_sections.specs.Cuts.{Cut}
 use Rattle.lk_tables.specs.declared.classes.Class.TheVariants.{Rx, TlsBits, TlsNobits, RwBits, RwNobits}
 use Rattle.output_sections.specs.declared.rows.Row.{Row}
 use Rattle.layout.specs.declared.walk.Cursor.{Cursor}
-use Rattle.layout.specs.Layout.{after_tls_bits, count_of, has_rw, has_rx, has_tls, has_tls_bits, headers_of, tls_align_of, tls_cursor}
+use Rattle.layout.specs.Layout.{FrameSizes, after_tls_bits, count_of, has_frames, has_rw, has_rx, has_tls, has_tls_bits, headers_of, tls_align_of, tls_cursor}
 use Rattle.output_sections.specs.Order.{Orders, rows_in}
 use Rattle.layout.specs.Spots.{AreRising, HaveSegments}
 use Rattle.layout.specs.Walk.{after, cursor_at, end_along, greatest, is_empty, past, runs, start_of}
 use Rattle.layout.proofs.Chain.{AreBounds}
 use Rattle.layout.proofs.Cursors.{RowFits, after_moves, greatest_some, least_along, past_least}
+use Rattle.layout.proofs.FrameSpots.{has_them}
 use Rattle.layout.proofs.Inside.{each_none, none_each}
 use Rattle.layout.proofs.Rising.{AllFit, class_moves, tls_most}
 use Rattle.layout.proofs.Runs.{EachRun, each_run, of_runs}
@@ -137,15 +138,15 @@ no_bytes : (b : Bool) → not b ≡ true → b ≡ false
 no_bytes true e = cc
 no_bytes false e = refl
 
-pub segments : (sizes : List (List Cut)) (o : Orders) (b : Bounds) → AllFit sizes o → AreBounds sizes o b → AreRising b → HaveSegments b
-unfolding headers_of has_rx has_rw has_tls has_tls_bits
-segments sizes o b fit is rises =
+pub segments : (sizes : List (List Cut)) (o : Orders) (fs : FrameSizes) (b : Bounds) → AllFit sizes o → AreBounds sizes o fs b → AreRising b → HaveSegments b
+unfolding headers_of has_rx has_rw has_tls has_tls_bits has_frames
+segments sizes o fs b fit is rises =
     let tls = tls_rows o in
     let align : b.tls_align ≡ tls_align_of o = is.tls_align in
     let some : 1 ≤ b.tls_align = omega (arith, align, tls.0) in
     let extra : b.tls_align ≤ ALIGN_MAX = omega (arith, align, tls_most sizes o fit) in
     let c : Cursor = tls_cursor sizes o b.rw_start b.tls_align in
-    let moves = class_moves sizes o b fit is in
+    let moves = class_moves sizes o fs b fit is in
     let bits_most : All (λ row. row.align ≤ b.tls_align) (rows_in o TlsBits) = λ k d lt. omega (arith, align, tls.1.0 k d lt) in
     let nobits_most : All (λ row. row.align ≤ b.tls_align) (rows_in o TlsNobits) = λ k d lt. omega (arith, align, tls.1.1 k d lt) in
     let in_bits : is_empty (rows_in o TlsBits) ≡ false → up b.rw_start b.tls_align ≤ b.tls_bits_end =
@@ -168,7 +169,8 @@ segments sizes o b fit is rises =
     let tls_too : b.has_tls_bits ≡ true → b.has_tls ≡ true =
     λ has. is.tls_is ∙ ap (λ p. not (p && is_empty (rows_in o TlsNobits))) (bits_full has) in
     record {
-      headers = is.headers ∙ headers_same b.has_rx b.has_rw b.has_tls (has_rx o) (has_rw o) (has_tls o) is.rx_is is.rw_is is.tls_is;
+      headers = is.headers
+          ∙ headers_same b.has_rx b.has_rw b.has_tls b.has_frames (has_rx o) (has_rw o) (has_tls o) (has_frames fs) is.rx_is is.rw_is is.tls_is (has_them sizes o fs b is).has;
       headers_end = is.headers_end;
       rx = λ has. rw is.file_end (rx_by (is_empty (rows_in o RwBits)) (is_empty (rows_in o TlsBits)) (is_empty (rows_in o Rx)) b.r_end b.rx_end b.tls_bits_end b.bits_end (sym is.rx_is ∙ has)
           (omega (arith, rises.rw_rounded, rises.tls_bits)) rises.bits);
@@ -191,5 +193,6 @@ segments sizes o b fit is rises =
           (λ none. is.bits_end ∙ ap (λ (x : Cursor). x.at) (still sizes (cursor_at b.tls_bits_end) (rows_in o RwBits) none)));
     }
   where
-    headers_same : (a c d e f g : Bool) → a ≡ e → c ≡ f → d ≡ g → 2 + count_of e + count_of f + count_of g ≡ 2 + count_of a + count_of c + count_of d
-    headers_same a c d e f g x y z = rw (x, y, z) refl
+    headers_same : (a c d p e f g q : Bool) → a ≡ e → c ≡ f → d ≡ g → p ≡ q
+        → 2 + count_of e + count_of f + count_of g + count_of q ≡ 2 + count_of a + count_of c + count_of d + count_of p
+    headers_same a c d p e f g q x y z w = rw (x, y, z, w) refl

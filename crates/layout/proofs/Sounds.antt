@@ -30,15 +30,16 @@ use Rattle.link_sections.specs.LaidOut.{LaidOut, cuts_at, start_at, with_content
 use Rattle.link_sections.specs.Leaders.{leads}
 use Rattle.link_sections.specs.PoolViews.{PoolsView}
 use Rattle.link_sections.specs.Pools.{AreRising as AreRisingPools}
-use Rattle.link_sections.specs.Sound.{IsGotMember, IsPoolMember, IsSectionMember, IsSound, is_listed, is_pool, is_table}
+use Rattle.link_sections.specs.Sound.{HaveFrameRoom, IsGotMember, IsPoolMember, IsSectionMember, IsSound, is_listed, is_pool, is_table}
 use Rattle.layout.specs.Cutting.{laid_cuts, short_defects}
 use Rattle.output_sections.specs.Items.{AreLeaders, HaveFirsts, IsSized, Item, items}
-use Rattle.layout.specs.Layout.{FitSizes, IsWithin, Trail, all_cuts, all_weight, bounds_of, cut_defects, cuts_of, laid_by, laid_of, layout_defects, layout_of, limit_defects, no_trail, trail_of}
+use Rattle.layout.specs.Layout.{AreSmall, FitSizes, FrameSizes, IsWithin, Trail, all_cuts, all_weight, bounds_of, cut_defects, cuts_of, laid_by, laid_of, layout_defects, layout_of, limit_defects, no_trail, trail_of}
 use Rattle.output_sections.specs.Order.{Orders, orders_of}
 use Rattle.layout.specs.Spots.{AreRising}
 use Rattle.layout.specs.Walk.{Stands, all_put}
 use Rattle.layout.proofs.Chain.{AreBounds, bounds_are}
-use Rattle.layout.proofs.Inside.{members_inside, members_order, order_at}
+use Rattle.layout.proofs.FrameSpots.{spots}
+use Rattle.layout.proofs.Inside.{IsBeside, members_beside, members_inside, members_order, order_at}
 use Rattle.output_sections.proofs.ItemFacts.{stays_of}
 use Rattle.layout.proofs.ItemFacts.{ready_of}
 use Rattle.layout.proofs.LaidCuts.{laid_apart}
@@ -48,7 +49,7 @@ use Rattle.layout.proofs.Marks.{HasRoom, found_at, in_members, stand_at, stands_
 use Rattle.layout.proofs.MemberFacts.{IsMade, all_made, part_all}
 use Rattle.layout.proofs.OwnCalls.{IsMet, width_lies}
 use Rattle.layout.proofs.RelocsLie.{lies_of}
-use Rattle.layout.proofs.Rising.{AllFit, all_fit, rising}
+use Rattle.layout.proofs.Rising.{AllFit, all_fit, class_moves, rising}
 use Rattle.layout.proofs.RowsOfCuts.{defects_are, map_at, row_defects}
 use Rattle.output_sections.proofs.Sized.{AllSound}
 use Rattle.layout.proofs.SizeBounds.{apart_at, nothing_apart}
@@ -196,8 +197,37 @@ room_at starts n low =
       | inr past ↦ omega (arith, get_or-eq_default starts 0 past)
     ]
 
+-- the unwind records of a layout of which this is known
+pub frame_room : (sizes : List (List Cut)) (o : Orders) (fs : FrameSizes) (laid : LaidOut) → AllFit sizes o → AreBounds sizes o fs laid.bounds → AreRising laid.bounds
+    → laid.members ≡ all_members sizes o laid.bounds → HaveFrameRoom laid
+frame_room sizes o fs laid fit is up members =
+    let moves = class_moves sizes o fs laid.bounds fit is in
+    let apart : All (IsBeside laid.bounds) laid.members = subst (All (IsBeside laid.bounds)) (sym members) (members_beside sizes o fs laid.bounds fit is up) in
+    elim (spots sizes o fs laid.bounds is) [
+      | inl last ↦ record {
+        from = omega (arith, up.first, moves.r.least, last.first);
+        header = omega (arith, last.header);
+        between = last.between;
+        frames = omega (arith, last.frames);
+        inside = omega (arith, last.end, up.file_least);
+        above = λ has. omega (arith, moves.r.least, last.first);
+        none = λ has. let wrong : true ≡ false = sym last.has ∙ has in cc;
+        apart = apart;
+      }
+      | inr none ↦ record {
+        from = omega (arith, none.header);
+        header = omega (arith, none.header, none.header_end);
+        between = omega (arith, none.header_end, none.frames);
+        frames = omega (arith, none.frames, none.frames_end);
+        inside = omega (arith, none.frames_end, up.first, up.r, up.file_least);
+        above = λ has. let wrong : false ≡ true = sym none.has ∙ has in cc;
+        none = λ has. none.frames_end;
+        apart = apart;
+      }
+    ]
+
 module _ (limits : Limits) (files : List File) (b : Bindings) (pools : List Pool) (words : ℕ) (leaders : List (Option ℕ)) (sizes : List (List Cut)) (o : Orders)
-    (laid : LaidOut) (rows : AllFit sizes o) (is : AreBounds sizes o laid.bounds) (up : AreRising laid.bounds)
+    (fs : FrameSizes) (laid : LaidOut) (rows : AllFit sizes o) (is : AreBounds sizes o fs laid.bounds) (up : AreRising laid.bounds)
     (placed : IsPlaced files b pools words leaders sizes o laid.bounds) (walk : IsWalk files (length pools) leaders sizes o laid)
     (contents : HasContents pools words laid) (none : layout_defects limits files laid ≡ []) where
   -- each member stands where the layout says
@@ -260,8 +290,8 @@ module _ (limits : Limits) (files : List File) (b : Bindings) (pools : List Pool
   sound_walk sound are fit apart few =
       let total : ℕ = section_total files in
       let limit = limits_hold limits laid (no_defects limits files laid none).1 in
-      let inside = members_inside sizes o laid.bounds rows is up in
-      let order = members_order sizes o laid.bounds rows is up in
+      let inside = members_inside sizes o fs laid.bounds rows is up in
+      let order = members_order sizes o fs laid.bounds rows is up in
       let same = sym walk.members in
       let e : (k : ℕ) → 0 + k ≡ k = λ k. omega arith in
       record {
@@ -290,21 +320,22 @@ module _ (limits : Limits) (files : List File) (b : Bindings) (pools : List Pool
         pointer_room = omega (arith, up.bits, up.nobits, up.room);
         place_room = λ k d lt. omega (arith, walk.places k d lt);
         apart = subst (All AreApart) (sym walk.cuts) (all_range cut_row 0 total (λ k lt. subst (λ m. AreApart (cut_row m)) (sym (e k)) (row_is_apart apart k lt)));
+        frames = frame_room sizes o fs laid rows is up walk.members;
       }
 
 -- the layout of a link is one
 module _ (files : List File) (b : Bindings) (pools : List Pool) (words : ℕ) (leaders : List (Option ℕ)) (sizes : List (List Cut)) (merging : PoolsView) (table : List GotEntry) where
-  walk_laid : (parts : List Item) (o : Orders) (bounds : Bounds) → AllFit sizes o → AreBounds sizes o bounds → AreRising bounds
+  walk_laid : (parts : List Item) (o : Orders) (fs : FrameSizes) (bounds : Bounds) → AllFit sizes o → AreBounds sizes o fs bounds → AreRising bounds
       → IsWalk files (length pools) leaders sizes o
       (with_contents (laid_by leaders sizes (section_total files) bounds (trail_of sizes parts o bounds (no_trail (section_total files) (length pools)))) merging table)
   unfolding laid_by with_contents
-  walk_laid parts o bounds rows is up =
-      let low = trail_low sizes parts o bounds (section_total files) (length pools) rows is up in
+  walk_laid parts o fs bounds rows is up =
+      let low = trail_low sizes parts o fs bounds (section_total files) (length pools) rows is up in
       record {
         members = trail_members sizes parts o bounds (section_total files) (length pools);
         stands = trail_stands sizes parts o bounds (no_trail (section_total files) (length pools));
         low = record { starts = low.starts; pools = low.pools; got = low.got };
-        places = subst (All IsLow) (sym (trail_places sizes parts o bounds (section_total files) (length pools))) (places_low sizes parts o bounds rows is up);
+        places = subst (All IsLow) (sym (trail_places sizes parts o bounds (section_total files) (length pools))) (places_low sizes parts o fs bounds rows is up);
         cuts = refl;
       }
 
@@ -332,24 +363,24 @@ module _ (files : List File) (b : Bindings) (pools : List Pool) (words : ℕ) (l
     table_member = table_is_listed files b pools words leaders sizes bounds;
   }
 
-  pub sound_laid : (limits : Limits) → AllSound files → AreLeaders files b leaders → AreRisingPools pools → HaveFirsts files b pools → FitSizes files b sizes → All AreApart sizes
-      → All IsSized (items files b pools words leaders) → all_weight (orders_of (items files b pools words leaders)) + 2 ^ 32 < 2 ^ 63 → length merging.pools ≡ length pools
+  pub sound_laid : (limits : Limits) (fs : FrameSizes) → AllSound files → AreLeaders files b leaders → AreRisingPools pools → HaveFirsts files b pools → FitSizes files b sizes → All AreApart sizes
+      → All IsSized (items files b pools words leaders) → all_weight (orders_of (items files b pools words leaders)) + 2 ^ 45 < 2 ^ 63 → AreSmall fs → length merging.pools ≡ length pools
       → ((p : ℕ) (d : Pool) → p < length pools → (get_or merging.pools p no_pool).size ≡ (get_or pools p d).size) → words ≡ word_count table → IsWithinStandard limits
-      → layout_defects limits files (layout_of files b pools words leaders sizes) ≡ []
-      → IsSound files b leaders (with_contents (layout_of files b pools words leaders sizes) merging table)
+      → layout_defects limits files (layout_of files b pools words leaders sizes fs) ≡ []
+      → IsSound files b leaders (with_contents (layout_of files b pools words leaders sizes fs) merging table)
   unfolding layout_of laid_of
-  sound_laid limits sound are rise firsts fit apart sized room count same_sizes counted few none =
+  sound_laid limits fs sound are rise firsts fit apart sized room small count same_sizes counted few none =
       let parts : List Item = items files b pools words leaders in
       let o : Orders = orders_of parts in
-      let bounds : Bounds = bounds_of sizes o in
+      let bounds : Bounds = bounds_of sizes o fs in
       let t : Trail = trail_of sizes parts o bounds (no_trail (section_total files) (length pools)) in
       let by_walk : LaidOut = laid_by leaders sizes (section_total files) bounds t in
       let laid : LaidOut = with_contents by_walk merging table in
       let ready = ready_of files b pools words leaders sizes are fit sized in
       let rows : AllFit sizes o = all_fit sizes (section_total files) (length pools) o apart ready in
-      let is : AreBounds sizes o bounds = bounds_are sizes o in
-      let up : AreRising bounds = rising sizes o bounds rows room is in
+      let is : AreBounds sizes o fs bounds = bounds_are sizes o fs in
+      let up : AreRising bounds = rising sizes o fs bounds rows room small is in
       let same : laid.bounds ≡ bounds = bounds_in bounds t in
-      sound_walk limits files b pools words leaders sizes o laid rows (subst (AreBounds sizes o) (sym same) is) (subst AreRising (sym same) up)
-      (placed_link laid.bounds rise firsts) (walk_laid parts o bounds rows is up) (contents_of by_walk count same_sizes counted) (same_defects limits by_walk ∙ none)
+      sound_walk limits files b pools words leaders sizes o fs laid rows (subst (AreBounds sizes o fs) (sym same) is) (subst AreRising (sym same) up)
+      (placed_link laid.bounds rise firsts) (walk_laid parts o fs bounds rows is up) (contents_of by_walk count same_sizes counted) (same_defects limits by_walk ∙ none)
       sound are fit apart few

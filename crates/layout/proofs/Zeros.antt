@@ -7,7 +7,7 @@ use Rattle.link_sections.specs.Cuts.{Cut}
 use Rattle.lk_tables.specs.declared.classes.Class.TheVariants.{TlsNobits, RwNobits}
 use Rattle.output_sections.specs.declared.rows.Row.{Row}
 use Rattle.layout.specs.declared.walk.Cursor.{Cursor}
-use Rattle.layout.specs.Layout.{after_tls_bits}
+use Rattle.layout.specs.Layout.{FrameSizes, after_tls_bits}
 use Rattle.output_sections.specs.Order.{Orders, rows_in}
 use Rattle.layout.specs.Spots.{AreInOrder}
 use Rattle.layout.specs.Walk.{cursor_at, end_along, members_along, runs}
@@ -30,13 +30,13 @@ class_between sizes from to c rows extra least most fit =
     let chain : AreInOrder from (members_along sizes c (runs rows) ++ []) = order_along sizes from c (runs rows) [] least fits (λ f follows. tt) in
     record { order = rw (append-nil (members_along sizes c (runs rows))) at chain; end = λ k d lt. (within k d lt).last }
 
-pub threads_between : (sizes : List (List Cut)) (o : Orders) (b : Bounds) → AllFit sizes o → AreBounds sizes o b
+pub threads_between : (sizes : List (List Cut)) (o : Orders) (fs : FrameSizes) (b : Bounds) → AllFit sizes o → AreBounds sizes o fs b
     → AreBetween b.tls_bits_end b.tls_end (members_along sizes (after_tls_bits sizes o b.rw_start b.tls_align) (runs (rows_in o TlsNobits)))
-threads_between sizes o b fit is =
-    class_between sizes b.tls_bits_end b.tls_end (after_tls_bits sizes o b.rw_start b.tls_align) (rows_in o TlsNobits) (class_moves sizes o b fit is).tls_bits.extra
+threads_between sizes o fs b fit is =
+    class_between sizes b.tls_bits_end b.tls_end (after_tls_bits sizes o b.rw_start b.tls_align) (rows_in o TlsNobits) (class_moves sizes o fs b fit is).tls_bits.extra
     (omega (arith, is.tls_bits_end)) (omega (arith, is.tls_end)) (fit TlsNobits)
 
-pub others_between : (sizes : List (List Cut)) (o : Orders) (b : Bounds) → AllFit sizes o → AreBounds sizes o b
+pub others_between : (sizes : List (List Cut)) (o : Orders) (fs : FrameSizes) (b : Bounds) → AllFit sizes o → AreBounds sizes o fs b
     → AreBetween b.bits_end b.nobits_end (members_along sizes (cursor_at b.bits_end) (runs (rows_in o RwNobits)))
-others_between sizes o b fit is =
+others_between sizes o fs b fit is =
     class_between sizes b.bits_end b.nobits_end (cursor_at b.bits_end) (rows_in o RwNobits) (omega arith) (omega arith) (omega (arith, is.nobits_end)) (fit RwNobits)

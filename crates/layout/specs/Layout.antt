@@ -1,8 +1,8 @@
 -- The layout of a link, one function of its items: the classes one after the other, each from the cursor after the one before, and the
 -- limits (System V gABI, "Sections" and "Program Header").
-use Rattle.std.specs.Prelude.{◌≡◌, ℕ, ◌+◌, ◌-◌, ◌*◌, ◌<◌, ◌≤◌, ◌⊎◌, nat_lt, nat_le, Bool, not, ◌&&◌, if◌then◌else◌, max, Option, List, [], ◌∷◌, ◌++◌, length, map, flat_map, replicate, slice_index, slice_index_or, All}
+use Rattle.std.specs.Prelude.{◌≡◌, ℕ, ◌+◌, ◌-◌, ◌*◌, ◌<◌, ◌≤◌, ◌^◌, ◌⊎◌, nat_lt, nat_le, Bool, true, false, not, ◌&&◌, if◌then◌else◌, max, Option, List, [], ◌∷◌, ◌++◌, codes, length, map, flat_map, replicate, slice_index, slice_index_or, All}
 use Rattle.std.specs.List.{range_with_len}
-use Rattle.lk_base.specs.declared.abi.TheConstants.{EHDR_SIZE, IMAGE_BASE, PAGE, PHDR_SIZE}
+use Rattle.lk_base.specs.declared.abi.TheConstants.{EHDR_SIZE, IMAGE_BASE, PAGE, PHDR_SIZE, SHF_ALLOC, SHT_PROGBITS}
 use Rattle.lk_base.specs.declared.defects.Defect.{Defect}
 use Rattle.lk_base.specs.declared.kinds.TheConstants.{TOO_BIG}
 use Rattle.lk_base.specs.declared.limits.Limits.{Limits}
@@ -10,6 +10,7 @@ use Rattle.lk_base.specs.Arithmetic.{up}
 use Rattle.lk_base.specs.Defects.{count_defect, linkwide}
 use Rattle.lk_tables.specs.declared.classes.Class.{Class}
 use Rattle.lk_tables.specs.declared.classes.Class.TheVariants.{R, Rx, TlsBits, TlsNobits, RwBits, RwNobits}
+use Rattle.lk_tables.specs.declared.frames.FramePlan.{FramePlan}
 use Rattle.lk_tables.specs.Binding.{Bindings, first_phase}
 use Rattle.lk_tables.specs.Files.{File, section_total}
 use Rattle.lk_tables.specs.Relocations.{value_len}
@@ -24,6 +25,7 @@ use Rattle.link_sections.specs.Calls.{IsOwnCall}
 use Rattle.link_sections.specs.LaidOut.{LaidOut, OutputPlace, OutputSection, no_pools, output_view, place_view}
 use Rattle.link_sections.specs.Leaders.{leads}
 use Rattle.output_sections.specs.declared.rows.Row.{Row}
+use Rattle.layout.specs.declared.frames.FrameBounds.{FrameBounds}
 use Rattle.layout.specs.declared.walk.Cursor.{Cursor}
 use Rattle.layout.specs.declared.placing.Walked.{Walked}
 use Rattle.layout.specs.Cutting.{laid_cuts, short_defects}
@@ -47,13 +49,89 @@ has_tls o = not (is_empty (rows_in o TlsBits) && is_empty (rows_in o TlsNobits))
 unfoldable pub has_rw : Orders → Bool
 has_rw o = not (is_empty (rows_in o TlsBits) && (is_empty (rows_in o RwBits) && is_empty (rows_in o RwNobits)))
 
--- the program headers: that of the first segment, those of the three above, that of the stack
-unfoldable pub headers_of : Orders → ℕ
-headers_of o = 2 + count_of (has_rx o) + count_of (has_rw o) + count_of (has_tls o)
+-- how many bytes `.eh_frame_hdr` and `.eh_frame` have: none where no FDE is written (LSB Core, "Exception Frames")
+pub record FrameSizes : Type 0 where
+  pub header : ℕ
+  pub frame : ℕ
+
+abbrev pub frame_sizes : FramePlan → FrameSizes
+frame_sizes plan = record { header = plan.header_len; frame = plan.frame_len }
+
+unfoldable pub has_frames : FrameSizes → Bool
+has_frames fs = nat_lt 0 fs.header
+
+-- no memory holds more
+pub record AreSmall (fs : FrameSizes) : Type 0 where
+  pub header : fs.header ≤ 2 ^ 42
+  pub frame : fs.frame ≤ 2 ^ 42
+
+-- the program headers: that of the first segment, those of the three above, that of the unwind records, that of the stack
+unfoldable pub headers_of : Orders → FrameSizes → ℕ
+headers_of o fs = 2 + count_of (has_rx o) + count_of (has_rw o) + count_of (has_tls o) + count_of (has_frames fs)
 
 -- the image starts with the file header and the program headers (gABI, "ELF Header", "Program Header")
-unfoldable pub headers_end_of : Orders → ℕ
-headers_end_of o = IMAGE_BASE + (EHDR_SIZE + PHDR_SIZE * headers_of o)
+unfoldable pub headers_end_of : Orders → FrameSizes → ℕ
+headers_end_of o fs = IMAGE_BASE + (EHDR_SIZE + PHDR_SIZE * headers_of o fs)
+
+-- the two stand after the rows of R, at multiples of 4 and of 8, and the class ends with them; without an FDE they are nothing, at the image's
+-- start
+abbrev pub frames_at : FrameSizes → (header : ℕ) → FrameBounds
+frames_at fs header = record {
+  has_frames = true;
+  header = header;
+  header_end = header + fs.header;
+  frames = up (header + fs.header) 8;
+  frames_end = up (header + fs.header) 8 + fs.frame;
+  r_end = up (header + fs.header) 8 + fs.frame;
+}
+
+abbrev pub no_frames : (rows_end : ℕ) → FrameBounds
+no_frames rows_end = record {
+  has_frames = false;
+  header = IMAGE_BASE;
+  header_end = IMAGE_BASE;
+  frames = IMAGE_BASE;
+  frames_end = IMAGE_BASE;
+  r_end = rows_end;
+}
+
+unfoldable pub frame_bounds : FrameSizes → (rows_end : ℕ) → FrameBounds
+frame_bounds fs rows_end = if has_frames fs then frames_at fs (up rows_end 4) else no_frames rows_end
+
+-- they are output sections of their own, without members
+abbrev pub frame_section : (name : List ℕ) → (start end align : ℕ) → OutputSection
+frame_section name start end align = record {
+  name = name;
+  class = R;
+  sh_type = SHT_PROGBITS;
+  flags = SHF_ALLOC;
+  address = start;
+  size = end - start;
+  align = align;
+  count = 0;
+}
+
+abbrev pub frame_sections : FrameBounds → List OutputSection
+frame_sections f = if f.has_frames
+    then frame_section (codes ".eh_frame_hdr") f.header f.header_end 4 ∷ frame_section (codes ".eh_frame") f.frames f.frames_end 8 ∷ [] else []
+
+abbrev pub frame_place : (name : List ℕ) → (start end : ℕ) → OutputPlace
+frame_place name start end = record { name = name; class = R; start = start; end = end }
+
+abbrev pub frame_places : FrameBounds → List OutputPlace
+frame_places f = if f.has_frames
+    then frame_place (codes ".eh_frame_hdr") f.header f.header_end ∷ frame_place (codes ".eh_frame") f.frames f.frames_end ∷ [] else []
+
+-- where a layout has them
+abbrev pub frames_in : Bounds → FrameBounds
+frames_in b = record {
+  has_frames = b.has_frames;
+  header = b.frame_header;
+  header_end = b.frame_header_end;
+  frames = b.frames;
+  frames_end = b.frames_end;
+  r_end = b.r_end;
+}
 
 -- the greatest alignment of a thread-local member
 unfoldable pub tls_align_of : Orders → ℕ
@@ -67,9 +145,24 @@ last_end o r_end rx_end tls_bits_end bits_end = if not (is_empty (rows_in o RwBi
     else if not (is_empty (rows_in o Rx)) then rx_end else r_end
 
 module _ (sizes : List (List Cut)) (o : Orders) where
-  -- the chain of the classes: the cursor is rounded before RX and before the thread-local classes, and goes back after thread-local nobits
+  -- the first thread-local output section that is not empty starts at the greatest alignment of all thread-local members
+  abbrev pub tls_cursor : (rw_start tls_align : ℕ) → Cursor
+  tls_cursor rw_start tls_align = record { at = rw_start; extra = tls_align }
+
+  abbrev pub after_tls_bits : (rw_start tls_align : ℕ) → Cursor
+  after_tls_bits rw_start tls_align = end_along sizes (tls_cursor rw_start tls_align) (runs (rows_in o TlsBits))
+
+module _ (sizes : List (List Cut)) (o : Orders) (fs : FrameSizes) where
+  -- the chain of the classes: R ends with the unwind records, the cursor is rounded before RX and before the thread-local classes, and goes
+  -- back after thread-local nobits
+  unfoldable pub rows_end_of : ℕ
+  rows_end_of = (end_along sizes (cursor_at (headers_end_of o fs)) (runs (rows_in o R))).at
+
+  unfoldable pub frames_of : FrameBounds
+  frames_of = frame_bounds fs rows_end_of
+
   unfoldable pub r_end_of : ℕ
-  r_end_of = (end_along sizes (cursor_at (headers_end_of o)) (runs (rows_in o R))).at
+  r_end_of = frames_of.r_end
 
   unfoldable pub rx_start_of : ℕ
   rx_start_of = up r_end_of PAGE
@@ -80,18 +173,11 @@ module _ (sizes : List (List Cut)) (o : Orders) where
   unfoldable pub rw_start_of : ℕ
   rw_start_of = up rx_end_of PAGE
 
-  -- the first thread-local output section that is not empty starts at the greatest alignment of all thread-local members
-  abbrev pub tls_cursor : (rw_start tls_align : ℕ) → Cursor
-  tls_cursor rw_start tls_align = record { at = rw_start; extra = tls_align }
-
-  abbrev pub after_tls_bits : (rw_start tls_align : ℕ) → Cursor
-  after_tls_bits rw_start tls_align = end_along sizes (tls_cursor rw_start tls_align) (runs (rows_in o TlsBits))
-
   unfoldable pub tls_bits_end_of : ℕ
-  tls_bits_end_of = (after_tls_bits rw_start_of (tls_align_of o)).at
+  tls_bits_end_of = (after_tls_bits sizes o rw_start_of (tls_align_of o)).at
 
   unfoldable pub tls_end_of : ℕ
-  tls_end_of = (end_along sizes (after_tls_bits rw_start_of (tls_align_of o)) (runs (rows_in o TlsNobits))).at
+  tls_end_of = (end_along sizes (after_tls_bits sizes o rw_start_of (tls_align_of o)) (runs (rows_in o TlsNobits))).at
 
   unfoldable pub tls_start_of : ℕ
   tls_start_of = if has_tls o then up rw_start_of (tls_align_of o) else 0
@@ -114,8 +200,13 @@ module _ (sizes : List (List Cut)) (o : Orders) where
     has_rw = has_rw o;
     has_tls = has_tls o;
     has_tls_bits = has_tls_bits o;
-    headers = headers_of o;
-    headers_end = headers_end_of o;
+    has_frames = frames_of.has_frames;
+    headers = headers_of o fs;
+    headers_end = headers_end_of o fs;
+    frame_header = frames_of.header;
+    frame_header_end = frames_of.header_end;
+    frames = frames_of.frames;
+    frames_end = frames_of.frames_end;
     r_end = r_end_of;
     rx_start = rx_start_of;
     rx_end = rx_end_of;
@@ -148,6 +239,16 @@ trail_view w = record {
   stands = stands_view w.places;
 }
 
+-- the unwind records after the rows of R
+unfoldable pub with_frames : FrameBounds → Trail → Trail
+with_frames f t = record {
+  outputs = t.outputs ++ frame_sections f;
+  members = t.members;
+  zeros = t.zeros;
+  places = t.places ++ frame_places f;
+  stands = t.stands;
+}
+
 module _ (sizes : List (List Cut)) (parts : List Item) where
   -- a class with bytes in the file, and one without, after those before it
   unfoldable pub with_bits : Class → Cursor → List Row → Trail → Trail
@@ -175,7 +276,8 @@ module _ (sizes : List (List Cut)) (parts : List Item) where
       (with_zeros TlsNobits (after_tls_bits sizes o b.rw_start b.tls_align) (rows_in o TlsNobits)
       (with_bits TlsBits (tls_cursor sizes o b.rw_start b.tls_align) (rows_in o TlsBits)
       (with_bits Rx (cursor_at b.rx_start) (rows_in o Rx)
-      (with_bits R (cursor_at b.headers_end) (rows_in o R) t)))))
+      (with_frames (frames_in b)
+      (with_bits R (cursor_at b.headers_end) (rows_in o R) t))))))
 
 -- before the walk: nothing stands anywhere
 abbrev pub no_trail : (sections pools : ℕ) → Trail
@@ -210,15 +312,15 @@ laid_by leaders sizes sections b t = record {
   table = [];
 }
 
-unfoldable pub laid_of : (leaders : List (Option ℕ)) → (sizes : List (List Cut)) → (sections pools : ℕ) → List Item → LaidOut
-laid_of leaders sizes sections pools parts =
-    laid_by leaders sizes sections (bounds_of sizes (orders_of parts))
-    (trail_of sizes parts (orders_of parts) (bounds_of sizes (orders_of parts)) (no_trail sections pools))
+unfoldable pub laid_of : (leaders : List (Option ℕ)) → (sizes : List (List Cut)) → FrameSizes → (sections pools : ℕ) → List Item → LaidOut
+laid_of leaders sizes fs sections pools parts =
+    laid_by leaders sizes sections (bounds_of sizes (orders_of parts) fs)
+    (trail_of sizes parts (orders_of parts) (bounds_of sizes (orders_of parts) fs) (no_trail sections pools))
 
 module _ (files : List File) (b : Bindings) (pools : List Pool) (got_words : ℕ) (leaders : List (Option ℕ)) where
-  -- the layout of a link; `sizes` has by section number where each section loses bytes
-  unfoldable pub layout_of : (sizes : List (List Cut)) → LaidOut
-  layout_of sizes = laid_of leaders sizes (section_total files) (length pools) (items files b pools got_words leaders)
+  -- the layout of a link; `sizes` has by section number where each section loses bytes, and `fs` what the unwind records have
+  unfoldable pub layout_of : (sizes : List (List Cut)) → FrameSizes → LaidOut
+  layout_of sizes fs = laid_of leaders sizes fs (section_total files) (length pools) (items files b pools got_words leaders)
 
 -- the first limit that is passed, if one is: output sections above their limit, or an image not below its
 abbrev pub limit_passed : Limits → (outputs size : ℕ) → List Defect

@@ -1,5 +1,5 @@
 -- Where the output sections of a layout stand, within its bounds.
-use Rattle.std.specs.Prelude.{◌≡◌, ℕ, ◌+◌, ◌*◌, ◌%◌, ◌^◌, ◌<◌, ◌≤◌, IsTrue, Bool, true, false, not, List, [], ◌∷◌, ◌++◌, filter, All}
+use Rattle.std.specs.Prelude.{◌≡◌, ℕ, ◌+◌, ◌*◌, ◌%◌, ◌^◌, ◌<◌, ◌≤◌, nat_lt, IsTrue, Bool, true, false, not, List, [], ◌∷◌, ◌++◌, filter, All}
 use Rattle.lk_base.specs.declared.abi.TheConstants.{EHDR_SIZE, IMAGE_BASE, PHDR_SIZE}
 use Rattle.lk_tables.specs.Binding.{Bindings}
 use Rattle.lk_tables.specs.Files.{File}
@@ -10,7 +10,7 @@ use Rattle.link_sections.specs.declared.members.Content.TheVariants.{Section}
 use Rattle.link_sections.specs.declared.members.Member.{Member}
 use Rattle.link_sections.specs.InputSections.{input_at}
 use Rattle.link_sections.specs.LaidOut.{LaidOut, OutputSection}
-use Rattle.layout.specs.Layout.{count_of}
+use Rattle.layout.specs.Layout.{FrameSizes, count_of}
 
 -- the bounds in order: the classes one after the other, where RW bits starts with thread-local nobits; and the file and the image, which
 -- end where a class does
@@ -34,13 +34,22 @@ pub record AreRising (b : Bounds) : Type 0 where
 -- the headers, and the segments that have bytes: each ends within the file, and with its zeros within the image; the thread-local one
 -- starts at a multiple of its alignment
 pub record HaveSegments (b : Bounds) : Type 0 where
-  pub headers : b.headers ≡ 2 + count_of b.has_rx + count_of b.has_rw + count_of b.has_tls
+  pub headers : b.headers ≡ 2 + count_of b.has_rx + count_of b.has_rw + count_of b.has_tls + count_of b.has_frames
   pub headers_end : b.headers_end ≡ IMAGE_BASE + (EHDR_SIZE + PHDR_SIZE * b.headers)
   pub rx : IsTrue b.has_rx → b.rx_end ≤ b.file_end
   pub tls_bits : IsTrue b.has_tls_bits → (b.tls_start ≤ b.tls_bits_end) × (b.tls_bits_end ≤ b.file_end)
   pub tls : IsTrue b.has_tls → (b.rw_start ≤ b.tls_start) × ((b.tls_start ≤ b.tls_end) × (b.tls_start % b.tls_align ≡ 0))
   pub bits : b.tls_bits_end < b.bits_end → b.bits_end ≤ b.file_end
   pub rw : IsTrue b.has_rw → b.nobits_end ≤ b.image_end
+
+-- `.eh_frame_hdr` and `.eh_frame` have their bytes, and stand at multiples of 4 and of 8
+pub record HasFrames (fs : FrameSizes) (b : Bounds) : Type 0 where
+  pub has : b.has_frames ≡ nat_lt 0 fs.header
+  pub header : b.frame_header_end ≡ b.frame_header + fs.header
+  pub frame : b.has_frames ≡ true → b.frames_end ≡ b.frames + fs.frame
+  pub none : b.has_frames ≡ false → b.frames_end ≡ b.frames
+  pub header_aligned : b.frame_header % 4 ≡ 0
+  pub frames_aligned : b.frames % 8 ≡ 0
 
 -- the cursors before and after a class, and the end of the file or of the image, in which its bytes lie; those of thread-local nobits lie
 -- in none, since RW bits starts again where they start

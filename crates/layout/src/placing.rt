@@ -22,24 +22,26 @@ ghost use Rattle.output_sections.specs.Items.{AreLeaders, HaveFirsts, IsSized, i
 ghost use Rattle.output_sections.specs.ItemViews.{items_view};
 ghost use Rattle.layout.specs.Layout as spec;
 ghost use Rattle.output_sections.specs.Order.{orders_of, rows_in};
-ghost use Rattle.layout.specs.Spots.{AreApart, AreRising, HaveAlignments, HaveSegments, HaveZeros, IsWithinClass, without_tls_zeros};
+ghost use Rattle.layout.specs.Spots.{AreApart, AreRising, HasFrames, HaveAlignments, HaveSegments, HaveZeros, IsWithinClass, without_tls_zeros};
 ghost use Rattle.layout.specs.Walk as walk;
 
 use crate::cut_rows::lay_rows;
+use crate::frames::{FrameBounds, frame_bounds, has_frames, is_small, push_frames};
 use crate::places::Places;
 use crate::walk::{Cursor, Sources, greatest_alignment, is_empty, walk_class};
 use link_sections::{Bounds, Got, Layout, Member, Output, OutputPlace, Pools, Sizes};
 use lk_base::abi::{EHDR_SIZE, IMAGE_BASE, PAGE, PHDR_SIZE};
 use lk_base::kinds::TOO_BIG;
 use lk_base::{Defect, Limits, LinkStop, SecNo, count_defect, up};
-use lk_tables::{Binding, Class, Tables};
+use lk_tables::{Binding, Class, FramePlan, Tables};
 use output_sections::{OutputSections, Row};
 use std::alloc::{AllocError, Global};
 
-/// Lays out a link: the sections that lead themselves, the pools of merged pieces, and last the linker's global offset table. `sizes` has by
-/// section number where each section loses bytes: a call keeps what it has there, and what an alignment keeps is found here. Refuses an
-/// alignment that needs more bytes than it has, the first in order of section and offset; then a count of output sections above its limit;
-/// then an image that is not below its limit. Or it is out of memory.
+/// Lays out a link: the sections that lead themselves, the pools of merged pieces, and last the linker's global offset table; and where an FDE is
+/// written, `.eh_frame_hdr` and `.eh_frame` after all else that is only read. `sizes` has by section number where each section loses bytes: a
+/// call keeps what it has there, and what an alignment keeps is found here. Refuses an alignment that needs more bytes than it has, the first in
+/// order of section and offset; then a count of output sections above its limit; then an image that is not below its limit. Or it is out of
+/// memory, as it is where the unwind records have more than 2^42 bytes.
 pub fn place<'a>(
     alloc: Global,
     tables: &Tables<'a>,
@@ -49,6 +51,7 @@ pub fn place<'a>(
     leaders: &[Option<SecNo>],
     sections: &OutputSections<'a>,
     sizes: &Sizes,
+    frames: &FramePlan,
     limits: &Limits,
 ) -> Result<Layout<'a>, LinkStop>
     requires bound { IsBindingOf (files_of tables.now) (binding_view binding.now) }
@@ -56,8 +59,8 @@ pub fn place<'a>(
     requires pools { HaveFirsts (files_of tables.now) (binding_view binding.now) pools.now.pools.items }
     requires items { items_view sections.now.items.items ≡ items (files_of tables.now) (binding_view binding.now) pools.now.pools.items (word_count (entries_of got.now)) leaders.now }
     requires sizes { spec.FitSizes (files_of tables.now) (binding_view binding.now) (sizes_of sizes.now) }
-    ensures goes { Goes result (spec.layout_defects limits.now (files_of tables.now) (spec.layout_of (files_of tables.now) (binding_view binding.now) pools.now.pools.items (word_count (entries_of got.now)) leaders.now (sizes_of sizes.now))) }
-    ensures found { IfOk result (λ layout. layout_view layout ≡ spec.layout_of (files_of tables.now) (binding_view binding.now) pools.now.pools.items (word_count (entries_of got.now)) leaders.now (sizes_of sizes.now)) }
+    ensures goes { Goes result (spec.layout_defects limits.now (files_of tables.now) (spec.layout_of (files_of tables.now) (binding_view binding.now) pools.now.pools.items (word_count (entries_of got.now)) leaders.now (sizes_of sizes.now) (spec.frame_sizes frames.now))) }
+    ensures found { IfOk result (λ layout. layout_view layout ≡ spec.layout_of (files_of tables.now) (binding_view binding.now) pools.now.pools.items (word_count (entries_of got.now)) leaders.now (sizes_of sizes.now) (spec.frame_sizes frames.now)) }
     ensures sound { IsWithinStandard limits.now → IfOk result (λ layout. IsSound (files_of tables.now) (binding_view binding.now) leaders.now (with_contents (layout_view layout) (pools_view (files_of tables.now) pools.now) (entries_of got.now))) }
     ensures within { IfOk result (λ layout. spec.IsWithin limits.now (layout_view layout)) }
     ensures rising { IfOk result (λ layout. AreRising layout.bounds) }
@@ -66,8 +69,11 @@ pub fn place<'a>(
     ensures inside { IfOk result (λ layout. All (IsWithinClass layout.bounds) (layout_view layout).outputs) }
     ensures aligned { IfOk result (λ layout. HaveAlignments (files_of tables.now) (binding_view binding.now) (layout_view layout)) }
     ensures zeros { IfOk result (λ layout. HaveZeros (layout_view layout)) }
+    ensures framed { IfOk result (λ layout. HasFrames (spec.frame_sizes frames.now) layout.bounds) }
 {
-    let layout = lay_out(alloc, tables, binding, pools, got, leaders, sections, sizes)?;
+    let layout = lay_out(
+        alloc, tables, binding, pools, got, leaders, sections, sizes, frames,
+    )?;
     match check_limits(&layout, limits) {
         Ok(()) => Ok(layout),
         Err(defect) => Err(LinkStop::Defect(defect)),
@@ -84,21 +90,27 @@ fn lay_out<'a>(
     leaders: &[Option<SecNo>],
     sections: &OutputSections<'a>,
     sizes: &Sizes,
+    frames: &FramePlan,
 ) -> Result<Layout<'a>, LinkStop>
     requires bound { IsBindingOf (files_of tables.now) (binding_view binding.now) }
     requires leaders { AreLeaders (files_of tables.now) (binding_view binding.now) leaders.now }
     requires pools { HaveFirsts (files_of tables.now) (binding_view binding.now) pools.now.pools.items }
     requires items { items_view sections.now.items.items ≡ items (files_of tables.now) (binding_view binding.now) pools.now.pools.items (word_count (entries_of got.now)) leaders.now }
     requires sizes { spec.FitSizes (files_of tables.now) (binding_view binding.now) (sizes_of sizes.now) }
-    ensures goes { Goes result (spec.cut_defects (files_of tables.now) (spec.layout_of (files_of tables.now) (binding_view binding.now) pools.now.pools.items (word_count (entries_of got.now)) leaders.now (sizes_of sizes.now)).cuts (section_total (files_of tables.now))) }
-    ensures found { IfOk result (λ layout. layout_view layout ≡ spec.layout_of (files_of tables.now) (binding_view binding.now) pools.now.pools.items (word_count (entries_of got.now)) leaders.now (sizes_of sizes.now)) }
+    ensures goes { Goes result (spec.cut_defects (files_of tables.now) (spec.layout_of (files_of tables.now) (binding_view binding.now) pools.now.pools.items (word_count (entries_of got.now)) leaders.now (sizes_of sizes.now) (spec.frame_sizes frames.now)).cuts (section_total (files_of tables.now))) }
+    ensures found { IfOk result (λ layout. layout_view layout ≡ spec.layout_of (files_of tables.now) (binding_view binding.now) pools.now.pools.items (word_count (entries_of got.now)) leaders.now (sizes_of sizes.now) (spec.frame_sizes frames.now)) }
     ensures sized { IfOk result (λ _. All IsSized (items (files_of tables.now) (binding_view binding.now) pools.now.pools.items (word_count (entries_of got.now)) leaders.now)) }
-    ensures room { IfOk result (λ _. spec.all_weight (orders_of (items (files_of tables.now) (binding_view binding.now) pools.now.pools.items (word_count (entries_of got.now)) leaders.now)) + 2 ^ 32 < 2 ^ 63) }
+    ensures room { IfOk result (λ _. spec.all_weight (orders_of (items (files_of tables.now) (binding_view binding.now) pools.now.pools.items (word_count (entries_of got.now)) leaders.now)) + 2 ^ 45 < 2 ^ 63) }
+    ensures small { IfOk result (λ _. spec.AreSmall (spec.frame_sizes frames.now)) }
 {
+    if !is_small(frames) {
+        return Err(LinkStop::Memory);
+    }
     let (walked, bounds) = walk_sections(
         alloc,
         sections,
         sizes,
+        frames,
         tables.section_count(),
         pools.pools().len(),
     )?;
@@ -121,12 +133,14 @@ fn walk_sections<'a>(
     alloc: Global,
     o: &OutputSections<'a>,
     sizes: &Sizes,
+    frames: &FramePlan,
     sections: usize,
     pools: usize,
 ) -> Result<(Walked<'a>, Bounds), AllocError>
     requires there { All (spec.IsThere (sizes_of sizes.now) sections pools) (items_view o.now.items.items) }
-    ensures bounds { IfOk result (λ laid. laid.1 ≡ spec.bounds_of (sizes_of sizes.now) (orders_of (items_view o.now.items.items))) }
-    ensures trail { IfOk result (λ laid. spec.trail_view laid.0 ≡ spec.trail_of (sizes_of sizes.now) (items_view o.now.items.items) (orders_of (items_view o.now.items.items)) (spec.bounds_of (sizes_of sizes.now) (orders_of (items_view o.now.items.items))) (spec.no_trail sections pools)) }
+    requires small { spec.AreSmall (spec.frame_sizes frames.now) }
+    ensures bounds { IfOk result (λ laid. laid.1 ≡ spec.bounds_of (sizes_of sizes.now) (orders_of (items_view o.now.items.items)) (spec.frame_sizes frames.now)) }
+    ensures trail { IfOk result (λ laid. spec.trail_view laid.0 ≡ spec.trail_of (sizes_of sizes.now) (items_view o.now.items.items) (orders_of (items_view o.now.items.items)) (spec.bounds_of (sizes_of sizes.now) (orders_of (items_view o.now.items.items)) (spec.frame_sizes frames.now)) (spec.no_trail sections pools)) }
     ensures low { IfOk result (λ laid. All (λ start. start < 2 ^ 63) laid.0.places.starts.items) }
     ensures count { IfOk result (λ laid. length laid.0.places.starts.items ≡ sections) }
 {
@@ -136,7 +150,7 @@ fn walk_sections<'a>(
         sizes,
     };
     let mut walked = no_walk(alloc, sections, pools)?;
-    let bounds = walk_all(&from, o, &mut walked)?;
+    let bounds = walk_all(&from, o, frames, &mut walked)?;
     Ok((walked, bounds))
 }
 
@@ -254,6 +268,18 @@ fn walk_zeros<'a>(
     Ok(end)
 }
 
+/// The unwind records, after what is only read.
+#[tactic(auto, unfolding(crate::specs::Layout::trail_view, crate::specs::Layout::with_frames))]
+fn walk_frames(frames: &FrameBounds, walked: &mut Walked) -> Result<(), AllocError>
+    requires header { frames.now.header ≤ frames.now.header_end }
+    requires frames { frames.now.frames ≤ frames.now.frames_end }
+    ensures trail { OnOk result (spec.trail_view walked.new ≡ spec.with_frames frames.now (spec.trail_view walked.old)) }
+    ensures sections { OnOk result (length walked.new.places.starts.items ≡ length walked.old.places.starts.items) }
+    ensures pools { OnOk result (length walked.new.places.pools.items ≡ length walked.old.places.pools.items) }
+{
+    push_frames(frames, &mut walked.outputs, &mut walked.extents)
+}
+
 fn count_of(test: bool) -> u64
     ensures value { result ≡ spec.count_of test }
     ensures most { result ≤ 1 }
@@ -301,11 +327,14 @@ fn has_rw(o: &OutputSections) -> bool
 }
 
 #[tactic(auto, unfolding(crate::specs::Layout::headers_of))]
-fn headers_of(o: &OutputSections) -> u64
-    ensures value { result ≡ spec.headers_of o.now.rows }
-    ensures most { result ≤ 5 }
+fn headers_of(o: &OutputSections, frames: &FramePlan) -> u64
+    ensures value { result ≡ spec.headers_of o.now.rows (spec.frame_sizes frames.now) }
+    ensures most { result ≤ 6 }
 {
-    2 + count_of(has_rx(o)) + count_of(has_rw(o)) + count_of(has_tls(o))
+    2 + count_of(has_rx(o))
+        + count_of(has_rw(o))
+        + count_of(has_tls(o))
+        + count_of(has_frames(frames))
 }
 
 /// The greatest alignment of a thread-local member, at least 1.
@@ -361,17 +390,19 @@ fn image_end_of(o: &OutputSections, file_end: u64, nobits_end: u64) -> u64
 fn walk_all<'a>(
     from: &Sources<'_, 'a>,
     o: &OutputSections,
+    frames: &FramePlan,
     walked: &mut Walked<'a>,
 ) -> Result<Bounds, AllocError>
     requires ready { spec.AreReady (sizes_of from.now.sizes.now) (length walked.old.places.starts.items) (length walked.old.places.pools.items) o.now.rows }
-    requires room { spec.all_weight o.now.rows + 2 ^ 32 < 2 ^ 63 }
-    ensures bounds { IfOk result (λ bounds. bounds ≡ spec.bounds_of (sizes_of from.now.sizes.now) o.now.rows) }
+    requires room { spec.all_weight o.now.rows + 2 ^ 45 < 2 ^ 63 }
+    requires small { spec.AreSmall (spec.frame_sizes frames.now) }
+    ensures bounds { IfOk result (λ bounds. bounds ≡ spec.bounds_of (sizes_of from.now.sizes.now) o.now.rows (spec.frame_sizes frames.now)) }
     ensures trail { IfOk result (λ bounds. spec.trail_view walked.new ≡ spec.trail_of (sizes_of from.now.sizes.now) (items_view from.now.items.now) o.now.rows bounds (spec.trail_view walked.old)) }
     ensures sections { OnOk result (length walked.new.places.starts.items ≡ length walked.old.places.starts.items) }
 {
-    let headers = headers_of(o);
+    let headers = headers_of(o, frames);
     let headers_end = IMAGE_BASE + (EHDR_SIZE + PHDR_SIZE * headers);
-    let r_end = walk_bits(
+    let rows_end = walk_bits(
         from,
         cursor(headers_end, 1),
         Class::R,
@@ -379,6 +410,9 @@ fn walk_all<'a>(
         walked,
     )?
     .at;
+    let last = frame_bounds(frames, rows_end);
+    walk_frames(&last, walked)?;
+    let r_end = last.r_end;
     let rx_start = up(r_end, PAGE);
     let rx_end = walk_bits(
         from,
@@ -418,8 +452,13 @@ fn walk_all<'a>(
         has_rw: has_rw(o),
         has_tls: has_tls(o),
         has_tls_bits: has_tls_bits(o),
+        has_frames: last.has_frames,
         headers,
         headers_end,
+        frame_header: last.header,
+        frame_header_end: last.header_end,
+        frames: last.frames,
+        frames_end: last.frames_end,
         r_end,
         rx_start,
         rx_end,

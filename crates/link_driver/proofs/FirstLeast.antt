@@ -16,16 +16,17 @@ use Rattle.lk_base.specs.Limits.{IsWithinStandard}
 use Rattle.lk_tables.specs.Binding.{Bindings, duplicate_defects, first_phase, flag_defects}
 use Rattle.lk_tables.specs.BoundNames.{entry_defects}
 use Rattle.lk_tables.specs.Files.{File, symbol_total}
-use Rattle.reloc_apply.specs.Relocated.{relocation_defects}
 use Rattle.sec_graph.specs.Undefined.{undefined_defects}
 use Rattle.link_driver.specs.Defects.{head_defects_at, opening_defects, reading_defects}
 use Rattle.link_driver.specs.Laws.{AreCounted, StopsAtLeast}
-use Rattle.link_driver.specs.Link.{Wishes, bound_names, defects_in, final_phases, kept_for, laid_out, last_phases, later_phases, leaders_in, piece_defects, wishes_for}
+use Rattle.link_driver.specs.Link.{Wishes, bound_names, defects_in, final_phases, kept_for, laid_out, last_phases, later_phases, leaders_in, merged_of, piece_defects, plan_in, wishes_for}
 use Rattle.link_driver.specs.Sources.{Source, files_in, heads_in}
+use Rattle.link_driver.specs.Values.{value_defects}
 use Rattle.link_driver.proofs.DefectOrder.{Ordered, first_least, first_ordered}
-use Rattle.link_driver.proofs.LaidOrder.{laid_ordered, relocations_ordered}
+use Rattle.link_driver.proofs.LaidOrder.{laid_ordered}
 use Rattle.link_driver.proofs.Laws.{few_files, few_symbols}
 use Rattle.link_driver.proofs.PhaseOrder.{duplicates_ordered_in, entry_ordered, files_in_order, flags_ordered, opening_ordered, pieces_ordered, reading_ordered, undefined_ordered}
+use Rattle.link_driver.proofs.ValueOrder.{values_ordered}
 
 -- a count that is not above its limit
 none_right : (xs ys : List Defect) → xs ++ ys ≡ [] → ys ≡ []
@@ -69,13 +70,16 @@ module _ (limits : Limits) (within : IsWithinStandard limits) (ss : List Source)
     wishes = wishes_for asked files bound kept
 
     last_ordered : Ordered (first_phase (last_phases limits wishes files bound kept))
+    unfolding plan_in
     last_ordered =
         let w = wishes in
         let rise = files_in_order asked.undefined ss in
-        let relocations = relocation_defects files bound (leaders_in w files bound kept) (laid_out w files bound kept) in
+        let leaders = leaders_in w files bound kept in
+        let laid = laid_out w files bound kept in
+        let values = value_defects files bound leaders laid (plan_in w files bound kept) in
         first_ordered (undefined_defects files bound kept) (final_phases limits w files bound kept) (undefined_ordered files bound kept rise)
-        (λ none. first_ordered (layout_defects limits files (laid_out w files bound kept)) (relocations ∷ []) (laid_ordered limits w files bound kept rise)
-        (λ nor. first_ordered relocations [] (relocations_ordered files bound (leaders_in w files bound kept) (laid_out w files bound kept) rise) (λ no. tt)))
+        (λ none. first_ordered (layout_defects limits files (laid_out w files bound kept)) (values ∷ []) (laid_ordered limits w files bound kept rise)
+        (λ nor. first_ordered values [] (values_ordered files bound (merged_of w files bound kept) leaders laid rise) (λ no. tt)))
 
     binding_ordered : AreCounted ss → Ordered (first_phase (later_phases limits asked files))
     binding_ordered few =

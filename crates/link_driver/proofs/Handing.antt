@@ -8,10 +8,11 @@ use Rattle.link_sections.specs.LaidOut.{LaidOut}
 use Rattle.lk_tables.specs.BoundNames.{IsBindingOf}
 use Rattle.lk_tables.specs.Binding.{Bindings}
 use Rattle.lk_tables.specs.Files.{File}
+use Rattle.lk_tables.specs.FramePlans.{PlanView}
 use Rattle.map_file.specs.MapText.{map_text}
 use Rattle.sym_resolve.specs.Law.{IsLawful}
 use Rattle.link_driver.specs.declared.linking.Linked.{Linked}
-use Rattle.link_driver.specs.Link.{Wishes, bound_in, bound_names, executable_in, executable_with, kept_for, kept_in, laid_out, leaders_in, linked_files, map_in, map_with, report_in, report_with, wishes_for, wishes_in}
+use Rattle.link_driver.specs.Link.{Wishes, bound_in, bound_names, executable_in, executable_with, kept_for, kept_in, laid_out, leaders_in, linked_files, map_in, map_with, plan_in, report_in, report_with, wishes_for, wishes_in}
 use Rattle.link_driver.specs.Phases.{Gives, IsWritten, Makes}
 use Rattle.link_driver.specs.Sources.{Source, heads_in, live_in}
 
@@ -34,13 +35,15 @@ unfolding bound_names
 binding_is entry files b names = (discarded files, entry, names)
 
 -- what files give that are laid out as Link says
-pub made_of : (w : Wishes) (names : List (List ℕ)) (files : List File) (b : Bindings) (kept : List Bool) (leaders : List (Option ℕ)) (laid : LaidOut) (linked : Linked) →
-    leaders ≡ leaders_in w files b kept → laid ≡ laid_out w files b kept → IsWritten w names files b kept leaders laid linked → Makes w names files b kept linked
+pub made_of : (w : Wishes) (names : List (List ℕ)) (files : List File) (b : Bindings) (kept : List Bool) (leaders : List (Option ℕ)) (laid : LaidOut) (plan : PlanView) (linked : Linked) →
+    leaders ≡ leaders_in w files b kept → laid ≡ laid_out w files b kept → plan ≡ plan_in w files b kept → IsWritten w names files b kept leaders laid plan linked →
+    Makes w names files b kept linked
 unfolding executable_with map_with report_with
-made_of w names files b kept leaders laid linked lead found written =
-    let P : List (Option ℕ) → Type 0 = λ l. IsWritten w names files b kept l laid linked in
-    let Q : LaidOut → Type 0 = λ l. IsWritten w names files b kept (leaders_in w files b kept) l linked in
-    let so = subst Q found (subst P lead written) in
+made_of w names files b kept leaders laid plan linked lead found planned written =
+    let P : List (Option ℕ) → Type 0 = λ l. IsWritten w names files b kept l laid plan linked in
+    let Q : LaidOut → Type 0 = λ l. IsWritten w names files b kept (leaders_in w files b kept) l plan linked in
+    let R : PlanView → Type 0 = λ p. IsWritten w names files b kept (leaders_in w files b kept) (laid_out w files b kept) p linked in
+    let so = subst R planned (subst Q found (subst P lead written)) in
     record { executable = so.executable; map = so.map; report = so.report }
 
 -- names are no matter where no map is asked for

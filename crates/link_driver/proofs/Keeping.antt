@@ -12,10 +12,12 @@ use Rattle.lk_tables.specs.declared.bounds.Bound.TheVariants.{InSection, Number,
 use Rattle.lk_tables.specs.declared.bounds.Target.TheVariants as targets
 use Rattle.lk_tables.specs.declared.heads.Symbol.{Symbol}
 use Rattle.lk_tables.specs.declared.objects.Reloc.{Reloc}
+use Rattle.lk_tables.specs.declared.records.FrameNo.{FrameNo}
 use Rattle.lk_tables.specs.declared.section_places.SectionPlace.{SectionPlace}
 use Rattle.lk_tables.specs.BoundNames.{IsBindingOf, bindings, with_linker}
 use Rattle.lk_tables.specs.Binding.{Bindings, offered_bindings}
 use Rattle.lk_tables.specs.Files.{AreFew, File, file_at, first_section, is_section_symbol, section_count, section_no, section_total, symbol_at}
+use Rattle.lk_tables.specs.Frames.{all_lists, frames_at}
 use Rattle.lk_tables.specs.Reach.{IsReach}
 use Rattle.lk_tables.specs.Sites.{IsPlaceOf, place_of}
 use Rattle.lk_tables.specs.Targets.{bound, entry_bound, target_by, target_of}
@@ -31,6 +33,7 @@ use Rattle.sec_gc.specs.Roots.{is_root, is_root_input, root_at, roots, roots_in}
 use Rattle.sec_graph.specs.Graph.{edges, ends_in, section_in}
 use Rattle.sec_graph.specs.Kept as rules
 use Rattle.sec_graph.proofs.Closing.{bounds_stay}
+use Rattle.sec_graph.proofs.FrameEnds.{fdes_below}
 use Rattle.link_driver.specs.Tables.{IsCollected, MayStay}
 
 -- a section's number belongs to a file
@@ -102,6 +105,14 @@ closed_stay files b is few = record {
   targets = λ f k r section offset rest stays in_set has names target.
       let live = live_of files f k stays.index in
       let all = target_stays files b (bound files b f r.symbol) (file_at files f) (symbol_at (file_at files f) r.symbol) r (bound_stays files b f r.symbol is few stays.file live) in
+      All-head (λ n. may_stay_at files b n ≡ true) section [] (subst (λ t. AllStay files b (section_in files b t)) target all);
+  frames = λ f k fde r section offset rest stays in_set listed has names target.
+      let total = section_total files in
+      let below = All-contains (λ (no : FrameNo). no.section < total) (frames_at files b (all_lists files) (section_no files f k)) fde (fdes_below files b (section_no files f k)) listed in
+      let place = place_of_number files fde.section below in
+      let own = (place_of files fde.section).file in
+      let live = live_of files own (place_of files fde.section).index place.index in
+      let all = target_stays files b (bound files b own r.symbol) (file_at files own) (symbol_at (file_at files own) r.symbol) r (bound_stays files b own r.symbol is few place.file live) in
       All-head (λ n. may_stay_at files b n ≡ true) section [] (subst (λ t. AllStay files b (section_in files b t)) target all);
   links = λ f k j stays in_table in_set other ordered link some. stays_at files b f j other.file other.index other.stays;
   groups = λ f i j group has first second stays in_table other in_other in_set. stays_at files b f j other.file other.index other.stays;

@@ -17,7 +17,7 @@ use Rattle.lk_tables.specs.Binding.{Bindings}
 use Rattle.lk_tables.specs.Files.{File, file_at, no_reloc, section_total}
 use Rattle.lk_tables.specs.Sites.{place_of, relocs_of}
 use Rattle.layout.specs.Cutting.{cuts_after, is_short, laid_cut, laid_cuts, short_defect, short_defects}
-use Rattle.layout.specs.Layout.{all_cuts, cuts_of, cut_defects, laid_by, laid_of, layout_defects, layout_of, limit_defects}
+use Rattle.layout.specs.Layout.{FrameSizes, all_cuts, cuts_of, cut_defects, laid_by, laid_of, layout_defects, layout_of, limit_defects}
 use Rattle.link_sections.specs.declared.pools.Pool.{Pool}
 use Rattle.link_sections.specs.declared.got.GotEntry.{GotEntry}
 use Rattle.link_sections.specs.Calls.{acting_kind}
@@ -29,9 +29,9 @@ use Rattle.relax.specs.declared.calls.Call.{Call}
 use Rattle.output_sections.specs.declared.rows.Row.{Row}
 use Rattle.relax.specs.CallSizes as calls
 use Rattle.relax.specs.CallSizes.{cut_of, cuts_by, is_cut}
-use Rattle.reloc_apply.specs.Relocated.{defects_at, misfit_defects, operand, reach_in, reloc_at, reloc_defect, reloc_defects, relocation_defects, section_defects, value_defects, width_at}
+use Rattle.reloc_apply.specs.Relocated.{defects_at, misfit_defects, operand, reach_in, reloc_at, reloc_defect, reloc_defects, section_defects, value_defects, width_at}
 use Rattle.reloc_apply.specs.Values.{partner_of, value_of}
-use Rattle.link_driver.specs.Link.{Wishes, cuts_in, laid_out, leaders_in}
+use Rattle.link_driver.specs.Link.{Wishes, cuts_in, laid_out, leaders_in, plan_in, sizes_in}
 use Rattle.link_driver.proofs.DefectOrder.{AreBelow, IsWide, NotAfter, Ordered, Up, all_append, all_flat, all_if, all_map, all_same, all_weaker, first_ordered, later_place, number_walk, numbers_up, one_all, read_all, read_up, up_append, up_filter, up_if, up_map, wide_ordered}
 use Rattle.link_driver.proofs.PhaseOrder.{AreInOrder, OfReloc, OfSection, RelocsUp, relocs_apart, sections_walk}
 
@@ -84,10 +84,10 @@ placed_up leaders sizes starts sections rise n =
     (all_map (Up CutsUp) (cuts_of leaders sizes starts) (range_with_len 0 sections)
     (all_same (λ k. Up CutsUp (cuts_of leaders sizes starts k)) (range_with_len 0 sections) (cuts_of_up leaders sizes starts rise))) tt
 
-layout_up : (files : List File) (b : Bindings) (pools : List Pool) (words : ℕ) (leaders : List (Option ℕ)) (sizes : List (List Cut)) (v : PoolsView) (t : List GotEntry) →
-    ((n : ℕ) → Up CutsUp (get_or sizes n [])) → (n : ℕ) → Up CutsUp (get_or (with_contents (layout_of files b pools words leaders sizes) v t).cuts n [])
+layout_up : (files : List File) (b : Bindings) (pools : List Pool) (words : ℕ) (leaders : List (Option ℕ)) (sizes : List (List Cut)) (fs : FrameSizes) (v : PoolsView) (t : List GotEntry) →
+    ((n : ℕ) → Up CutsUp (get_or sizes n [])) → (n : ℕ) → Up CutsUp (get_or (with_contents (layout_of files b pools words leaders sizes fs) v t).cuts n [])
 unfolding layout_of laid_of laid_by with_contents
-layout_up files b pools words leaders sizes v t rise n = placed_up leaders sizes _ (section_total files) rise n
+layout_up files b pools words leaders sizes fs v t rise n = placed_up leaders sizes _ (section_total files) rise n
 
 -- alignments with too few bytes
 shorts_up : (place : SectionPlace) (cs : List Cut) → Up CutsUp cs → Ordered (short_defects place cs)
@@ -169,7 +169,7 @@ module _ (files : List File) (b : Bindings) (leaders : List (Option ℕ)) (laid 
   abbrev of_section : (n : ℕ) → List Defect
   of_section n = flat_map (defects_at files b leaders laid n) (range_with_len 0 (length (relocs_of files n)))
 
-  section_of : (n : ℕ) → AllByRecursion (OfSection (place_of files n).file (place_of files n).index) (section_defects files b leaders laid n)
+  pub section_of : (n : ℕ) → AllByRecursion (OfSection (place_of files n).file (place_of files n).index) (section_defects files b leaders laid n)
   unfolding section_defects
   section_of n =
       let f = (place_of files n).file in
@@ -179,7 +179,7 @@ module _ (files : List File) (b : Bindings) (leaders : List (Option ℕ)) (laid 
       (λ i. all_weaker (OfReloc f k (reloc_at files b leaders laid n i)) (OfSection f k) (defects_at files b leaders laid n i)
       (λ d is. is.own) (reloc_of n (reloc_at files b leaders laid n (i - 1)) (reloc_at files b leaders laid n i)))) tt
 
-  section_up : ((f : ℕ) → AreInOrder (file_at files f)) → (n : ℕ) → Ordered (section_defects files b leaders laid n)
+  pub section_up : ((f : ℕ) → AreInOrder (file_at files f)) → (n : ℕ) → Ordered (section_defects files b leaders laid n)
   unfolding section_defects
   section_up rise n =
       let f = (place_of files n).file in
@@ -192,14 +192,10 @@ module _ (files : List File) (b : Bindings) (leaders : List (Option ℕ)) (laid 
       (λ i. reloc_of n (reloc_at files b leaders laid n (i - 1)) (reloc_at files b leaders laid n i))
       (λ i. reloc_up n (reloc_at files b leaders laid n (i - 1)) (reloc_at files b leaders laid n i))) tt
 
-  pub relocations_ordered : ((f : ℕ) → AreInOrder (file_at files f)) → Ordered (relocation_defects files b leaders laid)
-  unfolding relocation_defects
-  relocations_ordered rise = sections_walk files (section_defects files b leaders laid) section_of (section_up rise)
-
 -- the cuts of a link
 pub laid_ordered : (limits : Limits) (w : Wishes) (files : List File) (b : Bindings) (kept : List Bool) → ((f : ℕ) → AreInOrder (file_at files f)) →
     Ordered (layout_defects limits files (laid_out w files b kept))
 unfolding laid_out cuts_in calls.cuts_of
 laid_ordered limits w files b kept rise =
     layout_ordered limits files (laid_out w files b kept)
-    (layout_up files b _ _ (leaders_in w files b kept) (cuts_in w files b kept) _ _ (all_cuts_up files _ _ _ (λ n. rise (place_of files n).file (place_of files n).index)))
+    (layout_up files b _ _ (leaders_in w files b kept) (cuts_in w files b kept) (sizes_in (plan_in w files b kept)) _ _ (all_cuts_up files _ _ _ (λ n. rise (place_of files n).file (place_of files n).index)))

@@ -6,12 +6,15 @@ use Rattle.std.specs.List.Sorted.{IsStrictlyIncreasing}
 use Rattle.std.proofs.lemmas.List.{length-map}
 use Rattle.std.proofs.lemmas.Bool.{and_parts, cond-false, cond-true}
 use Rattle.std.proofs.lemmas.List.Elements.{All-map}
+use Rattle.eh_frame.specs.Plan.{plan_of}
 use Rattle.icf_part.specs.Leaders.{leaders_of}
 use Rattle.output_sections.specs.Items.{AreLeaders}
 use Rattle.layout.specs.Layout.{layout_defects, layout_of, limit_defects}
 use Rattle.lk_base.specs.declared.limits.Limits.{Limits}
 use Rattle.lk_tables.specs.Binding.{Bindings}
 use Rattle.lk_tables.specs.Files.{File, section_total}
+use Rattle.lk_tables.specs.FramePlans.{PlanView}
+use Rattle.lk_tables.specs.Frames.{RecordList, all_lists}
 use Rattle.lk_tables.proofs.BoundHas.{each_flat, one_if}
 use Rattle.link_sections.specs.declared.got.GotEntry.{GotEntry}
 use Rattle.link_sections.specs.declared.pools.Pool.{Pool}
@@ -31,7 +34,7 @@ use Rattle.output_sections.specs.Items.{items as parts}
 use Rattle.output_sections.specs.Order.{Orders, members_in, orders_of}
 use Rattle.relax.specs.CallSizes.{cuts_of}
 use Rattle.sec_graph.specs.Foldable.{is_foldable, item_if, item_in, item_of, items}
-use Rattle.link_driver.specs.Link.{Wishes, cuts_in, laid_out, leaders_in, table_of}
+use Rattle.link_driver.specs.Link.{Wishes, cuts_in, laid_out, leaders_in, plan_in, sizes_in, table_of}
 use Rattle.link_driver.specs.Tables.{MayStay}
 use Rattle.link_driver.proofs.Fitting.{lead_so}
 
@@ -69,9 +72,10 @@ module _ (w : Wishes) (files : List File) (b : Bindings) (kept : List Bool) (poo
 
   module _ (leaders : List (Option ℕ)) (lead : leaders ≡ leaders_in w files b kept) (entries : List GotEntry) (listed : entries ≡ table_of w files b kept)
       (rows : Orders) (order : rows ≡ orders_of (parts files b pools.pools.items (word_count entries) leaders)) (sizes : List (List Cut))
-      (cut : sizes ≡ cuts_of files b (merged_views pools) leaders (members_in rows) w.relax) where
+      (cut : sizes ≡ cuts_of files b (merged_views pools) leaders (members_in rows) w.relax) (plan : PlanView) (planned : plan ≡ plan_in w files b kept) where
     abbrev plain : LaidOut
-    plain = layout_of files b (pool_heads (pools_of files kept)) (word_count (table_of w files b kept)) (leaders_in w files b kept) (cuts_in w files b kept)
+    plain =
+        layout_of files b (pool_heads (pools_of files kept)) (word_count (table_of w files b kept)) (leaders_in w files b kept) (cuts_in w files b kept) (sizes_in (plan_in w files b kept))
 
     abbrev cuts_by : List (Option Merged) → List Pool → List GotEntry → List (Option ℕ) → List (List Cut)
     cuts_by merged heads table l = cuts_of files b merged l (members_in (orders_of (parts files b heads (word_count table) l))) w.relax
@@ -85,14 +89,17 @@ module _ (w : Wishes) (files : List File) (b : Bindings) (kept : List Bool) (poo
         ∙ ap (cuts_by (merged_views pools) (pool_heads (pools_of files kept)) (table_of w files b kept)) lead
         ∙ ap (λ (v : PoolsView). cuts_by v.merged (pool_heads (pools_of files kept)) (table_of w files b kept) (leaders_in w files b kept)) are
 
-    plain_is : layout_of files b pools.pools.items (word_count entries) leaders sizes ≡ plain
+    plain_is : layout_of files b pools.pools.items (word_count entries) leaders sizes (sizes_in plan) ≡ plain
     plain_is =
-        ap (λ ps. layout_of files b ps (word_count entries) leaders sizes) (sym (pool_heads_are files pools) ∙ ap pool_heads are)
-        ∙ ap (λ es. layout_of files b (pool_heads (pools_of files kept)) (word_count es) leaders sizes) listed
-        ∙ ap (λ l. layout_of files b (pool_heads (pools_of files kept)) (word_count (table_of w files b kept)) l sizes) lead
-        ∙ ap (layout_of files b (pool_heads (pools_of files kept)) (word_count (table_of w files b kept)) (leaders_in w files b kept)) cuts_are
+        let heads = pool_heads (pools_of files kept) in
+        let words = word_count (table_of w files b kept) in
+        ap (λ ps. layout_of files b ps (word_count entries) leaders sizes (sizes_in plan)) (sym (pool_heads_are files pools) ∙ ap pool_heads are)
+        ∙ ap (λ es. layout_of files b heads (word_count es) leaders sizes (sizes_in plan)) listed
+        ∙ ap (λ l. layout_of files b heads words l sizes (sizes_in plan)) lead
+        ∙ ap (λ s. layout_of files b heads words (leaders_in w files b kept) s (sizes_in plan)) cuts_are
+        ∙ ap (λ (p : PlanView). layout_of files b heads words (leaders_in w files b kept) (cuts_in w files b kept) (sizes_in p)) planned
 
-    pub laid_are : (view : LaidOut) → view ≡ layout_of files b pools.pools.items (word_count entries) leaders sizes →
+    pub laid_are : (view : LaidOut) → view ≡ layout_of files b pools.pools.items (word_count entries) leaders sizes (sizes_in plan) →
         with_contents view (pools_view files pools) entries ≡ laid_out w files b kept
     unfolding laid_out
     laid_are view is =
@@ -100,9 +107,28 @@ module _ (w : Wishes) (files : List File) (b : Bindings) (kept : List Bool) (poo
         ∙ ap (λ v. with_contents plain v entries) are ∙ ap (with_contents plain (pools_of files kept)) listed
 
     pub defects_are : (limits : Limits) →
-        layout_defects limits files (layout_of files b pools.pools.items (word_count entries) leaders sizes) ≡ layout_defects limits files (laid_out w files b kept)
+        layout_defects limits files (layout_of files b pools.pools.items (word_count entries) leaders sizes (sizes_in plan)) ≡ layout_defects limits files (laid_out w files b kept)
     unfolding laid_out
     defects_are limits = ap (layout_defects limits files) plain_is ∙ without_contents limits files plain (pools_of files kept) (table_of w files b kept)
+
+-- the unwind records that are written, as the code found what is merged and which sections lead
+pub planned_are : (w : Wishes) (files : List File) (b : Bindings) (kept : List Bool) (pools : Pools) (lists : List RecordList) (leaders : List (Option ℕ)) (plan : PlanView) →
+    pools_view files pools ≡ pools_of files kept → lists ≡ all_lists files → leaders ≡ leaders_in w files b kept →
+    plan ≡ plan_of files b (merged_views pools) lists leaders → plan ≡ plan_in w files b kept
+unfolding plan_in pools_view
+planned_are w files b kept pools lists leaders plan are listed lead is =
+    is ∙ ap (λ ls. plan_of files b (merged_views pools) ls leaders) listed
+    ∙ ap (plan_of files b (merged_views pools) (all_lists files)) lead
+    ∙ ap (λ (v : PoolsView). plan_of files b v.merged (all_lists files) (leaders_in w files b kept)) are
+
+-- over the layout
+pub planned_laid : (w : Wishes) (files : List File) (b : Bindings) (kept : List Bool) (leaders : List (Option ℕ)) (laid : LaidOut) (plan : PlanView) →
+    leaders ≡ leaders_in w files b kept → laid ≡ laid_out w files b kept → plan ≡ plan_in w files b kept →
+    plan ≡ plan_of files b laid.merging.merged (all_lists files) leaders
+unfolding plan_in laid_out with_contents
+planned_laid w files b kept leaders laid plan lead found planned =
+    planned ∙ ap (λ (l : LaidOut). plan_of files b l.merging.merged (all_lists files) (leaders_in w files b kept)) (sym found)
+    ∙ ap (plan_of files b laid.merging.merged (all_lists files)) (sym lead)
 
 -- the places of leaders, as they are found
 pub lead_items : (items : List LentItem) (l : List ℕ) → length l ≡ length (item_views items) → All (λ p. p < length items) l →

@@ -21,8 +21,8 @@ use Rattle.work_split.specs.Shares.{EachFrom}
 use Rattle.work_split.proofs.Sharing.{each_rises}
 use Rattle.link_driver.specs.Counts.{count_of}
 use Rattle.link_driver.specs.Defects.{body_defects_at}
-use Rattle.link_driver.specs.Reading.{IsBodyAt}
 use Rattle.link_driver.specs.Sources.{Source, files_in, headed, heads_in, live_in, opened, opened_files, with_body}
+use Rattle.link_driver.proofs.EachBody.{IsObjectAt}
 use Rattle.link_driver.proofs.Gathered.{each_at}
 
 -- how many files there are, and each by its number
@@ -51,23 +51,23 @@ body_few : (file : File) (body : Option Object) → IfSome body (IsBodyOf file) 
 body_few file None is some = let no : false ≡ true = some in cc
 body_few file (Some object) is some = count_few file is.head is.short
 
-body_is : (b : List ℕ) (v : ObjectView) → object_of b ≡ Ok v → v ≡ parts_of b
+pub body_is : (b : List ℕ) (v : ObjectView) → object_of b ≡ Ok v → v ≡ parts_of b
 unfolding object_of
 body_is b v e = checked_value (object_checks b) (parts_of b) v e
 
 -- a file with its body
-with_is : (ss : List Source) (live : List Bool) (f : ℕ) (body : Option Object) → IsBodyAt ss live f body → with_object (headed ss f) body ≡ opened ss live f
+with_is : (ss : List Source) (live : List Bool) (f : ℕ) (body : Option Object) → IsObjectAt ss live f body → with_object (headed ss f) body ≡ opened ss live f
 with_is ss live f None here = ap (λ (t : Bool). if t then with_body (headed ss f) else headed ss f) here.wanted
 with_is ss live f (Some object) here =
     ap (λ (v : ObjectView). record (with_body (headed ss f)) { object = v }) (body_is (headed ss f).bytes (object_view object) here.is.body)
     ∙ ap (λ (t : Bool). if t then with_body (headed ss f) else headed ss f) here.wanted
 
-module _ (ss : List Source) (live : List Bool) (bodies : List (Option Object)) (each : EachFrom (IsBodyAt ss live) 0 (length ss) bodies) where
-  body_at : (f : ℕ) → f < length ss → IsBodyAt ss live f (slice_index_or bodies f None)
+module _ (ss : List Source) (live : List Bool) (bodies : List (Option Object)) (each : EachFrom (IsObjectAt ss live) 0 (length ss) bodies) where
+  body_at : (f : ℕ) → f < length ss → IsObjectAt ss live f (slice_index_or bodies f None)
   body_at f lt =
-      let P : ℕ → Type 0 = λ k. IsBodyAt ss live k (slice_index_or bodies f None) in
+      let P : ℕ → Type 0 = λ k. IsObjectAt ss live k (slice_index_or bodies f None) in
       let e : 0 + f ≡ f = omega arith in
-      subst P e (each_at (IsBodyAt ss live) 0 (length ss) f bodies None each (omega (arith, lt, each_rises (IsBodyAt ss live) 0 (length ss) bodies each)))
+      subst P e (each_at (IsObjectAt ss live) 0 (length ss) f bodies None each (omega (arith, lt, each_rises (IsObjectAt ss live) 0 (length ss) bodies each)))
 
   pub are_bodies : AreBodies (heads_in ss) bodies
   are_bodies f lt =

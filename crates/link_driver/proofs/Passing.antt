@@ -20,15 +20,16 @@ use Rattle.lk_tables.specs.declared.tables.Tables.{Tables}
 use Rattle.lk_tables.specs.Binding.{Bindings, duplicate_defects, first_phase, flag_defects}
 use Rattle.lk_tables.specs.BoundNames.{binding_defects, entry_defects}
 use Rattle.lk_tables.specs.Files.{File}
+use Rattle.lk_tables.specs.FramePlans.{PlanView}
 use Rattle.lk_tables.specs.TablesView.{files_of}
 use Rattle.sec_graph.specs.Foldable.{items}
-use Rattle.reloc_apply.specs.Relocated.{relocation_defects}
 use Rattle.link_driver.specs.declared.linking.Linked.{Linked}
 use Rattle.link_driver.specs.Defects.{opening_defects, reading_defects}
-use Rattle.link_driver.specs.Link.{Wishes, binding_phases, bound_names, kept_for, laid_out, leaders_in, piece_defects, placing_defects, placing_phases, wishes_for}
+use Rattle.link_driver.specs.Link.{Wishes, binding_phases, bound_names, kept_for, laid_out, leaders_in, piece_defects, placing_defects, placing_phases, plan_in, wishes_for}
 use Rattle.link_driver.specs.Phases.{HoldsAtStop, HoldsPast, ShortenedCallsReach}
 use Rattle.link_driver.specs.Sources.{Source, files_in}
 use Rattle.link_driver.specs.Tables.{MayStay}
+use Rattle.link_driver.specs.Values.{value_defects}
 use Rattle.link_driver.proofs.Chain.{one_none, one_stop, passed, stopped}
 
 -- each section has as many bytes as its leader, without folding and with it
@@ -57,13 +58,14 @@ reaches_so w files b kept leaders laid lead found reach =
     let Q : LaidOut → Type 0 = λ l. CallsReach files b (leaders_in w files b kept) l in
     subst Q found (subst P lead reach)
 
-pub goes_so : {X : Type 0} (r : Result X LinkStop) (w : Wishes) (files : List File) (b : Bindings) (kept : List Bool) (leaders : List (Option ℕ)) (laid : LaidOut) →
-    leaders ≡ leaders_in w files b kept → laid ≡ laid_out w files b kept → Goes r (relocation_defects files b leaders laid) →
-    Goes r (relocation_defects files b (leaders_in w files b kept) (laid_out w files b kept))
-goes_so r w files b kept leaders laid lead found goes =
-    let P : List (Option ℕ) → Type 0 = λ l. Goes r (relocation_defects files b l laid) in
-    let Q : LaidOut → Type 0 = λ l. Goes r (relocation_defects files b (leaders_in w files b kept) l) in
-    subst Q found (subst P lead goes)
+pub goes_so : {X : Type 0} (r : Result X LinkStop) (w : Wishes) (files : List File) (b : Bindings) (kept : List Bool) (leaders : List (Option ℕ)) (laid : LaidOut) (plan : PlanView) →
+    leaders ≡ leaders_in w files b kept → laid ≡ laid_out w files b kept → plan ≡ plan_in w files b kept → Goes r (value_defects files b leaders laid plan) →
+    Goes r (value_defects files b (leaders_in w files b kept) (laid_out w files b kept) (plan_in w files b kept))
+goes_so r w files b kept leaders laid plan lead found planned goes =
+    let P : List (Option ℕ) → Type 0 = λ l. Goes r (value_defects files b l laid plan) in
+    let Q : LaidOut → Type 0 = λ l. Goes r (value_defects files b (leaders_in w files b kept) l plan) in
+    let R : PlanView → Type 0 = λ p. Goes r (value_defects files b (leaders_in w files b kept) (laid_out w files b kept) p) in
+    subst R planned (subst Q found (subst P lead goes))
 
 -- a link that stops at one of these defects has some
 pub not_past : (stop : LinkStop) (defects : List Defect) (P : Type 0) → StopsAt stop defects → HoldsAtStop stop defects P

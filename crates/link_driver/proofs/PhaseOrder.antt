@@ -11,7 +11,6 @@ use Rattle.lk_base.specs.declared.limits.Limits.{Limits}
 use Rattle.lk_base.specs.declared.abi.TheConstants.{EF_RISCV_FLOAT_ABI}
 use Rattle.lk_base.specs.declared.kinds.TheConstants.{FLAGS_CLASH, UNDEFINED}
 use Rattle.lk_base.specs.RelocKinds.{names_a_symbol}
-use Rattle.link_sections.specs.Leaders.{is_kept}
 use Rattle.lk_tables.specs.FileHeader.{section_count}
 use Rattle.lk_tables.specs.Targets.{is_undefined}
 use Rattle.lk_base.specs.Defects.{count_defect, count_defects}
@@ -20,9 +19,9 @@ use Rattle.lk_base.proofs.StableOrder.{rises_order}
 use Rattle.lk_tables.specs.declared.objects.Reloc.{Reloc}
 use Rattle.lk_tables.specs.Binding.{Bindings, FloatAbi, Offer, is_discarded, is_offer, no_entry, clash_of, clashes_with_first, class_of, duplicate_defects, duplicate_of, duplicates_of, flag_defects, float_abi_at, float_abis, is_strong, offer_at, offers, offers_in}
 use Rattle.lk_tables.specs.BoundNames.{bindings, entry_defects}
-use Rattle.lk_tables.specs.Files.{File, file_at, first_section, no_file, relocs_at, section_no, section_total, symbol_at, symbol_name, symbol_total}
+use Rattle.lk_tables.specs.Files.{File, file_at, first_section, no_file, relocs_at, section_total, symbol_at, symbol_name, symbol_total}
 use Rattle.lk_tables.specs.Heads.{head_of}
-use Rattle.lk_tables.specs.Objects.{object_of, parts_of, relocs_for, relocs_in}
+use Rattle.lk_tables.specs.Objects.{parts_of, relocs_for, relocs_in}
 use Rattle.lk_tables.specs.Bodies.{rela_of}
 use Rattle.lk_tables.specs.Ranks.{file_of, no_rank, rank_of, symbol_of_rank}
 use Rattle.lk_tables.specs.Relocations.{in_order, rela_count, reloc, relocs_of as relocs_by}
@@ -30,8 +29,8 @@ use Rattle.lk_tables.specs.Sites.{IsPlaceOf, place_of}
 use Rattle.lk_tables.specs.Walks.{over_file, over_live, over_section, reloc_defect}
 use Rattle.lk_tables.proofs.FirstNumbers.{first_within, section_more, section_upto}
 use Rattle.lk_tables.proofs.Owners.{place_of_number}
-use Rattle.sec_graph.specs.Undefined.{undefined_at, undefined_defects}
-use Rattle.link_driver.specs.Defects.{body_defects, body_defects_at, flawed, flaws, head_defects, head_defects_at, opening_defects, reading_defects}
+use Rattle.sec_graph.specs.Undefined.{is_needed, undefined_at, undefined_defects}
+use Rattle.link_driver.specs.Defects.{body_defects, body_defects_at, body_of, flawed, flaws, head_defects, head_defects_at, opening_defects, reading_defects}
 use Rattle.link_driver.specs.Link.{piece_defects}
 use Rattle.link_driver.specs.Sources.{Source, files_in, has_body, headed, heads_in, live_in, opened, opened_files, source_at, with_body}
 use Rattle.link_driver.proofs.DefectOrder.{AreBelow, IsWide, NotAfter, Ordered, Up, all_append, all_flat, all_if, all_map, all_same, all_weaker, later_file, later_place, later_section, number_walk, one_all, one_up, read_all, then_wide, up_append, up_filter, up_from_rises, up_if, up_map, up_walk, wide_ordered}
@@ -70,14 +69,14 @@ head_up s f = flawed_up s f s.flaw
 body_file : (ss : List Source) (live : List Bool) (f : ℕ) → AllByRecursion (OfFile f) (body_defects_at ss live f)
 unfolding body_defects
 body_file ss live f =
-    let own = flaws f (object_of (source_at ss f).bytes) in
-    all_if (OfFile f) (has_body ss live f) own [] (flaws_file f (object_of (source_at ss f).bytes)) tt
+    let own = flaws f (body_of (source_at ss f).bytes) in
+    all_if (OfFile f) (has_body ss live f) own [] (flaws_file f (body_of (source_at ss f).bytes)) tt
 
 body_up : (ss : List Source) (live : List Bool) (f : ℕ) → Ordered (body_defects_at ss live f)
 unfolding body_defects
 body_up ss live f =
-    let own = flaws f (object_of (source_at ss f).bytes) in
-    up_if NotAfter (has_body ss live f) own [] (flaws_up f (object_of (source_at ss f).bytes)) tt
+    let own = flaws f (body_of (source_at ss f).bytes) in
+    up_if NotAfter (has_body ss live f) own [] (flaws_up f (body_of (source_at ss f).bytes)) tt
 
 counts_wide : (limit count : ℕ) → AllByRecursion IsWide (count_defects limit count)
 counts_wide limit count = one_all IsWide (nat_lt limit count) (count_defect count) refl
@@ -359,7 +358,7 @@ module _ (f k : ℕ) (give : Reloc → List Defect) (each : (r : Reloc) → AllB
 
 module _ (files : List File) (b : Bindings) (kept : List Bool) (rise : (f : ℕ) → AreInOrder (file_at files f)) where
   abbrev undefined_test : (f k : ℕ) → Reloc → Bool
-  undefined_test f k r = is_kept kept (section_no files f k) && (names_a_symbol r.kind && is_undefined files b f r.symbol)
+  undefined_test f k r = is_needed files b kept f k r && (names_a_symbol r.kind && is_undefined files b f r.symbol)
 
   undefined_of : (f k : ℕ) (r : Reloc) → AllByRecursion (OfReloc f k r) (undefined_at files b kept f k r)
   unfolding undefined_at

@@ -12,6 +12,7 @@ use Rattle.link_driver.specs.Ends.{Accepts, Ends, links, finds_defect, refuses, 
 use Rattle.link_driver.specs.Promises.{IsGiven, IsFaultless, Promises}
 use Rattle.link_driver.proofs.Laws.{are_least, link_of_any}
 use Rattle.link_driver.proofs.Sparing.{spares}
+use Rattle.link_driver.proofs.Unwinding.{plans}
 
 -- told files have one list of contents
 one_content : (files : Option Files) (names a b : List (List ℕ)) → IsSome files → AreContents files names a → AreContents files names b → a ≡ b
@@ -180,6 +181,7 @@ module _ (words : List (List ℕ)) (before after : Store) (say say' : Output) (s
     missing = missing_end ends;
     least = λ asked given few. are_least asked (sources_for asked given) few;
     spared = λ asked given. spares asked (sources_for asked given);
+    unwound = λ asked given. plans asked (sources_for asked given);
     any_workers = link_of_any;
     begun = begun_end ends;
   }

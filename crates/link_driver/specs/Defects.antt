@@ -6,8 +6,10 @@ use Rattle.lk_base.specs.declared.defects.Flaw.{Flaw}
 use Rattle.lk_base.specs.declared.limits.Limits.{Limits}
 use Rattle.lk_base.specs.Defects.{count_defects}
 use Rattle.lk_tables.specs.Files.{section_total, symbol_total}
+use Rattle.lk_tables.specs.Checks.{checked}
 use Rattle.lk_tables.specs.Heads.{head_of}
-use Rattle.lk_tables.specs.Objects.{object_of}
+use Rattle.lk_tables.specs.Objects.{ObjectView, object_checks, parts_of}
+use Rattle.eh_frame.specs.Sections.{all_frame_checks}
 use Rattle.link_driver.specs.Sources.{Source, files_in, has_body, heads_in, live_in, source_at}
 
 -- a flaw of a file as a defect of the link
@@ -26,9 +28,13 @@ flawed s f None = if s.archive then [] else flaws f (head_of s.bytes)
 unfoldable pub head_defects : Source → ℕ → List Defect
 head_defects s f = flawed s f s.flaw
 
+-- what is read of a body: the checks of its unwind records come after all others
+unfoldable pub body_of : List ℕ → Result ObjectView Flaw
+body_of b = checked (object_checks b ++ all_frame_checks b) (parts_of b)
+
 -- its body has one
 unfoldable pub body_defects : List ℕ → ℕ → List Defect
-body_defects b f = flaws f (object_of b)
+body_defects b f = flaws f (body_of b)
 
 -- of file number f
 abbrev pub head_defects_at : List Source → ℕ → List Defect

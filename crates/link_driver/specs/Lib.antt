@@ -3,6 +3,7 @@ pub mod Counts
 pub mod Defects
 pub mod Endings
 pub mod Ends
+pub mod Frames
 pub mod Given
 pub mod Laws
 pub mod Link
@@ -16,6 +17,8 @@ pub mod Sources
 pub mod Spared
 pub mod Stops
 pub mod Tables
+pub mod Unwound
+pub mod Values
 pub use Rattle.link_command.specs.Command
 pub use Rattle.lk_base.specs.Kinds
 pub use Rattle.lk_base.specs.Limits

@@ -11,7 +11,7 @@ use Rattle.lk_base.specs.Limits.{standard}
 use Rattle.lk_base.specs.Lines.{defect_line, escaped}
 use Rattle.asked_names.specs.AskedNames.{named_sections}
 use Rattle.comdat.specs.Discarded.{discarded}
-use Rattle.layout.specs.Layout.{layout_defects, layout_of}
+use Rattle.layout.specs.Layout.{FrameSizes, layout_defects, layout_of}
 use Rattle.link_sections.specs.InputSections.{all_kept}
 use Rattle.link_sections.specs.LaidOut.{LaidOut, with_contents}
 use Rattle.link_sections.specs.declared.got.GotEntry.{GotEntry}
@@ -27,8 +27,11 @@ use Rattle.lk_tables.specs.declared.heads.Symbol.{Symbol}
 use Rattle.lk_tables.specs.Binding.{Bindings, flag_defects, duplicate_defects, first_phase}
 use Rattle.lk_tables.specs.BoundNames.{bindings, entry_defects}
 use Rattle.lk_tables.specs.Files.{File, is_section_symbol, section_total}
+use Rattle.lk_tables.specs.FramePlans.{PlanView}
+use Rattle.lk_tables.specs.Frames.{all_lists}
 use Rattle.lk_tables.specs.Heads.{HeadView, head_of}
 use Rattle.lk_tables.specs.Names.{text_of}
+use Rattle.eh_frame.specs.Plan.{plan_of}
 use Rattle.elf_out.specs.Executable.{executable}
 use Rattle.got_tls.specs.GotList.{got_of}
 use Rattle.icf_part.specs.Leaders.{leaders_of}
@@ -38,12 +41,12 @@ use Rattle.link_driver.specs.Defects.{opening_defects, reading_defects}
 use Rattle.link_driver.specs.Given.{contents_for, names_for}
 use Rattle.link_driver.specs.Reports.{report_text}
 use Rattle.link_driver.specs.Sources.{Source, files_in, shown_file, shown_files, source_at, sources}
+use Rattle.link_driver.specs.Values.{contents_with, value_defects}
 use Rattle.map_file.specs.MapText.{map_text}
 use Rattle.output_sections.specs.declared.rows.Row.{Row}
 use Rattle.output_sections.specs.Items.{items as parts}
 use Rattle.output_sections.specs.Order.{members_in, orders_of}
 use Rattle.relax.specs.CallSizes.{cuts_of}
-use Rattle.reloc_apply.specs.Relocated.{relocation_defects}
 use Rattle.sec_gc.specs.Kept.{reached}
 use Rattle.sec_gc.specs.Roots.{roots}
 use Rattle.sec_graph.specs.Foldable.{is_barred, items}
@@ -98,6 +101,10 @@ kept_for asked files b = kept_of asked.gc asked.undefined files b
 abbrev pub wishes_for : Asked → List File → Bindings → (kept : List Bool) → Wishes
 wishes_for asked files b kept = wishes_of asked (barred_of asked.icf asked.unique files b kept)
 
+-- bytes of the two sections that hold unwind records
+abbrev pub sizes_in : PlanView → FrameSizes
+sizes_in plan = record { header = plan.header_len; frame = plan.frame_len }
+
 module _ (w : Wishes) (files : List File) (b : Bindings) (kept : List Bool) where
   -- by section number, what is merged of kept sections
   abbrev pub merged_of : List (Option Merged)
@@ -109,6 +116,10 @@ module _ (w : Wishes) (files : List File) (b : Bindings) (kept : List Bool) wher
 
   unfoldable pub leaders_in : List (Option ℕ)
   leaders_in = if w.icf then folded_leaders fold_items_of (leaders_of fold_items_of) (own_leaders kept merged_of) else own_leaders kept merged_of
+
+  -- which unwind records are written
+  unfoldable pub plan_in : PlanView
+  plan_in = plan_of files b merged_of (all_lists files) leaders_in
 
   -- the linker's global offset table
   abbrev pub table_of : List GotEntry
@@ -124,14 +135,14 @@ module _ (w : Wishes) (files : List File) (b : Bindings) (kept : List Bool) wher
 
   -- where everything stands
   unfoldable pub laid_out : LaidOut
-  laid_out = with_contents (layout_of files b (pool_heads (pools_of files kept)) (word_count table_of) leaders_in cuts_in) (pools_of files kept) table_of
+  laid_out = with_contents (layout_of files b (pool_heads (pools_of files kept)) (word_count table_of) leaders_in cuts_in (sizes_in plan_in)) (pools_of files kept) table_of
 
 -- the phases of a link after its files are read, each with its defects in order: float ABIs agree, no name is defined twice, the entry is
 -- defined, what is referred to is, the layout has room, and the values of relocations fit
 module _ (limits : Limits) (w : Wishes) (files : List File) (b : Bindings) (kept : List Bool) where
   abbrev pub final_phases : List (List Defect)
   final_phases = layout_defects limits files (laid_out w files b kept)
-      ∷ relocation_defects files b (leaders_in w files b kept) (laid_out w files b kept)
+      ∷ value_defects files b (leaders_in w files b kept) (laid_out w files b kept) (plan_in w files b kept)
       ∷ []
 
   abbrev pub last_phases : List (List Defect)
@@ -185,6 +196,7 @@ report_by (Some objects) files kept leaders laid = report_text files kept leader
 module _ (w : Wishes) (files : List File) (b : Bindings) (kept : List Bool) where
   unfoldable pub executable_with : List ℕ
   executable_with = executable files b kept w.strip (leaders_in w files b kept) (laid_out w files b kept)
+      (contents_with files b (leaders_in w files b kept) (laid_out w files b kept) (plan_in w files b kept))
 
   unfoldable pub map_with : (names : List (List ℕ)) → List ℕ
   map_with names = if w.map then map_text names files b (leaders_in w files b kept) (laid_out w files b kept) kept else []

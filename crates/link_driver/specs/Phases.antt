@@ -6,6 +6,7 @@ use Rattle.lk_base.specs.declared.defects.LinkStop.TheVariants as stops
 use Rattle.lk_base.specs.declared.limits.Limits.{Limits}
 use Rattle.lk_tables.specs.Binding.{Bindings}
 use Rattle.lk_tables.specs.Files.{File}
+use Rattle.lk_tables.specs.FramePlans.{PlanView}
 use Rattle.call_reach.specs.Reach.{CallsReach}
 use Rattle.elf_out.specs.Executable.{executable, own_tables}
 use Rattle.elf_out.specs.Standing.{AllStand, SectionsStand}
@@ -17,13 +18,15 @@ use Rattle.sym_resolve.specs.Law.{IsLawful}
 use Rattle.link_driver.specs.declared.linking.Linked.{Linked}
 use Rattle.comdat.specs.Discarded.{discarded}
 use Rattle.link_driver.specs.Laws.{StopsAtLeast}
-use Rattle.link_driver.specs.Link.{Wishes, bound_in, defects_in, executable_in, executable_with, kept_in, laid_out, leaders_in, link, linked_files, map_in, map_with, placing_defects, report_by, report_in, report_with, wishes_in}
+use Rattle.link_driver.specs.Link.{Wishes, bound_in, defects_in, executable_in, executable_with, kept_in, laid_out, leaders_in, link, linked_files, map_in, map_with, placing_defects, plan_in, report_by, report_in, report_with, wishes_in}
 use Rattle.link_driver.specs.Sources.{Source, heads_in, live_in}
 use Rattle.link_driver.specs.Tables.{IsCollected}
+use Rattle.link_driver.specs.Unwound.{Unwinds}
+use Rattle.link_driver.specs.Values.{contents_with}
 
--- what files give that have no defect and are laid out so: `names` are those by which they are shown
-pub record IsWritten (w : Wishes) (names : List (List ℕ)) (files : List File) (b : Bindings) (kept : List Bool) (leaders : List (Option ℕ)) (laid : LaidOut) (linked : Linked) : Type 0 where
-  pub executable : linked.exe.items ≡ executable files b kept w.strip leaders laid
+-- what files give that have no defect and are laid out so, with these unwind records: `names` are those by which they are shown
+pub record IsWritten (w : Wishes) (names : List (List ℕ)) (files : List File) (b : Bindings) (kept : List Bool) (leaders : List (Option ℕ)) (laid : LaidOut) (plan : PlanView) (linked : Linked) : Type 0 where
+  pub executable : linked.exe.items ≡ executable files b kept w.strip leaders laid (contents_with files b leaders laid plan)
   pub map : linked.map.items ≡ (if w.map then map_text names files b leaders laid kept else [])
   pub report : linked.report.items ≡ report_by w.generated files kept leaders laid
 
@@ -52,19 +55,21 @@ abbrev pub HoldsPast : Result Linked LinkStop → (earlier : List Defect) → Ty
 HoldsPast (Ok linked) earlier holds = holds
 HoldsPast (Err stop) earlier holds = HoldsAtStop stop earlier holds
 
--- all pieces of which an executable is made stand whole in it: headers, sections with their relocations done, pieces of pools, the linker's
--- table, the symbol table with its names, the names of the sections, the section headers; and so do the bytes of each section, by its number
-pub record StandsWhole (w : Wishes) (files : List File) (b : Bindings) (kept : List Bool) (leaders : List (Option ℕ)) (laid : LaidOut) (exe : List ℕ) : Type 0 where
-  pub pieces : AllStand files b leaders laid (own_tables files b kept w.strip leaders laid) exe
+-- all pieces of which an executable is made stand whole in it: headers, unwind records and the table of their functions, sections with their
+-- relocations done, pieces of pools, the linker's table, the symbol table with its names, the names of the sections, the section headers; and so do the
+-- bytes of each section, by its number; and of the unwind records each FDE of a section that leads itself is there, once and no other
+pub record StandsWhole (w : Wishes) (files : List File) (b : Bindings) (kept : List Bool) (leaders : List (Option ℕ)) (laid : LaidOut) (plan : PlanView) (exe : List ℕ) : Type 0 where
+  pub pieces : AllStand files b leaders laid (contents_with files b leaders laid plan) (own_tables files b kept w.strip leaders laid) exe
   pub sections : SectionsStand files b leaders laid exe
+  pub records : Unwinds files b leaders laid plan (contents_with files b leaders laid plan)
 
 abbrev pub LinkStands : Wishes → List File → Bindings → (kept : List Bool) → (exe : List ℕ) → Type 0
-LinkStands w files b kept exe = StandsWhole w files b kept (leaders_in w files b kept) (laid_out w files b kept) exe
+LinkStands w files b kept exe = StandsWhole w files b kept (leaders_in w files b kept) (laid_out w files b kept) (plan_in w files b kept) exe
 
 -- a link without a defect gives Link. Of Link's own words it is said, as laws: the files that take part are the least set with
 -- the command's objects, the members that it asks for and all that these pull; each name is bound to the least offer of it, if there is one, and bound COMMON
 -- symbols get the greatest room asked for; what garbage collection keeps is the least set with the roots that the rules close; each
--- piece of the executable, and each section, stands whole in it; and each shortened call reaches its target
+-- piece of the executable, and each section, stands whole in it, with the unwind records that belong to it; and each shortened call reaches its target
 pub record Links (limits : Limits) (asked : Asked) (names : List (List ℕ)) (ss : List Source) (linked : Linked) : Type 0 where
   pub sound : defects_in limits asked ss ≡ []
   pub taking_part : IsLive asked.undefined (heads_in ss) (live_in asked.undefined ss)

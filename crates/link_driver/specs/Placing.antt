@@ -5,20 +5,29 @@ use Rattle.elf_out.specs.Standing.{HasHeaderRoom}
 use Rattle.link_sections.specs.GotView.{entries_of}
 use Rattle.link_sections.specs.LaidOut.{LaidOut, layout_view, with_contents}
 use Rattle.link_sections.specs.PoolViews.{pools_view}
+use Rattle.layout.specs.Layout.{frame_sizes}
+use Rattle.layout.specs.Spots.{HasFrames}
 use Rattle.link_sections.specs.Sound.{IsSound}
 use Rattle.lk_tables.specs.Binding.{Bindings}
 use Rattle.lk_tables.specs.Files.{File}
+use Rattle.lk_tables.specs.FramePlans.{plan_view}
+use Rattle.lk_tables.specs.Frames.{all_lists, lists_of}
+use Rattle.output_sections.specs.Items.{AreLeaders}
 use Rattle.link_driver.specs.declared.placing.Placement.{Placement}
-use Rattle.link_driver.specs.Link.{Wishes, laid_out, leaders_in}
+use Rattle.link_driver.specs.Link.{Wishes, laid_out, leaders_in, plan_in}
 
 -- where everything stands
 abbrev pub laid_by : List File → Placement → LaidOut
 laid_by files p = with_contents (layout_view p.layout) (pools_view files p.pools) (entries_of p.got)
 
--- it is the one of Link; its layout is sound and has room for the headers, and each shortened call reaches its target
+-- it is the one of Link; its layout is sound and has room for the headers and for the unwind records, and each shortened call reaches its target
 pub record IsPlacement (w : Wishes) (files : List File) (b : Bindings) (kept : List Bool) (p : Placement) : Type 0 where
   pub leaders : p.leaders.items ≡ leaders_in w files b kept
+  pub lead : AreLeaders files b p.leaders.items
+  pub lists : lists_of p.plan.frames.now ≡ all_lists files
+  pub plan : plan_view p.plan ≡ plan_in w files b kept
   pub laid : laid_by files p ≡ laid_out w files b kept
   pub sound : IsSound files b p.leaders.items (laid_by files p)
   pub room : HasHeaderRoom p.layout.bounds
+  pub framed : HasFrames (frame_sizes p.plan) p.layout.bounds
   pub reach : CallsReach files b p.leaders.items (laid_by files p)

@@ -8,6 +8,7 @@ use Rattle.link_command.specs.Command.{Asked, asked_of}
 use Rattle.link_driver.specs.Laws.{AreCounted, AreLeast, sources_for, with_workers}
 use Rattle.link_driver.specs.Link.{link}
 use Rattle.link_driver.specs.Spared.{Spares}
+use Rattle.link_driver.specs.Unwound.{Plans}
 
 -- an accepted command over a store that tells its files, with these contents as its inputs
 pub record IsGiven (words : List (List ℕ)) (before : Store) (asked : Asked) (inputs : List (List ℕ)) : Type 0 where
@@ -43,6 +44,8 @@ module _ (words : List (List ℕ)) (before after : Store) (say say' : Output) (s
     pub least : (asked : Asked) (given : List (List ℕ)) → AreCounted (sources_for asked given) → AreLeast asked (sources_for asked given)
     -- no section that is to be folded with no other is, and what is folded safely is folded where all is
     pub spared : (asked : Asked) (given : List (List ℕ)) → Spares asked (sources_for asked given)
+    -- each FDE of a function that is written is written, once and no other, with a CIE equal to its own
+    pub unwound : (asked : Asked) (given : List (List ℕ)) → Plans asked (sources_for asked given)
     -- and Link is the same for every number of workers
     pub any_workers : (asked : Asked) (given : List (List ℕ)) (n : ℕ) → link (Some (with_workers n asked)) given ≡ link (Some asked) given
     -- nothing is begun before the defects are known: at 1, 2 and 4 no file was

@@ -1,54 +1,55 @@
-//! The second phase of a link: the body of each file that takes part is read, by the workers.
+//! The second phase of a link: the body of each file that takes part is read with its unwind records, by the workers.
 
 ghost use Rattle.std.specs.Prelude.{◌≡◌, ℕ, ◌<◌, ◌≤◌, ◌^◌, length, map, is_some, IfOk, IfSome, Ok, [], true, if◌then◌else◌};
 ghost use Rattle.std.specs.List.{range_with_len};
+ghost use Rattle.eh_frame.specs.FrameLaws.{ArePlain};
 ghost use Rattle.lk_base.specs.declared.abi.TheConstants.{FILE_MAX};
 ghost use Rattle.lk_base.specs.Firsts.{Goes};
 ghost use Rattle.lk_base.specs.Limits.{IsWithinStandard};
 ghost use Rattle.lk_tables.specs.Files.{symbol_total};
 ghost use Rattle.lk_tables.specs.FileView.{file_view, file_views};
-ghost use Rattle.lk_tables.specs.Gathering.{IsBodyOf};
+ghost use Rattle.lk_tables.specs.Frames.{AreListsWithin, all_lists, list_views};
 ghost use Rattle.lk_tables.specs.Heads.{head_of, head_view};
 ghost use Rattle.lk_tables.specs.TablesView.{files_of, heads_of};
 ghost use Rattle.work_split.specs.Shares.{IsShare};
 ghost use Rattle.link_command.specs.Command.{lists_of};
 ghost use Rattle.link_driver.specs.Contents.{sources_of};
 ghost use Rattle.link_driver.specs.Defects.{body_defects, body_defects_at, opening_defects};
-ghost use Rattle.link_driver.specs.Reading.{IsBodyAt};
+ghost use Rattle.link_driver.specs.Reading.{IsBody, IsBodyAt};
 ghost use Rattle.link_driver.specs.Sources.{files_in, has_body, headed, heads_in, live_in, source_at};
 ghost use Rattle.link_driver.specs.Reading.{IsHeaded};
 
 use crate::heads::stop_for;
 use crate::numbering::read_numbered;
+use crate::records::{Body, number_records, read_whole, split_bodies};
 use crate::sections::count_sections;
 use crate::sources::Source;
-use elf_read::read_body;
-use lk_base::{FileNo, Limits, LinkStop, check_count};
-use lk_tables::{File, Heads, Object, Tables};
+use lk_base::{FileNo, Limits, LinkStop, SecNo, check_count};
+use lk_tables::{File, Heads, Record, Tables};
 use std::alloc::{AllocError, Global};
 use std::ops::Range;
 use std::thread::Threads;
 use work_split::{Gate, over_shares, pieces_by_weight};
 
-/// The body of a file if it is wanted.
+/// The body of a file, with its unwind records, if it is wanted.
 #[tactic(auto, unfolding(crate::specs::Defects::body_defects))]
 fn read_wanted(
     alloc: Global,
     file: &File,
     number: FileNo,
     wanted: bool,
-) -> Result<Option<Object>, LinkStop>
+) -> Result<Option<Body>, LinkStop>
     requires head { wanted ≡ true → head_of (file_view file.now).bytes ≡ Ok (file_view file.now).head }
     requires short { wanted ≡ true → length (file_view file.now).bytes ≤ FILE_MAX }
     ensures goes { Goes result (if wanted then body_defects (file_view file.now).bytes number else []) }
     ensures wanted { IfOk result (λ body. is_some body ≡ wanted) }
-    ensures body { IfOk result (λ body. IfSome body (IsBodyOf (file_view file.now))) }
+    ensures body { IfOk result (λ body. IfSome body (IsBody (file_view file.now))) }
 {
     if !wanted {
         return Ok(None);
     }
-    match read_body(alloc, file.bytes(), file.head()) {
-        Ok(object) => Ok(Some(object)),
+    match read_whole(alloc, file) {
+        Ok(body) => Ok(Some(body)),
         Err(fault) => Err(stop_for(number, &fault)),
     }
 }
@@ -69,7 +70,7 @@ fn read_piece(
     live: &[bool],
     files: &[File],
     piece: Range<usize>,
-) -> Result<Vec<Option<Object>>, LinkStop>
+) -> Result<Vec<Option<Body>>, LinkStop>
     requires files { file_views files.now ≡ map (headed (sources_of sources.now)) (range_with_len 0 (length sources.now)) }
     requires live { length live.now ≡ length sources.now }
     requires heads { (f : ℕ) → f < length sources.now → has_body (sources_of sources.now) live.now f ≡ true → IsHeaded (source_at (sources_of sources.now) f).bytes }
@@ -116,7 +117,7 @@ pub fn read_each<R: Threads + Sync, G: Gate>(
     files: &[File],
     workers: u32,
     gate: &G,
-) -> Result<Vec<Option<Object>>, LinkStop>
+) -> Result<Vec<Option<Body>>, LinkStop>
     requires files { file_views files.now ≡ map (headed (sources_of sources.now)) (range_with_len 0 (length sources.now)) }
     requires live { length live.now ≡ length sources.now }
     requires heads { (f : ℕ) → f < length sources.now → has_body (sources_of sources.now) live.now f ≡ true → IsHeaded (source_at (sources_of sources.now) f).bytes }
@@ -132,7 +133,7 @@ pub fn read_each<R: Threads + Sync, G: Gate>(
         alloc,
         gate,
         cuts.as_slice(),
-        |piece: Range<usize>| -> Result<Vec<Option<Object>>, LinkStop>
+        |piece: Range<usize>| -> Result<Vec<Option<Body>>, LinkStop>
             requires files { file_views files.now ≡ map (headed (sources_of sources.now)) (range_with_len 0 (length sources.now)) }
             requires live { length live.now ≡ length sources.now }
             requires heads { (f : ℕ) → f < length sources.now → has_body (sources_of sources.now) live.now f ≡ true → IsHeaded (source_at (sources_of sources.now) f).bytes }
@@ -144,8 +145,8 @@ pub fn read_each<R: Threads + Sync, G: Gate>(
     )
 }
 
-/// Reads the body of each file that takes part, and counts the sections; the names of all files have numbers from then on. It answers the same
-/// whatever the number of workers.
+/// Reads the body of each file that takes part, with its unwind records, and counts the sections; the names of all files have numbers from then
+/// on. Gives also, in order of section number, the unwind records of each section that has some. It answers the same whatever the number of workers.
 #[tactic(auto, unfolding(crate::specs::Defects::opening_defects))]
 pub fn read_bodies<'a, R: Threads + Sync, G: Gate>(
     rt: &R,
@@ -157,7 +158,7 @@ pub fn read_bodies<'a, R: Threads + Sync, G: Gate>(
     live: &[bool],
     workers: u32,
     gate: &G,
-) -> Result<Tables<'a>, LinkStop>
+) -> Result<(Tables<'a>, Vec<(SecNo, Vec<Record>)>), LinkStop>
     requires limits { IsWithinStandard limits.now }
     requires heads_are { heads_of heads ≡ heads_in (sources_of sources.now) }
     requires live { live.now ≡ live_in (lists_of undefined.now) (sources_of sources.now) }
@@ -166,15 +167,21 @@ pub fn read_bodies<'a, R: Threads + Sync, G: Gate>(
     requires some { 1 ≤ workers }
     requires most { workers ≤ 64 }
     ensures goes { Goes result (opening_defects limits.now (lists_of undefined.now) (sources_of sources.now)) }
-    ensures tables { IfOk result (λ tables. files_of tables ≡ files_in (lists_of undefined.now) (sources_of sources.now)) }
+    ensures tables { IfOk result (λ both. files_of both.0 ≡ files_in (lists_of undefined.now) (sources_of sources.now)) }
+    ensures records { IfOk result (λ both. list_views both.1.items ≡ all_lists (files_of both.0)) }
+    ensures within { IfOk result (λ both. AreListsWithin (files_of both.0) (all_lists (files_of both.0))) }
+    ensures plain { IfOk result (λ both. ArePlain (all_lists (files_of both.0))) }
 {
-    let objects = match read_numbered(rt, alloc, sources, live, &mut heads, workers, gate) {
-        Ok(objects) => objects,
+    let bodies = match read_numbered(rt, alloc, sources, live, &mut heads, workers, gate) {
+        Ok(bodies) => bodies,
         Err(stop) => return Err(stop),
     };
-    let count = count_sections(heads.files(), objects.as_slice());
+    let parts = split_bodies(alloc, bodies)?;
+    let count = count_sections(heads.files(), parts.0.as_slice());
     if let Err(defect) = check_count(limits.sections, count) {
         return Err(LinkStop::Defect(defect));
     }
-    Ok(Tables::of(alloc, heads, objects)?)
+    let tables = Tables::of(alloc, heads, parts.0)?;
+    let records = number_records(alloc, &tables, parts.1)?;
+    Ok((tables, records))
 }

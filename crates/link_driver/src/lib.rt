@@ -5,8 +5,9 @@
 //! end is out of memory, or follows a failed call of the store of files or of an output, and leaves no more than the first
 //! bytes of a file.
 //!
-//! `linking` runs the phases: `finding` finds the files in the inputs (`sources`), `heads` and `bodies` read them by all workers,
-//! names are bound, and what goes into the executable is laid out (`placing`) and written. `driving` reads the command, loads, links and
+//! `linking` runs the phases: `finding` finds the files in the inputs (`sources`), `heads` and `bodies` read them by all workers, the latter with
+//! their unwind records (`records`), names are bound, and what goes into the executable is laid out (`placing`) and written, the unwind records
+//! by `frames`. `driving` reads the command, loads, links and
 //! writes, and says how it ended, by the lines of `diagnostics`. The phases up to the layout are public one by one too, for whoever looks at
 //! what they hand on.
 #![tactic(auto)]
@@ -16,12 +17,14 @@ mod bodies;
 mod diagnostics;
 mod driving;
 mod finding;
+mod frames;
 mod heads;
 mod inputs;
 mod line;
 mod linking;
 mod numbering;
 mod placing;
+mod records;
 mod reports;
 mod sections;
 mod shown;
@@ -31,6 +34,7 @@ mod symbol_names;
 pub use barring::find_barred;
 pub use driving::run;
 pub use finding::find_sources;
+pub use frames::{find_frames, find_plan, write_frames};
 pub use inputs::Inputs;
 pub use link_command::{Command, IcfMode, Wanted};
 pub use linking::{

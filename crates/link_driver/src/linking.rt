@@ -4,12 +4,15 @@ ghost use Rattle.std.specs.Prelude.{◌≡◌, ℕ, ◌<◌, ◌≤◌, ◌^◌,
 ghost use Rattle.std.specs.List.Sorted.{IsStrictlyIncreasing};
 ghost use Rattle.call_reach.specs.Reach.{AreAlike, CallsReach};
 ghost use Rattle.comdat.specs.Discarded.{discarded};
+ghost use Rattle.eh_frame.specs.FrameLaws.{ArePlain};
+ghost use Rattle.eh_frame.specs.Plan.{plan_of};
 ghost use Rattle.elf_out.specs.Standing.{HasHeaderRoom};
 ghost use Rattle.file_live.specs.Live.{IsLive};
 ghost use Rattle.icf_part.specs.Folding.{AreLeaders as ItemLeaders};
 ghost use Rattle.icf_part.specs.Leaders.{leaders_of};
 ghost use Rattle.output_sections.specs.Items.{AreLeaders};
-ghost use Rattle.layout.specs.Layout.{layout_defects};
+ghost use Rattle.layout.specs.Layout.{frame_sizes, layout_defects};
+ghost use Rattle.layout.specs.Spots.{HasFrames};
 ghost use Rattle.link_command.specs.Command.{asks, generated_of, lists_of};
 ghost use Rattle.link_sections.specs.FoldItems.{item_views, sections_of};
 ghost use Rattle.link_sections.specs.GotView.{entries_of};
@@ -23,23 +26,27 @@ ghost use Rattle.lk_tables.specs.BoundNames.{IsBindingOf};
 ghost use Rattle.lk_tables.specs.Binding.{first_phase};
 ghost use Rattle.lk_tables.specs.BoundNames.{binding_defects};
 ghost use Rattle.lk_tables.specs.BindingView.{binding_view};
+ghost use Rattle.lk_tables.specs.FramePlans.{plan_view};
+ghost use Rattle.lk_tables.specs.Frames.{AreListsWithin, all_lists, list_views, lists_of as record_lists};
 ghost use Rattle.lk_tables.specs.NameNumbers.{NumbersNames, heads_alone};
 ghost use Rattle.lk_tables.specs.TablesView.{files_of};
 ghost use Rattle.lk_tables.specs.Uppers.{AreListed, section_uppers};
 ghost use Rattle.link_driver.specs.Contents.{input_contents, input_names, names_of, sources_of};
 ghost use Rattle.link_driver.specs.Defects.{opening_defects, reading_defects};
-ghost use Rattle.link_driver.specs.Link.{bound_names, kept_of, laid_out, last_phases, leaders_in, piece_defects, placing_phases, report_by, table_of, wishes_of};
+ghost use Rattle.link_driver.specs.Link.{bound_names, kept_of, laid_out, last_phases, leaders_in, piece_defects, placing_phases, plan_in, report_by, table_of, wishes_of};
 ghost use Rattle.link_driver.specs.Phases.{AfterLink, HoldsPast, IsWritten, LinkStands, Makes, ShortenedCallsReach, StandsWhole, linked_of};
 ghost use Rattle.link_driver.specs.Placing.{laid_by};
 ghost use Rattle.link_driver.specs.Sources.{files_in, heads_in, live_in, shown_files, sources};
 ghost use Rattle.link_driver.specs.Tables.{IsCollected, MayStay, wished};
+ghost use Rattle.link_driver.specs.Values.{value_defects};
 ghost use Rattle.map_file.specs.MapView.{map_in};
-ghost use Rattle.reloc_apply.specs.Relocated.{relocation_defects};
+ghost use Rattle.sec_graph.specs.FrameRelocs.{AreFramesOf};
 ghost use Rattle.sym_resolve.specs.Law.{IsLawful};
 
 use crate::barring::find_barred;
 use crate::bodies::read_bodies;
 use crate::finding::find_sources;
+use crate::frames::{find_frames, write_frames};
 use crate::heads::read_heads;
 use crate::inputs::Inputs;
 use crate::numbering::number_for_members;
@@ -56,7 +63,7 @@ use layout::place;
 use link_command::{Command, Wanted};
 use link_sections::{FoldItem, Got, Layout, Pools, View, all_kept, fold_leaders, own_leaders};
 use lk_base::{Limits, LinkStop, SecNo, check_count};
-use lk_tables::{Binding, NameNumbers, Tables, Uppers};
+use lk_tables::{Binding, FramePlan, Frames, NameNumbers, Record, Tables, Uppers};
 use map_file::map_text;
 use name_numbers::number_names;
 use output_sections::order_sections;
@@ -83,7 +90,8 @@ pub struct Linked {
     pub report: Vec<u8>,
 }
 
-/// Reads all files: their heads, and then the bodies of those that take part.
+/// Reads all files: their heads, and then the bodies of those that take part, with their unwind records, which are given too: in order of
+/// section number those of each section that has some.
 ///
 /// Stops at the first file by number, of as many as a link may have, that is an input too long, a broken archive or an object whose head is
 /// broken; else where there are more files, or else more symbols, than a link may have; else at the first file whose body is broken; else where
@@ -96,12 +104,15 @@ pub fn read_files<'a, R: Threads + Sync, G: Gate>(
     undefined: &[Vec<u8>],
     workers: u32,
     gate: &G,
-) -> Result<Tables<'a>, LinkStop>
+) -> Result<(Tables<'a>, Vec<(SecNo, Vec<Record>)>), LinkStop>
     requires limits { IsWithinStandard limits.now }
     requires some { 1 ≤ workers }
     requires most { workers ≤ 64 }
     ensures goes { Goes result (first_phase (reading_defects limits.now (sources_of sources.now) ∷ opening_defects limits.now (lists_of undefined.now) (sources_of sources.now) ∷ [])) }
-    ensures tables { IfOk result (λ tables. files_of tables ≡ files_in (lists_of undefined.now) (sources_of sources.now)) }
+    ensures tables { IfOk result (λ both. files_of both.0 ≡ files_in (lists_of undefined.now) (sources_of sources.now)) }
+    ensures records { IfOk result (λ both. list_views both.1.items ≡ all_lists (files_of both.0)) }
+    ensures within { IfOk result (λ both. AreListsWithin (files_of both.0) (all_lists (files_of both.0))) }
+    ensures plain { IfOk result (λ both. ArePlain (all_lists (files_of both.0))) }
     ensures taking_part { IfOk result (λ _. IsLive (lists_of undefined.now) (heads_in (sources_of sources.now)) (live_in (lists_of undefined.now) (sources_of sources.now))) }
 {
     let mut heads = match read_heads(rt, alloc, limits, sources, workers, gate) {
@@ -163,6 +174,7 @@ pub fn find_kept<R: Threads + Sync, G: Gate>(
     alloc: Global,
     tables: &Tables,
     binding: &Binding,
+    frames: &Frames,
     gc: bool,
     undefined: &[Vec<u8>],
     workers: u32,
@@ -171,6 +183,7 @@ pub fn find_kept<R: Threads + Sync, G: Gate>(
     requires some { 1 ≤ workers }
     requires most { workers ≤ 64 }
     requires bound { IsBindingOf (files_of tables.now) (binding_view binding.now) }
+    requires frames { AreFramesOf (files_of tables.now) (binding_view binding.now) frames.now }
     ensures kept { IfOk result (λ kept. kept.items ≡ kept_of gc (lists_of undefined.now) (files_of tables.now) (binding_view binding.now)) }
     ensures stay { IfOk result (λ kept. MayStay (files_of tables.now) (binding_view binding.now) kept.items) }
     ensures collected { gc ≡ true → IfOk result (λ kept. IsCollected (lists_of undefined.now) (files_of tables.now) (binding_view binding.now) kept.items) }
@@ -180,7 +193,7 @@ pub fn find_kept<R: Threads + Sync, G: Gate>(
         return all_kept(alloc, tables, binding);
     }
     let roots = roots(alloc, tables, binding, undefined)?;
-    let edges = edges(rt, alloc, tables, binding, workers, gate)?;
+    let edges = edges(rt, alloc, tables, binding, workers, gate, frames)?;
     keep(rt, alloc, roots.as_slice(), &edges, workers, gate)
 }
 
@@ -233,6 +246,7 @@ pub fn find_leaders<R: Threads + Sync, G: Gate>(
     alloc: Global,
     tables: &Tables,
     binding: &Binding,
+    frames: &Frames,
     kept: &[bool],
     barred: &[bool],
     pools: &Pools,
@@ -242,6 +256,7 @@ pub fn find_leaders<R: Threads + Sync, G: Gate>(
 ) -> Result<Vec<Option<SecNo>>, AllocError>
     requires some { 1 ≤ workers }
     requires most { workers ≤ 64 }
+    requires frames { AreFramesOf (files_of tables.now) (binding_view binding.now) frames.now }
     requires stay { MayStay (files_of tables.now) (binding_view binding.now) kept.now }
     requires pools { pools_view (files_of tables.now) pools.now ≡ pools_of (files_of tables.now) kept.now }
     ensures leaders { IfOk result (λ leaders. leaders.items ≡ leaders_in (wished options barred.now) (files_of tables.now) (binding_view binding.now) kept.now) }
@@ -253,7 +268,7 @@ pub fn find_leaders<R: Threads + Sync, G: Gate>(
     if !options.icf {
         return Ok(leaders);
     }
-    let items = items(alloc, tables, binding, pools, kept, barred)?;
+    let items = items(alloc, tables, binding, pools, kept, barred, frames)?;
     let places = fold_items::<R, G, Brand>(
         rt,
         alloc,
@@ -290,7 +305,7 @@ fn fold_items<R: Threads + Sync, G: Gate, L: Ledger>(
     fold(rt, alloc, items, workers, gate, &mut steps)
 }
 
-/// Where everything stands, given what is merged, which sections are written and what the linker's table has.
+/// Where everything stands, given what is merged, which sections and unwind records are written and what the linker's table has.
 ///
 /// Stops at the first alignment that needs more bytes than it has, by section and offset; else where there are more output sections than a link
 /// may have; else where the image is not below its limit. Or it is out of memory.
@@ -305,6 +320,7 @@ pub fn lay_out<'a, R: Threads + Sync, G: Gate>(
     barred: &[bool],
     pools: &Pools,
     leaders: &[Option<SecNo>],
+    plan: &FramePlan,
     got: &Got,
     options: Options,
     workers: u32,
@@ -319,11 +335,13 @@ pub fn lay_out<'a, R: Threads + Sync, G: Gate>(
     requires alike { AreAlike (files_of tables.now) (binding_view binding.now) leaders.now }
     requires pools { pools_view (files_of tables.now) pools.now ≡ pools_of (files_of tables.now) kept.now }
     requires leaders { leaders.now ≡ leaders_in (wished options barred.now) (files_of tables.now) (binding_view binding.now) kept.now }
+    requires plan { plan_view plan.now ≡ plan_in (wished options barred.now) (files_of tables.now) (binding_view binding.now) kept.now }
     requires table { entries_of got.now ≡ table_of (wished options barred.now) (files_of tables.now) (binding_view binding.now) kept.now }
     ensures goes { Goes result (layout_defects limits.now (files_of tables.now) (laid_out (wished options barred.now) (files_of tables.now) (binding_view binding.now) kept.now)) }
     ensures laid { IfOk result (λ layout. with_contents (layout_view layout) (pools_view (files_of tables.now) pools.now) (entries_of got.now) ≡ laid_out (wished options barred.now) (files_of tables.now) (binding_view binding.now) kept.now) }
     ensures sound { IfOk result (λ layout. IsSound (files_of tables.now) (binding_view binding.now) leaders.now (with_contents (layout_view layout) (pools_view (files_of tables.now) pools.now) (entries_of got.now))) }
     ensures room { IfOk result (λ layout. HasHeaderRoom layout.bounds) }
+    ensures framed { IfOk result (λ layout. HasFrames (frame_sizes plan.now) layout.bounds) }
     ensures reach { IfOk result (λ layout. CallsReach (files_of tables.now) (binding_view binding.now) leaders.now (with_contents (layout_view layout) (pools_view (files_of tables.now) pools.now) (entries_of got.now))) }
 {
     let on = options.relax;
@@ -334,11 +352,11 @@ pub fn lay_out<'a, R: Threads + Sync, G: Gate>(
         rt, alloc, tables, binding, pools, leaders, &sections, on, workers, gate,
     )?;
     match place(
-        alloc, tables, binding, pools, got, leaders, &sections, &sizes, limits,
+        alloc, tables, binding, pools, got, leaders, &sections, &sizes, plan, limits,
     ) {
         Ok(layout) => {
             calls_reach(
-                tables, binding, pools, got, leaders, &sections, &sizes, &layout, limits, on,
+                tables, binding, pools, got, leaders, &sections, &sizes, plan, &layout, limits, on,
             );
             Ok(layout)
         }
@@ -386,11 +404,17 @@ fn write<R: Threads + Sync, G: Gate>(
     requires bound { IsBindingOf (files_of tables.now) (binding_view binding.now) }
     requires numbers { NumbersNames (heads_alone (files_of tables.now)) numbers.now }
     requires listed { AreListed (section_uppers (files_of tables.now)) uppers.now }
+    requires lead { AreLeaders (files_of tables.now) (binding_view binding.now) placement.now.leaders.items }
+    requires lists { record_lists placement.now.plan.frames.now ≡ all_lists (files_of tables.now) }
+    requires within { AreListsWithin (files_of tables.now) (all_lists (files_of tables.now)) }
+    requires plain { ArePlain (all_lists (files_of tables.now)) }
+    requires plan { plan_view placement.now.plan ≡ plan_of (files_of tables.now) (binding_view binding.now) (laid_by (files_of tables.now) placement.now).merging.merged (all_lists (files_of tables.now)) placement.now.leaders.items }
     requires sound { IsSound (files_of tables.now) (binding_view binding.now) placement.now.leaders.items (laid_by (files_of tables.now) placement.now) }
     requires room { HasHeaderRoom placement.now.layout.bounds }
-    ensures goes { Goes result (relocation_defects (files_of tables.now) (binding_view binding.now) placement.now.leaders.items (laid_by (files_of tables.now) placement.now)) }
-    ensures written { IfOk result (λ linked. IsWritten (wished options barred.now) (names_of names.now) (files_of tables.now) (binding_view binding.now) kept.now placement.now.leaders.items (laid_by (files_of tables.now) placement.now) linked) }
-    ensures stands { IfOk result (λ linked. StandsWhole (wished options barred.now) (files_of tables.now) (binding_view binding.now) kept.now placement.now.leaders.items (laid_by (files_of tables.now) placement.now) linked.exe.items) }
+    requires framed { HasFrames (frame_sizes placement.now.plan) placement.now.layout.bounds }
+    ensures goes { Goes result (value_defects (files_of tables.now) (binding_view binding.now) placement.now.leaders.items (laid_by (files_of tables.now) placement.now) (plan_view placement.now.plan)) }
+    ensures written { IfOk result (λ linked. IsWritten (wished options barred.now) (names_of names.now) (files_of tables.now) (binding_view binding.now) kept.now placement.now.leaders.items (laid_by (files_of tables.now) placement.now) (plan_view placement.now.plan) linked) }
+    ensures stands { IfOk result (λ linked. StandsWhole (wished options barred.now) (files_of tables.now) (binding_view binding.now) kept.now placement.now.leaders.items (laid_by (files_of tables.now) placement.now) (plan_view placement.now.plan) linked.exe.items) }
 {
     let leaders = placement.leaders.as_slice();
     let addresses = find_addresses(
@@ -419,7 +443,11 @@ fn write<R: Threads + Sync, G: Gate>(
         names,
         strip: options.strip,
     };
-    let exe = match write_executable(rt, alloc, &view, workers, gate) {
+    let frames = match write_frames(rt, alloc, &view, &placement.plan, workers, gate) {
+        Ok(frames) => frames,
+        Err(stop) => return Err(stop),
+    };
+    let exe = match write_executable(rt, alloc, &view, &frames, workers, gate) {
         Ok(exe) => exe,
         Err(stop) => return Err(stop),
     };
@@ -435,6 +463,7 @@ fn link_numbered<R: Threads + Sync, G: Gate>(
     limits: &Limits,
     tables: &Tables,
     binding: &Binding,
+    frames: &Frames,
     kept: &[bool],
     barred: &[bool],
     numbers: &NameNumbers,
@@ -448,6 +477,8 @@ fn link_numbered<R: Threads + Sync, G: Gate>(
     requires most { workers ≤ 64 }
     requires bound { IsBindingOf (files_of tables.now) (binding_view binding.now) }
     requires numbers { NumbersNames (heads_alone (files_of tables.now)) numbers.now }
+    requires frames { AreFramesOf (files_of tables.now) (binding_view binding.now) frames.now }
+    requires plain { ArePlain (all_lists (files_of tables.now)) }
     requires stay { MayStay (files_of tables.now) (binding_view binding.now) kept.now }
     ensures goes { Goes result (first_phase (last_phases limits.now (wished options barred.now) (files_of tables.now) (binding_view binding.now) kept.now)) }
     ensures written { IfOk result (λ linked. Makes (wished options barred.now) (names_of names.now) (files_of tables.now) (binding_view binding.now) kept.now linked) }
@@ -456,7 +487,7 @@ fn link_numbered<R: Threads + Sync, G: Gate>(
 {
     // What kept sections refer to is defined, and nothing moves, from here on.
     let (uppers, placement) = match place_beside(
-        rt, alloc, limits, tables, binding, kept, barred, numbers, options, workers, gate,
+        rt, alloc, limits, tables, binding, frames, kept, barred, numbers, options, workers, gate,
     ) {
         Ok(both) => both,
         Err(stop) => return Err(stop),
@@ -474,6 +505,7 @@ fn link_kept<R: Threads + Sync, G: Gate>(
     limits: &Limits,
     tables: &Tables,
     binding: &Binding,
+    frames: &Frames,
     kept: &[bool],
     barred: &[bool],
     names: &[Vec<u8>],
@@ -485,6 +517,8 @@ fn link_kept<R: Threads + Sync, G: Gate>(
     requires some { 1 ≤ workers }
     requires most { workers ≤ 64 }
     requires bound { IsBindingOf (files_of tables.now) (binding_view binding.now) }
+    requires frames { AreFramesOf (files_of tables.now) (binding_view binding.now) frames.now }
+    requires plain { ArePlain (all_lists (files_of tables.now)) }
     requires stay { MayStay (files_of tables.now) (binding_view binding.now) kept.now }
     ensures goes { Goes result (first_phase (last_phases limits.now (wished options barred.now) (files_of tables.now) (binding_view binding.now) kept.now)) }
     ensures written { IfOk result (λ linked. Makes (wished options barred.now) (names_of names.now) (files_of tables.now) (binding_view binding.now) kept.now linked) }
@@ -493,14 +527,15 @@ fn link_kept<R: Threads + Sync, G: Gate>(
 {
     if let Some(numbers) = tables.names() {
         return link_numbered(
-            rt, alloc, limits, tables, binding, kept, barred, numbers, names, options, workers,
-            gate,
+            rt, alloc, limits, tables, binding, frames, kept, barred, numbers, names, options,
+            workers, gate,
         );
     }
     tables.is_few();
     let numbers = number_names(rt, alloc, tables.files(), workers)?;
     link_numbered(
-        rt, alloc, limits, tables, binding, kept, barred, &numbers, names, options, workers, gate,
+        rt, alloc, limits, tables, binding, frames, kept, barred, &numbers, names, options,
+        workers, gate,
     )
 }
 
@@ -572,8 +607,8 @@ pub fn link_sources<'a, R: Threads + Sync, G: Gate>(
     let workers = command.threads;
     let undefined = command.undefined.as_slice();
     let unique = command.unique.as_slice();
-    let tables = match read_files(rt, alloc, limits, sources, undefined, workers, gate) {
-        Ok(tables) => tables,
+    let (tables, records) = match read_files(rt, alloc, limits, sources, undefined, workers, gate) {
+        Ok(both) => both,
         Err(stop) => return Err(stop),
     };
     // All names are bound from here on.
@@ -587,9 +622,11 @@ pub fn link_sources<'a, R: Threads + Sync, G: Gate>(
         Ok(binding) => binding,
         Err(stop) => return Err(stop),
     };
+    // Each FDE has its function from here on.
+    let frames = find_frames(alloc, &tables, &binding, records)?;
     // What nothing refers to is left out from here on.
     let kept = find_kept(
-        rt, alloc, &tables, &binding, command.gc, undefined, workers, gate,
+        rt, alloc, &tables, &binding, &frames, command.gc, undefined, workers, gate,
     )?;
     let barred = find_barred(
         alloc,
@@ -607,6 +644,7 @@ pub fn link_sources<'a, R: Threads + Sync, G: Gate>(
         limits,
         &tables,
         &binding,
+        &frames,
         kept.as_slice(),
         barred.as_slice(),
         names.as_slice(),

@@ -14,9 +14,10 @@ ghost use Rattle.link_driver.specs.Reading.{IsBodyAt, IsHeaded};
 ghost use Rattle.link_driver.specs.Sources.{has_body, headed, source_at};
 
 use crate::bodies::read_each;
+use crate::records::Body;
 use crate::sources::Source;
 use lk_base::LinkStop;
-use lk_tables::{File, Heads, NameNumbers, Object};
+use lk_tables::{File, Heads, NameNumbers};
 use name_numbers::number_names;
 use std::alloc::{AllocError, Global};
 use std::thread::{Threads, join_mut};
@@ -89,7 +90,7 @@ fn read_beside<R: Threads + Sync, G: Gate>(
     heads: &mut Heads,
     workers: u32,
     gate: &G,
-) -> Result<Vec<Option<Object>>, LinkStop>
+) -> Result<Vec<Option<Body>>, LinkStop>
     requires files { heads_of heads.old ≡ map (headed (sources_of sources.now)) (range_with_len 0 (length sources.now)) }
     requires live { length live.now ≡ length sources.now }
     requires heads { (f : ℕ) → f < length sources.now → has_body (sources_of sources.now) live.now f ≡ true → IsHeaded (source_at (sources_of sources.now) f).bytes }
@@ -101,24 +102,24 @@ fn read_beside<R: Threads + Sync, G: Gate>(
     ensures same { heads_of heads.new ≡ heads_of heads.old }
 {
     let files = heads.files();
-    let (names, objects) = join_mut(
+    let (names, bodies) = join_mut(
         rt,
         &mut || -> Result<NameNumbers, AllocError>
             requires { symbol_total (file_views files.now) < 2 ^ 31 }
             ensures { IfOk result (NumbersNames (heads_alone (file_views files.entry.now))) }
         { number_names(rt, alloc, files, workers) },
-        &mut || -> Result<Vec<Option<Object>>, LinkStop>
+        &mut || -> Result<Vec<Option<Body>>, LinkStop>
             requires { (file_views files.now ≡ map (headed (sources_of sources.now)) (range_with_len 0 (length sources.now))) × (length live.now ≡ length sources.now) × ((f : ℕ) → f < length sources.now → has_body (sources_of sources.now) live.now f ≡ true → IsHeaded (source_at (sources_of sources.now) f).bytes) × (length sources.now < 2 ^ 24) × (1 ≤ workers) × (workers ≤ 64) }
             ensures { IsShare (body_defects_at (sources_of sources.entry.now) live.entry.now) (IsBodyAt (sources_of sources.entry.now) live.entry.now) 0 (length sources.entry.now) result }
         { read_each(rt, alloc, sources, live, files, workers, gate) },
     );
     // A defect of a body is told even where there is no memory for the names.
-    let objects = match objects {
-        Ok(objects) => objects,
+    let bodies = match bodies {
+        Ok(bodies) => bodies,
         Err(stop) => return Err(stop),
     };
     heads.keep_names(names?);
-    Ok(objects)
+    Ok(bodies)
 }
 
 /// Reads the body of each file that takes part, and numbers the names of all files if they have no numbers yet. With two workers or more, another
@@ -131,7 +132,7 @@ pub fn read_numbered<R: Threads + Sync, G: Gate>(
     heads: &mut Heads,
     workers: u32,
     gate: &G,
-) -> Result<Vec<Option<Object>>, LinkStop>
+) -> Result<Vec<Option<Body>>, LinkStop>
     requires files { heads_of heads.old ≡ map (headed (sources_of sources.now)) (range_with_len 0 (length sources.now)) }
     requires live { length live.now ≡ length sources.now }
     requires heads { (f : ℕ) → f < length sources.now → has_body (sources_of sources.now) live.now f ≡ true → IsHeaded (source_at (sources_of sources.now) f).bytes }

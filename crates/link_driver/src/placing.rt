@@ -14,13 +14,15 @@ ghost use Rattle.lk_tables.specs.Uppers.{AreListed, section_uppers};
 ghost use Rattle.link_driver.specs.Link.{laid_out, placing_phases};
 ghost use Rattle.link_driver.specs.Placing.{IsPlacement};
 ghost use Rattle.link_driver.specs.Tables.{MayStay, wished};
+ghost use Rattle.sec_graph.specs.FrameRelocs.{AreFramesOf};
 ghost use Rattle.sec_graph.specs.Undefined.{undefined_defects};
 
+use crate::frames::find_plan;
 use crate::linking::{Options, find_leaders, lay_out};
 use got_tls::entries;
 use link_sections::{Got, Layout, Pools};
 use lk_base::{Limits, LinkStop, SecNo};
-use lk_tables::{Binding, NameNumbers, Tables, Uppers};
+use lk_tables::{Binding, FramePlan, Frames, NameNumbers, Tables, Uppers};
 use reloc_apply::find_uppers;
 use sec_graph::undefined;
 use std::alloc::Global;
@@ -30,11 +32,13 @@ use work_split::Gate;
 
 /// What is settled of a link before anything is written.
 #[derive(Drop)]
-pub struct Placement<'a> {
+pub struct Placement<'a, 't> {
     /// What is merged.
     pub pools: Pools,
     /// By section number, which section is written in the place of each.
     pub leaders: Vec<Option<SecNo>>,
+    /// Which unwind records are written.
+    pub plan: FramePlan<'t>,
     /// The linker's global offset table.
     pub got: Got,
     /// Where everything stands.
@@ -46,12 +50,14 @@ fn find_defined_uppers(
     alloc: Global,
     tables: &Tables,
     binding: &Binding,
+    frames: &Frames,
     kept: &[bool],
 ) -> Result<Uppers, LinkStop>
+    requires { AreFramesOf (files_of tables.now) (binding_view binding.now) frames.now }
     ensures goes { Goes result (undefined_defects (files_of tables.now) (binding_view binding.now) kept.now) }
     ensures listed { IfOk result (AreListed (section_uppers (files_of tables.now))) }
 {
-    if let Some(defect) = undefined(tables, binding, kept) {
+    if let Some(defect) = undefined(tables, binding, kept, frames) {
         return Err(LinkStop::Defect(defect));
     }
     let uppers = find_uppers(alloc, tables)?;
@@ -59,24 +65,26 @@ fn find_defined_uppers(
 }
 
 /// Which sections and pieces are written, and where they stand.
-fn find_placement<'a, R: Threads + Sync, G: Gate>(
+fn find_placement<'a, 't, R: Threads + Sync, G: Gate>(
     rt: &R,
     alloc: Global,
     limits: &Limits,
     tables: &Tables<'a>,
     binding: &Binding,
+    frames: &'t Frames,
     kept: &[bool],
     barred: &[bool],
     numbers: &NameNumbers,
     options: Options,
     workers: u32,
     gate: &G,
-) -> Result<Placement<'a>, LinkStop>
+) -> Result<Placement<'a, 't>, LinkStop>
     requires limits { IsWithinStandard limits.now }
     requires some { 1 ≤ workers }
     requires most { workers ≤ 64 }
     requires bound { IsBindingOf (files_of tables.now) (binding_view binding.now) }
     requires numbers { NumbersNames (heads_alone (files_of tables.now)) numbers.now }
+    requires frames { AreFramesOf (files_of tables.now) (binding_view binding.now) frames.now }
     requires stay { MayStay (files_of tables.now) (binding_view binding.now) kept.now }
     ensures goes { Goes result (layout_defects limits.now (files_of tables.now) (laid_out (wished options barred.now) (files_of tables.now) (binding_view binding.now) kept.now)) }
     ensures placed { IfOk result (IsPlacement (wished options barred.now) (files_of tables.now) (binding_view binding.now) kept.now) }
@@ -85,7 +93,18 @@ fn find_placement<'a, R: Threads + Sync, G: Gate>(
     let pools = merge(rt, alloc, tables, kept, workers, gate)?;
     // Which section is written in the place of each is settled from here on.
     let leaders = find_leaders(
-        rt, alloc, tables, binding, kept, barred, &pools, options, workers, gate,
+        rt, alloc, tables, binding, frames, kept, barred, &pools, options, workers, gate,
+    )?;
+    let plan = find_plan(
+        alloc,
+        tables,
+        binding,
+        frames,
+        kept,
+        barred,
+        &pools,
+        leaders.as_slice(),
+        options,
     )?;
     let got = entries(alloc, tables, numbers, leaders.as_slice())?;
     // Nothing moves from here on.
@@ -99,6 +118,7 @@ fn find_placement<'a, R: Threads + Sync, G: Gate>(
         barred,
         &pools,
         leaders.as_slice(),
+        &plan,
         &got,
         options,
         workers,
@@ -110,6 +130,7 @@ fn find_placement<'a, R: Threads + Sync, G: Gate>(
     Ok(Placement {
         pools,
         leaders,
+        plan,
         got,
         layout,
     })
@@ -117,36 +138,39 @@ fn find_placement<'a, R: Threads + Sync, G: Gate>(
 
 /// The upper parts of all sections, and the placement of a link, if what kept sections refer to is defined. With two workers or more, another
 /// thread tests that and lists the upper parts meanwhile, since no placement is needed for it.
-pub fn place_beside<'a, R: Threads + Sync, G: Gate>(
+pub fn place_beside<'a, 't, R: Threads + Sync, G: Gate>(
     rt: &R,
     alloc: Global,
     limits: &Limits,
     tables: &Tables<'a>,
     binding: &Binding,
+    frames: &'t Frames,
     kept: &[bool],
     barred: &[bool],
     numbers: &NameNumbers,
     options: Options,
     workers: u32,
     gate: &G,
-) -> Result<(Uppers, Placement<'a>), LinkStop>
+) -> Result<(Uppers, Placement<'a, 't>), LinkStop>
     requires limits { IsWithinStandard limits.now }
     requires some { 1 ≤ workers }
     requires most { workers ≤ 64 }
     requires bound { IsBindingOf (files_of tables.now) (binding_view binding.now) }
     requires numbers { NumbersNames (heads_alone (files_of tables.now)) numbers.now }
+    requires frames { AreFramesOf (files_of tables.now) (binding_view binding.now) frames.now }
     requires stay { MayStay (files_of tables.now) (binding_view binding.now) kept.now }
     ensures goes { Goes result (first_phase (placing_phases limits.now (wished options barred.now) (files_of tables.now) (binding_view binding.now) kept.now)) }
     ensures listed { IfOk result (λ both. AreListed (section_uppers (files_of tables.now)) both.0) }
     ensures placed { IfOk result (λ both. IsPlacement (wished options barred.now) (files_of tables.now) (binding_view binding.now) kept.now both.1) }
 {
     if workers == 1 {
-        let uppers = match find_defined_uppers(alloc, tables, binding, kept) {
+        let uppers = match find_defined_uppers(alloc, tables, binding, frames, kept) {
             Ok(uppers) => uppers,
             Err(stop) => return Err(stop),
         };
         return match find_placement(
-            rt, alloc, limits, tables, binding, kept, barred, numbers, options, workers, gate,
+            rt, alloc, limits, tables, binding, frames, kept, barred, numbers, options, workers,
+            gate,
         ) {
             Ok(placement) => Ok((uppers, placement)),
             Err(stop) => Err(stop),
@@ -155,14 +179,16 @@ pub fn place_beside<'a, R: Threads + Sync, G: Gate>(
     let (uppers, placement) = join_mut(
         rt,
         &mut || -> Result<Uppers, LinkStop>
+            requires { AreFramesOf (files_of tables.now) (binding_view binding.now) frames.now }
             ensures { Goes result (undefined_defects (files_of tables.entry.now) (binding_view binding.entry.now) kept.entry.now) × IfOk result (AreListed (section_uppers (files_of tables.entry.now))) }
-        { find_defined_uppers(alloc, tables, binding, kept) },
+        { find_defined_uppers(alloc, tables, binding, frames, kept) },
         &mut || -> Result<Placement, LinkStop>
-            requires { IsWithinStandard limits.now × (1 ≤ workers) × (workers ≤ 64) × IsBindingOf (files_of tables.now) (binding_view binding.now) × NumbersNames (heads_alone (files_of tables.now)) numbers.now × MayStay (files_of tables.now) (binding_view binding.now) kept.now }
+            requires { IsWithinStandard limits.now × (1 ≤ workers) × (workers ≤ 64) × IsBindingOf (files_of tables.now) (binding_view binding.now) × NumbersNames (heads_alone (files_of tables.now)) numbers.now × AreFramesOf (files_of tables.now) (binding_view binding.now) frames.now × MayStay (files_of tables.now) (binding_view binding.now) kept.now }
             ensures { Goes result (layout_defects limits.entry.now (files_of tables.entry.now) (laid_out (wished options barred.entry.now) (files_of tables.entry.now) (binding_view binding.entry.now) kept.entry.now)) × IfOk result (IsPlacement (wished options barred.entry.now) (files_of tables.entry.now) (binding_view binding.entry.now) kept.entry.now) }
         {
             find_placement(
-                rt, alloc, limits, tables, binding, kept, barred, numbers, options, workers, gate,
+                rt, alloc, limits, tables, binding, frames, kept, barred, numbers, options,
+                workers, gate,
             )
         },
     );

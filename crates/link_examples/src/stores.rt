@@ -23,6 +23,7 @@ pub enum Store {
     Aligned,
     Symbols,
     Maps,
+    Unwound,
 }
 
 /// Files with their names.

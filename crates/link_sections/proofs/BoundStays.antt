@@ -16,10 +16,11 @@ use Rattle.lk_tables.specs.Binding.{offered_bindings}
 use Rattle.lk_tables.specs.Binding.{Bindings, bound_common_at, bound_commons_in, greatest_align, greatest_size, demands, rank_bound}
 use Rattle.lk_tables.specs.BoundNames.{bindings}
 use Rattle.lk_tables.specs.Symbols.{is_common}
-use Rattle.lk_tables.specs.Files.{AreFew, File, common_no, commons_before, file_at, first_section, section_count, section_no, symbol_at, symbol_name, writes}
+use Rattle.lk_tables.specs.Files.{AreFew, File, common_no, commons_before, file_at, is_frame_at, first_section, section_count, section_no, symbol_at, symbol_name, writes}
 use Rattle.lk_tables.specs.Ranks.{rank_of}
-use Rattle.lk_tables.specs.Targets.{bound, commons_at, defined_by, definition, entry_bound, is_gone, offset_in, room_of}
-use Rattle.lk_tables.proofs.BoundHas.{OfDefinitions, bound_has, each_flat, each_if, entry_has, one_if}
+use Rattle.lk_tables.specs.FixedSymbols.{frame_start_no}
+use Rattle.lk_tables.specs.Targets.{bound, commons_at, defined_by, definition, entry_bound, is_gone, offset_in, room_of, unwritten}
+use Rattle.lk_tables.proofs.BoundHas.{OfDefinitions, bound_has, each_flat, each_if, either, entry_has, one_if}
 use Rattle.lk_tables.proofs.BoundWithin.{common_below}
 use Rattle.lk_tables.proofs.FirstNumbers.{section_more}
 use Rattle.lk_tables.proofs.LiveFiles.{counted}
@@ -138,10 +139,11 @@ defined_stays files b f i Common s is lt live =
 defined_stays files b f i (Within k) s is lt live = go (is_gone b (section_no files f k)) refl (writes (file_at files f) k) refl
   where
     go : (g : Bool) → is_gone b (section_no files f k) ≡ g → (w : Bool) → writes (file_at files f) k ≡ w →
-        Stays files b (if g then Nobody else (if w then InSection (section_no files f k) (offset_in s) else Number s.value))
+        Stays files b (if g then Nobody else (if w then InSection (section_no files f k) (offset_in s) else unwritten (file_at files f) k s))
     go true gone w written = tt
     go false here true written = own_stays files b f k lt live written here
-    go false here false written = tt
+    go false here false written =
+        either (Stays files b) (is_frame_at (file_at files f) k && s.value == 0) (Linker frame_start_no) (Number s.value) tt tt
 
 definitions_stay : (files : List File) (b : Bindings) → IsBindingOf files b → OfDefinitions files b (Stays files b)
 unfolding definition

@@ -7,3 +7,4 @@ pub mod MergedAt
 mod NoCuts
 pub mod OwnLeaders
 pub mod PoolHeads
+pub mod SymbolSums

@@ -9,7 +9,7 @@ use Rattle.lk_tables.specs.declared.bounds.Bound.TheVariants.{InSection, Number,
 use Rattle.lk_tables.specs.declared.classes.Class.{Class}
 use Rattle.lk_tables.specs.declared.classes.Class.TheVariants.{R, Rx, TlsBits, TlsNobits, RwBits, RwNobits}
 use Rattle.lk_tables.specs.declared.linker_symbols.Edge.{Edge}
-use Rattle.lk_tables.specs.declared.linker_symbols.Edge.TheVariants.{ImageStart, CodeEnd, BitsEnd, ZerosEnd, Table, GlobalPointer, PreinitStart, PreinitEnd, InitStart, InitEnd, FiniStart, FiniEnd}
+use Rattle.lk_tables.specs.declared.linker_symbols.Edge.TheVariants.{ImageStart, CodeEnd, BitsEnd, ZerosEnd, Table, GlobalPointer, PreinitStart, PreinitEnd, InitStart, InitEnd, FiniStart, FiniEnd, FrameStart}
 use Rattle.lk_tables.specs.Binding.{Bindings}
 use Rattle.lk_tables.specs.Files.{File, file_at, by_symbol}
 use Rattle.lk_tables.specs.LinkerSymbols.{bound_section, edge_of, is_bound_no, is_stop_no}
@@ -64,7 +64,7 @@ module _ (laid : LaidOut) where
   unfoldable pub array_place : (name : List ℕ) → Option OutputPlace
   array_place name = or_first name (rw_place name)
 
-  -- the address of a symbol of the linker's that has a fixed name
+  -- the address of a symbol of the linker's that is no section's
   unfoldable pub edge_address : Edge → ℕ
   edge_address ImageStart = IMAGE_BASE
   edge_address CodeEnd = laid.bounds.rx_end
@@ -78,6 +78,7 @@ module _ (laid : LaidOut) where
   edge_address InitEnd = end_or IMAGE_BASE (array_place (codes ".init_array"))
   edge_address FiniStart = start_or IMAGE_BASE (array_place (codes ".fini_array"))
   edge_address FiniEnd = end_or IMAGE_BASE (array_place (codes ".fini_array"))
+  edge_address FrameStart = laid.bounds.frames
 
   -- the address of a byte of a piece of a pool
   unfoldable pub piece_address : (pool piece offset : ℕ) → ℕ

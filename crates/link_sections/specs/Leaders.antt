@@ -2,6 +2,7 @@
 -- these have no leader.
 use Rattle.std.specs.Prelude.{ℕ, ◌==◌, ◌&&◌, not, Bool, false, Option, Some, None, unwrap_or, if◌then◌else◌, List, [], ◌∷◌, map, length, slice_index_or, slice_set}
 use Rattle.std.specs.List.{range_with_len}
+pub use Rattle.lk_tables.specs.Frames.{is_number}
 use Rattle.link_sections.specs.FoldItems.{FoldItem}
 use Rattle.link_sections.specs.PoolViews.{Merged, is_merged}
 
@@ -34,9 +35,5 @@ abbrev pub leader_of : (leaders : List (Option ℕ)) → (section : ℕ) → ℕ
 leader_of leaders section = unwrap_or (leader_at leaders section) section
 
 -- a section is its own leader, so that its bytes are written
-abbrev pub is_number : Option ℕ → ℕ → Bool
-is_number None n = false
-is_number (Some m) n = m == n
-
 abbrev pub leads : (leaders : List (Option ℕ)) → (section : ℕ) → Bool
 leads leaders section = is_number (leader_at leaders section) section

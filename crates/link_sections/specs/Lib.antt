@@ -18,4 +18,5 @@ pub mod PoolViews
 pub mod Pools
 pub mod SizesView
 pub mod Sound
+pub mod Sums
 pub mod Views

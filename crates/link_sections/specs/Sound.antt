@@ -58,6 +58,18 @@ pub record IsGotMember (laid : LaidOut) (m : Member) : Type 0 where
   pub start : m.start ≡ laid.got
   pub size : m.size ≡ 8 * word_count laid.table
 
+-- `.eh_frame_hdr` and `.eh_frame` stand one after the other between the headers and the end of the file, and no member among them; without an
+-- FDE both are nothing at the image's start (LSB Core, "Exception Frames")
+pub record HaveFrameRoom (laid : LaidOut) : Type 0 where
+  pub from : IMAGE_BASE ≤ laid.bounds.frame_header
+  pub header : laid.bounds.frame_header ≤ laid.bounds.frame_header_end
+  pub between : laid.bounds.frame_header_end ≤ laid.bounds.frames
+  pub frames : laid.bounds.frames ≤ laid.bounds.frames_end
+  pub inside : laid.bounds.frames_end ≤ laid.bounds.file_end
+  pub above : laid.bounds.has_frames ≡ true → laid.bounds.headers_end ≤ laid.bounds.frame_header
+  pub none : laid.bounds.has_frames ≡ false → laid.bounds.frames_end ≡ IMAGE_BASE
+  pub apart : All (λ m. laid.bounds.frame_header < m.start + m.size → laid.bounds.frames_end ≤ m.start) laid.members
+
 -- the members with bytes stand one after the other, from the headers on, within the file; each section that leads itself and has bytes in its
 -- file is one of them
 pub record IsSound (files : List File) (b : Bindings) (leaders : List (Option ℕ)) (laid : LaidOut) : Type 0 where
@@ -82,3 +94,4 @@ pub record IsSound (files : List File) (b : Bindings) (leaders : List (Option �
   pub pointer_room : laid.bounds.tls_bits_end + 2 ^ 31 < 2 ^ 64
   pub place_room : All (λ (p : OutputPlace). p.start + 2 ^ 31 < 2 ^ 64) laid.places
   pub apart : All AreApart laid.cuts
+  pub frames : HaveFrameRoom laid

@@ -49,10 +49,20 @@ pub struct Bounds {
     pub has_tls: bool,
     /// Whether a thread-local member with bits has a byte.
     pub has_tls_bits: bool,
-    /// How many program headers there are: that of the first segment, those of the three above, that of the stack.
+    /// Whether an FDE is written, so that there are `.eh_frame` and `.eh_frame_hdr`, which have a segment of their own.
+    pub has_frames: bool,
+    /// How many program headers there are: that of the first segment, those of the four above, that of the stack.
     pub headers: u64,
     /// The end of the file header and the program headers, which stand at `IMAGE_BASE`.
     pub headers_end: u64,
+    /// The start of `.eh_frame_hdr`, which stands in the class R after its other output sections.
+    pub frame_header: u64,
+    /// Its end.
+    pub frame_header_end: u64,
+    /// The start of `.eh_frame`, which stands after it; `IMAGE_BASE` where no FDE is written.
+    pub frames: u64,
+    /// Its end.
+    pub frames_end: u64,
     /// The cursor after the class R.
     pub r_end: u64,
     /// The cursor before RX, at a multiple of `PAGE`.

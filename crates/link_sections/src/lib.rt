@@ -22,7 +22,7 @@ mod views;
 pub use addresses::Addresses;
 pub use cuts::Cut;
 pub use edges::Edges;
-pub use fold_items::{FoldItem, FoldReloc};
+pub use fold_items::{FoldFrame, FoldItem, FoldReloc};
 pub use got::{Got, GotEntry, GotUse};
 pub use got_lists::{key_of, use_of};
 pub use input_sections::{InputSection, all_kept, input_in, input_section, may_stay};

@@ -151,6 +151,13 @@ is_got_distance _ = false
 unfoldable pub goes_by_got : ℕ → Bool
 goes_by_got number = is_got_distance (kind_of number).calculation
 
+-- the relocations of unwind records may have it
+unfoldable pub is_frame_kind : ℕ → Bool
+is_frame_kind = is_among
+    (R_RISCV_NONE ∷ R_RISCV_32 ∷ R_RISCV_64
+    ∷ R_RISCV_ADD8 ∷ R_RISCV_ADD16 ∷ R_RISCV_ADD32 ∷ R_RISCV_ADD64 ∷ R_RISCV_SUB8 ∷ R_RISCV_SUB16 ∷ R_RISCV_SUB32 ∷ R_RISCV_SUB64
+    ∷ R_RISCV_RELAX ∷ R_RISCV_SUB6 ∷ R_RISCV_SET6 ∷ R_RISCV_SET8 ∷ R_RISCV_SET16 ∷ R_RISCV_SET32 ∷ R_RISCV_32_PCREL ∷ [])
+
 -- the kinds that are linked: each that has a line
 abbrev pub linked_kinds : List ℕ
 linked_kinds = map (λ (l : Line). l.number) lines

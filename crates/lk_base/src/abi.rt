@@ -150,6 +150,8 @@ pub const STT_GNU_IFUNC: u8 = 10;
 pub const PT_LOAD: u32 = 1;
 /// The segment of thread-local data.
 pub const PT_TLS: u32 = 7;
+/// The table by which unwind records are found.
+pub const PT_GNU_EH_FRAME: u32 = 0x6474_e550;
 /// The stack's flags.
 pub const PT_GNU_STACK: u32 = 0x6474_e551;
 /// Executed.

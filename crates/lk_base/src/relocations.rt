@@ -1,11 +1,14 @@
 //! The kinds of relocations (RISC-V ELF psABI, "Relocations"): one table.
 
 ghost use Rattle.std.specs.Prelude.{◌≡◌, ◌≤◌, None, is_some, IfSome, slice_index_or};
-ghost use Rattle.lk_base.specs.RelocKinds.{IsTable, fills_field, goes_by_got, has_value, is_linked, is_lower, is_uleb, is_upper, kind_of, kind_view, moves_bytes, names_a_symbol, unknown};
+ghost use Rattle.lk_base.specs.RelocKinds.{IsTable, fills_field, goes_by_got, has_value, is_frame_kind, is_linked, is_lower, is_uleb, is_upper, kind_of, kind_view, moves_bytes, names_a_symbol, unknown};
 
 use crate::abi::{
-    R_RISCV_ALIGN, R_RISCV_CALL, R_RISCV_CALL_PLT, R_RISCV_GOT_HI20, R_RISCV_PCREL_HI20,
-    R_RISCV_SET_ULEB128, R_RISCV_SUB_ULEB128, R_RISCV_TLS_GD_HI20, R_RISCV_TLS_GOT_HI20,
+    R_RISCV_32, R_RISCV_32_PCREL, R_RISCV_64, R_RISCV_ADD8, R_RISCV_ADD16, R_RISCV_ADD32,
+    R_RISCV_ADD64, R_RISCV_ALIGN, R_RISCV_CALL, R_RISCV_CALL_PLT, R_RISCV_GOT_HI20, R_RISCV_NONE,
+    R_RISCV_PCREL_HI20, R_RISCV_RELAX, R_RISCV_SET_ULEB128, R_RISCV_SET6, R_RISCV_SET8,
+    R_RISCV_SET16, R_RISCV_SET32, R_RISCV_SUB_ULEB128, R_RISCV_SUB6, R_RISCV_SUB8, R_RISCV_SUB16,
+    R_RISCV_SUB32, R_RISCV_SUB64, R_RISCV_TLS_GD_HI20, R_RISCV_TLS_GOT_HI20,
 };
 
 /// What a relocation of a kind computes, as the psABI's table has it: S is its symbol's address, A its addend, P its
@@ -290,6 +293,34 @@ pub fn goes_by_got(number: u32) -> bool
     ensures { result ≡ goes_by_got number }
 {
     matches!(kind_of(number).calculation, Calculation::GotDistance)
+}
+
+/// Whether the relocations of unwind records may have this kind.
+#[tactic(auto, unfolding(crate::specs::RelocKinds::is_frame_kind))]
+pub fn is_frame_kind(number: u32) -> bool
+    ensures { result ≡ is_frame_kind number }
+{
+    matches!(
+        number,
+        R_RISCV_NONE
+            | R_RISCV_32
+            | R_RISCV_64
+            | R_RISCV_ADD8
+            | R_RISCV_ADD16
+            | R_RISCV_ADD32
+            | R_RISCV_ADD64
+            | R_RISCV_SUB8
+            | R_RISCV_SUB16
+            | R_RISCV_SUB32
+            | R_RISCV_SUB64
+            | R_RISCV_RELAX
+            | R_RISCV_SUB6
+            | R_RISCV_SET6
+            | R_RISCV_SET8
+            | R_RISCV_SET16
+            | R_RISCV_SET32
+            | R_RISCV_32_PCREL
+    )
 }
 
 /// Whether the relocations of a kind are linked: those of each kind that has a line.

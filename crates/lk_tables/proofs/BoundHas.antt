@@ -16,7 +16,7 @@ use Rattle.lk_tables.specs.Binding.{Bindings, Offer, bound_rank, class_of, is_di
 use Rattle.lk_tables.specs.BoundNames.{bindings, linked_rank, or_linker, rank_of_linker, with_linker}
 use Rattle.lk_tables.specs.Symbols.{is_common}
 use Rattle.lk_tables.specs.Files.{AreFew, File, file_at, no_symbol, section_total, symbol_at, symbol_name, symbol_no}
-use Rattle.lk_tables.specs.LinkerSymbols.{linker_no}
+use Rattle.lk_tables.specs.LinkerSymbols.{fixed_count, linker_no}
 use Rattle.lk_tables.specs.Ranks.{class_of_rank, file_of, is_linker_rank, linker_class, no_rank, rank_of, symbol_of_rank}
 use Rattle.lk_tables.specs.Targets.{bound, bound_by, definition, entry_bound, rank_at}
 use Rattle.lk_tables.proofs.ByNumber.{read_by_symbol}
@@ -104,7 +104,7 @@ number_named : (files : List File) (b : Bindings) (P : Bound → Type 0) (o : Op
 number_named files b P None none own few = none_named files b P none
 number_named files b P (Some n) none own few = subst P (sym (linker_named files b n few)) (own n refl)
 
-few_numbers : (files : List File) (o : Option ℕ) → AreFew files → IfNumber (λ n. n < 18 + 2 * section_total files) o → IfNumber (λ n. n < 2 ^ 31) o
+few_numbers : (files : List File) (o : Option ℕ) → AreFew files → IfNumber (λ n. n < fixed_count + 2 * section_total files) o → IfNumber (λ n. n < 2 ^ 31) o
 few_numbers files None few below = tt
 few_numbers files (Some n) few below = omega (arith, below, few.section_count_is)
 

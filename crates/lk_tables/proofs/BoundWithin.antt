@@ -17,9 +17,10 @@ use Rattle.lk_tables.specs.BoundNames.{IsBindingOf}
 use Rattle.lk_tables.specs.Binding.{Bindings, bound_common_at, bound_commons_in, greatest_align, greatest_size, demands, is_discarded, offered_bindings, rank_bound}
 use Rattle.lk_tables.specs.BoundNames.{bindings, with_linker}
 use Rattle.lk_tables.specs.Symbols.{is_common}
-use Rattle.lk_tables.specs.Files.{AreFew, File, common_no, commons_before, file_at, no_symbol, section_no, section_total, symbol_at, symbol_name, writes}
+use Rattle.lk_tables.specs.Files.{AreFew, File, common_no, commons_before, file_at, is_frame_at, no_symbol, section_no, section_total, symbol_at, symbol_name, writes}
+use Rattle.lk_tables.specs.FixedSymbols.{frame_start_no}
 use Rattle.lk_tables.specs.Ranks.{rank_of}
-use Rattle.lk_tables.specs.Targets.{bound, commons_at, defined_by, definition, entry_bound, offset_in, room_of}
+use Rattle.lk_tables.specs.Targets.{bound, commons_at, defined_by, definition, entry_bound, offset_in, room_of, unwritten}
 use Rattle.lk_tables.proofs.BoundHas.{OfDefinitions, bound_has, each_flat, each_if, either, entry_has, one_if}
 use Rattle.lk_tables.proofs.FirstNumbers.{section_within}
 use Rattle.lk_tables.proofs.LiveFiles.{counted}
@@ -70,9 +71,10 @@ commons_within files b f (gone, entry, is) lt =
     subst P (sym own) (rooms_within files gone f lt)
 
 written_in : (files : List File) (f k : ℕ) (s : Symbol) (d : Bool) → f < length files → (file_at files f).live ≡ true → (d ≡ true → k < length (file_at files f).head.sections) →
-    IsWithin files (if d then InSection (section_no files f k) (offset_in s) else Number s.value)
+    IsWithin files (if d then InSection (section_no files f k) (offset_in s) else unwritten (file_at files f) k s)
 written_in files f k s true lt live below = omega (arith, section_within files f lt, counted (file_at files f) live, below refl)
-written_in files f k s false lt live below = tt
+written_in files f k s false lt live below =
+    either (IsWithin files) (is_frame_at (file_at files f) k && s.value == 0) (Linker frame_start_no) (Number s.value) tt tt
 
 defined_within : (files : List File) (b : Bindings) (f i : ℕ) (place : Place) (s : Symbol) → IsBindingOf files b → f < length files → (file_at files f).live ≡ true →
     IsWithin files (defined_by files b place f i s)
@@ -80,7 +82,7 @@ defined_within files b f i Undef s is lt live = tt
 defined_within files b f i Absolute s is lt live = tt
 defined_within files b f i Common s is lt live = room_within files (λ c. c.symbol == i) (commons_at b.commons f) (commons_within files b f is lt)
 defined_within files b f i (Within k) s is lt live =
-    let found = if writes (file_at files f) k then InSection (section_no files f k) (offset_in s) else Number s.value in
+    let found = if writes (file_at files f) k then InSection (section_no files f k) (offset_in s) else unwritten (file_at files f) k s in
     either (IsWithin files) (is_discarded files b.discarded f (Within k)) Nobody found tt
     (written_in files f k s (writes (file_at files f) k) lt live (written_within (file_at files f) k))
 

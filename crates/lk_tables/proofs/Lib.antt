@@ -5,6 +5,7 @@ pub mod ByNumber
 pub mod FewSections
 pub mod Finding
 pub mod FirstNumbers
+pub mod FrameLists
 pub mod HeadFacts
 pub mod LinkerNumbers
 pub mod Owners

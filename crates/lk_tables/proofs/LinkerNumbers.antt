@@ -10,7 +10,7 @@ use Rattle.lk_tables.specs.Binding.{Bindings}
 use Rattle.lk_tables.specs.BoundNames.{with_linker}
 use Rattle.lk_tables.specs.Files.{File, section_total}
 use Rattle.lk_tables.specs.InputSections.{input_at, input_of, may_stay, may_stay_at}
-use Rattle.lk_tables.specs.LinkerSymbols.{bound_no, bound_section, either, first_if, first_named, fixed_count, fixed_if, fixed_no, identifier_after, is_named, is_stop_no, linker_no, start_no, start_prefix, stop_no, stop_prefix}
+use Rattle.lk_tables.specs.LinkerSymbols.{bound_no, bound_section, either, first_if, first_named, fixed_count, fixed_if, fixed_no, identifier_after, is_named, is_stop_no, linker_no, named_count, start_no, start_prefix, stop_no, stop_prefix}
 use Rattle.lk_tables.specs.Ranks.{class_of_rank, file_of, is_linker_rank, linker_class, linker_rank, no_rank, symbol_of_rank}
 use Rattle.lk_tables.specs.Targets.{bound_by, definition}
 
@@ -44,8 +44,8 @@ found_is P p from (suc n) each =
     one_of true here later = here refl
     one_of false here later = later
 
-fixed_few : (name : List ℕ) → IfNumber (Below 18) (fixed_if name)
-fixed_few name = tested_is (Below 18) (nat_lt (fixed_no name) fixed_count) (fixed_no name) (λ is. ltb-true (fixed_no name) fixed_count is)
+fixed_few : (name : List ℕ) → IfNumber (Below named_count) (fixed_if name)
+fixed_few name = tested_is (Below named_count) (nat_lt (fixed_no name) named_count) (fixed_no name) (λ is. ltb-true (fixed_no name) named_count is)
 
 pub first_few : (files : List File) (b : Bindings) (text : Option (List ℕ)) → IfNumber (Below (section_total files)) (first_if files b text)
 unfolding first_named
@@ -53,9 +53,9 @@ first_few files b None = tt
 first_few files b (Some text) =
     found_is (Below (section_total files)) (is_named files b text) 0 (section_total files) (λ k lt is. omega (arith, lt))
 
--- below 18 + 2 * sections
+-- all are below this one
 abbrev last_no : List File → ℕ
-last_no files = 18 + 2 * section_total files
+last_no files = fixed_count + 2 * section_total files
 
 pub linker_few : (files : List File) (b : Bindings) (name : List ℕ) → IfNumber (Below (last_no files)) (linker_no files b name)
 unfolding linker_no bound_no
@@ -69,7 +69,7 @@ linker_few files b name =
     (mapped_is (Below some) (Below (last_no files)) (λ n. start_no n) start (λ n lt. omega (arith, lt)) (first_few files b (identifier_after start_prefix name)))
     (mapped_is (Below some) (Below (last_no files)) (λ n. stop_no n) stop (λ n lt. omega (arith, lt)) (first_few files b (identifier_after stop_prefix name))))
   where
-    mapped_same : (o : Option ℕ) → IfNumber (Below 18) o → IfNumber (Below (last_no files)) o
+    mapped_same : (o : Option ℕ) → IfNumber (Below named_count) o → IfNumber (Below (last_no files)) o
     mapped_same None is = tt
     mapped_same (Some n) is = omega (arith, is)
 
@@ -129,11 +129,11 @@ edge_by : (files : List File) (b : Bindings) (name : List ℕ) (stop : Bool) (g 
 edge_by files b name stop g says None is = tt
 edge_by files b name stop g says (Some text) is = edge_at files b name text stop g says is (first_named files b text) refl
 
--- so of each number that is not a fixed name's
-pub edge_law : (files : List File) (b : Bindings) (name : List ℕ) (number : ℕ) → linker_no files b name ≡ Some number → 18 ≤ number → NamesEdge files b name number
+-- so of each number past those that are no section's
+pub edge_law : (files : List File) (b : Bindings) (name : List ℕ) (number : ℕ) → linker_no files b name ≡ Some number → fixed_count ≤ number → NamesEdge files b name number
 unfolding linker_no bound_no
 edge_law files b name number is late =
-    let Q : ℕ → Type 0 = λ n. 18 ≤ n → NamesEdge files b name n in
+    let Q : ℕ → Type 0 = λ n. fixed_count ≤ n → NamesEdge files b name n in
     let start = option_map (λ n. start_no n) (first_if files b (identifier_after start_prefix name)) in
     let stop = option_map (λ n. stop_no n) (first_if files b (identifier_after stop_prefix name)) in
     let P : Option ℕ → Type 0 = IfNumber Q in
@@ -143,10 +143,10 @@ edge_law files b name number is late =
     (always stop (edge_by files b name true (λ n. stop_no n) stop_says (identifier_after stop_prefix name) refl))) in
     let law : Q number = subst P is all in law late
   where
-    not_fixed : (o : Option ℕ) → IfNumber (Below 18) o → IfNumber (λ n. 18 ≤ n → NamesEdge files b name n) o
+    not_fixed : (o : Option ℕ) → IfNumber (Below named_count) o → IfNumber (λ n. fixed_count ≤ n → NamesEdge files b name n) o
     not_fixed None below = tt
     not_fixed (Some n) below = λ more. absurd (omega (arith, below, more))
 
-    always : (o : Option ℕ) → IfNumber (NamesEdge files b name) o → IfNumber (λ n. 18 ≤ n → NamesEdge files b name n) o
+    always : (o : Option ℕ) → IfNumber (NamesEdge files b name) o → IfNumber (λ n. fixed_count ≤ n → NamesEdge files b name n) o
     always None edge = tt
     always (Some n) edge = λ more. edge

@@ -5,8 +5,8 @@ use Rattle.std.proofs.lemmas.Bool.{cases_lt, le-ltb, lt-ltb}
 use Rattle.std.proofs.lemmas.List.{get_or_past}
 use Rattle.std.proofs.Math.Bool.{and-false}
 use Rattle.lk_tables.specs.declared.section_places.SectionPlace.{SectionPlace}
-use Rattle.lk_tables.specs.Files.{File, first_section, section_total, section_at, no_section, writes}
-use Rattle.lk_tables.specs.Sections.{is_loaded, is_written}
+use Rattle.lk_tables.specs.Files.{File, first_section, section_total, section_at, is_frame_at, no_section, writes}
+use Rattle.lk_tables.specs.Sections.{is_frame, is_loaded, is_written}
 use Rattle.lk_tables.specs.Sites.{IsPlaceOf, owner_of, place_of}
 use Rattle.lk_tables.proofs.Finding.{first_number}
 use Rattle.lk_tables.proofs.FirstNumbers.{section_more, section_upto}
@@ -67,4 +67,20 @@ pub written_within : (file : File) (k : ℕ) → writes file k ≡ true → k < 
 written_within file k written = elim (cases_lt k (length file.head.sections)) [
   | inl lt ↦ lt
   | inr past ↦ let not_written = unwritten_past file k past in absurd cc
+]
+
+-- so is what has unwind records
+unframed : (b : List ℕ) → is_frame b no_section ≡ false
+unfolding is_frame is_loaded
+unframed b = refl
+
+pub unframed_past : (file : File) (k : ℕ) → length file.head.sections ≤ k → is_frame_at file k ≡ false
+unframed_past file k past =
+    let none : section_at file k ≡ no_section = get_or_past file.head.sections k no_section past in
+    ap (λ s. nat_lt 0 k && is_frame file.bytes s) none ∙ ap (λ b. nat_lt 0 k && b) (unframed file.bytes) ∙ and-false (nat_lt 0 k)
+
+pub frame_within : (file : File) (k : ℕ) → is_frame_at file k ≡ true → k < length file.head.sections
+frame_within file k framed = elim (cases_lt k (length file.head.sections)) [
+  | inl lt ↦ lt
+  | inr past ↦ let not_framed = unframed_past file k past in absurd cc
 ]

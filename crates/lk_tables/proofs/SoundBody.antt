@@ -1,7 +1,8 @@
 -- What holds of the lists of a body in which no check is broken.
 use Rattle.std.proofs.Common.{◌≡◌, ◌≢◌, ℕ, ◌+◌, ◌%◌, ◌<◌, ◌≤◌, zero, suc, Bool, true, false, not, ◌&&◌, ◌||◌, ◌==◌, nat_lt, length, get_or, drop, List, [], ◌∷◌, ◌++◌, map, refl, sym, ap, ◌∙◌, arith, Option, Some, None, subst, inl, inr}
-use Rattle.std.specs.Prelude.{Ok, is_some, if◌then◌else◌, ℤ, pos, negsuc, unsigned_abs, int_lt, bit_and}
+use Rattle.std.specs.Prelude.{Ok, is_some, if◌then◌else◌, ℤ, pos, negsuc, unsigned_abs, int_lt, bit_and, codes}
 use Rattle.std.specs.Int.{is_power_of_two}
+use Rattle.std.specs.Str.{bytes_eq}
 use Rattle.std.specs.List.{All, AllByRecursion, AllPairs, filter, range_with_len}
 use Rattle.std.specs.List.Sorted.{IsNonDecreasingBy}
 use Rattle.std.specs.Ordering.{int_eq}
@@ -23,10 +24,11 @@ use Rattle.lk_tables.specs.Groups.{is_group, group_checks}
 use Rattle.lk_tables.specs.FileHeader.{section_count, ends_past, place_of}
 use Rattle.lk_tables.specs.Heads.{HeadView, HeadOf, head_of}
 use Rattle.lk_tables.specs.Inside.{IsAlignment, IsLinked, IsPadding, IsRelocBefore, IsRelocWithin, IsCommonWithin, IsGroupWithin, IsGroupBefore, IsBodyInside}
+use Rattle.lk_tables.specs.Names.{text_of}
 use Rattle.lk_tables.specs.Objects.{ObjectView, BodyOf, object_of, object_checks, parts_of, group_of, relocs_in, relocs_for}
 use Rattle.lk_base.specs.Order.{put_in, stable_order}
 use Rattle.lk_tables.specs.Relocations.{end_of, pair_checks, place_width, width_of, rela_count, reloc, target_of, target_bytes, is_alignment, is_past_target, is_bad_addend, is_bad_padding, entry_checks, in_order, overlap_checks, entries_checks, relocs_of}
-use Rattle.lk_tables.specs.Sections.{section_of, is_null, is_written, written_at, takes_relocs, is_loaded, loaded_types, contents_of}
+use Rattle.lk_tables.specs.Sections.{section_of, is_null, is_read, is_written, takes_relocs, is_loaded, loaded_types, contents_of}
 use Rattle.lk_tables.specs.Symbols.{symtab_of, symbol_of, symbol_count, symbol_place, is_common, is_undef}
 use Rattle.lk_tables.proofs.BodyFacts.{symbol_at, length_symbols, section_inside, sections_pass, sections_are, symbols_are}
 use Rattle.lk_tables.proofs.HeadFacts.{section_at}
@@ -79,11 +81,13 @@ unfolding plain_checks is_bad_loaded
 linked_from b k s e written inside =
     let lines : NoneBroken (plain_checks b k s) = none_from_ok (plain_checks b k s) (tt {0}) (tt {0}) e in
     let loaded = (written_type b s written).0 in
-    let formed = second_false (is_loaded s) (is_bad_loaded (section_count b) s) lines.1.1.0 loaded in
+    let formed = second_false (is_loaded s) (is_bad_loaded b (section_count b) s) lines.1.1.0 loaded in
     let twice = not (bit_and s.flags SHF_WRITE == 0) && not (bit_and s.flags SHF_EXECINSTR == 0) in
     let astray = not (bit_and s.flags SHF_LINK_ORDER == 0) && not (nat_lt s.link (section_count b)) in
-    let p = or_parts (not (is_among loaded_types s.sh_type)) (twice || astray) formed in
-    let q = or_parts twice astray p.1 in
+    let named = is_written b s && bytes_eq (text_of b s.name) (codes ".eh_frame_hdr") in
+    let p = or_parts (not (is_among loaded_types s.sh_type)) (twice || (astray || named)) formed in
+    let q = or_parts twice (astray || named) p.1 in
+    let r = or_parts astray named q.1 in
     let aligned = second_false (is_loaded s) (is_bad_alignment s.align) lines.1.1.1.0 loaded in
     let sized = second_false (is_loaded s) (s.sh_type == SHT_NOBITS && nat_lt (NOBITS_MAX) s.size) lines.1.1.1.1.0 loaded in
     record {
@@ -94,7 +98,7 @@ linked_from b k s e written inside =
         | inr bits ↦ inside (λ z. let no : ⊥ = grind (arith, nat_tests) in no)
       ];
       apart = apart_of (bit_and s.flags SHF_WRITE) (bit_and s.flags SHF_EXECINSTR) q.0;
-      follows = follows_of (bit_and s.flags SHF_LINK_ORDER) s.link (section_count b) q.1;
+      follows = follows_of (bit_and s.flags SHF_LINK_ORDER) s.link (section_count b) r.0;
     }
 
 pub linked_at : (b : List ℕ) (head : HeadView) (k : ℕ) → HeadOf b head → length b ≤ FILE_MAX → passes (all_body_checks b) ≡ Ok tt →
@@ -116,10 +120,10 @@ padding_of addend e =
     record { some = some_padding addend p.0; even = eqb-true (unsigned_abs addend % 2) 0 (not_false _ p.1) }
 
 -- one relocation, from the checks of its entry
-within_of : (b : List ℕ) (n i j : ℕ) → n ≡ symbol_count b → passes (entry_checks b i j) ≡ Ok tt → is_written b (target_of b i) ≡ true →
+within_of : (b : List ℕ) (n i j : ℕ) → n ≡ symbol_count b → passes (entry_checks b i j) ≡ Ok tt → is_read b (target_of b i) ≡ true →
     IsRelocWithin b n (target_of b i) (reloc b i j)
 unfolding entry_checks is_past_target is_bad_addend
-within_of b n i j counted e written =
+within_of b n i j counted e read =
     let r = reloc b i j in
     let s = target_of b i in
     let lines : NoneBroken (entry_checks b i j) = none_from_ok (entry_checks b i j) (tt {0}) (tt {0}) e in
@@ -128,7 +132,7 @@ within_of b n i j counted e written =
     let kind : is_some (width_of c r) ≡ true = not_false _ lines.1.1.1.0 in
     let q = or_parts (is_alignment r && is_bad_padding r.addend) (not (int_eq r.addend (pos 0)) && is_lower r.kind) lines.1.1.1.1.0 in
     record {
-      written = written;
+      read = read;
       bits = λ z. let no : ⊥ = grind (arith, nat_tests, p.0) in no;
       symbol = grind (arith, nat_tests, lines.0);
       kind = kind;
@@ -207,11 +211,11 @@ is_rela_of b k r e =
     let u = and_parts (s.info == k) t q.1 in
     record { low = ltb-true 0 r p.0; typed = eqb-true s.sh_type SHT_RELA q.0; target = eqb-true s.info k u.0; taken = u.1 }
 
--- a section of which the relocations are read is written
-taken_written : (b : List ℕ) (k : ℕ) → takes_relocs b k ≡ true → (0 < k) × (is_written b (section_of b k) ≡ true)
-unfolding takes_relocs written_at
-taken_written b k e =
-    let p = and_parts (nat_lt 0 k) (is_written b (section_of b k)) e in (ltb-true 0 k p.0, p.1)
+-- a section of which the relocations are read is one whose bytes are
+taken_read : (b : List ℕ) (k : ℕ) → takes_relocs b k ≡ true → (0 < k) × (is_read b (section_of b k) ≡ true)
+unfolding takes_relocs
+taken_read b k e =
+    let p = and_parts (nat_lt 0 k) (is_read b (section_of b k)) e in (ltb-true 0 k p.0, p.1)
 
 abbrev header_line : List ℕ → ℕ → List Check
 header_line b r = (is_bad_rela b r (section_of b r) says flaw_at BAD_SECTION r (place_of b r)) ∷ []
@@ -244,16 +248,16 @@ from_rela b n k None counted e is =
 from_rela b n k (Some r) counted e is =
     let at = is r refl in
     let of = is_rela_of b k r at.0 in
-    let written = taken_written b k of.taken in
+    let read = taken_read b k of.taken in
     let checks = (body_at b r e of.low at.1 (λ z. absurd (omega (arith, of.typed)))).1 in
     let passed = entries_pass b k r checks at.0 in
     record {
       each = relocs_within b (IsRelocWithin b n (section_of b k)) r (λ j lt.
           subst (λ (i : ℕ). IsRelocWithin b n (section_of b i) (reloc b r j)) of.target
-          (within_of b n r j counted (passed.0 j lt) (ap (λ i. is_written b (section_of b i)) of.target ∙ written.1)));
+          (within_of b n r j counted (passed.0 j lt) (ap (λ i. is_read b (section_of b i)) of.target ∙ read.1)));
       rises = relocs_rise b r;
       apart = subst (λ (i : ℕ). AllPairs (IsRelocBefore (contents_of b (section_of b i))) (relocs_of b r)) of.target (relocs_apart b r passed.1);
-      first = λ z. absurd (omega (arith, written.0));
+      first = λ z. absurd (omega (arith, read.0));
     }
 
 relocs_within_section : (b : List ℕ) (n k : ℕ) → n ≡ symbol_count b → passes (all_body_checks b) ≡ Ok tt → AreWithin b n k (relocs_for b k)

@@ -8,7 +8,7 @@ use Rattle.std.proofs.lemmas.List.Quantifiers.{position-Some}
 use Rattle.std.proofs.lemmas.Grind.{common_steps}
 use Rattle.lk_base.specs.declared.defects.Flaw.{Flaw}
 use Rattle.lk_base.specs.RelocKinds.{is_among}
-use Rattle.lk_base.specs.declared.abi.TheConstants.{SHDR_SIZE, SECTIONS_MAX, SHN_UNDEF, SHN_LORESERVE, SHN_ABS, SHN_COMMON, SHN_XINDEX, SHT_NULL, SHT_SYMTAB, STB_LOCAL, SYM_SIZE}
+use Rattle.lk_base.specs.declared.abi.TheConstants.{SHDR_SIZE, SECTIONS_MAX, SHN_UNDEF, SHN_LORESERVE, SHN_ABS, SHN_COMMON, SHN_XINDEX, SHT_NULL, SHT_PROGBITS, SHT_SYMTAB, STB_LOCAL, SYM_SIZE}
 use Rattle.lk_tables.specs.declared.heads.Place.{Place}
 use Rattle.lk_tables.specs.declared.heads.Place.TheVariants.{Undef, Absolute, Common, Within}
 use Rattle.lk_tables.specs.declared.heads.Section.{Section}
@@ -19,7 +19,7 @@ use Rattle.lk_tables.specs.Heads.{HeadView, HeadOf, head_of, fields_of, head_che
 use Rattle.lk_tables.specs.Indexed.{IsIndexed}
 use Rattle.lk_tables.specs.Inside.{IsNameWithin, IsPlaceWithin, IsNullSymbol, HasLocalsFirst, IsHeadInside}
 use Rattle.lk_tables.specs.Names.{is_zero, text_of, name_len}
-use Rattle.lk_tables.specs.Sections.{section_of, is_null, is_written, written_at, is_loaded, loaded_types, is_bad_symtab, names_from, names_size}
+use Rattle.lk_tables.specs.Sections.{section_of, is_null, is_frame, is_read, is_written, written_at, is_loaded, loaded_types, is_bad_symtab, names_from, names_size}
 use Rattle.lk_tables.specs.Symbols.{symtab_of, symbol_of, symbol_from, null_symbol, symbol_count, symbol_checks, entry, bindings, sorts, place_from, place_at, index_word, within, strings_from, strings_size, symbol_name_len, is_common, is_strange, is_bad_local, is_misplaced, is_bad_common, is_past_end, is_bad_symbol}
 use Rattle.lk_tables.proofs.BodyFacts.{symbol_at, length_symbols, section_inside, header_passes, sections_pass, sections_are, symbols_are, symtab_is, no_symbols}
 use Rattle.lk_tables.proofs.HeadFacts.{sound_at, has_first, readable, section_at, length_sections}
@@ -300,6 +300,27 @@ written_live b s e null =
     let none : is_among loaded_types s.sh_type ≡ false = ap (is_among loaded_types) null in
     let no : ⊥ = cc in no
 
+frame_type : (b : List ℕ) (s : Section) → is_frame b s ≡ true → s.sh_type ≡ SHT_PROGBITS
+unfolding is_frame
+frame_type b s e =
+    let named = bytes_eq (text_of b s.name) (codes ".eh_frame") in
+    let p = and_parts (is_loaded s) (s.sh_type == SHT_PROGBITS && named) e in
+    let q = and_parts (s.sh_type == SHT_PROGBITS) named p.1 in
+    eqb-true s.sh_type SHT_PROGBITS q.0
+
+-- so has one that is read
+pub read_live : (b : List ℕ) (s : Section) → is_read b s ≡ true → s.sh_type ≢ SHT_NULL
+unfolding is_read
+read_live b s e = by (is_written b s) refl e
+  where
+    by : (w : Bool) → is_written b s ≡ w → (w || is_frame b s) ≡ true → s.sh_type ≢ SHT_NULL
+    by true written read = written_live b s written
+    by false other frame = λ null. absurd (omega (arith, frame_type b s frame, null))
+
+pub written_read : (b : List ℕ) (s : Section) → is_written b s ≡ true → is_read b s ≡ true
+unfolding is_read
+written_read b s e = rw e refl
+
 pub symbols_pass : (b : List ℕ) (head : HeadView) → HeadOf b head → passes (all_symbol_checks b) ≡ Ok tt
 unfolding head_checks
 symbols_pass b head is =
@@ -334,12 +355,12 @@ head_inside b head is =
       section_names = λ k d lt.
           subst (λ (s : Section). IsNameWithin (length b) s.name) (section k d lt) (section_named b k passed (omega (arith, counted)));
       symbol_names = λ k d lt. (symbol k d lt).name;
-      contents = λ k d lt low written bits.
+      contents = λ k d lt low read bits.
           let at = section k d lt in
           let P : Section → Type 0 = λ s. s.offset + s.size ≤ length b in
           subst P at
           (section_inside b k passed low (omega (arith, counted))
-          (λ z. written_live b (get_or head.sections k d) written (ap (λ (s : Section). s.sh_type) (sym at) ∙ z))
+          (λ z. read_live b (get_or head.sections k d) read (ap (λ (s : Section). s.sh_type) (sym at) ∙ z))
           (λ z. bits (ap (λ (s : Section). s.sh_type) (sym at) ∙ z)));
       places = λ k d lt. subst (λ n. IsPlaceWithin n (get_or head.symbols k d).place) (sym counted) (symbol k d lt).place;
       values = λ k d lt j e stands written.

@@ -1,15 +1,17 @@
 -- The checks of an object's body, section by section (System V gABI, "Section Header Table", "Section Groups",
 -- "Relocation") and symbol by symbol.
-use Rattle.std.specs.Prelude.{ℕ, ◌%◌, Bool, not, ◌&&◌, ◌||◌, ◌==◌, nat_lt, bit_and, Option, if◌then◌else◌, List, [], ◌∷◌, ◌++◌, find}
+use Rattle.std.specs.Prelude.{ℕ, ◌%◌, Bool, not, ◌&&◌, ◌||◌, ◌==◌, nat_lt, bit_and, Option, if◌then◌else◌, List, [], ◌∷◌, ◌++◌, codes, find}
 use Rattle.std.specs.List.{list_any, range_with_len}
 use Rattle.std.specs.Int.{is_power_of_two}
+use Rattle.std.specs.Str.{bytes_eq}
 use Rattle.lk_base.specs.RelocKinds.{is_among}
 use Rattle.lk_base.specs.declared.abi.TheConstants.{ALIGN_MAX, NOBITS_MAX, RELA_SIZE, SHF_WRITE, SHF_EXECINSTR, SHF_LINK_ORDER, SHF_COMPRESSED, SHT_RELA, SHT_NOBITS, SHT_REL, STT_GNU_IFUNC}
 use Rattle.lk_base.specs.declared.kinds.TheConstants.{BAD_SECTION, COMPRESSED, LIMIT, BAD_ALIGNMENT, IFUNC}
 use Rattle.lk_tables.specs.declared.heads.Section.{Section}
 use Rattle.lk_tables.specs.Checks.{Check, ◌says◌, flaw_at, from_on}
 use Rattle.lk_tables.specs.FileHeader.{place_of, section_count}
-use Rattle.lk_tables.specs.Sections.{section_of, is_null, loaded_types, is_loaded, takes_relocs}
+use Rattle.lk_tables.specs.Names.{text_of}
+use Rattle.lk_tables.specs.Sections.{section_of, is_null, loaded_types, is_loaded, is_written, takes_relocs}
 use Rattle.lk_tables.specs.Symbols.{symtab_of, symbol_of, symbol_place, symbol_count, is_common, is_undef}
 use Rattle.lk_tables.specs.Groups.{group_checks}
 use Rattle.lk_tables.specs.Relocations.{entries_checks}
@@ -18,19 +20,21 @@ use Rattle.lk_tables.specs.Relocations.{entries_checks}
 unfoldable pub is_bad_alignment : ℕ → Bool
 is_bad_alignment align = (not (align == 0) && not (is_power_of_two align)) || nat_lt ALIGN_MAX align
 
--- of a loaded section: a type that is not linked, both written to and executed, or in the order of no section
-unfoldable pub is_bad_loaded : (count : ℕ) → Section → Bool
-is_bad_loaded count s =
+-- of a loaded section: a type that is not linked, both written to and executed, in the order of no section, or named like the table of unwind
+-- records, which the linker writes
+unfoldable pub is_bad_loaded : List ℕ → (count : ℕ) → Section → Bool
+is_bad_loaded b count s =
     not (is_among loaded_types s.sh_type)
     || ((not (bit_and s.flags SHF_WRITE == 0) && not (bit_and s.flags SHF_EXECINSTR == 0))
-    || (not (bit_and s.flags SHF_LINK_ORDER == 0) && not (nat_lt s.link count)))
+    || ((not (bit_and s.flags SHF_LINK_ORDER == 0) && not (nat_lt s.link count))
+    || (is_written b s && bytes_eq (text_of b s.name) (codes ".eh_frame_hdr"))))
 
 -- "Section Header Table": no section is compressed or has relocations without addends; then what is asked of loaded ones
 unfoldable pub plain_checks : List ℕ → ℕ → Section → List Check
 plain_checks b i s =
     (not (bit_and s.flags SHF_COMPRESSED == 0) says flaw_at COMPRESSED i (place_of b i))
     ∷ (s.sh_type == SHT_REL says flaw_at BAD_SECTION i (place_of b i))
-    ∷ (is_loaded s && is_bad_loaded (section_count b) s says flaw_at BAD_SECTION i (place_of b i))
+    ∷ (is_loaded s && is_bad_loaded b (section_count b) s says flaw_at BAD_SECTION i (place_of b i))
     ∷ (is_loaded s && is_bad_alignment s.align says flaw_at BAD_ALIGNMENT i (place_of b i))
     ∷ (is_loaded s && (s.sh_type == SHT_NOBITS && nat_lt NOBITS_MAX s.size) says flaw_at LIMIT i (place_of b i))
     ∷ []

@@ -13,7 +13,7 @@ use Rattle.lk_tables.specs.Heads.{HeadView, fields_of, head_of}
 use Rattle.lk_tables.specs.Objects.{ObjectView, parts_of, object_of}
 use Rattle.lk_tables.specs.Names.{no_name, text_of}
 pub use Rattle.lk_tables.specs.Relocations.{no_reloc}
-use Rattle.lk_tables.specs.Sections.{is_written}
+use Rattle.lk_tables.specs.Sections.{is_frame, is_written}
 
 -- a file: whether it takes part in the link, whether it is of an archive, its bytes and what they say
 pub record File : Type 0 where
@@ -63,6 +63,10 @@ symbol_name file i = text_of file.bytes (symbol_at file i).name
 -- section k is written into the executable; section 0 is none
 abbrev pub writes : File → ℕ → Bool
 writes file k = nat_lt 0 k && is_written file.bytes (section_at file k)
+
+-- section k has unwind records; section 0 is none
+abbrev pub is_frame_at : File → ℕ → Bool
+is_frame_at file k = nat_lt 0 k && is_frame file.bytes (section_at file k)
 
 -- other files see the symbol
 abbrev pub is_visible : Symbol → Bool

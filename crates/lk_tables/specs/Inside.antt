@@ -17,7 +17,7 @@ use Rattle.lk_tables.specs.Heads.{HeadView}
 use Rattle.lk_tables.specs.Names.{no_name}
 use Rattle.lk_tables.specs.Objects.{GroupView, ObjectView}
 use Rattle.lk_tables.specs.Relocations.{width_of, end_of, has_bytes, is_alignment}
-use Rattle.lk_tables.specs.Sections.{is_written, loaded_types, contents_of}
+use Rattle.lk_tables.specs.Sections.{is_read, is_written, loaded_types, contents_of}
 use Rattle.lk_tables.specs.Symbols.{bindings}
 
 -- each element with its number
@@ -27,6 +27,10 @@ AllNumbered {X} P xs = (k : ℕ) (d : X) → k < length xs → P k (slice_index_
 -- of the sections that are written; section 0 never is
 abbrev pub AllWritten : List ℕ → (Section → Type 0) → List Section → Type 0
 AllWritten b P sections = AllNumbered (λ k s. 0 < k → is_written b s ≡ true → P s) sections
+
+-- of those whose bytes are read
+abbrev pub AllRead : List ℕ → (Section → Type 0) → List Section → Type 0
+AllRead b P sections = AllNumbered (λ k s. 0 < k → is_read b s ≡ true → P s) sections
 
 -- the bytes of a name stand in the file
 abbrev pub IsNameWithin : (file : ℕ) → Span → Type 0
@@ -68,7 +72,7 @@ pub record IsHeadInside (b : List ℕ) (head : HeadView) : Type 0 where
   pub entries : SYM_SIZE * length head.symbols ≤ length b
   pub section_names : All (λ s. IsNameWithin (length b) s.name) head.sections
   pub symbol_names : All (λ s. IsNameWithin (length b) s.name) head.symbols
-  pub contents : AllWritten b (λ s. s.sh_type ≢ SHT_NOBITS → s.offset + s.size ≤ length b) head.sections
+  pub contents : AllRead b (λ s. s.sh_type ≢ SHT_NOBITS → s.offset + s.size ≤ length b) head.sections
   pub places : All (λ s. IsPlaceWithin (length head.sections) s.place) head.symbols
   pub values : All (IsValueWithin b head.sections) head.symbols
   pub among : All (λ s. is_among bindings s.binding ≡ true) head.symbols
@@ -95,9 +99,9 @@ pub record IsPadding (addend : ℤ) : Type 0 where
   pub some : addend ≡ pos (unsigned_abs addend)
   pub even : unsigned_abs addend % 2 ≡ 0
 
--- a relocation of section s, which is written and has bytes in the file
+-- a relocation of section s, which is read and has bytes in the file
 pub record IsRelocWithin (b : List ℕ) (symbols : ℕ) (s : Section) (r : Reloc) : Type 0 where
-  pub written : is_written b s ≡ true
+  pub read : is_read b s ≡ true
   pub bits : s.sh_type ≢ SHT_NOBITS
   pub symbol : r.symbol < symbols
   pub kind : is_some (width_of (contents_of b s) r) ≡ true

@@ -10,6 +10,9 @@ pub mod Entries
 pub mod FileHeader
 pub mod FileView
 pub mod Files
+pub mod FixedSymbols
+pub mod FramePlans
+pub mod Frames
 pub mod Gathering
 pub mod Groups
 pub mod Heads
@@ -22,6 +25,8 @@ pub mod Objects
 pub mod OutputNames
 pub mod Ranks
 pub mod Reach
+pub mod RecordViews
+pub mod Records
 pub mod Relocations
 pub mod Sections
 pub mod Sites

@@ -1,58 +1,15 @@
 -- Symbols that the linker defines where no file does (the conventions of GNU ld's scripts, which start files and C libraries name; RISC-V ELF
--- psABI, "Global Pointer"), by number: first those of fixed names, then two for each section whose name is an identifier of C.
+-- psABI, "Global Pointer"), by number: first those of fixed names, then the start of `.eh_frame`, which has none, then two for each section
+-- whose name is an identifier of C.
 use Rattle.std.specs.Prelude.{ℕ, ◌+◌, ◌*◌, ◌-◌, ◌/◌, ◌%◌, ◌==◌, ◌&&◌, ◌||◌, nat_le, nat_lt, Bool, Option, Some, None, option_map, if◌then◌else◌, List, [], ◌∷◌, codes, length, take, drop, find, slice_index, slice_index_or}
 use Rattle.std.specs.List.{filter, list_all, position_or_len, range_with_len}
 use Rattle.std.specs.Str.{bytes_eq}
 use Rattle.std.specs.Borrow.{Bor}
-use Rattle.lk_tables.specs.declared.linker_symbols.Edge.{Edge}
-use Rattle.lk_tables.specs.declared.linker_symbols.Edge.TheVariants.{ImageStart, CodeEnd, BitsEnd, ZerosEnd, Table, GlobalPointer, PreinitStart, PreinitEnd, InitStart, InitEnd, FiniStart, FiniEnd}
 use Rattle.lk_tables.specs.Binding.{Bindings}
 use Rattle.lk_tables.specs.Files.{File, section_total}
+pub use Rattle.lk_tables.specs.FixedSymbols.{LinkerSymbol, fixed_count, fixed_if, frame_start_no, named_count, names}
+unfoldable pub use Rattle.lk_tables.specs.FixedSymbols.{edge_of, fixed_no, fixed_symbols}
 use Rattle.lk_tables.specs.InputSections.{input_at, may_stay_at}
-
--- a fixed name and what its address is
-pub record LinkerSymbol : Type 0 where
-  pub name : List ℕ
-  pub edge : Edge
-
-abbrev pub names : List ℕ → Edge → LinkerSymbol
-names name edge = record { name = name; edge = edge }
-
--- each by its place in this list
-unfoldable pub fixed_symbols : List LinkerSymbol
-fixed_symbols =
-    names (codes "__ehdr_start") ImageStart
-    ∷ names (codes "__rela_iplt_start") ImageStart
-    ∷ names (codes "__rela_iplt_end") ImageStart
-    ∷ names (codes "_etext") CodeEnd
-    ∷ names (codes "etext") CodeEnd
-    ∷ names (codes "_edata") BitsEnd
-    ∷ names (codes "edata") BitsEnd
-    ∷ names (codes "__bss_start") BitsEnd
-    ∷ names (codes "_end") ZerosEnd
-    ∷ names (codes "end") ZerosEnd
-    ∷ names (codes "_GLOBAL_OFFSET_TABLE_") Table
-    ∷ names (codes "__global_pointer$") GlobalPointer
-    ∷ names (codes "__preinit_array_start") PreinitStart
-    ∷ names (codes "__preinit_array_end") PreinitEnd
-    ∷ names (codes "__init_array_start") InitStart
-    ∷ names (codes "__init_array_end") InitEnd
-    ∷ names (codes "__fini_array_start") FiniStart
-    ∷ names (codes "__fini_array_end") FiniEnd
-    ∷ []
-
-abbrev pub fixed_count : ℕ
-fixed_count = 18
-
-unfoldable pub fixed_no : (name : List ℕ) → ℕ
-fixed_no name = position_or_len (λ (s : LinkerSymbol). bytes_eq s.name name) fixed_symbols
-
-abbrev pub fixed_if : (name : List ℕ) → Option ℕ
-fixed_if name = if nat_lt (fixed_no name) fixed_count then Some (fixed_no name) else None
-
--- what the address of a number below the count is
-unfoldable pub edge_of : (number : ℕ) → Edge
-edge_of number = (slice_index_or fixed_symbols number (names [] ImageStart)).edge
 
 -- A to Z, a to z and `_`; 0 to 9
 abbrev pub is_letter : ℕ → Bool
@@ -90,7 +47,7 @@ start_no n = fixed_count + 2 * n
 abbrev pub stop_no : (n : ℕ) → ℕ
 stop_no n = fixed_count + 2 * n + 1
 
--- of a number that is not of a fixed name, the section, and whether it is the end
+-- of a number past these, the section, and whether it is the end
 abbrev pub is_bound_no : (number : ℕ) → Bool
 is_bound_no number = nat_le fixed_count number
 

@@ -4,7 +4,7 @@ use Rattle.std.specs.Prelude.{ℕ, ◌+◌, ◌*◌, ◌/◌, ◌%◌, ℤ, pos,
 use Rattle.std.specs.List.{list_any, range_with_len}
 use Rattle.std.specs.Ordering.{int_eq}
 use Rattle.lk_base.specs.Order.{stable_order}
-use Rattle.lk_base.specs.RelocKinds.{kind_of, is_linked, is_lower, is_uleb, moves_bytes}
+use Rattle.lk_base.specs.RelocKinds.{kind_of, is_frame_kind, is_linked, is_lower, is_uleb, moves_bytes}
 use Rattle.lk_base.specs.declared.abi.TheConstants.{RELA_SIZE, R_RISCV_NONE, R_RISCV_SET_ULEB128, R_RISCV_SUB_ULEB128, SHT_NOBITS}
 use Rattle.lk_base.specs.declared.defects.Flaw.{Flaw}
 use Rattle.lk_base.specs.declared.relocations.Calculation.{Calculation}
@@ -15,7 +15,7 @@ use Rattle.lk_tables.specs.declared.heads.Section.{Section}
 use Rattle.lk_tables.specs.Checks.{Check, ◌says◌, flaw_at, from_on}
 use Rattle.lk_tables.specs.Entries.{reloc_at}
 use Rattle.lk_tables.specs.FileHeader.{ends_past}
-use Rattle.lk_tables.specs.Sections.{section_of, contents_of}
+use Rattle.lk_tables.specs.Sections.{section_of, contents_of, is_frame}
 use Rattle.lk_tables.specs.Symbols.{symbol_count}
 use Rattle.lk_tables.specs.UlebLengths.{uleb_len}
 
@@ -79,11 +79,15 @@ is_bad_addend r = (is_alignment r && is_bad_padding r.addend) || (not (int_eq r.
 abbrev pub unknown_kind : (section place kind : ℕ) → Flaw
 unknown_kind section place kind = record { kind = RELOC_KIND; section = section; place = place; other = kind }
 
+-- a kind that is not linked, or not in unwind records
+unfoldable pub is_bad_kind : List ℕ → (target : Section) → (kind : ℕ) → Bool
+is_bad_kind b target kind = not (is_linked kind) || (is_frame b target && not (is_frame_kind kind))
+
 -- the checks of one entry
 unfoldable pub entry_checks : List ℕ → ℕ → ℕ → List Check
 entry_checks b i j =
     (nat_le (symbol_count b) (reloc b i j).symbol says flaw_at BAD_RELOC i (rela_place b i j))
-    ∷ (not (is_linked (reloc b i j).kind) says unknown_kind i (rela_place b i j) (reloc b i j).kind)
+    ∷ (is_bad_kind b (target_of b i) (reloc b i j).kind says unknown_kind i (rela_place b i j) (reloc b i j).kind)
     ∷ (is_past_target (target_of b i) (reloc b i j) says flaw_at BAD_RELOC i (rela_place b i j))
     ∷ (not (is_some (width_of (target_bytes b i) (reloc b i j))) says flaw_at BAD_ULEB i (rela_place b i j))
     ∷ (is_bad_addend (reloc b i j) says flaw_at BAD_RELOC i (rela_place b i j))

@@ -107,9 +107,17 @@ loaded_types = SHT_PROGBITS ∷ SHT_NOTE ∷ SHT_NOBITS ∷ SHT_INIT_ARRAY ∷ S
 unfoldable pub is_loaded : Section → Bool
 is_loaded s = not (bit_and s.flags SHF_ALLOC == 0) && bit_and s.flags SHF_EXCLUDE == 0
 
--- a section whose bytes go into the executable; `.eh_frame` is read past
+-- a section whose bytes go into the executable; of `.eh_frame` single records may
 unfoldable pub is_written : List ℕ → Section → Bool
 is_written b s = is_loaded s && (is_among loaded_types s.sh_type && not (bytes_eq (text_of b s.name) (codes ".eh_frame")))
+
+-- it has unwind records (LSB Core, "Exception Frames")
+unfoldable pub is_frame : List ℕ → Section → Bool
+is_frame b s = is_loaded s && (s.sh_type == SHT_PROGBITS && bytes_eq (text_of b s.name) (codes ".eh_frame"))
+
+-- its bytes and relocations are read
+unfoldable pub is_read : List ℕ → Section → Bool
+is_read b s = is_written b s || is_frame b s
 
 -- section k is written; section 0 is none
 unfoldable pub written_at : List ℕ → ℕ → Bool
@@ -117,7 +125,7 @@ written_at b k = nat_lt 0 k && is_written b (section_of b k)
 
 -- the relocations of section k are read
 unfoldable pub takes_relocs : List ℕ → ℕ → Bool
-takes_relocs b k = written_at b k
+takes_relocs b k = nat_lt 0 k && is_read b (section_of b k)
 
 -- the bytes of a section in the file
 abbrev pub contents_of : List ℕ → Section → List ℕ

@@ -12,12 +12,17 @@ use Rattle.lk_tables.specs.declared.bounds.Bound.TheVariants.{InSection, Number,
 use Rattle.lk_tables.specs.declared.bounds.Target.{Target}
 use Rattle.lk_tables.specs.declared.bounds.Target.TheVariants as targets
 use Rattle.lk_tables.specs.Binding.{Bindings, is_discarded}
-use Rattle.lk_tables.specs.Files.{File, file_at, symbol_at, section_at, writes, is_section_symbol, section_no, symbol_no}
+use Rattle.lk_tables.specs.Files.{File, file_at, symbol_at, section_at, writes, is_frame_at, is_section_symbol, section_no, symbol_no}
+use Rattle.lk_tables.specs.FixedSymbols.{frame_start_no}
 use Rattle.lk_tables.specs.Ranks.{no_rank, file_of, is_linker_rank, symbol_of_rank}
 
 -- where a symbol stands in its section: a SECTION symbol at the start
 abbrev pub offset_in : Symbol → ℕ
 offset_in s = if is_section_symbol s then 0 else s.value
+
+-- in a section that is not written it is its value, but at the start of unwind records the start of `.eh_frame`
+abbrev pub unwritten : File → (k : ℕ) → Symbol → Bound
+unwritten file k s = if is_frame_at file k && s.value == 0 then Linker frame_start_no else Number s.value
 
 -- the COMMON symbols of a file that get room
 abbrev pub commons_at : List (List BoundCommon) → ℕ → List BoundCommon
@@ -69,10 +74,10 @@ is_unbound (Number n) s = false
 is_unbound (Linker n) s = false
 
 module _ (files : List File) (b : Bindings) where
-  -- the definition of symbol i of file f: a section that was not discarded, with an offset, if that section is written; else a number
+  -- the definition of symbol i of file f: a section that was not discarded, with an offset, if that section is written
   abbrev pub defined_in : (f k : ℕ) → Symbol → Bound
   defined_in f k s = if is_discarded files b.discarded f (Within k) then Nobody
-      else (if writes (file_at files f) k then InSection (section_no files f k) (offset_in s) else Number s.value)
+      else (if writes (file_at files f) k then InSection (section_no files f k) (offset_in s) else unwritten (file_at files f) k s)
 
   abbrev pub defined_by : Place → (f i : ℕ) → Symbol → Bound
   defined_by Undef f i s = Number 0

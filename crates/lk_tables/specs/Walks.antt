@@ -15,7 +15,7 @@ over_file files give f = if (file_at files f).live
 unfoldable pub over_live : {X : Type 0} → List File → (ℕ → ℕ → List X) → List X
 over_live files give = flat_map (over_file files give) (range_with_len 0 (length files))
 
--- what is given for each relocation of section k of file f; a section that is not written has none
+-- what is given for each relocation of section k of file f; a section that is not read has none
 abbrev pub over_section : {X : Type 0} → List File → (ℕ → ℕ → Reloc → List X) → (f k : ℕ) → List X
 over_section files give f k = flat_map (give f k) (relocs_at (file_at files f) k)
 

@@ -11,6 +11,7 @@ mod commons;
 pub mod ehdr;
 mod entries;
 mod files;
+mod frames;
 mod gathering;
 mod heads;
 mod identifiers;
@@ -23,6 +24,7 @@ mod output_names;
 mod places;
 mod ranks;
 mod reading;
+mod records;
 mod section_places;
 mod spans;
 mod starts;
@@ -39,11 +41,12 @@ pub use classes::{Class, is_in, output_rank};
 pub use commons::BoundCommon;
 pub use entries::{SectionHeader, SymbolEntry};
 pub use files::File;
+pub use frames::{FrameBytes, FramePlan, Frames};
 pub use heads::{Head, Place, Section, Symbol};
 pub use identifiers::is_c_identifier;
 pub use linker_symbols::{
-    Edge, FIXED_SYMBOLS, bound_section, edge_of, fixed_no, is_stop, start_no, start_of, stop_no,
-    stop_of,
+    Edge, FIXED_COUNT, FRAME_START_NO, bound_section, edge_of, fixed_no, is_stop, start_no,
+    start_of, stop_no, stop_of,
 };
 pub use names::text_of;
 pub use numbering::NameNumbers;
@@ -54,8 +57,10 @@ pub use ranks::{
     symbol_of,
 };
 pub use reading::{
-    NO_SYMBOL, is_common, is_loaded, is_loaded_type, is_section_symbol, is_visible, is_written,
+    NO_SYMBOL, is_common, is_frame, is_loaded, is_loaded_type, is_read, is_section_symbol,
+    is_visible, is_written,
 };
+pub use records::{FrameNo, Record};
 pub use section_places::SectionPlace;
 pub use spans::Span;
 pub use starts::{first_symbols, section_count};

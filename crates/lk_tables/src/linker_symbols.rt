@@ -10,7 +10,7 @@ ghost use Rattle.lk_tables.specs.LinkerSymbols as spec;
 use crate::identifiers::is_c_identifier;
 use lk_base::SecNo;
 
-/// What the address of a symbol of a fixed name is.
+/// What the address of a symbol of the linker's is that is no section's.
 #[derive(Clone, Copy, Debug, PartialEq, Eq)]
 pub enum Edge {
     /// The start of the image, where the file header stands.
@@ -37,11 +37,19 @@ pub enum Edge {
     FiniStart,
     /// Its end.
     FiniEnd,
+    /// The start of the output section `.eh_frame`.
+    FrameStart,
 }
 
-/// How many fixed names there are. The linker's symbols have numbers: first those of fixed names, then for each section number two, for the
-/// start and the end of the sections of its name.
-pub const FIXED_SYMBOLS: u32 = 18;
+/// How many fixed names there are.
+const NAMED_COUNT: u32 = 18;
+
+/// The number of the start of `.eh_frame`, which no name finds: a symbol at the start of an input section of unwind records stands for it.
+pub const FRAME_START_NO: u32 = 18;
+
+/// How many of the linker's symbols are no section's. They have numbers: first those of fixed names, then `FRAME_START_NO`, then for each
+/// section number two, for the start and the end of the sections of its name.
+pub const FIXED_COUNT: u32 = 19;
 
 /// A fixed name, and what its address is.
 #[derive(Clone, Copy)]
@@ -82,12 +90,12 @@ const FIXED: [FixedSymbol; 18] = [
 ];
 
 /// The number of the linker's symbol of a fixed name.
-#[tactic(auto, unfolding(crate::specs::LinkerSymbols::fixed_no, crate::specs::LinkerSymbols::fixed_symbols))]
+#[tactic(auto, unfolding(crate::specs::FixedSymbols::fixed_no, crate::specs::FixedSymbols::fixed_symbols))]
 pub fn fixed_no(name: &[u8]) -> Option<u32>
     ensures { result ≡ spec.fixed_if name.now }
 {
     let number = place_of(&FIXED, name);
-    if number < FIXED_SYMBOLS {
+    if number < NAMED_COUNT {
         Some(number)
     } else {
         None
@@ -107,21 +115,21 @@ fn place_of(table: &[FixedSymbol], name: &[u8]) -> u32
     table.len() as u32
 }
 
-/// What the address of a symbol of a fixed name is, by its number.
-#[tactic(auto, unfolding(crate::specs::LinkerSymbols::edge_of, crate::specs::LinkerSymbols::fixed_symbols))]
+/// What the address of a symbol of the linker's is that is no section's, by its number.
+#[tactic(auto, unfolding(crate::specs::FixedSymbols::edge_of, crate::specs::FixedSymbols::fixed_symbols))]
 pub fn edge_of(number: u32) -> Edge
     ensures { result ≡ spec.edge_of number }
 {
     edge_in(&FIXED, number as usize)
 }
 
-// The edge of a number, that of the first past the end of a table.
+// The edge of a number, the start of `.eh_frame` past the end of a table.
 fn edge_in(table: &[FixedSymbol], number: usize) -> Edge
-    ensures { result ≡ slice_index_or (map (λ s. s.edge) table.now) number edges.ImageStart }
+    ensures { result ≡ slice_index_or (map (λ s. s.edge) table.now) number edges.FrameStart }
 {
     match table.get(number) {
         Some(symbol) => symbol.edge,
-        None => Edge::ImageStart,
+        None => Edge::FrameStart,
     }
 }
 
@@ -159,7 +167,7 @@ pub fn start_no(section: SecNo) -> u32
     requires { section < 2 ^ 28 }
     ensures { result ≡ spec.start_no section }
 {
-    FIXED_SYMBOLS + 2 * section
+    FIXED_COUNT + 2 * section
 }
 
 /// The number of the symbol for the end of the sections that have the name of a section.
@@ -167,22 +175,22 @@ pub fn stop_no(section: SecNo) -> u32
     requires { section < 2 ^ 28 }
     ensures { result ≡ spec.stop_no section }
 {
-    FIXED_SYMBOLS + 2 * section + 1
+    FIXED_COUNT + 2 * section + 1
 }
 
-/// The section whose name's start or end a symbol of the linker's is; none for a fixed name.
+/// The section whose name's start or end a symbol of the linker's is; none for a number below `FIXED_COUNT`.
 pub fn bound_section(number: u32) -> Option<SecNo>
     ensures { result ≡ spec.bound_if number }
 {
-    if number < FIXED_SYMBOLS {
+    if number < FIXED_COUNT {
         return None;
     }
-    Some((number - FIXED_SYMBOLS) / 2)
+    Some((number - FIXED_COUNT) / 2)
 }
 
 /// Whether it is the end.
 pub fn is_stop(number: u32) -> bool
     ensures { result ≡ spec.is_stop_no number }
 {
-    number.saturating_sub(FIXED_SYMBOLS) % 2 == 1
+    number.saturating_sub(FIXED_COUNT) % 2 == 1
 }

@@ -35,6 +35,6 @@ pub struct Object {
     /// The section groups, in order of their sections.
     pub groups: Vec<Group>,
     /// One list for each section, in stable order of offset; empty where the section has no relocations or is not
-    /// written.
+    /// read: it is neither written nor has unwind records.
     pub relocs: Vec<Vec<Reloc>>,
 }

@@ -150,6 +150,16 @@ impl<'a> File<'a> {
         text_of(self.bytes, &self.symbol(index).name)
     }
 
+    /// Whether a section has unwind records.
+    pub fn is_frame(&self, index: usize) -> bool
+        ensures { result ≡ spec.is_frame_at (file_view self.now) index }
+    {
+        match self.head.sections.get(index) {
+            Some(section) => 0 < index && is_frame(self.bytes, section),
+            None => false,
+        }
+    }
+
     /// Whether a section's bytes go into the executable.
     pub fn writes(&self, index: usize) -> bool
         ensures { result ≡ spec.writes (file_view self.now) index }
@@ -179,7 +189,8 @@ pub fn is_loaded(section: &Section) -> bool
     section.flags & SHF_ALLOC != 0 && section.flags & SHF_EXCLUDE == 0
 }
 
-/// Whether a section's bytes go into the executable: it is loaded, of a type that is linked, and not `.eh_frame`.
+/// Whether a section's bytes go into the executable: it is loaded, of a type that is linked, and not `.eh_frame`, of which single records
+/// may.
 #[tactic(auto, unfolding(crate::specs::Sections::is_written))]
 pub fn is_written(bytes: &[u8], section: &Section) -> bool
     ensures { result ≡ read.is_written bytes.now section.now }
@@ -195,6 +206,24 @@ pub fn is_written(bytes: &[u8], section: &Section) -> bool
         ]
         .contains(&section.sh_type)
         && text_of(bytes, &section.name) != b".eh_frame".as_slice()
+}
+
+/// Whether a section has unwind records (LSB Core, "Exception Frames"): it is loaded, of type PROGBITS, and named `.eh_frame`.
+#[tactic(auto, unfolding(crate::specs::Sections::is_frame))]
+pub fn is_frame(bytes: &[u8], section: &Section) -> bool
+    ensures { result ≡ read.is_frame bytes.now section.now }
+{
+    is_loaded(section)
+        && section.sh_type == SHT_PROGBITS
+        && text_of(bytes, &section.name) == b".eh_frame".as_slice()
+}
+
+/// Whether a section's bytes and relocations are read: its bytes go into the executable, or it has unwind records.
+#[tactic(auto, unfolding(crate::specs::Sections::is_read))]
+pub fn is_read(bytes: &[u8], section: &Section) -> bool
+    ensures { result ≡ read.is_read bytes.now section.now }
+{
+    is_written(bytes, section) || is_frame(bytes, section)
 }
 
 /// Whether a symbol stands for its section: a LOCAL symbol of type SECTION.

@@ -15,6 +15,7 @@ use crate::bounds::{Bound, Target};
 use crate::commons::BoundCommon;
 use crate::files::File;
 use crate::heads::{Place, Symbol};
+use crate::linker_symbols::FRAME_START_NO;
 use crate::objects::Reloc;
 use crate::ranks::{NO_RANK, file_of, is_linker_rank, symbol_of};
 use crate::reading::{is_section_symbol, is_visible};
@@ -127,13 +128,24 @@ fn defined_in(
     if binding.is_discarded(number) {
         return Bound::Nobody;
     }
-    if !tables.files()[file as usize].writes(section as usize) {
-        return Bound::Number(symbol.value);
+    let entry = &tables.files()[file as usize];
+    if !entry.writes(section as usize) {
+        return unwritten(entry, section, symbol);
     }
     Bound::InSection {
         section: number as u32,
         offset: offset_in(symbol),
     }
+}
+
+/// What a symbol is that stands in a section that is not written.
+fn unwritten(entry: &File, section: u32, symbol: &Symbol) -> Bound
+    ensures { result ≡ spec.unwritten (file_view entry.now) section symbol.now }
+{
+    if entry.is_frame(section as usize) && symbol.value == 0 {
+        return Bound::Linker(FRAME_START_NO);
+    }
+    Bound::Number(symbol.value)
 }
 
 /// Where a symbol stands in its section, in bytes: a SECTION symbol at the start.

@@ -1,8 +1,10 @@
 -- The rows of a class: one item more.
 use Rattle.std.proofs.Common.{◌≡◌, ℕ, ◌+◌, ◌<◌, List, [], ◌∷◌, ◌++◌, true, false, if◌then◌else◌, refl, ap, sym, ◌∙◌, get_or, length}
 use Rattle.std.specs.Prelude.{unwrap_or}
+use Rattle.std.specs.List.{list_any}
+use Rattle.std.proofs.lemmas.Bool.{or_parts}
 use Rattle.lk_tables.specs.declared.classes.Class.{Class}
-use Rattle.lk_tables.specs.Classes.{output_rank}
+use Rattle.lk_tables.specs.Classes.{is_in, output_rank}
 use Rattle.lk_tables.specs.OutputNames.{output_name}
 use Rattle.output_sections.specs.declared.heads.Head.{Head}
 use Rattle.output_sections.specs.declared.heads.Last.{Last}
@@ -11,7 +13,7 @@ use Rattle.output_sections.specs.declared.rows.Row.{Row}
 use Rattle.output_sections.specs.Heads.{ByName, IsHeads, IsLast, IsPushed, head_in, last_row, seen}
 use Rattle.output_sections.specs.Items.{Item}
 use Rattle.output_sections.specs.ItemViews.{item_view, items_view}
-use Rattle.output_sections.specs.Order.{is_of, no_head, own_row, row_in, rows_of}
+use Rattle.output_sections.specs.Order.{is_of, no_head, own_row, row_in, rows_from, rows_of}
 use Rattle.output_sections.proofs.HeadSteps.{IsRest, rest_next}
 
 -- an item of another class has no row
@@ -47,3 +49,12 @@ reading_first class items heads last rows is none = record { held = is; rest = a
 pub reading_next : (class : Class) (i : ℕ) (items : List HeldItem) (d : HeldItem) (heads : ByName) (last last' : Last) (old new : List Row) → i < length items → IsHeads class (items_view items) heads
     → IsPushed class i (item_view (get_or items i d)) heads old new → IsLast class heads last' → IsReading class i items heads last old → IsReading class (i + 1) items heads last' new
 reading_next class i items d heads last last' old new lt are more is held = record { held = is; rest = rest_next class i items d heads old new lt are more held.rest }
+
+-- a class without an item has no row
+pub no_rows : (class : Class) (heads : List ℕ → Head) (number : ℕ) (items : List HeldItem)
+    → list_any (λ (item : HeldItem). is_in class item.sh_type item.flags) items ≡ false → rows_from class heads number (items_view items) ≡ []
+no_rows class heads number [] none = refl
+no_rows class heads number (item ∷ items) none =
+    let parts = or_parts (is_in class item.sh_type item.flags) (list_any (λ (x : HeldItem). is_in class x.sh_type x.flags) items) none in
+    ap (λ row. row ++ rows_from class heads (number + 1) (items_view items)) (sym (own_none class heads number (item_view item) parts.0))
+    ∙ no_rows class heads (number + 1) items parts.1

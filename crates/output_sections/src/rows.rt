@@ -1,8 +1,11 @@
 //! The members of the output sections of a class, and their order.
 
 ghost use Rattle.std.specs.Prelude.{◌≡◌, ℕ, ◌<◌, ◌++◌, ◌∷◌, ◌^◌, [], length, true, unwrap_or, IfOk, OnOk};
+ghost use Rattle.std.specs.List.{list_any};
 ghost use Rattle.std.specs.List.Sorted.{IsNonDecreasingBy};
+ghost use Rattle.lk_tables.specs.Classes.{is_in};
 ghost use Rattle.lk_base.specs.Order.{stable_order};
+ghost use Rattle.output_sections.specs.declared.items.Item.{Item as HeldItem};
 ghost use Rattle.output_sections.specs.Heads.{IsHeads, IsLast, head_in, last_row};
 ghost use Rattle.output_sections.specs.ItemViews.{item_view, items_view};
 ghost use Rattle.output_sections.specs.Order.{class_no, key_of, no_head, order_of, own_row, rows_of};
@@ -60,11 +63,23 @@ pub fn class_rows<'a>(
     requires few { length items.now < 2 ^ 32 }
     ensures { IfOk result (λ rows. rows.items ≡ order_of class (items_view items.now)) }
 {
+    if !has_any(class, items) {
+        return Ok(Vec::new(alloc));
+    }
     let known = heads_of(alloc, class, items)?;
     let mut rows = Vec::with_capacity(alloc, count_in(class, items))?;
     push_all(&mut rows, &known.heads, known.last, class, items)?;
     sort_rows(&mut rows)?;
     Ok(rows)
+}
+
+/// Whether an item is of a class: most links have no item of some.
+fn has_any(class: Class, items: &[Item]) -> bool
+    ensures { result ≡ list_any (λ (item : HeldItem). is_in class item.sh_type item.flags) items.now }
+{
+    items
+        .iter()
+        .any(|item| is_in(class, item.sh_type, item.flags))
 }
 
 /// How many items are of a class: so much room is made.

@@ -13,6 +13,7 @@ use Rattle.lk_tables.specs.Files.{File, IsSound as IsSoundFile, file_at, no_sect
 use Rattle.lk_tables.specs.Inside.{IsLinked}
 use Rattle.lk_tables.specs.Sites.{place_of}
 use Rattle.lk_tables.proofs.SoundFiles.{inside_body, inside_head}
+use Rattle.lk_tables.proofs.SoundHead.{written_read}
 use Rattle.link_sections.specs.declared.members.Content.{Content}
 use Rattle.link_sections.specs.declared.members.Content.TheVariants.{Section, Pool, Got}
 use Rattle.link_sections.specs.declared.members.Member.{Member}
@@ -45,7 +46,7 @@ pub contents_end : (file : File) (k : ℕ) → IsSoundFile file → k < length f
     (section_at file k).offset + (section_at file k).size ≤ length file.bytes
 contents_end file k sound lt written bits =
     let parts = and_parts _ _ written in
-    (inside_head file sound).contents k no_section lt (ltb-true 0 k parts.0) parts.1 bits
+    (inside_head file sound).contents k no_section lt (ltb-true 0 k parts.0) (written_read file.bytes (section_at file k) parts.1) bits
 
 section_short : (file : File) (k : ℕ) → IsSoundFile file → k < length file.head.sections → writes file k ≡ true → (section_at file k).size ≤ NOBITS_MAX
 section_short file k sound lt written =

@@ -27,7 +27,6 @@ pub mod SourceFacts
 pub mod States
 pub mod StayingSizes
 pub mod StayingSteps
-pub mod Sums
 pub mod TableSteps
 pub mod TouchingSteps
 pub mod UpperParts

@@ -1,24 +1,16 @@
 -- A section's number, its place, and what its file says of it.
-use Rattle.std.proofs.Common.{◌≡◌, ℕ, ◌<◌, Bool, true, false, List, get_or, refl, sym, ap, ◌∙◌, arith}
-use Rattle.std.specs.Prelude.{if◌then◌else◌}
+use Rattle.std.proofs.Common.{◌≡◌, ℕ, true, List, get_or, sym, ap, ◌∙◌}
 use Rattle.std.specs.List.Sorted.{IsNonDecreasingBy}
 use Rattle.lk_tables.specs.declared.objects.Reloc.{Reloc}
 use Rattle.lk_tables.specs.declared.section_places.SectionPlace.{SectionPlace}
 use Rattle.lk_tables.specs.Files.{File, by_section, file_at}
-use Rattle.lk_tables.specs.Sites.{IsPlaceOf, place_of, relocs_of}
+use Rattle.lk_tables.specs.Sites.{place_of, relocs_of}
 use Rattle.lk_tables.proofs.ByNumber.{read_by_section}
+pub use Rattle.link_sections.proofs.SymbolSums.{live_place}
 use Rattle.reloc_apply.specs.declared.sites.Site.{Site}
 use Rattle.reloc_apply.specs.Sites.{IsSite}
 use Rattle.reloc_apply.proofs.SoundLists.{AllSound}
 use Rattle.reloc_apply.proofs.UpperParts.{relocs_ordered}
-
--- a file that has a section with a number takes part
-live_if : (live : Bool) (k count : ℕ) → k < (if live then count else 0) → live ≡ true
-live_if true k count lt = refl
-live_if false k count lt = absurd (omega (arith, lt))
-
-pub live_place : (files : List File) (n : ℕ) (place : SectionPlace) → IsPlaceOf files n place → (file_at files place.file).live ≡ true
-live_place files n place law = live_if (file_at files place.file).live place.index _ law.index
 
 pub live_site : (files : List File) (site : Site) → IsSite files site → (file_at files (place_of files site.section).file).live ≡ true
 live_site files site is = ap (λ (p : SectionPlace). (file_at files p.file).live) (sym is.place) ∙ live_place files site.section site.place is.law

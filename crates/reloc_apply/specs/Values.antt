@@ -20,16 +20,8 @@ use Rattle.link_sections.specs.Addresses.{target_address}
 use Rattle.link_sections.specs.GotEntries.{key_of, use_of, word_of}
 use Rattle.link_sections.specs.LaidOut.{LaidOut, cuts_at, start_at}
 use Rattle.link_sections.specs.PieceTargets.{piece_target}
+pub use Rattle.link_sections.specs.Sums.{addend_of}
 use Rattle.rv_code.specs.Places.{number_of}
-
--- A: of a section and of a piece, what is to be added to the byte that is meant
-abbrev pub addend_of : Target → Reloc → ℤ
-addend_of (targets.Section section offset rest) r = rest
-addend_of (targets.Piece pool piece offset rest) r = rest
-addend_of (targets.Number n) r = r.addend
-addend_of targets.Zero r = r.addend
-addend_of (targets.Linker n) r = r.addend
-addend_of targets.Unbound r = r.addend
 
 -- a symbol that nothing defines is at the thread pointer
 abbrev pub is_zero : Target → Bool

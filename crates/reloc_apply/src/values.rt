@@ -1,6 +1,6 @@
 //! What a relocation puts into its place (RISC-V ELF psABI, "Relocations"; "Thread Local Storage").
 
-ghost use Rattle.std.specs.Prelude.{◌≡◌, ℕ, ◌+◌, ◌*◌, ◌^◌, ◌<◌, ◌≤◌, length, ◌==◌, ◌&&◌, not, true, false, Some, ◌≤ℤ◌, ◌+ℤ◌, pos, negsuc, IfOk, IfSome, MatchResult, is_some, find, filter, slice_index_or};
+ghost use Rattle.std.specs.Prelude.{◌≡◌, ℕ, ◌+◌, ◌*◌, ◌^◌, ◌<◌, ◌≤◌, length, ◌==◌, ◌&&◌, not, true, false, Some, ◌≤ℤ◌, ◌+ℤ◌, ◌-ℤ◌, pos, negsuc, IfOk, IfSome, MatchResult, is_some, find, filter, slice_index_or};
 ghost use Rattle.std.specs.List.Sorted.{IsNonDecreasingBy};
 ghost use Rattle.lk_base.specs.RelocKinds.{HasValue, is_lower, is_upper};
 ghost use Rattle.lk_tables.specs.Files.{file_at, is_section_symbol, symbol_at};
@@ -71,9 +71,20 @@ fn direct_value(view: &View, site: Site, reloc: &Reloc, plain: bool, held: i128)
         }
         Calculation::ThreadOffset => Some(thread_of(view, site, reloc)),
         Calculation::Increase => Some(held + sum_of(view, site, reloc, plain)),
-        Calculation::Decrease => Some(held - sum_of(view, site, reloc, plain)),
+        Calculation::Decrease => Some(decreased(held, sum_of(view, site, reloc, plain))),
         _ => None,
     }
+}
+
+/// What V is less S + A.
+fn decreased(held: i128, sum: i128) -> i128
+    requires low { negsuc (2 ^ 63) ≤ℤ held }
+    requires high { held ≤ℤ pos (2 ^ 67) }
+    requires sum_low { negsuc (2 ^ 63) ≤ℤ sum }
+    requires sum_high { sum ≤ℤ pos (2 ^ 67) }
+    ensures { result ≡ held -ℤ sum }
+{
+    held - sum
 }
 
 /// S + A: the address of a relocation's symbol, and its addend. A SECTION symbol's addend chooses a byte of its section, which moves

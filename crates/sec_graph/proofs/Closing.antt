@@ -14,9 +14,11 @@ use Rattle.lk_tables.specs.declared.bounds.Target.{Target}
 use Rattle.lk_tables.specs.declared.bounds.Target.TheVariants as targets
 use Rattle.lk_tables.specs.declared.heads.Section.{Section}
 use Rattle.lk_tables.specs.declared.objects.Reloc.{Reloc}
+use Rattle.lk_tables.specs.declared.records.FrameNo.{FrameNo}
 use Rattle.lk_tables.specs.Binding.{Bindings}
 use Rattle.lk_tables.specs.Files.{File, by_section, file_at, first_section, no_section, relocs_at, section_at, section_count, section_no, section_total}
 use Rattle.lk_tables.specs.declared.section_places.SectionPlace.{SectionPlace}
+use Rattle.lk_tables.specs.Frames.{all_lists, frames_at}
 use Rattle.lk_tables.specs.LinkerSymbols.{all_named, bound_section, bound_sections, is_bound_no, is_named}
 use Rattle.lk_tables.specs.Objects.{GroupView}
 use Rattle.lk_tables.specs.Sites.{place_of}
@@ -27,9 +29,12 @@ use Rattle.lk_tables.proofs.FirstNumbers.{section_more, section_within}
 use Rattle.lk_tables.proofs.LiveFiles.{counted}
 use Rattle.lk_tables.proofs.Owners.{IsOwner, place_is, place_of_number}
 use Rattle.sec_graph.specs.declared.pairs.Pair.{Pair}
-use Rattle.sec_graph.specs.Graph.{chain, edges, ends_in, is_linked, joined_in, link_at, links_in, member_at, pair, pairs_from, ring, ring_in, section_in, target_in, targets_in}
+use Rattle.sec_graph.specs.Graph.{chain, edges, ends_in, frame_ends_in, is_linked, joined_in, link_at, links_in, member_at, pair, pairs_from, record_target, ring, ring_in, section_in, target_in, targets_in}
+use Rattle.sec_graph.specs.FrameRelocs.{frame_relocs}
 use Rattle.sec_graph.specs.Kept.{HasEnds, IsClosedByRules, IsInTable, MayStay}
-use Rattle.sec_graph.proofs.ListParts.{all_if, all_left, all_right, each_of, each_passed, head_if, one_passed, part_of, range_has}
+use Rattle.sec_graph.specs.Taken.{section_of}
+use Rattle.sec_graph.proofs.FrameEnds.{alone_all, frames_from, frames_to}
+use Rattle.sec_graph.proofs.ListParts.{all_if, all_left, all_right, each_of, each_passed, head_if, map_all, one_passed, part_of, range_has}
 use Rattle.sec_graph.proofs.Within.{live_from}
 
 -- a member of a set, and a pair that leads from a section into it
@@ -186,6 +191,19 @@ targets_closed files b s f k rules stays is =
     section_all files b (In s) (target_of files b f r) (λ section offset rest same. rules.targets f k r section offset rest stays is has names same)
     (λ n same. bounds_closed files b s f k r n rules stays is has names same)))
 
+-- what the unwind records of a section's functions name
+frames_closed : (files : List File) (b : Bindings) (s : ℕ → Bool) (f k : ℕ) → IsClosedByRules files b s → MayStay files b f k → s (section_no files f k) ≡ true →
+    All (In s) (frame_ends_in files b f k)
+unfolding record_target
+frames_closed files b s f k rules stays is =
+    frames_from files b (In s) (frames_at files b (all_lists files) (section_no files f k)) (λ fde has.
+    let relocs = frame_relocs (all_lists files) fde in
+    let file = (place_of files fde.section).file in
+    All-weaker (Contains relocs) (λ r. All (In s) (record_target files b file r)) (λ r among.
+    each_if (In s) (names_a_symbol r.kind) (section_of (target_of files b file r)) (λ names.
+    alone_all (In s) (target_of files b file r) (λ section offset rest same. rules.frames f k fde r section offset rest stays is has among names same)))
+    relocs (All-contains_itself relocs))
+
 nonzero : (d : ℕ) → not (d == 0) ≡ true → d ≢ 0
 nonzero d is none = let yes : (d == 0) ≡ true = eq-eqb d 0 none in let no : ⊥ = cc in absurd no
 
@@ -234,9 +252,12 @@ unfolding ends_in
 ends_closed files b s f k rules lt less is =
     let from = pairs_from (section_no files f k) (joined_in files b f) in
     let P : Pair → Type 0 = Leads s (section_no files f k) in
-    each_if (In s) (may_stay files b f k) (targets_in files b f k ++ map (λ (p : Pair). p.to) from) (λ may.
+    let own = targets_in files b f k in
+    let framed = frame_ends_in files b f k in
+    each_if (In s) (may_stay files b f k) ((own ++ framed) ++ map (λ (p : Pair). p.to) from) (λ may.
     let stays : MayStay files b f k = record { file = lt; index = less; stays = may } in
-    All-append (In s) (targets_in files b f k) (map (λ (p : Pair). p.to) from) (targets_closed files b s f k rules stays is)
+    All-append (In s) (own ++ framed) (map (λ (p : Pair). p.to) from)
+    (All-append (In s) own framed (targets_closed files b s f k rules stays is) (frames_closed files b s f k rules stays is))
     (All-map (In s) (λ (p : Pair). p.to) from (leads_from s (section_no files f k) (joined_in files b f)
     (All-append P (links_in files b f) (flat_map (ring_in files b f) (file_at files f).object.groups)
     (links_closed files b s f k rules stays is) (rings_closed files b s f k rules stays is)))))
@@ -264,29 +285,28 @@ both_true false c one other = one
 
 -- and the lists say what the rules do
 ends_are : (files : List File) (b : Bindings) (s : ℕ → Bool) (f k : ℕ) → AllEnds (edges files b) s → MayStay files b f k → s (section_no files f k) ≡ true →
-    All (In s) (targets_in files b f k ++ map (λ (p : Pair). p.to) (pairs_from (section_no files f k) (joined_in files b f)))
+    All (In s) ((targets_in files b f k ++ frame_ends_in files b f k) ++ map (λ (p : Pair). p.to) (pairs_from (section_no files f k) (joined_in files b f)))
 unfolding ends_in
 ends_are files b s f k has stays is =
     let P : List ℕ → Type 0 = λ ends. All (In s) ends in
     all_if (In s) (may_stay files b f k) _ stays.stays (subst P (lists_at files b f k stays.file stays.index) (has (section_no files f k) is))
-
-map_all : {X Y : Type 0} (P : Y → Type 0) (g : X → Y) (xs : List X) → All P (map g xs) → All (λ x. P (g x)) xs
-map_all P g [] all = All-nil (λ x. P (g x))
-map_all P g (x ∷ xs) all = All-cons (λ x. P (g x)) x xs (All-head P (g x) (map g xs) all) (map_all P g xs (All-tail P (g x) (map g xs) all))
 
 joined_are : (files : List File) (b : Bindings) (s : ℕ → Bool) (f k : ℕ) → AllEnds (edges files b) s → MayStay files b f k → s (section_no files f k) ≡ true →
     All (Leads s (section_no files f k)) (joined_in files b f)
 joined_are files b s f k has stays is =
     let from = pairs_from (section_no files f k) (joined_in files b f) in
     leads_all s (section_no files f k) (joined_in files b f)
-    (map_all (In s) (λ (p : Pair). p.to) from (all_right (In s) (targets_in files b f k) (map (λ (p : Pair). p.to) from) (ends_are files b s f k has stays is)))
+    (map_all (In s) (λ (p : Pair). p.to) from
+    (all_right (In s) (targets_in files b f k ++ frame_ends_in files b f k) (map (λ (p : Pair). p.to) from) (ends_are files b s f k has stays is)))
 
 targets_are : (files : List File) (b : Bindings) (s : ℕ → Bool) (f k : ℕ) (r : Reloc) → AllEnds (edges files b) s → MayStay files b f k →
     s (section_no files f k) ≡ true → Contains (relocs_at (file_at files f) k) r → names_a_symbol r.kind ≡ true → All (In s) (section_in files b (target_of files b f r))
 unfolding target_in
 targets_are files b s f k r has stays is among names =
     let from = pairs_from (section_no files f k) (joined_in files b f) in
-    let all = all_left (In s) (targets_in files b f k) (map (λ (p : Pair). p.to) from) (ends_are files b s f k has stays is) in
+    let own = targets_in files b f k in
+    let framed = frame_ends_in files b f k in
+    let all = all_left (In s) own framed (all_left (In s) (own ++ framed) (map (λ (p : Pair). p.to) from) (ends_are files b s f k has stays is)) in
     all_if (In s) (names_a_symbol r.kind) (section_in files b (target_of files b f r)) names
     (part_of (In s) (target_in files b f) (relocs_at (file_at files f) k) r all among)
 
@@ -296,6 +316,22 @@ target_follows : (files : List File) (b : Bindings) (s : ℕ → Bool) → AllEn
 target_follows files b s has f k r section offset rest stays is among names same =
     let P : Target → Type 0 = λ t. All (In s) (section_in files b t) in
     All-head (In s) section [] (subst P same (targets_are files b s f k r has stays is among names))
+
+frame_follows : (files : List File) (b : Bindings) (s : ℕ → Bool) → AllEnds (edges files b) s → (f k : ℕ) (fde : FrameNo) (r : Reloc) (section offset : ℕ) (rest : ℤ) →
+    MayStay files b f k → s (section_no files f k) ≡ true → Contains (frames_at files b (all_lists files) (section_no files f k)) fde →
+    Contains (frame_relocs (all_lists files) fde) r → names_a_symbol r.kind ≡ true → target_of files b (place_of files fde.section).file r ≡ targets.Section section offset rest →
+    s section ≡ true
+unfolding record_target
+frame_follows files b s has f k fde r section offset rest stays is own among names same =
+    let from = pairs_from (section_no files f k) (joined_in files b f) in
+    let file = (place_of files fde.section).file in
+    let framed = frame_ends_in files b f k in
+    let P : Target → Type 0 = λ t. All (In s) (section_of t) in
+    let all = all_right (In s) (targets_in files b f k) framed
+    (all_left (In s) (targets_in files b f k ++ framed) (map (λ (p : Pair). p.to) from) (ends_are files b s f k has stays is)) in
+    let each = frames_to files b (In s) (frames_at files b (all_lists files) (section_no files f k)) fde all own in
+    let one = All-contains (λ q. All (In s) (record_target files b file q)) (frame_relocs (all_lists files) fde) r each among in
+    All-head (In s) section [] (subst P same (all_if (In s) (names_a_symbol r.kind) (section_of (target_of files b file r)) names one))
 
 -- the place of a section's number
 place_at : (files : List File) (f k : ℕ) → f < length files → k < section_count (file_at files f) → place_of files (section_no files f k) ≡ record { file = f; index = k }
@@ -377,6 +413,7 @@ closed_by_rules : (files : List File) (b : Bindings) (s : ℕ → Bool) → AllE
 closed_by_rules files b s has = record {
   targets = target_follows files b s has;
   bounds = bound_follows files b s has;
+  frames = frame_follows files b s has;
   links = link_follows files b s has;
   groups = group_follows files b s has;
 }

@@ -4,12 +4,10 @@ use Rattle.std.specs.Prelude.{All, Option}
 use Rattle.std.proofs.lemmas.Bool.{and_parts}
 use Rattle.lk_tables.specs.Binding.{Bindings}
 use Rattle.lk_tables.specs.Files.{File, section_total}
-use Rattle.lk_tables.specs.Sites.{place_of}
 use Rattle.link_sections.specs.FoldItems.{sections_of}
-use Rattle.link_sections.specs.InputSections.{input_of}
 use Rattle.link_sections.specs.Leaders.{is_kept}
 use Rattle.link_sections.specs.PoolViews.{Merged}
-use Rattle.sec_graph.specs.Foldable.{is_foldable, is_foldable_input, items}
+use Rattle.sec_graph.specs.Foldable.{is_foldable, items}
 use Rattle.sec_graph.proofs.FoldOrder.{sections_are}
 use Rattle.sec_graph.proofs.ListParts.{each_passed}
 

@@ -1,9 +1,13 @@
 pub mod Closing
 pub mod FoldKept
 pub mod FoldOrder
+pub mod FoundRecords
+pub mod FrameEnds
+pub mod FramePushes
 pub mod Joining
 pub mod ListParts
 pub mod NamedLists
+pub mod Needing
 pub mod Runs
 pub mod Standing
 pub mod Unbound

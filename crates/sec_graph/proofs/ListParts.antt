@@ -1,5 +1,5 @@
 -- What holds of each element of lists that are put one after the other.
-use Rattle.std.proofs.Common.{◌≡◌, ℕ, zero, suc, ◌+◌, ◌<◌, Bool, true, false, List, [], ◌∷◌, ◌++◌, flat_map, All, Contains, refl, arith}
+use Rattle.std.proofs.Common.{◌≡◌, ℕ, zero, suc, ◌+◌, ◌<◌, Bool, true, false, List, [], ◌∷◌, ◌++◌, map, flat_map, All, Contains, refl, arith}
 use Rattle.std.specs.Prelude.{filter, if◌then◌else◌}
 use Rattle.std.specs.List.{range_with_len}
 use Rattle.std.proofs.lemmas.List.Elements.{All-nil, All-cons, All-head, All-tail, All-append, All-contains, All-contains_itself, All-weaker}
@@ -13,13 +13,13 @@ pub all_right : {X : Type 0} (P : X → Type 0) (xs ys : List X) → All P (xs +
 all_right P [] ys all = all
 all_right P (x ∷ xs) ys all = all_right P xs ys (All-tail P x (xs ++ ys) all)
 
-flat_all : {X Y : Type 0} (P : Y → Type 0) (g : X → List Y) (xs : List X) → All (λ x. All P (g x)) xs → All P (flat_map g xs)
+pub flat_all : {X Y : Type 0} (P : Y → Type 0) (g : X → List Y) (xs : List X) → All (λ x. All P (g x)) xs → All P (flat_map g xs)
 flat_all P g [] all = All-nil P
 flat_all P g (x ∷ xs) all =
     let Q : _ → Type 0 = λ x. All P (g x) in
     All-append P (g x) (flat_map g xs) (All-head Q x xs all) (flat_all P g xs (All-tail Q x xs all))
 
-flat_parts : {X Y : Type 0} (P : Y → Type 0) (g : X → List Y) (xs : List X) → All P (flat_map g xs) → All (λ x. All P (g x)) xs
+pub flat_parts : {X Y : Type 0} (P : Y → Type 0) (g : X → List Y) (xs : List X) → All P (flat_map g xs) → All (λ x. All P (g x)) xs
 flat_parts P g [] all = All-nil (λ x. All P (g x))
 flat_parts P g (x ∷ xs) all =
     All-cons (λ x. All P (g x)) x xs (all_left P (g x) (flat_map g xs) all) (flat_parts P g xs (all_right P (g x) (flat_map g xs) all))
@@ -29,6 +29,10 @@ each_of P g xs each = flat_all P g xs (All-weaker (Contains xs) (λ x. All P (g 
 
 pub part_of : {X Y : Type 0} (P : Y → Type 0) (g : X → List Y) (xs : List X) (x : X) → All P (flat_map g xs) → Contains xs x → All P (g x)
 part_of P g xs x all has = All-contains (λ x. All P (g x)) xs x (flat_parts P g xs all) has
+
+pub map_all : {X Y : Type 0} (P : Y → Type 0) (g : X → Y) (xs : List X) → All P (map g xs) → All (λ x. P (g x)) xs
+map_all P g [] all = All-nil (λ x. P (g x))
+map_all P g (x ∷ xs) all = All-cons (λ x. P (g x)) x xs (All-head P (g x) (map g xs) all) (map_all P g xs (All-tail P (g x) (map g xs) all))
 
 pub head_if : {X : Type 0} (P : X → Type 0) (d : Bool) (x : X) → d ≡ true → All P (if d then x ∷ [] else []) → P x
 head_if P true x is all = All-head P x [] all

@@ -24,10 +24,10 @@ use Rattle.lk_tables.specs.declared.heads.Symbol.{Symbol}
 use Rattle.lk_tables.specs.declared.objects.Reloc.{Reloc}
 use Rattle.lk_tables.specs.BoundNames.{IsBindingOf}
 use Rattle.lk_tables.specs.Binding.{Bindings, is_discarded}
-use Rattle.lk_tables.specs.Files.{AreFew, File, file_at, is_section_symbol, no_symbol, section_no, section_total, symbol_at, symbol_no, writes}
+use Rattle.lk_tables.specs.Files.{AreFew, File, file_at, is_frame_at, is_section_symbol, no_symbol, section_no, section_total, symbol_at, symbol_no, writes}
 use Rattle.lk_tables.specs.InputSections.{input_at, may_stay_at}
-use Rattle.lk_tables.specs.LinkerSymbols.{all_named, bound_section, fixed_count, is_bound_no, is_named, linker_no}
-use Rattle.lk_tables.specs.Targets.{bound, bound_by, clamped, commons_at, defined_by, definition, offset_in, rank_at, room_of, size_of, target_by}
+use Rattle.lk_tables.specs.LinkerSymbols.{all_named, bound_section, fixed_count, frame_start_no, is_bound_no, is_named, linker_no}
+use Rattle.lk_tables.specs.Targets.{bound, bound_by, clamped, commons_at, defined_by, definition, offset_in, rank_at, room_of, size_of, target_by, unwritten}
 use Rattle.lk_tables.proofs.BoundHas.{OfDefinitions, bound_has, each_flat, each_if, either, one_if}
 use Rattle.lk_tables.proofs.LinkerNumbers.{IfNumber, linker_few}
 use Rattle.sec_graph.specs.declared.pairs.Pair.{Pair}
@@ -46,10 +46,10 @@ test_name a c is = (bytes_eq-Decides a c).1 is
 IsFew : List File → Bound → Type 0
 IsFew files (InSection section offset) = Unit {0}
 IsFew files (Number n) = Unit {0}
-IsFew files (Linker n) = n < 18 + 2 * section_total files
+IsFew files (Linker n) = n < fixed_count + 2 * section_total files
 IsFew files Nobody = Unit {0}
 
-few_of : (files : List File) (n : ℕ) (o : Option ℕ) → o ≡ Some n → IfNumber (λ k. k < 18 + 2 * section_total files) o → IsFew files (Linker n)
+few_of : (files : List File) (n : ℕ) (o : Option ℕ) → o ≡ Some n → IfNumber (λ k. k < fixed_count + 2 * section_total files) o → IsFew files (Linker n)
 unfolding IsFew
 few_of files n None is few = let no : ⊥ = cc in absurd no
 few_of files n (Some k) is few = let same : k ≡ n = ap value is in omega (arith, few, same)
@@ -58,7 +58,7 @@ few_of files n (Some k) is few = let same : k ≡ n = ap value is in omega (arit
     value (Some x) = x
     value None = 0
 
--- no definition of a file is the linker's
+-- those that definitions of files are bound to, too
 room_few : (files : List File) (o : Option BoundCommon) → IsFew files (room_of o)
 unfolding IsFew
 room_few files None = tt
@@ -70,8 +70,9 @@ defined_few files b Undef f i s = tt
 defined_few files b Absolute f i s = tt
 defined_few files b Common f i s = room_few files (find (λ (c : BoundCommon). c.symbol == i) (commons_at b.commons f))
 defined_few files b (Within k) f i s =
-    either (IsFew files) (is_discarded files b.discarded f (Within k)) Nobody (if writes (file_at files f) k then InSection (section_no files f k) (offset_in s) else Number s.value) tt
-    (either (IsFew files) (writes (file_at files f) k) (InSection (section_no files f k) (offset_in s)) (Number s.value) tt tt)
+    either (IsFew files) (is_discarded files b.discarded f (Within k)) Nobody (if writes (file_at files f) k then InSection (section_no files f k) (offset_in s) else unwritten (file_at files f) k s) tt
+    (either (IsFew files) (writes (file_at files f) k) (InSection (section_no files f k) (offset_in s)) (unwritten (file_at files f) k s) tt
+    (either (IsFew files) (is_frame_at (file_at files f) k && s.value == 0) (Linker frame_start_no) (Number s.value) (omega arith) tt))
 
 definitions_few : (files : List File) (b : Bindings) → OfDefinitions files b (IsFew files)
 unfolding definition

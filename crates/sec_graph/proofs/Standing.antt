@@ -10,7 +10,9 @@ use Rattle.lk_tables.specs.declared.heads.Place.{Place}
 use Rattle.lk_tables.specs.declared.heads.Place.TheVariants.{Undef, Absolute, Common, Within}
 use Rattle.lk_tables.specs.declared.heads.Symbol.{Symbol}
 use Rattle.lk_tables.specs.Binding.{Bindings, is_discarded}
-use Rattle.lk_tables.specs.Files.{File, file_at, is_visible, no_file, no_symbol, section_no, symbol_at, symbol_no, writes}
+use Rattle.lk_tables.specs.Files.{File, file_at, is_frame_at, is_visible, no_file, no_symbol, section_no, symbol_at, symbol_no, writes}
+use Rattle.lk_tables.specs.FixedSymbols.{frame_start_no}
+use Rattle.lk_tables.specs.FixedSymbols.{frame_start_no}
 use Rattle.lk_tables.specs.Ranks.{file_of, is_linker_rank, no_rank, symbol_of_rank}
 use Rattle.lk_tables.specs.Symbols.{is_common}
 use Rattle.lk_tables.specs.Targets.{bound, bound_by, defined_by, definition, is_unbound, is_undefined, offset_in, rank_at}
@@ -32,11 +34,12 @@ and_false true y is = is
 and_false false y is = refl
 
 -- what is defined in a section stands for nothing if that was discarded
-nobody_if : (gone written : Bool) (section offset value : ℕ) →
-    is_nobody (if gone then Nobody else (if written then InSection section offset else Number value)) ≡ gone
-nobody_if true written section offset value = refl
-nobody_if false true section offset value = refl
-nobody_if false false section offset value = refl
+nobody_if : (gone written start : Bool) (section offset value : ℕ) →
+    is_nobody (if gone then Nobody else (if written then InSection section offset else (if start then Linker frame_start_no else Number value))) ≡ gone
+nobody_if true written start section offset value = refl
+nobody_if false true start section offset value = refl
+nobody_if false false true section offset value = refl
+nobody_if false false false section offset value = refl
 
 nobody_by : (files : List File) (b : Bindings) (place : Place) (f i : ℕ) (s : Symbol) → is_common place ≡ false →
     is_nobody (defined_by files b place f i s) ≡ is_discarded files b.discarded f place
@@ -44,7 +47,8 @@ nobody_by files b Undef f i s plain = refl
 nobody_by files b Absolute f i s plain = refl
 nobody_by files b Common f i s plain = cc
 nobody_by files b (Within k) f i s plain =
-    nobody_if (is_discarded files b.discarded f (Within k)) (writes (file_at files f) k) (section_no files f k) (offset_in s) s.value
+    nobody_if (is_discarded files b.discarded f (Within k)) (writes (file_at files f) k) (is_frame_at (file_at files f) k && s.value == 0)
+    (section_no files f k) (offset_in s) s.value
 
 -- what a rank names that is one of a file's symbols, or of the linker's own
 named : (found : Bound) (none linker : Bool) (n : ℕ) → none ≡ false → (linker ≡ false → is_nobody found ≡ false) →

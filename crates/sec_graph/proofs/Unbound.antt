@@ -4,7 +4,6 @@ use Rattle.std.specs.Prelude.{if◌then◌else◌}
 use Rattle.std.specs.List.{range_with_len}
 use Rattle.std.proofs.lemmas.Bool.{cases_lt, cond-true, eq-eqb}
 use Rattle.std.proofs.lemmas.List.{get_or_past}
-use Rattle.link_sections.specs.Leaders.{is_kept}
 use Rattle.lk_base.specs.RelocKinds.{names_a_symbol}
 use Rattle.lk_base.specs.declared.abi.TheConstants.{STB_LOCAL}
 use Rattle.lk_base.specs.declared.defects.Defect.{Defect}
@@ -13,10 +12,10 @@ use Rattle.lk_tables.specs.declared.heads.Place.TheVariants.{Undef}
 use Rattle.lk_tables.specs.declared.heads.Symbol.{Symbol}
 use Rattle.lk_tables.specs.declared.objects.Reloc.{Reloc}
 use Rattle.lk_tables.specs.Binding.{Bindings}
-use Rattle.lk_tables.specs.Files.{File, file_at, no_symbol, relocs_at, section_no, symbol_at}
+use Rattle.lk_tables.specs.Files.{File, file_at, no_symbol, relocs_at, symbol_at}
 use Rattle.lk_tables.specs.Targets.{bound, defined_by, definition, is_unbound, is_undefined}
 use Rattle.lk_tables.specs.Walks.{over_file, over_section}
-use Rattle.sec_graph.specs.Undefined.{undefined_at}
+use Rattle.sec_graph.specs.Undefined.{is_needed, undefined_at}
 
 none_given : {X Y : Type 0} (give : X → List Y) (xs : List X) → ((x : X) → give x ≡ []) → flat_map give xs ≡ []
 none_given give [] none = refl
@@ -35,7 +34,7 @@ none_at : (files : List File) (b : Bindings) (kept : List Bool) (f k : ℕ) (r :
     undefined_at files b kept f k r ≡ []
 unfolding undefined_at
 none_at files b kept f k r none =
-    no_defect (is_kept kept (section_no files f k)) (names_a_symbol r.kind) (is_undefined files b f r.symbol) _ none
+    no_defect (is_needed files b kept f k r) (names_a_symbol r.kind) (is_undefined files b f r.symbol) _ none
 
 pub none_in : (files : List File) (b : Bindings) (kept : List Bool) (f : ℕ) → ((i : ℕ) → is_undefined files b f i ≡ false) →
     over_file files (over_section files (undefined_at files b kept)) f ≡ []

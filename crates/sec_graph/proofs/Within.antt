@@ -1,9 +1,9 @@
 -- The ends of all sections are section numbers.
-use Rattle.std.proofs.Common.{◌≡◌, ℕ, zero, suc, ◌+◌, ◌<◌, ◌==◌, ◌&&◌, Bool, true, false, not, List, [], ◌∷◌, ◌++◌, length, map, flat_map, All, refl, arith}
+use Rattle.std.proofs.Common.{◌≡◌, ℕ, zero, suc, ◌+◌, ◌<◌, ◌==◌, ◌&&◌, Bool, true, false, not, List, [], ◌∷◌, ◌++◌, length, map, flat_map, All, Contains, refl, arith}
 use Rattle.std.specs.Prelude.{filter, if◌then◌else◌}
 use Rattle.std.specs.List.{range_with_len}
 use Rattle.std.proofs.lemmas.Bool.{and_parts, ltb-true}
-use Rattle.std.proofs.lemmas.List.Elements.{All-nil, All-cons, All-head, All-tail, All-append, All-filter, All-map}
+use Rattle.std.proofs.lemmas.List.Elements.{All-nil, All-cons, All-head, All-tail, All-append, All-contains, All-contains_itself, All-filter, All-map, All-weaker}
 use Rattle.lk_base.specs.declared.abi.TheConstants.{STB_WEAK}
 use Rattle.link_sections.specs.InputSections.{input_at, is_own, may_stay}
 use Rattle.lk_base.specs.RelocKinds.{goes_by_got, names_a_symbol}
@@ -12,18 +12,24 @@ use Rattle.lk_tables.specs.declared.bounds.Bound.TheVariants.{InSection, Number,
 use Rattle.lk_tables.specs.declared.bounds.Target.TheVariants as targets
 use Rattle.lk_tables.specs.declared.heads.Symbol.{Symbol}
 use Rattle.lk_tables.specs.declared.objects.Reloc.{Reloc}
+use Rattle.lk_tables.specs.declared.records.FrameNo.{FrameNo}
 use Rattle.lk_tables.specs.BoundNames.{IsBindingOf}
 use Rattle.lk_tables.specs.Binding.{Bindings}
 use Rattle.lk_tables.specs.Files.{AreFew, File, by_section, commons_before, file_at, is_section_symbol, relocs_at, section_at, section_count, section_no, section_total, symbol_at}
+use Rattle.lk_tables.specs.Frames.{all_lists, frames_at}
 use Rattle.lk_tables.specs.LinkerSymbols.{all_named, bound_section, bound_sections, is_bound_no, is_named}
 use Rattle.lk_tables.specs.Objects.{GroupView}
+use Rattle.lk_tables.specs.Sites.{place_of}
 use Rattle.lk_tables.specs.Targets.{bound, target_by, target_of}
 use Rattle.lk_tables.proofs.BoundWithin.{IsWithin, bound_within}
 use Rattle.lk_tables.proofs.BoundHas.{each_flat, each_if, either, one_if}
 use Rattle.lk_tables.proofs.FirstNumbers.{section_within}
 use Rattle.lk_tables.proofs.LiveFiles.{counted}
+use Rattle.lk_tables.proofs.Owners.{place_of_number}
 use Rattle.sec_graph.specs.declared.pairs.Pair.{Pair}
-use Rattle.sec_graph.specs.Graph.{chain, edges, ends_in, is_linked, joined_in, link_at, links_in, member_at, pair, pairs_from, ring, ring_in, section_in, target_in, targets_in}
+use Rattle.sec_graph.specs.Graph.{chain, edges, ends_in, frame_ends_in, is_linked, joined_in, link_at, links_in, member_at, pair, pairs_from, record_target, ring, ring_in, section_in, target_in, targets_in}
+use Rattle.sec_graph.specs.FrameRelocs.{frame_relocs}
+use Rattle.sec_graph.proofs.FrameEnds.{fdes_below, frames_from, record_below}
 use Rattle.sec_graph.proofs.ListParts.{each_passed}
 
 -- the sections of a live file have numbers below the total
@@ -116,6 +122,18 @@ live_from file k lt = by_live file.live lt
     by_live true less = refl
     by_live false less = absurd (omega (arith, less))
 
+frames_below : (files : List File) (b : Bindings) (f k : ℕ) → IsBindingOf files b → AreFew files → All (λ n. n < section_total files) (frame_ends_in files b f k)
+frames_below files b f k is few =
+    let P : ℕ → Type 0 = λ n. n < section_total files in
+    let fdes = frames_at files b (all_lists files) (section_no files f k) in
+    frames_from files b P fdes (λ fde has.
+    let relocs = frame_relocs (all_lists files) fde in
+    let low = All-contains (λ (number : FrameNo). number.section < section_total files) fdes fde (fdes_below files b (section_no files f k)) has in
+    let place = place_of_number files fde.section low in
+    let file = (place_of files fde.section).file in
+    let live = live_from (file_at files file) (place_of files fde.section).index place.index in
+    All-weaker (Contains relocs) (λ r. All P (record_target files b file r)) (λ r among. record_below files b file r is few place.file live) relocs (All-contains_itself relocs))
+
 ends_below : (files : List File) (b : Bindings) (f k : ℕ) → IsBindingOf files b → AreFew files → f < length files → k < section_count (file_at files f) →
     All (λ n. n < section_total files) (ends_in files b f k)
 unfolding ends_in
@@ -124,9 +142,11 @@ ends_below files b f k is few lt below =
     let live = live_from (file_at files f) k below in
     let total = section_total files in
     let from = pairs_from (section_no files f k) (joined_in files b f) in
-    each_if P (may_stay files b f k) (targets_in files b f k ++ map (λ (p : Pair). p.to) from) (λ stays.
-    All-append P (targets_in files b f k) (map (λ (p : Pair). p.to) from)
-    (targets_below files b f (relocs_at (file_at files f) k) is few lt live)
+    let own = targets_in files b f k in
+    let framed = frame_ends_in files b f k in
+    each_if P (may_stay files b f k) ((own ++ framed) ++ map (λ (p : Pair). p.to) from) (λ stays.
+    All-append P (own ++ framed) (map (λ (p : Pair). p.to) from)
+    (All-append P own framed (targets_below files b f (relocs_at (file_at files f) k) is few lt live) (frames_below files b f k is few))
     (All-map P (λ (p : Pair). p.to) from (All-filter (λ (p : Pair). p.from == section_no files f k) (EndsBelow total) (joined_in files b f)
     (All-append (EndsBelow total) (links_in files b f) (flat_map (ring_in files b f) (file_at files f).object.groups)
     (links_below files b f lt live) (rings_below files b f (file_at files f).object.groups lt live)))))

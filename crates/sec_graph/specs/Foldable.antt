@@ -1,24 +1,31 @@
 -- Which sections may be folded, and what decides with which others (System V gABI, "Sections": what a section's header says of it).
-use Rattle.std.specs.Prelude.{ℕ, ◌+◌, ◌&&◌, ◌||◌, ◌==◌, not, bit_and, Bool, false, slice_index_or, Option, Some, None, if◌then◌else◌, List, [], ◌∷◌, map, flat_map, codes}
+use Rattle.std.specs.Prelude.{ℕ, ◌+◌, ◌-◌, ℤ, pos, ◌&&◌, ◌||◌, ◌==◌, not, bit_and, Bool, false, slice_index_or, Option, Some, None, if◌then◌else◌, List, [], ◌∷◌, ◌++◌, length, map, flat_map, take, drop, codes}
 use Rattle.std.specs.List.{range_with_len}
+use Rattle.std.specs.Option.{option_map_or}
 use Rattle.std.specs.Str.{bytes_eq}
 use Rattle.lk_base.specs.RelocKinds.{names_a_symbol}
 use Rattle.lk_base.specs.declared.abi.TheConstants.{SHF_ALLOC, SHF_EXECINSTR, SHF_GNU_RETAIN, SHF_LINK_ORDER, SHF_MERGE, SHF_TLS, SHF_WRITE, SHT_PROGBITS}
+use Rattle.lk_tables.specs.declared.bounds.Target.{Target as Spot}
+use Rattle.lk_tables.specs.declared.bounds.Target.TheVariants as spots
 use Rattle.lk_tables.specs.declared.objects.Reloc.{Reloc}
+use Rattle.lk_tables.specs.declared.records.FrameNo.{FrameNo}
 use Rattle.lk_tables.specs.Binding.{Bindings}
 use Rattle.lk_tables.specs.Files.{File, file_at, is_section_symbol, relocs_at, section_total, symbol_at}
+use Rattle.lk_tables.specs.Frames.{all_lists, frames_at}
 use Rattle.lk_tables.specs.LinkerSymbols.{is_c_identifier}
 use Rattle.lk_tables.specs.OutputNames.{output_name}
+use Rattle.lk_tables.specs.Records.{RecordView, first_of}
 use Rattle.lk_tables.specs.Sites.{place_of}
 use Rattle.lk_tables.specs.Targets.{target_of}
 use Rattle.link_sections.specs.declared.fold_items.FoldReloc.{FoldReloc}
 use Rattle.link_sections.specs.declared.targets.Target.{Target}
-use Rattle.link_sections.specs.FoldItems.{FoldItem}
+use Rattle.link_sections.specs.FoldItems.{FoldFrame, FoldItem}
 use Rattle.link_sections.specs.InputSections.{InputSection, input_of}
 use Rattle.link_sections.specs.Leaders.{is_kept}
 use Rattle.link_sections.specs.MergeSections.{contents}
 use Rattle.link_sections.specs.PieceTargets.{piece_target}
 use Rattle.link_sections.specs.PoolViews.{Merged}
+use Rattle.sec_graph.specs.FrameRelocs.{cie_no, others, record_of}
 
 -- functions to call at the start and at the end are made of sections of these names
 abbrev pub is_init_or_fini : List ℕ → Bool
@@ -43,7 +50,43 @@ is_foldable_input i = i.sh_type == SHT_PROGBITS && (is_code i.flags && (bit_and 
 abbrev pub is_barred : (barred : List Bool) → (section : ℕ) → Bool
 is_barred barred section = slice_index_or barred section false
 
+-- so many bytes from an offset on
+abbrev pub part : List ℕ → (from len : ℕ) → List ℕ
+part bytes from len = take len (drop from bytes)
+
+-- the byte of its section that a relocation stands for, and what is to be added to its address
+abbrev pub offset_of : Spot → ℕ
+offset_of (spots.Section section offset rest) = offset
+offset_of (spots.Number n) = 0
+offset_of spots.Zero = 0
+offset_of (spots.Linker n) = 0
+offset_of spots.Unbound = 0
+
+abbrev pub rest_of : Spot → ℤ
+rest_of (spots.Section section offset rest) = rest
+rest_of (spots.Number n) = pos 0
+rest_of spots.Zero = pos 0
+rest_of (spots.Linker n) = pos 0
+rest_of spots.Unbound = pos 0
+
 module _ (files : List File) (b : Bindings) where
+  -- an FDE and its CIE, whose section has these bytes, in file f: of the FDE's bytes all but the 4 of its CIE Pointer, which follow the 4 of its Length
+  unfoldable pub frame_in : (f : ℕ) → (bytes : List ℕ) → (fde cie : RecordView) → FoldFrame
+  frame_in f bytes fde cie = record {
+    bytes = part bytes fde.from 4 ++ part bytes (fde.from + 8) (fde.len - 4);
+    cie = part bytes cie.from (4 + cie.len);
+    offset = option_map_or (λ r. offset_of (target_of files b f r)) (first_of fde.relocs) 0;
+    rest = option_map_or (λ r. rest_of (target_of files b f r)) (first_of fde.relocs) (pos 0);
+    others = length (others fde.relocs);
+    shared = length cie.relocs;
+  }
+
+  abbrev pub frame_of : FrameNo → FoldFrame
+  frame_of fde =
+      let place = place_of files fde.section in
+      let lists = all_lists files in
+      frame_in place.file (contents (file_at files place.file) place.index) (record_of lists fde) (record_of lists (cie_no lists fde))
+
   -- a section that may be folded: it is kept, and not barred
   unfoldable pub is_foldable : (kept barred : List Bool) → (section : ℕ) → Bool
   is_foldable kept barred section = is_kept kept section && (not (is_barred barred section) && is_foldable_input (input_of files b (place_of files section).file (place_of files section).index))
@@ -62,6 +105,30 @@ module _ (files : List File) (b : Bindings) (merged : List (Option Merged)) wher
     target = fold_target f r;
   }
 
+  -- the same of a record that starts at an offset of its section
+  abbrev pub record_reloc : (f from : ℕ) → Reloc → FoldReloc
+  record_reloc f from r = record {
+    offset = r.offset - from;
+    kind = r.kind;
+    addend = r.addend;
+    is_section_symbol = is_section_symbol (symbol_at (file_at files f) r.symbol);
+    target = fold_target f r;
+  }
+
+  -- the relocations of an FDE but that of PC Begin, and those of its CIE
+  abbrev pub other_relocs : FrameNo → List FoldReloc
+  other_relocs fde =
+      let own = record_of (all_lists files) fde in
+      map (record_reloc (place_of files fde.section).file own.from) (others own.relocs)
+
+  abbrev pub cie_relocs : (cie : FrameNo) → List FoldReloc
+  cie_relocs cie =
+      let shared = record_of (all_lists files) cie in
+      map (record_reloc (place_of files cie.section).file shared.from) shared.relocs
+
+  abbrev pub frame_relocs : FrameNo → List FoldReloc
+  frame_relocs fde = other_relocs fde ++ cie_relocs (cie_no (all_lists files) fde)
+
   -- section number n, which is section k of file f
   unfoldable pub item_in : (n f k : ℕ) → FoldItem
   item_in n f k = record {
@@ -71,7 +138,9 @@ module _ (files : List File) (b : Bindings) (merged : List (Option Merged)) wher
     sh_type = (input_of files b f k).sh_type;
     align = (input_of files b f k).align;
     output = output_name (input_of files b f k).name;
-    relocs = map (fold_reloc f) (relocs_at (file_at files f) k);
+    own = length (relocs_at (file_at files f) k);
+    frames = map (frame_of files b) (frames_at files b (all_lists files) n);
+    relocs = map (fold_reloc f) (relocs_at (file_at files f) k) ++ flat_map frame_relocs (frames_at files b (all_lists files) n);
   }
 
   abbrev pub item_of : (section : ℕ) → FoldItem

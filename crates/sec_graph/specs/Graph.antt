@@ -1,5 +1,6 @@
 -- Which sections each section leads to, by section number: the sections that its relocations name, by a symbol or by the start or the end of
--- their name, those that go with it (System V gABI, "Sections": SHF_LINK_ORDER), and those of its groups ("Section Groups").
+-- their name, those that its functions' unwind records name (LSB Core, "Exception Frames"), those that go with it (System V gABI, "Sections":
+-- SHF_LINK_ORDER), and those of its groups ("Section Groups").
 use Rattle.std.specs.Prelude.{◌≡◌, ℕ, ◌&&◌, ◌==◌, not, nat_lt, bit_and, Bool, if◌then◌else◌, List, [], ◌∷◌, ◌++◌, length, map, filter, flat_map}
 use Rattle.std.specs.List.{range_with_len}
 use Rattle.std.specs.List.Sorted.{IsNonDecreasingBy}
@@ -10,12 +11,17 @@ use Rattle.lk_tables.specs.declared.bounds.Target.{Target}
 use Rattle.lk_tables.specs.declared.bounds.Target.TheVariants as targets
 use Rattle.lk_tables.specs.declared.heads.Section.{Section}
 use Rattle.lk_tables.specs.declared.objects.Reloc.{Reloc}
+use Rattle.lk_tables.specs.declared.records.FrameNo.{FrameNo}
 use Rattle.lk_tables.specs.Binding.{Bindings}
 use Rattle.lk_tables.specs.Files.{File, file_at, section_at, section_no, relocs_at, by_section}
+use Rattle.lk_tables.specs.Frames.{all_lists, frames_at}
 use Rattle.lk_tables.specs.LinkerSymbols.{bound_sections}
 use Rattle.lk_tables.specs.Objects.{GroupView}
+use Rattle.lk_tables.specs.Sites.{place_of}
 use Rattle.lk_tables.specs.Targets.{target_of}
 use Rattle.sec_graph.specs.declared.pairs.Pair.{Pair}
+use Rattle.sec_graph.specs.FrameRelocs.{cies_of, others, record_of}
+use Rattle.sec_graph.specs.Taken.{section_of}
 
 abbrev pub pair : (from to : ℕ) → Pair
 pair from to = record { from = from; to = to }
@@ -82,10 +88,31 @@ module _ (files : List File) (b : Bindings) where
   abbrev pub joined_in : ℕ → List Pair
   joined_in f = links_in f ++ flat_map (ring_in f) (file_at files f).object.groups
 
+  -- the section in which relocation r of a record of file f stands; the start or the end of a name means none here
+  unfoldable pub record_target : (f : ℕ) → Reloc → List ℕ
+  record_target f r = if names_a_symbol r.kind then section_of (target_of files b f r) else []
+
+  abbrev pub record_targets : FrameNo → List Reloc → List ℕ
+  record_targets number rs = flat_map (record_target (place_of files number.section).file) rs
+
+  -- the sections that an FDE names beside that of its function, and those that a CIE names
+  abbrev pub fde_ends : FrameNo → List ℕ
+  fde_ends number = record_targets number (others (record_of (all_lists files) number).relocs)
+
+  abbrev pub cie_ends : FrameNo → List ℕ
+  cie_ends number = record_targets number (record_of (all_lists files) number).relocs
+
+  -- those of FDEs, and then of their CIEs
+  unfoldable pub frame_ends : (fdes : List FrameNo) → List ℕ
+  frame_ends fdes = flat_map fde_ends fdes ++ flat_map cie_ends (cies_of (all_lists files) fdes)
+
+  abbrev pub frame_ends_in : (f k : ℕ) → List ℕ
+  frame_ends_in f k = frame_ends (frames_at files b (all_lists files) (section_no files f k))
+
   -- where section k of file f leads, if it may stay
   unfoldable pub ends_in : (f k : ℕ) → List ℕ
   ends_in f k = if may_stay files b f k
-      then targets_in f k ++ map (λ p. p.to) (pairs_from (section_no files f k) (joined_in f)) else []
+      then (targets_in f k ++ frame_ends_in f k) ++ map (λ p. p.to) (pairs_from (section_no files f k) (joined_in f)) else []
 
   unfoldable pub edges : List (List ℕ)
   edges = by_section files ends_in

@@ -1,7 +1,10 @@
 pub mod Foldable
+pub mod FrameKeys
+pub mod FrameRelocs
 pub mod Graph
 pub mod Kept
 pub mod NamedSections
+pub mod Needs
 pub mod Prevailing
 pub mod Rows
 pub mod Taken

@@ -6,16 +6,19 @@ ghost use Rattle.lk_tables.specs.Files.{file_at, section_count};
 ghost use Rattle.lk_tables.specs.TablesView.{files_of};
 ghost use Rattle.lk_tables.specs.LinkerSymbols.{bound_section, bound_sections, is_bound_no};
 ghost use Rattle.lk_tables.proofs.ByNumber.{section_row};
+ghost use Rattle.sec_graph.specs.FrameRelocs.{AreFramesOf};
 ghost use Rattle.sec_graph.specs.Graph as spec;
 ghost use Rattle.sec_graph.specs.NamedSections.{HasNamed, IsKnown};
 
+use crate::frame_ends::push_frames;
+use crate::frame_relocs::fdes_of;
 use crate::named_sections::{NamedSections, sections_named};
 use crate::pairs::{Pair, pairs_from, pairs_of};
 use flat_rows::Rows;
 use link_sections::{input_section, may_stay};
 use lk_base::relocations::names_a_symbol;
 use lk_base::{FileNo, SecNo};
-use lk_tables::{Binding, Reloc, Tables, Target, bound_section, section_count, target_in};
+use lk_tables::{Binding, Frames, Reloc, Tables, Target, bound_section, section_count, target_in};
 use std::alloc::{AllocError, Global};
 
 /// For each section number of a file, in order, the sections to which that leads.
@@ -23,10 +26,12 @@ pub fn file_ends(
     alloc: Global,
     tables: &Tables,
     binding: &Binding,
+    frames: &Frames,
     named: &NamedSections,
     file: FileNo,
 ) -> Result<Rows<SecNo>, AllocError>
     requires file { file < length (files_of tables.now) }
+    requires frames { AreFramesOf (files_of tables.now) (binding_view binding.now) frames.now }
     requires named { HasNamed (files_of tables.now) (binding_view binding.now) named.now }
     ensures { IfOk result (λ rows. rows ≡ section_row (files_of tables.now) (spec.ends_in (files_of tables.now) (binding_view binding.now)) file) }
 {
@@ -34,7 +39,15 @@ pub fn file_ends(
         return Rows::empty(alloc);
     }
     let pairs = pairs_of(alloc, tables, binding, file)?;
-    live_ends(alloc, tables, binding, named, file, pairs.as_slice())
+    live_ends(
+        alloc,
+        tables,
+        binding,
+        frames,
+        named,
+        file,
+        pairs.as_slice(),
+    )
 }
 
 /// The same of a file that takes part, of which the pairs are known.
@@ -42,12 +55,14 @@ fn live_ends(
     alloc: Global,
     tables: &Tables,
     binding: &Binding,
+    frames: &Frames,
     named: &NamedSections,
     file: FileNo,
     pairs: &[Pair],
 ) -> Result<Rows<SecNo>, AllocError>
     requires file { file < length (files_of tables.now) }
     requires live { (file_at (files_of tables.now) file).live ≡ true }
+    requires frames { AreFramesOf (files_of tables.now) (binding_view binding.now) frames.now }
     requires named { HasNamed (files_of tables.now) (binding_view binding.now) named.now }
     requires pairs { spec.AreBySection (spec.joined_in (files_of tables.now) (binding_view binding.now) file) pairs.now }
     ensures { IfOk result (λ rows. rows ≡ section_row (files_of tables.now) (spec.ends_in (files_of tables.now) (binding_view binding.now)) file) }
@@ -55,7 +70,16 @@ fn live_ends(
     tables.is_few();
     let mut rows = Rows::empty(alloc)?;
     for index in 0..section_count(tables.file(file)) {
-        let ends = section_ends(alloc, tables, binding, named, file, index as u32, pairs)?;
+        let ends = section_ends(
+            alloc,
+            tables,
+            binding,
+            frames,
+            named,
+            file,
+            index as u32,
+            pairs,
+        )?;
         rows.push(ends.as_slice())?;
     }
     Ok(rows)
@@ -67,6 +91,7 @@ fn section_ends(
     alloc: Global,
     tables: &Tables,
     binding: &Binding,
+    frames: &Frames,
     named: &NamedSections,
     file: FileNo,
     index: u32,
@@ -74,6 +99,8 @@ fn section_ends(
 ) -> Result<Vec<SecNo>, AllocError>
     requires file { file < length (files_of tables.now) }
     requires live { (file_at (files_of tables.now) file).live ≡ true }
+    requires index { index < section_count (file_at (files_of tables.now) file) }
+    requires frames { AreFramesOf (files_of tables.now) (binding_view binding.now) frames.now }
     requires named { HasNamed (files_of tables.now) (binding_view binding.now) named.now }
     requires pairs { spec.AreBySection (spec.joined_in (files_of tables.now) (binding_view binding.now) file) pairs.now }
     ensures { IfOk result (λ ends. ends.items ≡ spec.ends_in (files_of tables.now) (binding_view binding.now) file index) }
@@ -91,6 +118,8 @@ fn section_ends(
         tables.relocs(file, index),
     )?;
     let number = tables.section_no(file as usize, index as usize);
+    let fdes = fdes_of(tables, binding, frames, number);
+    push_frames(&mut ends, alloc, tables, binding, frames, fdes)?;
     push_seconds(&mut ends, pairs_from(pairs, number))?;
     Ok(ends)
 }

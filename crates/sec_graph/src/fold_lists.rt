@@ -7,22 +7,26 @@ ghost use Rattle.lk_tables.specs.Files.{file_at, relocs_at, section_total};
 ghost use Rattle.lk_tables.specs.FileView.{file_view};
 ghost use Rattle.lk_tables.specs.TablesView.{files_of};
 ghost use Rattle.link_sections.specs.FoldItems.{item_view, item_views, sections_of};
-ghost use Rattle.link_sections.specs.Leaders.{is_kept};
 ghost use Rattle.link_sections.specs.MergeSections.{contents};
 ghost use Rattle.link_sections.specs.PoolViews.{merged_views};
 ghost use Rattle.sec_graph.specs.Foldable as spec;
+ghost use Rattle.sec_graph.specs.FrameRelocs.{AreFramesOf};
 
+use crate::fold_frames::{fold_frames, push_frame_relocs};
 use crate::foldable_names::is_foldable_input;
+use crate::frame_relocs::fdes_of;
+use crate::kept::is_kept;
 use link_sections::{FoldItem, FoldReloc, Pools, Target, input_in, input_section};
 use lk_base::relocations::names_a_symbol;
 use lk_base::{FileNo, SecNo};
 use lk_tables::{
-    Binding, File, Reloc, Span, Tables, is_section_symbol, output_name, target_in, text_of,
+    Binding, File, Frames, Reloc, Span, Tables, is_section_symbol, output_name, target_in, text_of,
 };
 use std::alloc::{AllocError, Global};
 
 /// The sections that may be folded, in order of number: kept code that nothing writes, not empty, whose name has no meaning to the
-/// linker, and that is not barred. `kept` and `barred` go by section number; a number past the end of a list is not kept, or not barred. The only error is out of memory.
+/// linker, and that is not barred; each with the FDEs of its functions and their CIEs. `kept` and `barred` go by section number; a number past
+/// the end of a list is not kept, or not barred. The only error is out of memory.
 #[tactic(auto, unfolding(crate::specs::Foldable::items))]
 pub fn items<'a>(
     alloc: Global,
@@ -31,7 +35,9 @@ pub fn items<'a>(
     pools: &Pools,
     kept: &[bool],
     barred: &[bool],
+    frames: &Frames,
 ) -> Result<Vec<FoldItem<'a>>, AllocError>
+    requires { AreFramesOf (files_of tables.now) (binding_view binding.now) frames.now }
     ensures items { IfOk result (λ list. item_views list.items ≡ spec.items (files_of tables.now) (binding_view binding.now) (merged_views pools.now) kept.now barred.now) }
     ensures order { IfOk result (λ list. IsStrictlyIncreasing (sections_of (item_views list.items))) }
     ensures few { IfOk result (λ list. length list.items < 2 ^ 31) }
@@ -47,6 +53,7 @@ pub fn items<'a>(
             pools,
             kept,
             barred,
+            frames,
             section as u32,
         )?;
     }
@@ -62,9 +69,11 @@ fn push_item<'a>(
     pools: &Pools,
     kept: &[bool],
     barred: &[bool],
+    frames: &Frames,
     section: SecNo,
 ) -> Result<(), AllocError>
-    requires { section < section_total (files_of tables.now) }
+    requires section { section < section_total (files_of tables.now) }
+    requires frames { AreFramesOf (files_of tables.now) (binding_view binding.now) frames.now }
     ensures { OnOk result (item_views list.new.items ≡ item_views list.old.items ++ spec.item_if (files_of tables.now) (binding_view binding.now) (merged_views pools.now) kept.now barred.now section) }
 {
     if !is_foldable(tables, binding, kept, barred, section) {
@@ -76,6 +85,7 @@ fn push_item<'a>(
         tables,
         binding,
         pools,
+        frames,
         section,
         place.file,
         place.index,
@@ -96,18 +106,9 @@ fn is_foldable(
     requires { section < section_total (files_of tables.now) }
     ensures { result ≡ spec.is_foldable (files_of tables.now) (binding_view binding.now) kept.now barred.now section }
 {
-    is_kept(kept, section)
+    is_kept(kept, section as usize)
         && (!is_barred(barred, section)
             && is_foldable_input(&input_section(tables, binding, section)))
-}
-
-fn is_kept(kept: &[bool], section: SecNo) -> bool
-    ensures { result ≡ is_kept kept.now section }
-{
-    match kept.get(section as usize) {
-        Some(kept) => *kept,
-        None => false,
-    }
 }
 
 /// Whether a section is barred; past the end of the list none is.
@@ -127,22 +128,22 @@ fn item_in<'a>(
     tables: &Tables<'a>,
     binding: &Binding,
     pools: &Pools,
+    frames: &Frames,
     section: SecNo,
     file: FileNo,
     index: u32,
 ) -> Result<FoldItem<'a>, AllocError>
-    requires { file < length (files_of tables.now) }
+    requires file { file < length (files_of tables.now) }
+    requires section { section < section_total (files_of tables.now) }
+    requires frames { AreFramesOf (files_of tables.now) (binding_view binding.now) frames.now }
     ensures { IfOk result (λ item. item_view item ≡ spec.item_in (files_of tables.now) (binding_view binding.now) (merged_views pools.now) section file index) }
 {
     let input = input_in(tables, binding, file, index);
-    let relocs = fold_relocs(
-        alloc,
-        tables,
-        binding,
-        pools,
-        file,
-        tables.relocs(file, index),
-    )?;
+    let own = tables.relocs(file, index);
+    let fdes = fdes_of(tables, binding, frames, section as usize);
+    let mut relocs = fold_relocs(alloc, tables, binding, pools, file, own)?;
+    push_frame_relocs(&mut relocs, tables, binding, pools, frames, fdes)?;
+    let list = fold_frames(alloc, tables, binding, frames, fdes)?;
     Ok(FoldItem {
         section,
         bytes: contents(tables.file(file), index),
@@ -150,13 +151,15 @@ fn item_in<'a>(
         sh_type: input.sh_type,
         align: input.align,
         output: output_name(input.name),
+        own: own.len() as u64,
+        frames: list,
         relocs,
     })
 }
 
 /// The bytes of a section.
 #[tactic(auto, unfolding(link_sections::specs::MergeSections::contents, lk_tables::specs::Names::text_of))]
-fn contents<'a>(file: &File<'a>, index: u32) -> &'a [u8]
+pub fn contents<'a>(file: &File<'a>, index: u32) -> &'a [u8]
     ensures { result.now ≡ contents (file_view file.now) index }
 {
     let section = file.section(index as usize);
@@ -190,7 +193,7 @@ fn fold_relocs(
 }
 
 /// One relocation of a file.
-fn fold_reloc(
+pub fn fold_reloc(
     tables: &Tables,
     binding: &Binding,
     pools: &Pools,

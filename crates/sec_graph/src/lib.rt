@@ -1,16 +1,23 @@
 //! Which sections each section leads to, and the first reference that stands for nothing.
 //!
 //! `pairs` lists the sections of a file that go together without a relocation, `named_sections` finds the sections of each name to whose
-//! start or end symbols refer, `ends` joins both with what relocations name, `graph` does so for all files, and `undefined_symbols` finds
-//! what a kept section refers to though nothing defines it; `prevailing` says what names stand for without a look into other files.
-//! `fold_lists` lists what may be folded, with what its relocations refer to, and `taken` finds the sections whose address is taken.
+//! start or end symbols refer, `frame_relocs` reads unwind records and `frame_ends` lists the sections that they name, `ends` joins these with
+//! what relocations name, `graph` does so for all files, and `undefined_symbols` finds what a kept section refers to though nothing defines it;
+//! `needed_frames` says which unwind records count as well, and `prevailing` what names stand for without a look into other files.
+//! `fold_lists` lists what may be folded, with what its relocations refer to, `fold_frames` the unwind records of each, and `taken` finds the
+//! sections whose address is taken.
 #![tactic(auto)]
 
 mod ends;
+mod fold_frames;
 mod fold_lists;
 mod foldable_names;
+mod frame_ends;
+mod frame_relocs;
 mod graph;
+mod kept;
 mod named_sections;
+mod needed_frames;
 mod pairs;
 mod prevailing;
 mod taken;

@@ -6,7 +6,7 @@ ghost use Rattle.lk_tables.specs.TablesView.{files_of};
 ghost use Rattle.lk_tables.specs.Walks.{over_file, over_section};
 ghost use Rattle.sec_graph.specs.Taken as spec;
 
-use crate::undefined_symbols::is_kept;
+use crate::kept::is_kept;
 use lk_base::abi::{
     R_RISCV_BRANCH, R_RISCV_CALL, R_RISCV_CALL_PLT, R_RISCV_JAL, R_RISCV_PCREL_LO12_I,
     R_RISCV_PCREL_LO12_S, R_RISCV_RVC_BRANCH, R_RISCV_RVC_JUMP,

@@ -2,7 +2,6 @@
 
 ghost use Rattle.std.specs.Prelude.{◌≡◌, ◌≢◌, ℕ, ◌<◌, ◌==◌, length, true, false};
 ghost use Rattle.std.proofs.Props.{props};
-ghost use Rattle.link_sections.specs.Leaders as kept_spec;
 ghost use Rattle.lk_base.specs.Firsts.{IsFirst};
 ghost use Rattle.lk_base.specs.declared.abi.TheConstants.{STB_WEAK};
 ghost use Rattle.lk_tables.specs.BindingView.{binding_view};
@@ -10,23 +9,33 @@ ghost use Rattle.lk_tables.specs.Files.{file_at, is_visible, symbol_at};
 ghost use Rattle.lk_tables.specs.Ranks.{no_rank};
 ghost use Rattle.lk_tables.specs.Targets.{bound_by, is_undefined};
 ghost use Rattle.lk_tables.specs.TablesView.{files_of};
+ghost use Rattle.sec_graph.specs.FrameRelocs.{AreFramesOf};
 ghost use Rattle.sec_graph.specs.Prevailing.{PrevailingStand, is_nobody};
 ghost use Rattle.sec_graph.specs.Undefined as spec;
 
+use crate::kept::is_kept;
+use crate::needed_frames::is_needed;
 use crate::prevailing::{is_discarded, is_prevailing, prevailing_stand};
 use lk_base::abi::STB_WEAK;
 use lk_base::kinds::UNDEFINED;
 use lk_base::relocations::names_a_symbol;
 use lk_base::{Defect, FileNo, SymNo};
 use lk_tables::{
-    Binding, NO_RANK, Reloc, RelocTest, Symbol, Tables, first_over_relocs, is_common, is_undefined,
-    is_visible, reloc_defect,
+    Binding, Frames, NO_RANK, Reloc, RelocTest, Symbol, Tables, first_over_relocs, is_common,
+    is_undefined, is_visible, reloc_defect,
 };
 
 /// The first relocation of a kept section, in order of file, section and offset, whose symbol stands for nothing, though it is not
-/// WEAK: nothing defines its name, or it stands in a section that was discarded with its group. `kept` goes by section number; a
-/// number past its end is not kept. The relocations of a file are read only if one of its symbols stands for nothing. Takes no memory.
-pub fn undefined(tables: &Tables, binding: &Binding, kept: &[bool]) -> Option<Defect>
+/// WEAK: nothing defines its name, or it stands in a section that was discarded with its group. Of a kept function's FDEs all
+/// relocations but that of PC Begin count as well, and all relocations of their CIEs. `kept` goes by section number; a number past its end is not kept. The
+/// relocations of a file are read only if one of its symbols stands for nothing. Takes no memory.
+pub fn undefined(
+    tables: &Tables,
+    binding: &Binding,
+    kept: &[bool],
+    frames: &Frames,
+) -> Option<Defect>
+    requires { AreFramesOf (files_of tables.now) (binding_view binding.now) frames.now }
     ensures { IsFirst (spec.undefined_defects (files_of tables.now) (binding_view binding.now) kept.now) result }
 {
     first_over_relocs(
@@ -35,6 +44,7 @@ pub fn undefined(tables: &Tables, binding: &Binding, kept: &[bool]) -> Option<De
             tables,
             binding,
             kept,
+            frames,
             prevailing_stand: prevailing_stand(tables, binding),
         },
     )
@@ -46,9 +56,11 @@ struct SymbolTest<'t, 'a> {
     tables: &'t Tables<'a>,
     binding: &'t Binding,
     kept: &'t [bool],
+    frames: &'t Frames,
     /// Whether each symbol that prevails stands for something: then a name that is bound to one is not looked up in the file of that.
     prevailing_stand: bool,
 
+    ghost framed: { AreFramesOf (files_of tables.now) (binding_view binding.now) frames.now } by { Prim.hlevel props },
     ghost stand: { prevailing_stand ≡ true → PrevailingStand (files_of tables.now) (binding_view binding.now) } by { Prim.hlevel props },
 }
 
@@ -62,7 +74,15 @@ impl<'t, 'a> RelocTest for SymbolTest<'t, 'a> {
     }
 
     fn check(&self, file: FileNo, section: u32, reloc: &Reloc) -> Option<Defect> {
-        check_reloc(self.tables, self.binding, self.kept, file, section, reloc)
+        check_reloc(
+            self.tables,
+            self.binding,
+            self.kept,
+            self.frames,
+            file,
+            section,
+            reloc,
+        )
     }
 }
 
@@ -129,34 +149,27 @@ fn is_surely_bound(test: &SymbolTest, rank: u64) -> bool
     is_prevailing(test.tables, test.binding, rank)
 }
 
-/// The defect of one relocation, if its section is kept and its symbol is undefined.
+/// The defect of one relocation, if it is needed and its symbol is undefined.
 #[tactic(auto, unfolding(crate::specs::Undefined::undefined_at))]
 fn check_reloc(
     tables: &Tables,
     binding: &Binding,
     kept: &[bool],
+    frames: &Frames,
     file: FileNo,
     section: u32,
     reloc: &Reloc,
 ) -> Option<Defect>
-    requires { file < length (files_of tables.now) }
+    requires file { file < length (files_of tables.now) }
+    requires frames { AreFramesOf (files_of tables.now) (binding_view binding.now) frames.now }
     ensures { IsFirst (spec.undefined_at (files_of tables.now) (binding_view binding.now) kept.now file section reloc.now) result }
 {
-    if !is_kept(kept, tables.section_no(file as usize, section as usize)) {
-        return None;
-    }
     if !names_a_symbol(reloc.kind) || !is_undefined(tables, binding, file, reloc.symbol) {
         return None;
     }
-    Some(reloc_defect(UNDEFINED, file, section, reloc, 0))
-}
-
-/// Whether a section is kept, by its number.
-pub fn is_kept(kept: &[bool], section: usize) -> bool
-    ensures { result ≡ kept_spec.is_kept kept.now section }
-{
-    match kept.get(section) {
-        Some(is_kept) => *is_kept,
-        None => false,
+    let number = tables.section_no(file as usize, section as usize);
+    if !is_kept(kept, number) && !is_needed(tables, binding, kept, frames, number, reloc) {
+        return None;
     }
+    Some(reloc_defect(UNDEFINED, file, section, reloc, 0))
 }

@@ -25,7 +25,7 @@ bound_is true n m is = (refl, cc)
 bound_is false n m is = cc
 
 module _ (files : List File) (b : Bindings) (leaders : List (Option ℕ)) (laid : LaidOut) where
-  -- of a fixed name
+  -- of one that is no section's
   pub fixed_at : (number : ℕ) → bound_if number ≡ None → edge_address laid (edge_of number) ≡ linker_address files b leaders laid number
   unfolding linker_address
   fixed_at number none =

@@ -1,5 +1,5 @@
 -- The offset at which a symbol stands in a section is at most the greatest size of one.
-use Rattle.std.proofs.Common.{◌≡◌, ℕ, ◌<◌, ◌≤◌, Bool, true, false, List, length, refl, sym, ap, ◌∙◌, subst, arith, inl, inr, Some, None}
+use Rattle.std.proofs.Common.{◌≡◌, ℕ, ◌<◌, ◌≤◌, ◌==◌, ◌&&◌, Bool, true, false, List, length, refl, sym, ap, ◌∙◌, subst, arith, inl, inr, Some, None}
 use Rattle.std.specs.Prelude.{Option, if◌then◌else◌}
 use Rattle.std.proofs.lemmas.Bool.{and_parts, cases_lt, ltb-true}
 use Rattle.std.proofs.lemmas.List.{get_or_past}
@@ -13,7 +13,8 @@ use Rattle.lk_tables.specs.declared.heads.Symbol.{Symbol}
 use Rattle.lk_tables.specs.declared.tables.Tables.{Tables}
 use Rattle.lk_tables.specs.Binding.{Bindings}
 use Rattle.lk_tables.specs.BoundNames.{IsBindingOf}
-use Rattle.lk_tables.specs.Files.{File, IsSound, file_at, is_section_symbol, no_section, no_symbol, section_at, section_no, symbol_at, writes}
+use Rattle.lk_tables.specs.Files.{File, IsSound, file_at, is_frame_at, is_section_symbol, no_section, no_symbol, section_at, section_no, symbol_at, writes}
+use Rattle.lk_tables.specs.FixedSymbols.{frame_start_no}
 use Rattle.lk_tables.specs.Inside.{IsHeadInside, IsLinked, IsPlaceWithin}
 use Rattle.lk_tables.specs.TablesView.{files_of}
 use Rattle.lk_tables.specs.Targets.{bound, defined_by, definition, offset_in, room_of}
@@ -35,9 +36,11 @@ either_near : (d : Bool) (x y : Bound) → IsNear x → IsNear y → IsNear (if 
 either_near true x y one other = one
 either_near false x y one other = other
 
-written_near : (d : Bool) (section offset value : ℕ) → (d ≡ true → offset ≤ NOBITS_MAX) → IsNear (if d then InSection section offset else Number value)
-written_near true section offset value near = near refl
-written_near false section offset value near = tt
+written_near : (d start : Bool) (section offset value : ℕ) → (d ≡ true → offset ≤ NOBITS_MAX) →
+    IsNear (if d then InSection section offset else (if start then Linker frame_start_no else Number value))
+written_near true start section offset value near = near refl
+written_near false true section offset value near = tt
+written_near false false section offset value near = tt
 
 offset_most : (d : Bool) (value : ℕ) → (if d then 0 else value) ≤ value
 offset_most true value = omega arith
@@ -69,7 +72,7 @@ near_by files b f i Common sound is = room_near _
 near_by files b f i (Within k) sound is =
     let s = symbol_at (file_at files f) i in
     either_near _ Nobody _ tt
-    (written_near (writes (file_at files f) k) (section_no files f k) (offset_in s) s.value (λ written.
+    (written_near (writes (file_at files f) k) (is_frame_at (file_at files f) k && s.value == 0) (section_no files f k) (offset_in s) s.value (λ written.
     omega (arith, offset_most (is_section_symbol s) s.value, value_near (file_at files f) i k sound is written)))
 
 definitions_near : (tables : Tables) (b : Bindings) → OfDefinitions (files_of tables) b IsNear

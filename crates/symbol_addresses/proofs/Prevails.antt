@@ -10,7 +10,7 @@ use Rattle.lk_base.specs.declared.abi.TheConstants.{STB_LOCAL}
 use Rattle.lk_tables.specs.Binding.{Bindings, Offer, bound_rank, class_of, is_discarded, is_offer, least_rank, live_rank, offer_at, offered_bindings, offers, offers_in, rank_bound}
 use Rattle.lk_tables.specs.BoundNames.{IsBindingOf, bindings, linked_rank, or_linker, rank_of_linker}
 use Rattle.lk_tables.specs.Files.{AreFew, File, file_at, is_visible, section_total, symbol_at, symbol_name, symbol_no}
-use Rattle.lk_tables.specs.LinkerSymbols.{linker_no}
+use Rattle.lk_tables.specs.LinkerSymbols.{fixed_count, linker_no}
 use Rattle.lk_tables.specs.Ranks.{class_of_rank, file_of, is_linker_rank, linker_class, linker_rank, no_rank, rank_of, symbol_of_rank}
 use Rattle.lk_tables.specs.Targets.{rank_at}
 use Rattle.lk_tables.proofs.BoundHas.{class_few, each_flat, each_if, offered_is, one_if, rank_is}
@@ -107,7 +107,7 @@ offered_by false x o few some other = refl
 offered_by true x None few some other = absurd (some refl)
 offered_by true x (Some n) few some other = absurd (true≢false (sym (eq-eqb (class_of_rank (linker_rank n)) linker_class (linker_class_is n few)) ∙ other))
 
-few_numbers : (files : List File) (o : Option ℕ) → AreFew files → IfNumber (λ n. n < 18 + 2 * section_total files) o → IfNumber (λ n. n < 2 ^ 31) o
+few_numbers : (files : List File) (o : Option ℕ) → AreFew files → IfNumber (λ n. n < fixed_count + 2 * section_total files) o → IfNumber (λ n. n < 2 ^ 31) o
 few_numbers files None few below = tt
 few_numbers files (Some n) few below = omega (arith, below, few.section_count_is)
 

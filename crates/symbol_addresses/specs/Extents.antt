@@ -1,4 +1,4 @@
--- Where the output sections of a name start and end, and the addresses of the linker's symbols that have fixed names.
+-- Where the output sections of a name start and end, and the addresses of the linker's symbols that are no section's.
 use Rattle.std.specs.Prelude.{ℕ, ◌+◌, ◌<◌, ◌^◌, List, map, All}
 use Rattle.std.specs.List.{range_with_len}
 use Rattle.lk_base.specs.declared.abi.TheConstants.{IMAGE_BASE}
@@ -15,7 +15,7 @@ extent_of laid name = record { start = start_or IMAGE_BASE (first_place laid nam
 unfoldable pub array_extent : LaidOut → (name : List ℕ) → Extent
 array_extent laid name = record { start = start_or IMAGE_BASE (array_place laid name); end = end_or IMAGE_BASE (array_place laid name) }
 
--- the address of each symbol of a fixed name, by its number
+-- the address of each of these symbols, by its number
 unfoldable pub fixed_addresses : LaidOut → List ℕ
 fixed_addresses laid = map (λ n. edge_address laid (edge_of n)) (range_with_len 0 fixed_count)
 

@@ -1,4 +1,4 @@
-//! The addresses of the linker's symbols that have fixed names (the conventions of GNU ld's scripts; RISC-V ELF psABI, "Global Pointer").
+//! The addresses of the linker's symbols that are no section's (the conventions of GNU ld's scripts; RISC-V ELF psABI, "Global Pointer").
 
 ghost use Rattle.std.specs.Prelude.{◌≡◌, ◌+◌, codes, IfOk};
 ghost use Rattle.link_sections.specs.Addresses as spec;
@@ -8,10 +8,10 @@ ghost use Rattle.symbol_addresses.specs.Links.{link_laid};
 use crate::links::LaidLink;
 use crate::places::{array_in, rw_place, start_or};
 use lk_base::abi::IMAGE_BASE;
-use lk_tables::{Edge, FIXED_SYMBOLS, edge_of};
+use lk_tables::{Edge, FIXED_COUNT, edge_of};
 use std::alloc::{AllocError, Global};
 
-/// The address of a symbol of a fixed name.
+/// The address of a symbol of the linker's that is no section's.
 #[tactic(auto, unfolding(link_sections::specs::Addresses::edge_address, link_sections::specs::LaidOut::with_contents, link_sections::specs::LaidOut::layout_view, crate::specs::Extents::array_extent))]
 pub fn edge_address(link: &LaidLink, edge: Edge) -> u64
     requires { HasRoom (link_laid link.now) }
@@ -30,6 +30,7 @@ pub fn edge_address(link: &LaidLink, edge: Edge) -> u64
         Edge::InitEnd => array_in(link, b".init_array").end,
         Edge::FiniStart => array_in(link, b".fini_array").start,
         Edge::FiniEnd => array_in(link, b".fini_array").end,
+        Edge::FrameStart => link.layout.bounds.frames,
     }
 }
 
@@ -48,8 +49,8 @@ pub fn find_fixed(alloc: Global, link: &LaidLink) -> Result<Vec<u64>, AllocError
     requires { HasRoom (link_laid link.now) }
     ensures { IfOk result (λ list. list.items ≡ fixed_addresses (link_laid link.now)) }
 {
-    let mut list = Vec::with_capacity(alloc, FIXED_SYMBOLS as usize)?;
-    for number in 0..FIXED_SYMBOLS {
+    let mut list = Vec::with_capacity(alloc, FIXED_COUNT as usize)?;
+    for number in 0..FIXED_COUNT {
         list.push(edge_address(link, edge_of(number)))?;
     }
     Ok(list)

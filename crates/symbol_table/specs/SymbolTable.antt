@@ -8,6 +8,7 @@ use Rattle.lk_tables.specs.declared.bounds.Bound.TheVariants.{InSection, Number,
 use Rattle.lk_tables.specs.declared.heads.Symbol.{Symbol}
 use Rattle.lk_tables.specs.Binding.{Bindings, class_of, is_offer}
 use Rattle.lk_tables.specs.Files.{File, file_at, is_visible, section_no, symbol_at, symbol_name, symbol_no}
+use Rattle.lk_tables.specs.FixedSymbols.{frame_start_no}
 use Rattle.lk_tables.specs.InputSections.{InputSection, input_of}
 use Rattle.lk_tables.specs.Ranks.{rank_of}
 use Rattle.lk_tables.specs.Symbols.{is_common}
@@ -91,13 +92,17 @@ module _ (files : List File) (b : Bindings) (kept : List Bool) (leaders : List (
     section = Absolute;
   }
 
+  -- the entry of a symbol that stands in no section that is written
+  abbrev pub absolute : (f i : ℕ) → List TableSymbol
+  absolute f i = if is_taken files b f i then own_symbol f i (symbol_at (file_at files f) i).size Absolute ∷ [] else []
+
   -- the entry of symbol i of file f by what it stands for: its name is that of a symbol of the linker's; or it is taken, and its section
-  -- is kept or it stands in none
+  -- is kept or it stands in none. The start of `.eh_frame` has no name: who stands for it has an entry of its own
   unfoldable pub entry_by : Bound → (f i : ℕ) → List TableSymbol
   entry_by (InSection n offset) f i = if is_taken files b f i && is_kept kept n
       then own_symbol f i (size_in f n offset (symbol_at (file_at files f) i)) (place_in laid (section_in files b f n)) ∷ [] else []
-  entry_by (Number n) f i = if is_taken files b f i then own_symbol f i (symbol_at (file_at files f) i).size Absolute ∷ [] else []
-  entry_by (Linker n) f i = linker_symbol f i ∷ []
+  entry_by (Number n) f i = absolute f i
+  entry_by (Linker n) f i = if n == frame_start_no then absolute f i else linker_symbol f i ∷ []
   entry_by Nobody f i = []
 
   -- a local symbol has none

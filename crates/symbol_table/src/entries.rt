@@ -2,7 +2,7 @@
 
 ghost use Rattle.std.specs.Prelude.{◌≡◌, ◌-◌, ◌<◌, length};
 ghost use Rattle.lk_tables.specs.Files.{file_at, symbol_at};
-ghost use Rattle.lk_tables.specs.declared.bounds.Bound.TheVariants.{InSection, Number};
+ghost use Rattle.lk_tables.specs.declared.bounds.Bound.TheVariants.{InSection, Linker};
 ghost use Rattle.link_sections.specs.InputViews.{input_view};
 ghost use Rattle.link_sections.specs.Leaders as leaders;
 ghost use Rattle.link_sections.specs.Views.{binding_in, files_in, laid_in, leaders_in};
@@ -16,7 +16,9 @@ use crate::symbols::{TablePlace, TableSymbol};
 use link_sections::{InputSection, View, input_in};
 use lk_base::abi::{STB_GLOBAL, STB_WEAK, STT_COMMON, STT_NOTYPE, STT_OBJECT, STT_TLS};
 use lk_base::{FileNo, SecNo, SymNo, low_bits};
-use lk_tables::{Bound, Symbol, class_of, is_common, is_offer, is_visible, rank_of};
+use lk_tables::{
+    Bound, FRAME_START_NO, Symbol, class_of, is_common, is_offer, is_visible, rank_of,
+};
 use symbol_addresses::{leader_of, offset_in, symbol_address};
 
 /// The entry of a symbol of a file, if it has one.
@@ -40,8 +42,8 @@ pub fn entry_of<'t, 'a>(
         Bound::InSection { section, offset } => in_section(
             view, outputs, file, symbol, section, offset,
         ),
-        Bound::Number(number) => absolute(view, file, symbol, number),
-        Bound::Linker(_) => Some(linker_symbol(view, file, symbol)),
+        Bound::Number(_) => absolute(view, file, symbol),
+        Bound::Linker(number) => of_linker(view, file, symbol, number),
         Bound::Nobody => None,
     }
 }
@@ -90,17 +92,30 @@ fn kept_symbol<'t, 'a>(
     own_symbol(view, file, symbol, size, place)
 }
 
-/// That of a symbol that stands in no section.
+/// That of a symbol that stands for one of the linker's. The start of `.eh_frame` has no name, so a symbol that stands for it has an entry of
+/// its own.
 #[tactic(auto, unfolding(crate::specs::SymbolTable::entry_by))]
-fn absolute<'t, 'a>(
+fn of_linker<'t, 'a>(
     view: &View<'t, 'a>,
     file: FileNo,
     symbol: SymNo,
-    number: u64,
+    number: u32,
 ) -> Option<TableSymbol<'a>>
     requires file { file < length (files_in view.now) }
     requires symbol { symbol < length (file_at (files_in view.now) file).head.symbols }
-    ensures { views_if result ≡ spec.entry_by (files_in view.now) (binding_in view.now) view.now.kept.now (leaders_in view.now) (laid_in view.now) (Number number) file symbol }
+    ensures { views_if result ≡ spec.entry_by (files_in view.now) (binding_in view.now) view.now.kept.now (leaders_in view.now) (laid_in view.now) (Linker number) file symbol }
+{
+    if number == FRAME_START_NO {
+        return absolute(view, file, symbol);
+    }
+    Some(linker_symbol(view, file, symbol))
+}
+
+/// That of a symbol that stands in no section that is written, if it is taken.
+fn absolute<'t, 'a>(view: &View<'t, 'a>, file: FileNo, symbol: SymNo) -> Option<TableSymbol<'a>>
+    requires file { file < length (files_in view.now) }
+    requires symbol { symbol < length (file_at (files_in view.now) file).head.symbols }
+    ensures { views_if result ≡ spec.absolute (files_in view.now) (binding_in view.now) view.now.kept.now (leaders_in view.now) (laid_in view.now) file symbol }
 {
     if !is_taken(view, file, symbol) {
         return None;

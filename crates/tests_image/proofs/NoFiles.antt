@@ -1,5 +1,5 @@
 -- A link without files, for the tests.
-use Rattle.std.proofs.Common.{◌≡◌, ℕ, ◌+◌, ◌<◌, ◌≤◌, ◌^◌, List, [], length, refl, ap, ◌∙◌, arith, slice_index}
+use Rattle.std.proofs.Common.{◌≡◌, ℕ, ◌+◌, ◌<◌, ◌≤◌, ◌^◌, true, false, List, [], length, refl, ap, sym, ◌∙◌, arith, slice_index}
 use Rattle.std.specs.List.{All}
 use Rattle.lk_base.specs.declared.abi.TheConstants.{EHDR_SIZE, IMAGE_BASE}
 use Rattle.lk_tables.specs.Binding.{Bindings, bound_rank, least_rank, offered_bindings, offers}
@@ -39,6 +39,11 @@ pub record IsBare (laid : LaidOut) : Type 0 where
   pub small : laid.bounds.file_end < IMAGE_BASE + 2 ^ 31
   pub pointer : laid.bounds.tls_bits_end + 2 ^ 31 < 2 ^ 64
   pub places : All (λ (p : OutputPlace). p.start + 2 ^ 31 < 2 ^ 64) laid.places
+  pub has_frames : laid.bounds.has_frames ≡ false
+  pub frame_header : laid.bounds.frame_header ≡ IMAGE_BASE
+  pub frame_header_end : laid.bounds.frame_header_end ≡ IMAGE_BASE
+  pub frames : laid.bounds.frames ≡ IMAGE_BASE
+  pub frames_end : laid.bounds.frames_end ≡ IMAGE_BASE
 
 start_none : (xs : List ℕ) (n room : ℕ) → xs ≡ [] → room < 2 ^ 64 → slice_index xs n + room < 2 ^ 64
 start_none xs n room none low =
@@ -73,4 +78,14 @@ bare_sound b laid bare =
       pointer_room = bare.pointer;
       place_room = bare.places;
       apart = λ k d lt. absurd (omega (arith, lt, cuts));
+      frames = record {
+        from = omega (arith, bare.frame_header);
+        header = omega (arith, bare.frame_header, bare.frame_header_end);
+        between = omega (arith, bare.frame_header_end, bare.frames);
+        frames = omega (arith, bare.frames, bare.frames_end);
+        inside = omega (arith, bare.frames_end, bare.headers);
+        above = λ has. let wrong : false ≡ true = sym bare.has_frames ∙ has in cc;
+        none = λ has. bare.frames_end;
+        apart = λ k d lt. absurd (omega (arith, lt, members));
+      };
     }

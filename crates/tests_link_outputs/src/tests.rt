@@ -11,6 +11,7 @@ mod orders;
 mod pairs;
 mod symbols;
 mod thread_data;
+mod unwound;
 
 use link_examples::{Files, Store, Stores, shared_files};
 use link_runs::{each_is_refused, each_links};
@@ -32,6 +33,7 @@ impl Stores for OwnStores {
             Store::Aligned => aligned::files(alloc),
             Store::Symbols => symbols::files(alloc),
             Store::Maps => maps::files(alloc),
+            Store::Unwound => unwound::files(alloc),
             _ => shared_files(alloc, store),
         }
     }
@@ -212,4 +214,29 @@ fn a_map_has_pools(rt: HostRuntime) -> Result<(), Fail> {
 #[test]
 fn a_map_escapes_names(rt: HostRuntime) -> Result<(), Fail> {
     each_links!(rt; &OwnStores, maps::NAMES)
+}
+
+#[test]
+fn unwind_records_are_written(rt: HostRuntime) -> Result<(), Fail> {
+    each_links!(rt; &OwnStores, unwound::WRITTEN)
+}
+
+#[test]
+fn unwind_records_keep_what_their_functions_need(rt: HostRuntime) -> Result<(), Fail> {
+    each_links!(rt; &OwnStores, unwound::COLLECTED)
+}
+
+#[test]
+fn functions_of_different_records_are_not_folded(rt: HostRuntime) -> Result<(), Fail> {
+    each_links!(rt; &OwnStores, unwound::FOLDED)
+}
+
+#[test]
+fn unwind_records_are_checked_as_they_are_written(rt: HostRuntime) -> Result<(), Fail> {
+    each_is_refused!(rt; &OwnStores, unwound::LACKING_OR_FAR)
+}
+
+#[test]
+fn wrong_unwind_records_are_refused(rt: HostRuntime) -> Result<(), Fail> {
+    each_is_refused!(rt; &OwnStores, unwound::WRONG)
 }

@@ -5,6 +5,7 @@ mod archives;
 mod bound_names;
 mod commands;
 mod defect_lines;
+mod frames;
 mod generated;
 mod known_names;
 mod objects;

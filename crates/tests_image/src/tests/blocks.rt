@@ -11,6 +11,7 @@ use elf_out::{SymbolTables, block, file_length, headers};
 use link_driver::Options;
 use link_sections::View;
 use lk_base::LinkStop;
+use lk_tables::FrameBytes;
 use reloc_apply::{apply, write_block};
 use std::alloc::{AllocError, Global};
 use std::test::Fail;
@@ -156,6 +157,7 @@ fn sections_agree(
 fn block_agrees(
     alloc: Global,
     view: &View,
+    frames: &FrameBytes,
     tables: &Option<SymbolTables>,
     exe: &[u8],
     k: u64,
@@ -170,7 +172,7 @@ fn block_agrees(
     let from = 65536 * k;
     let size = most.min(end - from);
     let mut out = vec![in alloc; 0xa5u8; size as usize]?;
-    block(alloc, view, tables, k, &mut out)?;
+    block(alloc, view, frames, tables, k, &mut out)?;
     Ok(exe.iter().skip(from as usize).take(size as usize).eq(&out))
 }
 
@@ -181,6 +183,7 @@ const LENGTHS: [u64; 6] = [65536, 65535, 4096, 64, 1, 0];
 fn block_agrees_by_each(
     alloc: Global,
     view: &View,
+    frames: &FrameBytes,
     tables: &Option<SymbolTables>,
     exe: &[u8],
     k: u64,
@@ -188,7 +191,7 @@ fn block_agrees_by_each(
     requires { tables_if tables.now ≡ tables_in view.now }
 {
     for most in LENGTHS {
-        if !block_agrees(alloc, view, tables, exe, k, most)? {
+        if !block_agrees(alloc, view, frames, tables, exe, k, most)? {
             return Ok(false);
         }
     }
@@ -199,6 +202,7 @@ fn block_agrees_by_each(
 fn file_agrees(
     alloc: Global,
     view: &View,
+    frames: &FrameBytes,
     tables: &Option<SymbolTables>,
     exe: &[u8],
 ) -> Result<bool, LinkStop>
@@ -207,7 +211,7 @@ fn file_agrees(
     let start = headers(alloc, view, tables)?;
     let length = file_length(view, tables)?;
     for k in 0..=length / 65536 {
-        if !block_agrees_by_each(alloc, view, tables, exe, k)? {
+        if !block_agrees_by_each(alloc, view, frames, tables, exe, k)? {
             return Ok(false);
         }
     }
@@ -218,6 +222,7 @@ fn file_agrees(
 pub fn blocks_agree(
     alloc: Global,
     view: &View,
+    frames: &FrameBytes,
     tables: &Option<SymbolTables>,
     exe: &[u8],
     lengths: Option<Lengths>,
@@ -227,7 +232,7 @@ pub fn blocks_agree(
     let Some(lengths) = lengths else {
         return Ok(true);
     };
-    Ok(file_agrees(alloc, view, tables, exe)? && sections_agree(alloc, view, exe, lengths)?)
+    Ok(file_agrees(alloc, view, frames, tables, exe)? && sections_agree(alloc, view, exe, lengths)?)
 }
 
 /// Whether an executable is the one that was worked out by hand, where one was.

@@ -3,7 +3,7 @@
 ghost use Rattle.lk_base.specs.Limits.{IsWithinStandard};
 
 use super::links::{PLAIN, inputs_of, run_passes, run_within};
-use super::objects::{CODE, object_with};
+use super::objects::{CODE, LABEL, START, object_with};
 use elf_bytes::{Object, Reloc, Section, object, reloc, section, symbol};
 use link_sections::{Content, Layout, Member, OutputPlace};
 use lk_base::abi::SHT_NOBITS;
@@ -275,6 +275,31 @@ fn output_sections_past_their_limit_are_refused(rt: HostRuntime) -> Result<(), F
     // The count comes first, even if the image is too large as well.
     let found = count_within(&rt, rt.alloc(), &sections, 1, 1);
     assert_eq!(rt; found, Err(LinkStop::Defect(count_defect(2))));
+    Ok(())
+}
+
+/// A function with its unwind records.
+const UNWOUND: Object = object!(1; [
+    section!(b".text", 1, 6, 4; b"\x67\x80\0\0"),
+    section!(b".eh_frame", 1, 2, 8;
+        b"\x10\0\0\0\0\0\0\0\x01zR\0\x01|\x01\x01\x1b\x0c\x02\0\x10\0\0\0\x18\0\0\0\0\0\0\0\x04\0\0\0\0\0\0\0";
+        relocs: &[reloc!(28, 57, 1, 0)]),
+]; [LABEL, START]);
+
+/// They and their table are output sections of the linker's own.
+#[test]
+fn unwind_records_stand_last_in_what_is_read(rt: HostRuntime) -> Result<(), Fail> {
+    let inputs = inputs_of(rt.alloc(), &[UNWOUND])?;
+    let made = run_within(&rt, rt.alloc(), &limits_of(3, 0x8000_0000), &inputs, &PLAIN)?;
+    let rows = [
+        output(b".eh_frame_hdr", 1, 2, 0x10120, 20, 4),
+        output(b".eh_frame", 1, 2, 0x10138, 44, 8),
+        output(b".text", 1, 6, 0x11000, 4, 4),
+    ];
+    check(&rt, &made.layout, &[0x11000, 0], &rows, 4, 0x11004);
+    assert_eq!(rt; made.layout.members.len(), 1);
+    let found = run_within(&rt, rt.alloc(), &limits_of(2, 0x8000_0000), &inputs, &PLAIN);
+    assert!(rt; found.err() == Some(LinkStop::Defect(count_defect(3))));
     Ok(())
 }
 

@@ -46,6 +46,8 @@ fn add<'a>(
         sh_type: 1,
         align: 2,
         output: b".text",
+        own: 1,
+        frames: Vec::new(alloc),
         relocs,
     })?;
     Ok(())

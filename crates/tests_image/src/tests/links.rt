@@ -1,6 +1,10 @@
 //! Links of objects, pass after pass.
 
 ghost use Rattle.std.specs.Prelude.{◌≡◌, ◌≤◌};
+ghost use Rattle.eh_frame.specs.FrameLaws.{ArePlain};
+ghost use Rattle.eh_frame.specs.Plan.{plan_of};
+ghost use Rattle.layout.specs.Layout.{frame_sizes};
+ghost use Rattle.layout.specs.Spots.{HasFrames};
 ghost use Rattle.link_driver.specs.Tables.{MayStay};
 ghost use Rattle.link_sections.specs.GotView.{entries_of};
 ghost use Rattle.link_sections.specs.LaidOut.{layout_view, with_contents};
@@ -9,19 +13,24 @@ ghost use Rattle.link_sections.specs.Sound.{IsSound};
 ghost use Rattle.lk_base.specs.Limits.{IsWithinStandard};
 ghost use Rattle.lk_tables.specs.BindingView.{binding_view};
 ghost use Rattle.lk_tables.specs.BoundNames.{IsBindingOf};
+ghost use Rattle.lk_tables.specs.FramePlans.{plan_view};
+ghost use Rattle.lk_tables.specs.Frames.{AreListsWithin, all_lists, lists_of};
 ghost use Rattle.lk_tables.specs.NameNumbers.{NumbersNames, heads_alone};
 ghost use Rattle.lk_tables.specs.TablesView.{files_of};
+ghost use Rattle.output_sections.specs.Items.{AreLeaders};
+ghost use Rattle.sec_graph.specs.FrameRelocs.{AreFramesOf};
 
 use super::blocks::{Lengths, blocks_agree};
 use elf_bytes::{Object, object_of};
 use elf_out::{SymbolTables, symtab, write_executable};
 use got_tls::entries;
 use link_driver::{
-    Inputs, Options, bind_names, find_kept, find_leaders, find_sources, lay_out, read_files,
+    Inputs, Options, bind_names, find_frames, find_kept, find_leaders, find_plan, find_sources,
+    lay_out, read_files, write_frames,
 };
 use link_sections::{Addresses, Got, Layout, Pools, View};
 use lk_base::{Limits, LinkStop, SecNo};
-use lk_tables::{Binding, NameNumbers, Tables};
+use lk_tables::{Binding, FramePlan, Frames, NameNumbers, Tables};
 use map_file::map_text;
 use name_numbers::number_names;
 use reloc_apply::find_uppers;
@@ -121,6 +130,7 @@ fn answers_of<R: Threads + Sync>(
     kept: &[bool],
     pools: &Pools,
     leaders: &[Option<SecNo>],
+    plan: &FramePlan,
     got: &Got,
     layout: &Layout,
     numbers: &NameNumbers,
@@ -128,6 +138,12 @@ fn answers_of<R: Threads + Sync>(
 ) -> Result<Written, LinkStop>
     requires bound { IsBindingOf (files_of tables.now) (binding_view binding.now) }
     requires numbers { NumbersNames (heads_alone (files_of tables.now)) numbers.now }
+    requires lead { AreLeaders (files_of tables.now) (binding_view binding.now) leaders.now }
+    requires lists { lists_of plan.now.frames.now ≡ all_lists (files_of tables.now) }
+    requires within { AreListsWithin (files_of tables.now) (all_lists (files_of tables.now)) }
+    requires plain { ArePlain (all_lists (files_of tables.now)) }
+    requires plan { plan_view plan.now ≡ plan_of (files_of tables.now) (binding_view binding.now) (with_contents (layout_view layout.now) (pools_view (files_of tables.now) pools.now) (entries_of got.now)).merging.merged (all_lists (files_of tables.now)) leaders.now }
+    requires framed { HasFrames (frame_sizes plan.now) layout.now.bounds }
     requires sound { IsSound (files_of tables.now) (binding_view binding.now) leaders.now (with_contents (layout_view layout.now) (pools_view (files_of tables.now) pools.now) (entries_of got.now)) }
 {
     let addresses = find_addresses(
@@ -149,9 +165,10 @@ fn answers_of<R: Threads + Sync>(
         names: names.as_slice(),
         strip: asked.options.strip,
     };
-    let exe = write_executable(rt, alloc, &view, 2, &OpenGate)?;
+    let frames = write_frames(rt, alloc, &view, plan, 2, &OpenGate)?;
+    let exe = write_executable(rt, alloc, &view, &frames, 2, &OpenGate)?;
     let tables = symtab(rt, alloc, &view, 2, &OpenGate)?;
-    let agrees = blocks_agree(alloc, &view, &tables, &exe, asked.lengths)?;
+    let agrees = blocks_agree(alloc, &view, &frames, &tables, &exe, asked.lengths)?;
     let map = map_text(rt, alloc, &view, 2, &OpenGate)?;
     let by_one = values_by(rt, alloc, &view, 1)?;
     let by_two = values_by(rt, alloc, &view, 2)?;
@@ -173,11 +190,14 @@ fn kept_made<'a, R: Threads + Sync>(
     limits: &Limits,
     tables: &Tables<'a>,
     binding: &Binding,
+    frames: &Frames,
     kept: &[bool],
     asked: &Asked,
 ) -> Result<Made<'a>, LinkStop>
     requires limits { IsWithinStandard limits.now }
     requires bound { IsBindingOf (files_of tables.now) (binding_view binding.now) }
+    requires frames { AreFramesOf (files_of tables.now) (binding_view binding.now) frames.now }
+    requires plain { ArePlain (all_lists (files_of tables.now)) }
     requires stay { MayStay (files_of tables.now) (binding_view binding.now) kept.now }
 {
     tables.is_few();
@@ -189,12 +209,24 @@ fn kept_made<'a, R: Threads + Sync>(
         alloc,
         tables,
         binding,
+        frames,
         kept,
         &[],
         &pools,
         options,
         2,
         &OpenGate,
+    )?;
+    let plan = find_plan(
+        alloc,
+        tables,
+        binding,
+        frames,
+        kept,
+        &[],
+        &pools,
+        leaders.as_slice(),
+        options,
     )?;
     let got = entries(alloc, tables, &numbers, leaders.as_slice())?;
     let layout = match lay_out(
@@ -207,6 +239,7 @@ fn kept_made<'a, R: Threads + Sync>(
         &[],
         &pools,
         leaders.as_slice(),
+        &plan,
         &got,
         options,
         2,
@@ -223,6 +256,7 @@ fn kept_made<'a, R: Threads + Sync>(
         kept,
         &pools,
         leaders.as_slice(),
+        &plan,
         &got,
         &layout,
         &numbers,
@@ -246,16 +280,44 @@ pub fn run_within<'a, R: Threads + Sync>(
     requires { IsWithinStandard limits.now }
 {
     let sources = find_sources(alloc, limits, inputs)?;
-    let tables = match read_files(rt, alloc, limits, sources.as_slice(), &[], 2, &OpenGate) {
-        Ok(tables) => tables,
+    let (tables, records) = match read_files(
+        rt,
+        alloc,
+        limits,
+        sources.as_slice(),
+        &[],
+        2,
+        &OpenGate,
+    ) {
+        Ok(both) => both,
         Err(stop) => return Err(stop),
     };
     let binding = match bind_names(rt, alloc, &tables, asked.entry, 2, &OpenGate) {
         Ok(binding) => binding,
         Err(stop) => return Err(stop),
     };
-    let kept = find_kept(rt, alloc, &tables, &binding, false, &[], 2, &OpenGate)?;
-    kept_made(rt, alloc, limits, &tables, &binding, kept.as_slice(), asked)
+    let frames = find_frames(alloc, &tables, &binding, records)?;
+    let kept = find_kept(
+        rt,
+        alloc,
+        &tables,
+        &binding,
+        &frames,
+        false,
+        &[],
+        2,
+        &OpenGate,
+    )?;
+    kept_made(
+        rt,
+        alloc,
+        limits,
+        &tables,
+        &binding,
+        &frames,
+        kept.as_slice(),
+        asked,
+    )
 }
 
 /// What the passes of a link give.

@@ -131,11 +131,11 @@ const BOUND: &[(SymNo, Bound)] = &[
     (17, Bound::Linker(15)),
     (18, Bound::Linker(16)),
     (19, Bound::Linker(17)),
-    // 18 + 2 * 2, and one more; 18 + 2 * 7, and one more.
-    (20, Bound::Linker(22)),
-    (21, Bound::Linker(23)),
-    (22, Bound::Linker(32)),
-    (23, Bound::Linker(33)),
+    // 19 + 2 * 2, and one more; 19 + 2 * 7, and one more.
+    (20, Bound::Linker(23)),
+    (21, Bound::Linker(24)),
+    (22, Bound::Linker(33)),
+    (23, Bound::Linker(34)),
     (
         24,
         Bound::InSection {
@@ -184,7 +184,7 @@ fn the_first_section_that_may_stay_is_named(rt: HostRuntime) -> Result<(), Fail>
     let tables = tables_of(rt.alloc(), bytes.as_slice())?;
     // Section 2 was discarded, and then both were.
     for (discarded, start) in [
-        ([false, false, true, false], Bound::Linker(24)),
+        ([false, false, true, false], Bound::Linker(25)),
         ([false, false, true, true], Bound::Nobody),
     ] {
         let binding = bind(
@@ -197,7 +197,7 @@ fn the_first_section_that_may_stay_is_named(rt: HostRuntime) -> Result<(), Fail>
             &OpenGate,
         )?;
         assert_eq!(rt; binding.bound(&tables, 0, 20), start);
-        assert_eq!(rt; binding.entry_bound(&tables), Bound::Linker(32));
+        assert_eq!(rt; binding.entry_bound(&tables), Bound::Linker(33));
     }
     Ok(())
 }

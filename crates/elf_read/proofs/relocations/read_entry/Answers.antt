@@ -18,3 +18,6 @@ returns-clause-end c =
     let short : length contents ≤ c.args.target.now.size =
     omega (arith, ap length c.requires.contents, length-take target.size (drop target.offset b), ap (λ (s : Section). s.size) c.requires.target) in
     omega (arith, end_inside contents r c.args.target.now.size short kind fits, small)
+
+pub has_end-requires : goal.has_end-requires
+has_end-requires c = c.is_bad_kind.ensures.linked c.if-is_bad_kind.false

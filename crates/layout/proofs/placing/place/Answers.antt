@@ -5,7 +5,7 @@ use Rattle.lk_tables.specs.TablesView.{files_of}
 use Rattle.link_sections.specs.GotEntries.{word_count}
 use Rattle.link_sections.specs.GotView.{entries_of}
 use Rattle.link_sections.specs.SizesView.{sizes_of}
-use Rattle.layout.specs.Layout.{layout_of, limit_defects}
+use Rattle.layout.specs.Layout.{frame_sizes, layout_of, limit_defects}
 use Rattle.link_sections.specs.LaidOut.{with_contents}
 use Rattle.link_sections.specs.PoolViews.{pools_view}
 use Rattle.link_sections.specs.Sound.{IsSound}
@@ -20,20 +20,20 @@ use Rattle.layout.proofs.placing.place.Goals as goal
 pub returns-in_err-layout-clause-goes : goal.returns-in_err-layout-clause-goes
 returns-in_err-layout-clause-goes c =
     let files = files_of c.args.tables.now in
-    let laid = layout_of files (binding_view c.args.binding.now) c.args.pools.now.pools.items (word_count (entries_of c.args.got.now)) c.args.leaders.now (sizes_of c.args.sizes.now) in
+    let laid = layout_of files (binding_view c.args.binding.now) c.args.pools.now.pools.items (word_count (entries_of c.args.got.now)) c.args.leaders.now (sizes_of c.args.sizes.now) (frame_sizes c.args.frames.now) in
     let p = err_from_is_err_and c.from_residual.result c.from_residual.ensures.1 in
     rw (p.1, p.2) (stops_first c.args.limits.now files laid c.in_err-layout.field-0.0 c.in_err-layout.ensures.goes)
 
 pub returns-in-Ok-clause-goes : goal.returns-in-Ok-clause-goes
 returns-in-Ok-clause-goes c =
     let files = files_of c.args.tables.now in
-    let laid = layout_of files (binding_view c.args.binding.now) c.args.pools.now.pools.items (word_count (entries_of c.args.got.now)) c.args.leaders.now (sizes_of c.args.sizes.now) in
+    let laid = layout_of files (binding_view c.args.binding.now) c.args.pools.now.pools.items (word_count (entries_of c.args.got.now)) c.args.leaders.now (sizes_of c.args.sizes.now) (frame_sizes c.args.frames.now) in
     then_limits c.args.limits.now files laid c.in_ok-layout.ensures.goes ∙ ap (limit_defects c.args.limits.now) (sym c.in_ok-layout.ensures.found) ∙ c.in-Ok.ensures
 
 pub returns-clause-goes : goal.returns-clause-goes
 returns-clause-goes c =
     let files = files_of c.args.tables.now in
-    let laid = layout_of files (binding_view c.args.binding.now) c.args.pools.now.pools.items (word_count (entries_of c.args.got.now)) c.args.leaders.now (sizes_of c.args.sizes.now) in
+    let laid = layout_of files (binding_view c.args.binding.now) c.args.pools.now.pools.items (word_count (entries_of c.args.got.now)) c.args.leaders.now (sizes_of c.args.sizes.now) (frame_sizes c.args.frames.now) in
     (c.in-Err.ensures.0, then_limits c.args.limits.now files laid c.in_ok-layout.ensures.goes ∙ ap (limit_defects c.args.limits.now) (sym c.in_ok-layout.ensures.found) ∙ c.in-Err.ensures.1)
 
 pub returns-in-Ok-clause-sound : goal.returns-in-Ok-clause-sound
@@ -41,15 +41,15 @@ returns-in-Ok-clause-sound c few =
     let files = files_of c.args.tables.now in
     let b = binding_view c.args.binding.now in
     let sizes = sizes_of c.args.sizes.now in
-    let laid = layout_of files b c.args.pools.now.pools.items (word_count (entries_of c.args.got.now)) c.args.leaders.now sizes in
+    let laid = layout_of files b c.args.pools.now.pools.items (word_count (entries_of c.args.got.now)) c.args.leaders.now sizes (frame_sizes c.args.frames.now) in
     let none = then_limits c.args.limits.now files laid c.in_ok-layout.ensures.goes ∙ ap (limit_defects c.args.limits.now) (sym c.in_ok-layout.ensures.found) ∙ c.in-Ok.ensures in
     let pools = c.args.pools.now in
     let merging = pools_view files pools in
     let table = entries_of c.args.got.now in
     subst (λ l. IsSound files b c.args.leaders.now (with_contents l merging table)) (sym c.in_ok-layout.ensures.found)
-    (sound_laid files b pools.pools.items (word_count table) c.args.leaders.now sizes merging table c.args.limits.now (all_sound c.args.tables.now) c.requires.leaders pools.rising
+    (sound_laid files b pools.pools.items (word_count table) c.args.leaders.now sizes merging table c.args.limits.now (frame_sizes c.args.frames.now) (all_sound c.args.tables.now) c.requires.leaders pools.rising
     c.requires.pools c.requires.sizes (all_apart c.args.sizes.now.rows c.args.sizes.now.sound) c.in_ok-layout.ensures.sized c.in_ok-layout.ensures.room
-    (pools_seen files pools) (sizes_seen files pools) refl few none)
+    c.in_ok-layout.ensures.small (pools_seen files pools) (sizes_seen files pools) refl few none)
 
 pub returns-in-Ok-clause-within : goal.returns-in-Ok-clause-within
 returns-in-Ok-clause-within c = within_limits c.args.limits.now _ c.in-Ok.ensures
@@ -57,35 +57,41 @@ returns-in-Ok-clause-within c = within_limits c.args.limits.now _ c.in-Ok.ensure
 pub returns-in-Ok-clause-rising : goal.returns-in-Ok-clause-rising
 returns-in-Ok-clause-rising c =
     (laws_seen c.in_ok-layout.layout (files_of c.args.tables.now) (binding_view c.args.binding.now) c.args.pools.now.pools.items (word_count (entries_of c.args.got.now)) c.args.leaders.now
-    (sizes_of c.args.sizes.now) c.requires.leaders c.requires.sizes (all_apart c.args.sizes.now.rows c.args.sizes.now.sound) c.in_ok-layout.ensures.sized
-    c.in_ok-layout.ensures.room c.in_ok-layout.ensures.found).rising
+    (sizes_of c.args.sizes.now) (frame_sizes c.args.frames.now) c.requires.leaders c.requires.sizes (all_apart c.args.sizes.now.rows c.args.sizes.now.sound) c.in_ok-layout.ensures.sized
+    c.in_ok-layout.ensures.room c.in_ok-layout.ensures.small c.in_ok-layout.ensures.found).rising
 
 pub returns-in-Ok-clause-segments : goal.returns-in-Ok-clause-segments
 returns-in-Ok-clause-segments c =
     (laws_seen c.in_ok-layout.layout (files_of c.args.tables.now) (binding_view c.args.binding.now) c.args.pools.now.pools.items (word_count (entries_of c.args.got.now)) c.args.leaders.now
-    (sizes_of c.args.sizes.now) c.requires.leaders c.requires.sizes (all_apart c.args.sizes.now.rows c.args.sizes.now.sound) c.in_ok-layout.ensures.sized
-    c.in_ok-layout.ensures.room c.in_ok-layout.ensures.found).segments
+    (sizes_of c.args.sizes.now) (frame_sizes c.args.frames.now) c.requires.leaders c.requires.sizes (all_apart c.args.sizes.now.rows c.args.sizes.now.sound) c.in_ok-layout.ensures.sized
+    c.in_ok-layout.ensures.room c.in_ok-layout.ensures.small c.in_ok-layout.ensures.found).segments
 
 pub returns-in-Ok-clause-apart : goal.returns-in-Ok-clause-apart
 returns-in-Ok-clause-apart c =
     (laws_seen c.in_ok-layout.layout (files_of c.args.tables.now) (binding_view c.args.binding.now) c.args.pools.now.pools.items (word_count (entries_of c.args.got.now)) c.args.leaders.now
-    (sizes_of c.args.sizes.now) c.requires.leaders c.requires.sizes (all_apart c.args.sizes.now.rows c.args.sizes.now.sound) c.in_ok-layout.ensures.sized
-    c.in_ok-layout.ensures.room c.in_ok-layout.ensures.found).apart
+    (sizes_of c.args.sizes.now) (frame_sizes c.args.frames.now) c.requires.leaders c.requires.sizes (all_apart c.args.sizes.now.rows c.args.sizes.now.sound) c.in_ok-layout.ensures.sized
+    c.in_ok-layout.ensures.room c.in_ok-layout.ensures.small c.in_ok-layout.ensures.found).apart
 
 pub returns-in-Ok-clause-inside : goal.returns-in-Ok-clause-inside
 returns-in-Ok-clause-inside c =
     (laws_seen c.in_ok-layout.layout (files_of c.args.tables.now) (binding_view c.args.binding.now) c.args.pools.now.pools.items (word_count (entries_of c.args.got.now)) c.args.leaders.now
-    (sizes_of c.args.sizes.now) c.requires.leaders c.requires.sizes (all_apart c.args.sizes.now.rows c.args.sizes.now.sound) c.in_ok-layout.ensures.sized
-    c.in_ok-layout.ensures.room c.in_ok-layout.ensures.found).inside
+    (sizes_of c.args.sizes.now) (frame_sizes c.args.frames.now) c.requires.leaders c.requires.sizes (all_apart c.args.sizes.now.rows c.args.sizes.now.sound) c.in_ok-layout.ensures.sized
+    c.in_ok-layout.ensures.room c.in_ok-layout.ensures.small c.in_ok-layout.ensures.found).inside
 
 pub returns-in-Ok-clause-aligned : goal.returns-in-Ok-clause-aligned
 returns-in-Ok-clause-aligned c =
     (laws_seen c.in_ok-layout.layout (files_of c.args.tables.now) (binding_view c.args.binding.now) c.args.pools.now.pools.items (word_count (entries_of c.args.got.now)) c.args.leaders.now
-    (sizes_of c.args.sizes.now) c.requires.leaders c.requires.sizes (all_apart c.args.sizes.now.rows c.args.sizes.now.sound) c.in_ok-layout.ensures.sized
-    c.in_ok-layout.ensures.room c.in_ok-layout.ensures.found).aligned
+    (sizes_of c.args.sizes.now) (frame_sizes c.args.frames.now) c.requires.leaders c.requires.sizes (all_apart c.args.sizes.now.rows c.args.sizes.now.sound) c.in_ok-layout.ensures.sized
+    c.in_ok-layout.ensures.room c.in_ok-layout.ensures.small c.in_ok-layout.ensures.found).aligned
 
 pub returns-in-Ok-clause-zeros : goal.returns-in-Ok-clause-zeros
 returns-in-Ok-clause-zeros c =
     (laws_seen c.in_ok-layout.layout (files_of c.args.tables.now) (binding_view c.args.binding.now) c.args.pools.now.pools.items (word_count (entries_of c.args.got.now)) c.args.leaders.now
-    (sizes_of c.args.sizes.now) c.requires.leaders c.requires.sizes (all_apart c.args.sizes.now.rows c.args.sizes.now.sound) c.in_ok-layout.ensures.sized
-    c.in_ok-layout.ensures.room c.in_ok-layout.ensures.found).zeros
+    (sizes_of c.args.sizes.now) (frame_sizes c.args.frames.now) c.requires.leaders c.requires.sizes (all_apart c.args.sizes.now.rows c.args.sizes.now.sound) c.in_ok-layout.ensures.sized
+    c.in_ok-layout.ensures.room c.in_ok-layout.ensures.small c.in_ok-layout.ensures.found).zeros
+
+pub returns-in-Ok-clause-framed : goal.returns-in-Ok-clause-framed
+returns-in-Ok-clause-framed c =
+    (laws_seen c.in_ok-layout.layout (files_of c.args.tables.now) (binding_view c.args.binding.now) c.args.pools.now.pools.items (word_count (entries_of c.args.got.now)) c.args.leaders.now
+    (sizes_of c.args.sizes.now) (frame_sizes c.args.frames.now) c.requires.leaders c.requires.sizes (all_apart c.args.sizes.now.rows c.args.sizes.now.sound) c.in_ok-layout.ensures.sized
+    c.in_ok-layout.ensures.room c.in_ok-layout.ensures.small c.in_ok-layout.ensures.found).framed

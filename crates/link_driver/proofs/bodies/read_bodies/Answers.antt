@@ -8,6 +8,8 @@ use Rattle.lk_tables.specs.declared.objects.Object.{Object}
 use Rattle.lk_tables.specs.Files.{File, file_at, section_total}
 use Rattle.lk_tables.specs.FileView.{file_view, file_views}
 use Rattle.lk_tables.specs.Gathering.{AreBodies, with_objects}
+use Rattle.lk_tables.specs.TablesView.{files_of}
+use Rattle.lk_tables.proofs.SoundFiles.{sound_file}
 use Rattle.work_split.specs.Shares.{EachFrom}
 use Rattle.work_split.proofs.Sharing.{each_rises, whole_goes}
 use Rattle.link_command.specs.Command.{lists_of}
@@ -16,6 +18,8 @@ use Rattle.link_driver.specs.Counts.{count_of}
 use Rattle.link_driver.specs.Defects.{body_defects_at, opening_defects}
 use Rattle.link_driver.specs.Reading.{IsBodyAt}
 use Rattle.link_driver.specs.Sources.{files_in, headed, heads_in, live_in}
+use Rattle.link_driver.proofs.EachBody.{IsObjectAt, objects_from, records_are, records_sound}
+use Rattle.link_driver.proofs.RecordLists.{lists_plain, lists_within}
 use Rattle.link_driver.proofs.Opened.{are_bodies, each_few, how_many, how_many_live, same_defects, with_bodies}
 use Rattle.link_driver.proofs.Totals.{both_parts, second_part}
 use Rattle.link_driver.proofs.bodies.read_bodies.Goals as goal
@@ -49,11 +53,14 @@ count_sections-count-requires-clause-each g c =
     let undefined = lists_of c.args.undefined.now in
     let n : length c.args.sources.now ≡ length ss = sym (length-map c.args.sources.now source_view) in
     let live = c.args.live.now in
-    let To : ℕ → Type 0 = λ k. EachFrom (IsBodyAt ss live) 0 k c.in-Ok.objects.items in
-    let each : To (length ss) = subst To n c.in-Ok.ensures.share.each in
-    let objects : c.as_slice.result.now ≡ c.in-Ok.objects.items = c.as_slice.ensures.value in
+    let objects_are = c.in_ok-parts.ensures.objects in
+    let To : ℕ → Type 0 = λ k. EachFrom (IsBodyAt ss live) 0 k c.in-Ok.bodies.items in
+    let Of : List (Option Object) → Type 0 = λ l. EachFrom (IsObjectAt ss live) 0 (length ss) l in
+    let each : Of c.in_ok-parts.parts.0.items =
+    subst Of (sym objects_are) (objects_from ss live 0 (length ss) c.in-Ok.bodies.items (subst To n c.in-Ok.ensures.share.each)) in
+    let objects : c.as_slice.result.now ≡ c.in_ok-parts.parts.0.items = c.as_slice.ensures.value in
     let files : file_views c.files.result.now ≡ heads_in ss = c.files.ensures ∙ c.read_numbered.ensures.same ∙ c.requires.heads_are in
-    omega (arith, ap length objects, ap length files, how_many ss, length-map c.files.result.now file_view, each_rises (IsBodyAt ss live) 0 (length ss) c.in-Ok.objects.items each)
+    omega (arith, ap length objects, ap length files, how_many ss, length-map c.files.result.now file_view, each_rises (IsObjectAt ss live) 0 (length ss) c.in_ok-parts.parts.0.items each)
 
 pub count_sections-count-requires-clause-few : goal.count_sections-count-requires-clause-few
 count_sections-count-requires-clause-few g c = λ f lt.
@@ -61,14 +68,17 @@ count_sections-count-requires-clause-few g c = λ f lt.
     let undefined = lists_of c.args.undefined.now in
     let n : length c.args.sources.now ≡ length ss = sym (length-map c.args.sources.now source_view) in
     let live = c.args.live.now in
-    let To : ℕ → Type 0 = λ k. EachFrom (IsBodyAt ss live) 0 k c.in-Ok.objects.items in
-    let each : To (length ss) = subst To n c.in-Ok.ensures.share.each in
-    let objects : c.as_slice.result.now ≡ c.in-Ok.objects.items = c.as_slice.ensures.value in
+    let objects_are = c.in_ok-parts.ensures.objects in
+    let To : ℕ → Type 0 = λ k. EachFrom (IsBodyAt ss live) 0 k c.in-Ok.bodies.items in
+    let Of : List (Option Object) → Type 0 = λ l. EachFrom (IsObjectAt ss live) 0 (length ss) l in
+    let each : Of c.in_ok-parts.parts.0.items =
+    subst Of (sym objects_are) (objects_from ss live 0 (length ss) c.in-Ok.bodies.items (subst To n c.in-Ok.ensures.share.each)) in
+    let objects : c.as_slice.result.now ≡ c.in_ok-parts.parts.0.items = c.as_slice.ensures.value in
     let files : file_views c.files.result.now ≡ heads_in ss = c.files.ensures ∙ c.read_numbered.ensures.same ∙ c.requires.heads_are in
     let P : List (Option Object) → Type 0 = λ l. is_some (slice_index_or l f None) ≡ true → count_of (file_at (file_views c.files.result.now) f) < 2 ^ 28 in
-    let Q : List File → Type 0 = λ l. is_some (slice_index_or c.in-Ok.objects.items f None) ≡ true → count_of (file_at l f) < 2 ^ 28 in
+    let Q : List File → Type 0 = λ l. is_some (slice_index_or c.in_ok-parts.parts.0.items f None) ≡ true → count_of (file_at l f) < 2 ^ 28 in
     let room : f < length (heads_in ss) = omega (arith, lt, ap length files, length-map c.files.result.now file_view) in
-    subst P (sym objects) (subst Q (sym files) (each_few ss live c.in-Ok.objects.items each f room))
+    subst P (sym objects) (subst Q (sym files) (each_few ss live c.in_ok-parts.parts.0.items each f room))
 
 pub returns-in-Err-check_count-clause-goes : goal.returns-in-Err-check_count-clause-goes
 unfolding opening_defects
@@ -77,18 +87,21 @@ returns-in-Err-check_count-clause-goes g c =
     let undefined = lists_of c.args.undefined.now in
     let n : length c.args.sources.now ≡ length ss = sym (length-map c.args.sources.now source_view) in
     let live = c.args.live.now in
-    let To : ℕ → Type 0 = λ k. EachFrom (IsBodyAt ss live) 0 k c.in-Ok.objects.items in
-    let each : To (length ss) = subst To n c.in-Ok.ensures.share.each in
-    let objects : c.as_slice.result.now ≡ c.in-Ok.objects.items = c.as_slice.ensures.value in
+    let objects_are = c.in_ok-parts.ensures.objects in
+    let To : ℕ → Type 0 = λ k. EachFrom (IsBodyAt ss live) 0 k c.in-Ok.bodies.items in
+    let Of : List (Option Object) → Type 0 = λ l. EachFrom (IsObjectAt ss live) 0 (length ss) l in
+    let each : Of c.in_ok-parts.parts.0.items =
+    subst Of (sym objects_are) (objects_from ss live 0 (length ss) c.in-Ok.bodies.items (subst To n c.in-Ok.ensures.share.each)) in
+    let objects : c.as_slice.result.now ≡ c.in_ok-parts.parts.0.items = c.as_slice.ensures.value in
     let files : file_views c.files.result.now ≡ heads_in ss = c.files.ensures ∙ c.read_numbered.ensures.same ∙ c.requires.heads_are in
     let goes : flat_map (body_defects_at ss (live_in undefined ss)) (range_with_len 0 (length ss)) ≡ [] =
     sym (same_defects undefined ss live (length c.args.sources.now) n c.requires.live)
-    ∙ whole_goes (body_defects_at ss live) (IsBodyAt ss live) (length c.args.sources.now) (Ok c.in-Ok.objects) c.in-Ok.ensures.share in
+    ∙ whole_goes (body_defects_at ss live) (IsBodyAt ss live) (length c.args.sources.now) (Ok c.in-Ok.bodies) c.in-Ok.ensures.share in
     let total : c.count_sections-count.result ≡ section_total (files_in undefined ss) =
     c.count_sections-count.ensures
     ∙ ap (λ (l : List File). section_total (with_objects l c.as_slice.result.now)) files
     ∙ ap (λ (l : List (Option Object)). section_total (with_objects (heads_in ss) l)) objects
-    ∙ ap section_total (with_bodies ss live c.in-Ok.objects.items each undefined c.requires.live) in
+    ∙ ap section_total (with_bodies ss live c.in_ok-parts.parts.0.items each undefined c.requires.live) in
     let P : ℕ → Type 0 = λ m. BeginsWith (count_defects c.args.limits.now.sections m) c.in-Err-check_count.defect in
     second_part _ (count_defects c.args.limits.now.sections (section_total (files_in undefined ss))) c.in-Err-check_count.defect goes (subst P total c.in-Err-check_count.ensures)
 
@@ -98,9 +111,12 @@ of-requires-clause-each g c =
     let undefined = lists_of c.args.undefined.now in
     let n : length c.args.sources.now ≡ length ss = sym (length-map c.args.sources.now source_view) in
     let live = c.args.live.now in
-    let To : ℕ → Type 0 = λ k. EachFrom (IsBodyAt ss live) 0 k c.in-Ok.objects.items in
-    let each : To (length ss) = subst To n c.in-Ok.ensures.share.each in
-    omega (arith, ap length (c.read_numbered.ensures.same ∙ c.requires.heads_are), how_many ss, each_rises (IsBodyAt ss live) 0 (length ss) c.in-Ok.objects.items each)
+    let objects_are = c.in_ok-parts.ensures.objects in
+    let To : ℕ → Type 0 = λ k. EachFrom (IsBodyAt ss live) 0 k c.in-Ok.bodies.items in
+    let Of : List (Option Object) → Type 0 = λ l. EachFrom (IsObjectAt ss live) 0 (length ss) l in
+    let each : Of c.in_ok-parts.parts.0.items =
+    subst Of (sym objects_are) (objects_from ss live 0 (length ss) c.in-Ok.bodies.items (subst To n c.in-Ok.ensures.share.each)) in
+    omega (arith, ap length (c.read_numbered.ensures.same ∙ c.requires.heads_are), how_many ss, each_rises (IsObjectAt ss live) 0 (length ss) c.in_ok-parts.parts.0.items each)
 
 pub of-requires-clause-bodies : goal.of-requires-clause-bodies
 of-requires-clause-bodies g c =
@@ -108,10 +124,13 @@ of-requires-clause-bodies g c =
     let undefined = lists_of c.args.undefined.now in
     let n : length c.args.sources.now ≡ length ss = sym (length-map c.args.sources.now source_view) in
     let live = c.args.live.now in
-    let To : ℕ → Type 0 = λ k. EachFrom (IsBodyAt ss live) 0 k c.in-Ok.objects.items in
-    let each : To (length ss) = subst To n c.in-Ok.ensures.share.each in
-    let P : List File → Type 0 = λ l. AreBodies l c.in-Ok.objects.items in
-    subst P (sym (c.read_numbered.ensures.same ∙ c.requires.heads_are)) (are_bodies ss live c.in-Ok.objects.items each)
+    let objects_are = c.in_ok-parts.ensures.objects in
+    let To : ℕ → Type 0 = λ k. EachFrom (IsBodyAt ss live) 0 k c.in-Ok.bodies.items in
+    let Of : List (Option Object) → Type 0 = λ l. EachFrom (IsObjectAt ss live) 0 (length ss) l in
+    let each : Of c.in_ok-parts.parts.0.items =
+    subst Of (sym objects_are) (objects_from ss live 0 (length ss) c.in-Ok.bodies.items (subst To n c.in-Ok.ensures.share.each)) in
+    let P : List File → Type 0 = λ l. AreBodies l c.in_ok-parts.parts.0.items in
+    subst P (sym (c.read_numbered.ensures.same ∙ c.requires.heads_are)) (are_bodies ss live c.in_ok-parts.parts.0.items each)
 
 pub returns-clause-goes : goal.returns-clause-goes
 unfolding opening_defects
@@ -120,20 +139,42 @@ returns-clause-goes g c =
     let undefined = lists_of c.args.undefined.now in
     let n : length c.args.sources.now ≡ length ss = sym (length-map c.args.sources.now source_view) in
     let live = c.args.live.now in
-    let To : ℕ → Type 0 = λ k. EachFrom (IsBodyAt ss live) 0 k c.in-Ok.objects.items in
-    let each : To (length ss) = subst To n c.in-Ok.ensures.share.each in
-    let objects : c.as_slice.result.now ≡ c.in-Ok.objects.items = c.as_slice.ensures.value in
+    let objects_are = c.in_ok-parts.ensures.objects in
+    let To : ℕ → Type 0 = λ k. EachFrom (IsBodyAt ss live) 0 k c.in-Ok.bodies.items in
+    let Of : List (Option Object) → Type 0 = λ l. EachFrom (IsObjectAt ss live) 0 (length ss) l in
+    let each : Of c.in_ok-parts.parts.0.items =
+    subst Of (sym objects_are) (objects_from ss live 0 (length ss) c.in-Ok.bodies.items (subst To n c.in-Ok.ensures.share.each)) in
+    let objects : c.as_slice.result.now ≡ c.in_ok-parts.parts.0.items = c.as_slice.ensures.value in
     let files : file_views c.files.result.now ≡ heads_in ss = c.files.ensures ∙ c.read_numbered.ensures.same ∙ c.requires.heads_are in
     let goes : flat_map (body_defects_at ss (live_in undefined ss)) (range_with_len 0 (length ss)) ≡ [] =
     sym (same_defects undefined ss live (length c.args.sources.now) n c.requires.live)
-    ∙ whole_goes (body_defects_at ss live) (IsBodyAt ss live) (length c.args.sources.now) (Ok c.in-Ok.objects) c.in-Ok.ensures.share in
+    ∙ whole_goes (body_defects_at ss live) (IsBodyAt ss live) (length c.args.sources.now) (Ok c.in-Ok.bodies) c.in-Ok.ensures.share in
     let total : c.count_sections-count.result ≡ section_total (files_in undefined ss) =
     c.count_sections-count.ensures
     ∙ ap (λ (l : List File). section_total (with_objects l c.as_slice.result.now)) files
     ∙ ap (λ (l : List (Option Object)). section_total (with_objects (heads_in ss) l)) objects
-    ∙ ap section_total (with_bodies ss live c.in-Ok.objects.items each undefined c.requires.live) in
+    ∙ ap section_total (with_bodies ss live c.in_ok-parts.parts.0.items each undefined c.requires.live) in
     both_parts _ (count_defects c.args.limits.now.sections (section_total (files_in undefined ss))) goes
     (ap (count_defects c.args.limits.now.sections) (sym total) ∙ c.in_default.ensures)
+
+pub number_records-requires : goal.number_records-requires
+number_records-requires g c =
+    let ss = sources_of c.args.sources.now in
+    let undefined = lists_of c.args.undefined.now in
+    let n : length c.args.sources.now ≡ length ss = sym (length-map c.args.sources.now source_view) in
+    let live = c.args.live.now in
+    let objects_are = c.in_ok-parts.ensures.objects in
+    let To : ℕ → Type 0 = λ k. EachFrom (IsBodyAt ss live) 0 k c.in-Ok.bodies.items in
+    let Of : List (Option Object) → Type 0 = λ l. EachFrom (IsObjectAt ss live) 0 (length ss) l in
+    let each : Of c.in_ok-parts.parts.0.items =
+    subst Of (sym objects_are) (objects_from ss live 0 (length ss) c.in-Ok.bodies.items (subst To n c.in-Ok.ensures.share.each)) in
+    let are : files_of c.in_ok-tables.tables ≡ files_in undefined ss =
+    c.in_ok-tables.ensures.files ∙ ap (λ (l : List File). with_objects l c.in_ok-parts.parts.0.items) (c.read_numbered.ensures.same ∙ c.requires.heads_are)
+    ∙ with_bodies ss live c.in_ok-parts.parts.0.items each undefined c.requires.live in
+    let up = each_rises (IsBodyAt ss live) 0 (length c.args.sources.now) c.in-Ok.bodies.items c.in-Ok.ensures.share.each in
+    let count : length c.in-Ok.bodies.items ≡ length c.args.sources.now = omega (arith, up) in
+    c.in_ok-parts.ensures.records
+    ∙ records_are undefined ss live c.in-Ok.bodies.items (length c.args.sources.now) (files_of c.in_ok-tables.tables) n c.requires.live are count c.in-Ok.ensures.share.each
 
 pub returns-clause-tables : goal.returns-clause-tables
 returns-clause-tables g c =
@@ -141,7 +182,48 @@ returns-clause-tables g c =
     let undefined = lists_of c.args.undefined.now in
     let n : length c.args.sources.now ≡ length ss = sym (length-map c.args.sources.now source_view) in
     let live = c.args.live.now in
-    let To : ℕ → Type 0 = λ k. EachFrom (IsBodyAt ss live) 0 k c.in-Ok.objects.items in
-    let each : To (length ss) = subst To n c.in-Ok.ensures.share.each in
-    c.in_ok-of.ensures.files ∙ ap (λ (l : List File). with_objects l c.in-Ok.objects.items) (c.read_numbered.ensures.same ∙ c.requires.heads_are)
-    ∙ with_bodies ss live c.in-Ok.objects.items each undefined c.requires.live
+    let objects_are = c.in_ok-parts.ensures.objects in
+    let To : ℕ → Type 0 = λ k. EachFrom (IsBodyAt ss live) 0 k c.in-Ok.bodies.items in
+    let Of : List (Option Object) → Type 0 = λ l. EachFrom (IsObjectAt ss live) 0 (length ss) l in
+    let each : Of c.in_ok-parts.parts.0.items =
+    subst Of (sym objects_are) (objects_from ss live 0 (length ss) c.in-Ok.bodies.items (subst To n c.in-Ok.ensures.share.each)) in
+    let are : files_of c.in_ok-tables.tables ≡ files_in undefined ss =
+    c.in_ok-tables.ensures.files ∙ ap (λ (l : List File). with_objects l c.in_ok-parts.parts.0.items) (c.read_numbered.ensures.same ∙ c.requires.heads_are)
+    ∙ with_bodies ss live c.in_ok-parts.parts.0.items each undefined c.requires.live in
+    are
+
+pub returns-clause-within : goal.returns-clause-within
+returns-clause-within g c =
+    let ss = sources_of c.args.sources.now in
+    let undefined = lists_of c.args.undefined.now in
+    let n : length c.args.sources.now ≡ length ss = sym (length-map c.args.sources.now source_view) in
+    let live = c.args.live.now in
+    let objects_are = c.in_ok-parts.ensures.objects in
+    let To : ℕ → Type 0 = λ k. EachFrom (IsBodyAt ss live) 0 k c.in-Ok.bodies.items in
+    let Of : List (Option Object) → Type 0 = λ l. EachFrom (IsObjectAt ss live) 0 (length ss) l in
+    let each : Of c.in_ok-parts.parts.0.items =
+    subst Of (sym objects_are) (objects_from ss live 0 (length ss) c.in-Ok.bodies.items (subst To n c.in-Ok.ensures.share.each)) in
+    let are : files_of c.in_ok-tables.tables ≡ files_in undefined ss =
+    c.in_ok-tables.ensures.files ∙ ap (λ (l : List File). with_objects l c.in_ok-parts.parts.0.items) (c.read_numbered.ensures.same ∙ c.requires.heads_are)
+    ∙ with_bodies ss live c.in_ok-parts.parts.0.items each undefined c.requires.live in
+    let files = files_of c.in_ok-tables.tables in
+    let none = records_sound undefined ss live c.in-Ok.bodies.items (length c.args.sources.now) files n c.requires.live are c.in-Ok.ensures.share.each in
+    lists_within files (λ f lt on. (sound_file c.in_ok-tables.tables f on, none f lt on))
+
+pub returns-clause-plain : goal.returns-clause-plain
+returns-clause-plain g c =
+    let ss = sources_of c.args.sources.now in
+    let undefined = lists_of c.args.undefined.now in
+    let n : length c.args.sources.now ≡ length ss = sym (length-map c.args.sources.now source_view) in
+    let live = c.args.live.now in
+    let objects_are = c.in_ok-parts.ensures.objects in
+    let To : ℕ → Type 0 = λ k. EachFrom (IsBodyAt ss live) 0 k c.in-Ok.bodies.items in
+    let Of : List (Option Object) → Type 0 = λ l. EachFrom (IsObjectAt ss live) 0 (length ss) l in
+    let each : Of c.in_ok-parts.parts.0.items =
+    subst Of (sym objects_are) (objects_from ss live 0 (length ss) c.in-Ok.bodies.items (subst To n c.in-Ok.ensures.share.each)) in
+    let are : files_of c.in_ok-tables.tables ≡ files_in undefined ss =
+    c.in_ok-tables.ensures.files ∙ ap (λ (l : List File). with_objects l c.in_ok-parts.parts.0.items) (c.read_numbered.ensures.same ∙ c.requires.heads_are)
+    ∙ with_bodies ss live c.in_ok-parts.parts.0.items each undefined c.requires.live in
+    let files = files_of c.in_ok-tables.tables in
+    let none = records_sound undefined ss live c.in-Ok.bodies.items (length c.args.sources.now) files n c.requires.live are c.in-Ok.ensures.share.each in
+    lists_plain files (λ f lt on. (sound_file c.in_ok-tables.tables f on, none f lt on))

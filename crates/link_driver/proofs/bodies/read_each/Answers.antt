@@ -2,11 +2,11 @@ use Rattle.std.proofs.Common.{◌≡◌, ◌∙◌, ℕ, List, Option, Result, a
 use Rattle.std.specs.Global.{Vec}
 use Rattle.std.specs.declared.ops.Range.{Range}
 use Rattle.lk_base.specs.declared.defects.LinkStop.{LinkStop}
-use Rattle.lk_tables.specs.declared.objects.Object.{Object}
 use Rattle.work_split.specs.Pieces.{Tiles}
 use Rattle.work_split.specs.Shares.{IsShare}
 use Rattle.work_split.proofs.Sharing.{joined_share}
 use Rattle.work_split.proofs.Tiling.{tiles_within}
+use Rattle.link_driver.specs.declared.records.Body.{Body}
 use Rattle.link_driver.specs.Contents.{sources_of}
 use Rattle.link_driver.specs.Defects.{body_defects_at}
 use Rattle.link_driver.specs.Reading.{IsBodyAt}
@@ -33,5 +33,5 @@ returns g c =
     let To : ℕ → Type 0 = λ k. Tiles 0 k c.in_ok-cuts.cuts.items in
     let Tile : List (Range ℕ) → Type 0 = λ l. Tiles 0 n l in
     let tiles : Tile c.as_slice-2.result.now = subst Tile (sym c.as_slice-2.ensures.value) (subst To all c.in_ok-cuts.ensures.tiles) in
-    let Gives : Range ℕ → Result (Vec (Option Object)) LinkStop → Type 0 = λ p s. Range ℕ × IsShare (body_defects_at ss c.args.live.now) (IsBodyAt ss c.args.live.now) p.start p.end s in
+    let Gives : Range ℕ → Result (Vec (Option Body)) LinkStop → Type 0 = λ p s. Range ℕ × IsShare (body_defects_at ss c.args.live.now) (IsBodyAt ss c.args.live.now) p.start p.end s in
     joined_share (body_defects_at ss c.args.live.now) (IsBodyAt ss c.args.live.now) Gives 0 n c.as_slice-2.result.now c.over_shares.result (λ p s given. given.1) tiles c.over_shares.ensures

@@ -5,12 +5,11 @@ use Rattle.lk_base.specs.Firsts.{StopsAt}
 use Rattle.lk_base.proofs.Loops.{pass_step, stop_step}
 use Rattle.lk_tables.specs.Files.{File}
 use Rattle.lk_tables.specs.FileView.{file_view}
-use Rattle.lk_tables.specs.Gathering.{IsBodyOf}
 use Rattle.lk_tables.specs.Heads.{head_of}
 use Rattle.work_split.proofs.Sharing.{each_pushed}
 use Rattle.link_driver.specs.Contents.{sources_of}
 use Rattle.link_driver.specs.Defects.{body_defects, body_defects_at}
-use Rattle.link_driver.specs.Reading.{IsBodyAt}
+use Rattle.link_driver.specs.Reading.{IsBody, IsBodyAt}
 use Rattle.link_driver.specs.Sources.{headed, source_at}
 use Rattle.link_driver.proofs.FileFacts.{count_views, headed_at, opened_head}
 use Rattle.link_driver.proofs.bodies.read_piece.Goals as goal
@@ -54,7 +53,7 @@ loop-at-preserved c =
     let ss = sources_of c.args.sources.now in
     let f : ℕ = c.loop-at.at in
     let was : file_view c.index-files-at.result ≡ headed ss f = ap file_view c.index-files-at.is ∙ headed_at (headed ss) c.args.files.now f (length c.args.sources.now) (omega arith) c.requires.files c.index-files-at.result in
-    let P : File → Type 0 = λ file. IfSome c.in-Ok.body (IsBodyOf file) in
+    let P : File → Type 0 = λ file. IfSome c.in-Ok.body (IsBody file) in
     record {
       none = pass_step (body_defects_at ss c.args.live.now) f c.args.piece.end _ (omega arith) c.loop-at.invariant.none
           (ap (λ (t : Bool). if t then body_defects (source_at ss f).bytes f else []) (sym c.has_body-wanted.ensures)

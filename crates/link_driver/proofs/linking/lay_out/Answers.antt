@@ -7,6 +7,7 @@ use Rattle.link_sections.specs.PoolViews.{pool_heads}
 use Rattle.link_sections.specs.SizesView.{sizes_of}
 use Rattle.link_sections.proofs.PoolHeads.{pool_heads_are}
 use Rattle.lk_tables.specs.BindingView.{binding_view}
+use Rattle.lk_tables.specs.FramePlans.{plan_view}
 use Rattle.lk_tables.specs.TablesView.{files_of}
 use Rattle.lk_base.specs.declared.defects.Defect.{Defect}
 use Rattle.lk_base.specs.Firsts.{StopsAt}
@@ -42,7 +43,7 @@ returns-in-Ok-clause-goes g c =
     let b = binding_view c.args.binding.now in
     let w = wished c.args.options c.args.barred.now in
     sym (defects_are w files b c.args.kept.now c.args.pools.now c.requires.pools c.args.leaders.now c.requires.leaders (entries_of c.args.got.now) c.requires.table
-    c.in_ok-sections.sections.rows c.in_ok-sections.ensures.order (sizes_of c.in_ok-sizes.sizes) c.in_ok-sizes.ensures.cuts c.args.limits.now) ∙ c.in-Ok.ensures.goes
+    c.in_ok-sections.sections.rows c.in_ok-sections.ensures.order (sizes_of c.in_ok-sizes.sizes) c.in_ok-sizes.ensures.cuts (plan_view c.args.plan.now) c.requires.plan c.args.limits.now) ∙ c.in-Ok.ensures.goes
 
 pub returns-in-Ok-clause-laid : goal.returns-in-Ok-clause-laid
 returns-in-Ok-clause-laid g c =
@@ -50,7 +51,7 @@ returns-in-Ok-clause-laid g c =
     let b = binding_view c.args.binding.now in
     let w = wished c.args.options c.args.barred.now in
     laid_are w files b c.args.kept.now c.args.pools.now c.requires.pools c.args.leaders.now c.requires.leaders (entries_of c.args.got.now) c.requires.table
-    c.in_ok-sections.sections.rows c.in_ok-sections.ensures.order (sizes_of c.in_ok-sizes.sizes) c.in_ok-sizes.ensures.cuts (layout_view c.in-Ok.layout) c.in-Ok.ensures.found
+    c.in_ok-sections.sections.rows c.in_ok-sections.ensures.order (sizes_of c.in_ok-sizes.sizes) c.in_ok-sizes.ensures.cuts (plan_view c.args.plan.now) c.requires.plan (layout_view c.in-Ok.layout) c.in-Ok.ensures.found
 
 pub returns-clause-goes : goal.returns-clause-goes
 returns-clause-goes g c =
@@ -59,7 +60,7 @@ returns-clause-goes g c =
     let w = wished c.args.options c.args.barred.now in
     let P : List Defect → Type 0 = λ ds. StopsAt c.in-Err.stop ds in
     subst P (defects_are w files b c.args.kept.now c.args.pools.now c.requires.pools c.args.leaders.now c.requires.leaders (entries_of c.args.got.now) c.requires.table
-    c.in_ok-sections.sections.rows c.in_ok-sections.ensures.order (sizes_of c.in_ok-sizes.sizes) c.in_ok-sizes.ensures.cuts c.args.limits.now) c.in-Err.ensures.goes
+    c.in_ok-sections.sections.rows c.in_ok-sections.ensures.order (sizes_of c.in_ok-sizes.sizes) c.in_ok-sizes.ensures.cuts (plan_view c.args.plan.now) c.requires.plan c.args.limits.now) c.in-Err.ensures.goes
 
 pub calls_reach-requires-clause-pools : goal.calls_reach-requires-clause-pools
 calls_reach-requires-clause-pools g c =

@@ -1,16 +1,30 @@
+use Rattle.std.proofs.Common.{List, subst}
 use Rattle.lk_tables.specs.Binding.{first_phase}
+use Rattle.lk_tables.specs.Frames.{AreListsWithin, RecordList}
 use Rattle.lk_tables.specs.BindingView.{binding_view}
 use Rattle.lk_tables.specs.TablesView.{files_of}
-use Rattle.reloc_apply.specs.Relocated.{relocation_defects}
 use Rattle.link_driver.specs.Contents.{names_of}
-use Rattle.link_driver.specs.Link.{laid_out, leaders_in, placing_phases}
+use Rattle.link_driver.specs.Link.{laid_out, leaders_in, placing_phases, plan_in}
 use Rattle.link_driver.specs.Phases.{ShortenedCallsReach}
 use Rattle.link_driver.specs.Tables.{wished}
+use Rattle.link_driver.specs.Values.{value_defects}
 use Rattle.link_driver.proofs.Chain.{goes_next}
 use Rattle.link_driver.proofs.Handing.{made_of, on_each}
+use Rattle.link_driver.proofs.Leading.{planned_laid}
 use Rattle.link_driver.proofs.Passing.{goes_so, not_past, past_all, reaches_so}
 use Rattle.link_driver.proofs.Whole.{stands_in}
 use Rattle.link_driver.proofs.linking.link_numbered.Goals as goal
+
+pub write-requires-clause-within : goal.write-requires-clause-within
+write-requires-clause-within g c = λ κs bound.
+    let P : List RecordList → Type 0 = AreListsWithin (files_of c.args.tables.now) in
+    subst P c.requires.frames.lists c.requires.frames.within
+
+pub write-requires-clause-plan : goal.write-requires-clause-plan
+write-requires-clause-plan g c = λ κs bound.
+    let files = files_of c.args.tables.now in
+    let placed = c.in-Ok.ensures.placed in
+    planned_laid (wished c.args.options c.args.barred.now) files (binding_view c.args.binding.now) c.args.kept.now _ _ _ placed.leaders placed.laid placed.plan
 
 pub returns-clause-goes : goal.returns-clause-goes
 returns-clause-goes g c =
@@ -19,16 +33,16 @@ returns-clause-goes g c =
     let w = wished c.args.options c.args.barred.now in
     let kept = c.args.kept.now in
     let placed = c.in-Ok.ensures.placed in
-    goes_next c.write.result (placing_phases c.args.limits.now w files b kept) (relocation_defects files b (leaders_in w files b kept) (laid_out w files b kept))
-    c.in-Ok.ensures.goes (goes_so c.write.result w files b kept _ _ placed.leaders placed.laid c.write.ensures.goes)
+    goes_next c.write.result (placing_phases c.args.limits.now w files b kept) (value_defects files b (leaders_in w files b kept) (laid_out w files b kept) (plan_in w files b kept))
+    c.in-Ok.ensures.goes (goes_so c.write.result w files b kept _ _ _ placed.leaders placed.laid placed.plan c.write.ensures.goes)
 
 pub returns-clause-written : goal.returns-clause-written
 returns-clause-written g c =
     let files = files_of c.args.tables.now in
     let b = binding_view c.args.binding.now in
     on_each c.write.result (λ linked written.
-    made_of (wished c.args.options c.args.barred.now) (names_of c.args.names.now) files b c.args.kept.now _ _ linked
-    c.in-Ok.ensures.placed.leaders c.in-Ok.ensures.placed.laid written) c.write.ensures.written
+    made_of (wished c.args.options c.args.barred.now) (names_of c.args.names.now) files b c.args.kept.now _ _ _ linked
+    c.in-Ok.ensures.placed.leaders c.in-Ok.ensures.placed.laid c.in-Ok.ensures.placed.plan written) c.write.ensures.written
 
 pub returns-in-Err-clause-reach : goal.returns-in-Err-clause-reach
 returns-in-Err-clause-reach g c =
@@ -51,5 +65,5 @@ pub returns-clause-stands : goal.returns-clause-stands
 returns-clause-stands g c =
     let placed = c.in-Ok.ensures.placed in
     on_each c.write.result (λ linked whole.
-    stands_in (wished c.args.options c.args.barred.now) (files_of c.args.tables.now) (binding_view c.args.binding.now) c.args.kept.now _ _ linked.exe.items placed.leaders placed.laid whole)
+    stands_in (wished c.args.options c.args.barred.now) (files_of c.args.tables.now) (binding_view c.args.binding.now) c.args.kept.now _ _ _ linked.exe.items placed.leaders placed.laid placed.plan whole)
     c.write.ensures.stands

@@ -59,7 +59,7 @@ returns-in-Err-few-clause-after g c =
     let limits = c.args.limits.now in
     let asked = asks c.args.command.now in
     let ss = sources_of c.args.sources.now in
-    let files = files_of c.in-Ok.tables in
+    let files = files_of c.in-Ok.both.0 in
     let stop = c.in-Err-few.stop in
     let same = ap lists_of c.as_slice-undefined.ensures.value in
     let U : List (List ℕ) → Type 0 = λ u. Undefined u limits ss ≡ [] in
@@ -75,7 +75,7 @@ returns-in-Err-bound-clause-after g c =
     let limits = c.args.limits.now in
     let asked = asks c.args.command.now in
     let ss = sources_of c.args.sources.now in
-    let files = files_of c.in-Ok.tables in
+    let files = files_of c.in-Ok.both.0 in
     let stop = c.in-Err-bound.stop in
     let same = ap lists_of c.as_slice-undefined.ensures.value in
     let U : List (List ℕ) → Type 0 = λ u. Undefined u limits ss ≡ [] in
@@ -91,19 +91,19 @@ returns-in-Err-bound-clause-after g c =
 
 pub find_kept-requires-clause-bound : goal.find_kept-requires-clause-bound
 find_kept-requires-clause-bound g c = λ κs within.
-    let files = files_of c.in-Ok.tables in
+    let files = files_of c.in-Ok.both.0 in
     binding_is c.as_str-entry.result.now files (binding_view c.in-Ok-bound.binding)
     (told_of (λ binding. binding_view binding ≡ bound_names files c.as_str-entry.result.now) c.bind_beside-few.result.1 c.in-Ok-bound.binding c.in-Ok-bound.is c.bind_beside-few.ensures.names)
 
 pub link_kept-requires-clause-bound : goal.link_kept-requires-clause-bound
 link_kept-requires-clause-bound g c = λ κs within.
-    let files = files_of c.in-Ok.tables in
+    let files = files_of c.in-Ok.both.0 in
     binding_is c.as_str-entry.result.now files (binding_view c.in-Ok-bound.binding)
     (told_of (λ binding. binding_view binding ≡ bound_names files c.as_str-entry.result.now) c.bind_beside-few.result.1 c.in-Ok-bound.binding c.in-Ok-bound.is c.bind_beside-few.ensures.names)
 
 pub find_barred-requires : goal.find_barred-requires
 find_barred-requires g c =
-    let files = files_of c.in-Ok.tables in
+    let files = files_of c.in-Ok.both.0 in
     binding_is c.as_str-entry.result.now files (binding_view c.in-Ok-bound.binding)
     (told_of (λ binding. binding_view binding ≡ bound_names files c.as_str-entry.result.now) c.bind_beside-few.result.1 c.in-Ok-bound.binding c.in-Ok-bound.is c.bind_beside-few.ensures.names)
 
@@ -112,7 +112,7 @@ returns-in-Err-link_kept-clause-after g c =
     let limits = c.args.limits.now in
     let asked = asks c.args.command.now in
     let ss = sources_of c.args.sources.now in
-    let files = files_of c.in-Ok.tables in
+    let files = files_of c.in-Ok.both.0 in
     let asks_for = ap lists_of c.as_slice-undefined.ensures.value in
     let U : List (List ℕ) → Type 0 = λ u. Undefined u limits ss ≡ [] in
     let read = subst U asks_for c.in-Ok.ensures.goes in
@@ -149,7 +149,7 @@ returns-clause-after g c =
     let limits = c.args.limits.now in
     let asked = asks c.args.command.now in
     let ss = sources_of c.args.sources.now in
-    let files = files_of c.in-Ok.tables in
+    let files = files_of c.in-Ok.both.0 in
     let asks_for = ap lists_of c.as_slice-undefined.ensures.value in
     let U : List (List ℕ) → Type 0 = λ u. Undefined u limits ss ≡ [] in
     let read = subst U asks_for c.in-Ok.ensures.goes in

@@ -4,9 +4,9 @@ use Rattle.lk_tables.specs.Targets.{target_of}
 use Rattle.link_sections.specs.Addresses.{target_address}
 use Rattle.link_sections.specs.PieceTargets.{piece_target}
 use Rattle.link_sections.specs.Views.{binding_in, files_in, laid_in, leaders_in}
+use Rattle.link_sections.proofs.SymbolSums.{sum_is}
 use Rattle.reloc_apply.specs.Values.{addend_of, sum_of, target_in}
 use Rattle.reloc_apply.proofs.SitePlaces.{live_place}
-use Rattle.reloc_apply.proofs.Sums.{sum_is}
 use Rattle.reloc_apply.proofs.values.plain_sum.Goals as goal
 
 pub returns-clause-value : goal.returns-clause-value

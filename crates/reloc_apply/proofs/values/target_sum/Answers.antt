@@ -4,9 +4,9 @@ use Rattle.lk_tables.specs.Targets.{target_of}
 use Rattle.link_sections.specs.Addresses.{linker_address}
 use Rattle.link_sections.specs.PieceTargets.{piece_target}
 use Rattle.link_sections.specs.Views.{binding_in, files_in, laid_in, leaders_in}
+use Rattle.link_sections.proofs.SymbolSums.{linker_is}
 use Rattle.reloc_apply.specs.Values.{target_in}
 use Rattle.reloc_apply.proofs.SitePlaces.{live_place}
-use Rattle.reloc_apply.proofs.Sums.{linker_is}
 use Rattle.reloc_apply.proofs.values.target_sum.Goals as goal
 
 pub returns-in-Linker-clause-value : goal.returns-in-Linker-clause-value

@@ -21,3 +21,6 @@ pub loop-index-preserved : goal.loop-index-preserved
 loop-index-preserved c =
     map_step (spec.ends_in (files_of c.args.tables.now) (binding_view c.args.binding.now) c.args.file) c.loop-index.index c.loop-index.rows c.push.new.self
     c.loop-index.invariant (c.in_ok-push.ensures.ok ∙ ap (λ row. c.loop-index.rows ++ row ∷ []) (c.as_slice.ensures.value ∙ c.in_ok-ends.ensures))
+
+pub section_ends-requires-clause-index : goal.section_ends-requires-clause-index
+section_ends-requires-clause-index c = omega (arith, c.loop-index-test.true, c.section_count-index-end.ensures, ap section_count c.file.ensures)

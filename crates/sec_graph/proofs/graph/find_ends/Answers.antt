@@ -7,7 +7,7 @@ use Rattle.sec_graph.proofs.graph.find_ends.Goals as goal
 
 pub over_shares-found-requires-clause-accepts : goal.over_shares-found-requires-clause-accepts
 over_shares-found-requires-clause-accepts g c = λ κs within w p lt at.
-    (c.requires.named, piece_within (length (files_of c.args.tables.now)) c.args.pieces.now w p c.requires.tiles lt at)
+    (c.requires.frames, (c.requires.named, piece_within (length (files_of c.args.tables.now)) c.args.pieces.now w p c.requires.tiles lt at))
 
 pub returns-in-Ok : goal.returns-in-Ok
 returns-in-Ok g c =

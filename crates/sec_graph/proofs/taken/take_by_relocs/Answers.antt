@@ -1,4 +1,4 @@
-use Rattle.std.proofs.Common.{◌≡◌, List, ℕ, flat_map, ap, ◌∙◌, arith}
+use Rattle.std.proofs.Common.{List, ℕ, flat_map, ap, ◌∙◌, arith}
 use Rattle.lk_tables.specs.declared.objects.Reloc.{Reloc}
 use Rattle.lk_tables.specs.BindingView.{binding_view}
 use Rattle.lk_tables.specs.Files.{no_reloc}

@@ -1,4 +1,4 @@
-use Rattle.std.proofs.Common.{◌≡◌, List, ℕ, length, arith}
+use Rattle.std.proofs.Common.{List, ℕ, length, arith}
 use Rattle.lk_tables.specs.BindingView.{binding_view}
 use Rattle.lk_tables.specs.TablesView.{files_of}
 use Rattle.lk_tables.specs.Walks.{over_section}

@@ -20,4 +20,9 @@ returns c = λ b.
       small = omega arith;
       pointer = omega arith;
       places = c.in_ok-places_of.ensures;
+      has_frames = refl;
+      frame_header = refl;
+      frame_header_end = refl;
+      frames = refl;
+      frames_end = refl;
     })

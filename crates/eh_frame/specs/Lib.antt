@@ -1,0 +1,10 @@
+pub mod Bytes
+pub mod FrameLaws
+pub mod Header
+pub mod Laws
+pub mod Owners
+pub mod Plan
+pub mod RecordChecks
+pub mod Sections
+pub mod TableLaws
+pub mod Uses

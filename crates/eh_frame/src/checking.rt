@@ -1,0 +1,180 @@
+//! What is wrong with the values of the relocations of records.
+
+ghost use Rattle.std.specs.Prelude.{◌≡◌, ◌+◌, ◌^◌, ◌≤◌, ◌<◌, ◌≤ℤ◌, true, length, pos, [], ◌∷◌, Some, flat_map, IfOk};
+ghost use Rattle.std.specs.List.{All};
+ghost use Rattle.lk_base.specs.Firsts.{IsFirst};
+ghost use Rattle.lk_base.specs.Reaches.{any};
+ghost use Rattle.lk_base.specs.RelocKinds.{kind_of as spec_kind};
+ghost use Rattle.lk_tables.specs.Files.{file_at};
+ghost use Rattle.lk_tables.specs.Frames.{AreInOrder, lists_of};
+ghost use Rattle.link_sections.specs.Views.{binding_in, files_in, laid_in, leaders_in};
+ghost use Rattle.eh_frame.specs.Bytes as spec;
+ghost use Rattle.eh_frame.specs.declared.placing.Placed.{Placed as PlacedOf};
+
+use crate::lookups::{list_near, record_near};
+use crate::placing::Placed;
+use crate::values::value_in;
+use link_sections::View;
+use lk_base::kinds::{ODD, RANGE};
+use lk_base::relocations::{Rule, kind_of};
+use lk_base::{Defect, DefectKind, Misfit, low_bits};
+use lk_tables::{Frames, Reloc, SectionPlace};
+use rv_code::fits;
+use std::alloc::{AllocError, Global};
+
+/// The first defect of a relocation of some records, in order of file, section and offset, if `.eh_frame` stands at an address. Only where
+/// there is one the records are put into this order.
+pub fn first_defect(
+    alloc: Global,
+    view: &View,
+    frames: &Frames,
+    start: u64,
+    placed: &[Placed],
+) -> Result<Option<Defect>, AllocError>
+    requires order { AreInOrder (lists_of frames.now) }
+    requires known { All (λ (p : PlacedOf). spec.IsKnown (files_in view.now) (lists_of frames.now) p.number) placed.now }
+    ensures { IfOk result (IsFirst (flat_map (spec.placed_defects (files_in view.now) (binding_in view.now) (leaders_in view.now) (laid_in view.now) (lists_of frames.now) start) (spec.in_order placed.now))) }
+{
+    let Some(_) = first_in(view, frames, start, placed) else {
+        return Ok(None);
+    };
+    let mut ordered = placed.to_vec(alloc)?;
+    ordered.sort_by_key(|record| order_of(record))?;
+    Ok(first_in(view, frames, start, ordered.as_slice()))
+}
+
+/// The place of a record by section and number.
+fn order_of(placed: &Placed) -> u64
+    ensures { result ≡ spec.order_of placed.now }
+{
+    placed.number.section as u64 * 0x1_0000_0000 + placed.number.at as u64
+}
+
+/// The first defect of a relocation of some records, in the order in which they are given.
+fn first_in(view: &View, frames: &Frames, start: u64, placed: &[Placed]) -> Option<Defect>
+    requires order { AreInOrder (lists_of frames.now) }
+    requires known { All (λ (p : PlacedOf). spec.IsKnown (files_in view.now) (lists_of frames.now) p.number) placed.now }
+    ensures { IsFirst (flat_map (spec.placed_defects (files_in view.now) (binding_in view.now) (leaders_in view.now) (laid_in view.now) (lists_of frames.now) start) placed.now) result }
+{
+    let mut list = 0;
+    for record in placed {
+        list = list_near(frames, record.number.section, list);
+        if let Some(defect) = defect_of(view, frames, start, record, list) {
+            return Some(defect);
+        }
+    }
+    None
+}
+
+/// The first defect of a relocation of one record.
+#[tactic(auto, unfolding(crate::specs::Bytes::placed_defects))]
+fn defect_of(
+    view: &View,
+    frames: &Frames,
+    start: u64,
+    placed: &Placed,
+    list: usize,
+) -> Option<Defect>
+    requires order { AreInOrder (lists_of frames.now) }
+    requires known { spec.IsKnown (files_in view.now) (lists_of frames.now) placed.now.number }
+    ensures { IsFirst (spec.placed_defects (files_in view.now) (binding_in view.now) (leaders_in view.now) (laid_in view.now) (lists_of frames.now) start placed.now) result }
+{
+    let own = record_near(frames, placed.number, list);
+    check_relocs(
+        view,
+        view.tables.place_of(placed.number.section),
+        own.from,
+        start as u128 + placed.at as u128,
+        own.relocs.as_slice(),
+    )
+}
+
+/// The first defect of some relocations of a record, which starts at an offset of its section, and stands at an address.
+fn check_relocs(
+    view: &View,
+    place: SectionPlace,
+    from: u64,
+    address: u128,
+    relocs: &[Reloc],
+) -> Option<Defect>
+    requires file { place.file < length (files_in view.now) }
+    requires live { (file_at (files_in view.now) place.file).live ≡ true }
+    requires after { All (λ r. from ≤ r.offset) relocs.now }
+    requires low { address ≤ 2 ^ 65 }
+    ensures { IsFirst (flat_map (spec.reloc_defects (files_in view.now) (binding_in view.now) (leaders_in view.now) (laid_in view.now) place from address) relocs.now) result }
+{
+    for reloc in relocs {
+        if let Some(defect) = check_reloc(view, place, from, address, reloc) {
+            return Some(defect);
+        }
+    }
+    None
+}
+
+/// The defect of one relocation, if its value does not fit. Of the kinds that records have, two alone do not take every value.
+fn check_reloc(
+    view: &View,
+    place: SectionPlace,
+    from: u64,
+    address: u128,
+    reloc: &Reloc,
+) -> Option<Defect>
+    requires file { place.file < length (files_in view.now) }
+    requires live { (file_at (files_in view.now) place.file).live ≡ true }
+    requires after { from ≤ reloc.now.offset }
+    requires low { address ≤ 2 ^ 65 }
+    ensures { IsFirst (spec.reloc_defects (files_in view.now) (binding_in view.now) (leaders_in view.now) (laid_in view.now) place from address reloc.now) result }
+{
+    if takes_all(reloc.kind) {
+        return None;
+    }
+    check_value(view, place, address + (reloc.offset - from) as u128, reloc)
+}
+
+/// Whether the field of a kind takes every value.
+fn takes_all(kind: u32) -> bool
+    ensures { result ≡ true → (spec_kind kind).reach ≡ any }
+{
+    matches!(kind_of(kind).rule, Rule::Any)
+}
+
+/// The defect of a relocation whose place stands at an address, if its value does not fit.
+fn check_value(view: &View, place: SectionPlace, address: u128, reloc: &Reloc) -> Option<Defect>
+    requires file { place.file < length (files_in view.now) }
+    requires live { (file_at (files_in view.now) place.file).live ≡ true }
+    requires low { address ≤ 2 ^ 66 }
+    ensures { IsFirst (spec.value_defects place reloc.now (spec_kind reloc.now.kind).reach (spec.value_in (files_in view.now) (binding_in view.now) (leaders_in view.now) (laid_in view.now) place.file reloc.now (pos address) (pos 0))) result }
+{
+    let Some(v) = value_in(view, place.file, reloc, address as i128, 0) else {
+        return None;
+    };
+    if let Err(misfit) = fits(reloc.kind, v) {
+        return Some(misfit_defect(place, reloc, v, misfit));
+    }
+    None
+}
+
+/// The defect of a value that its field does not take.
+fn misfit_defect(place: SectionPlace, reloc: &Reloc, v: i128, misfit: Misfit) -> Defect
+    ensures { spec.misfit_defects place reloc.now v (Some misfit) ≡ result ∷ [] }
+{
+    let kind = match misfit {
+        Misfit::Odd => ODD,
+        Misfit::Range => RANGE,
+    };
+    reloc_defect(kind, place, reloc, low_bits(v))
+}
+
+/// A defect of a relocation.
+fn reloc_defect(kind: DefectKind, place: SectionPlace, reloc: &Reloc, other: u64) -> Defect
+    ensures { result ≡ spec.reloc_defect kind place reloc.now other }
+{
+    Defect {
+        kind,
+        file: place.file,
+        section: place.index,
+        place: reloc.offset,
+        symbol: reloc.symbol,
+        other,
+    }
+}

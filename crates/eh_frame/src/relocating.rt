@@ -1,0 +1,107 @@
+//! Records with their relocations done.
+
+ghost use Rattle.std.specs.Prelude.{◌≡◌, ◌+◌, ◌-◌, ◌^◌, ◌≤◌, ◌<◌, ◌++◌, ◌≤ℤ◌, true, length, pos, take, drop};
+ghost use Rattle.std.specs.List.{All};
+ghost use Rattle.lk_base.specs.RelocKinds.{FillsField, fills_field as spec_fills, kind_of as spec_kind};
+ghost use Rattle.lk_tables.specs.Files.{file_at};
+ghost use Rattle.lk_tables.specs.Records.{has_width};
+ghost use Rattle.lk_tables.specs.Relocations.{place_width};
+ghost use Rattle.link_sections.specs.Views.{binding_in, files_in, laid_in, leaders_in};
+ghost use Rattle.rv_code.specs.Places.{number_of};
+ghost use Rattle.eh_frame.specs.Bytes as spec;
+
+use crate::values::value_in;
+use byteorder::{ByteOrder, LittleEndian};
+use link_sections::View;
+use lk_base::FileNo;
+use lk_base::relocations::{fills_field, kind_of};
+use lk_tables::{Record, Reloc};
+use rv_code::patch_bits;
+
+/// Does the relocations of a record of a file, whose bytes are those from a place on, and which stands at an address.
+pub fn relocate_from(
+    view: &View,
+    file: FileNo,
+    own: &Record,
+    address: u128,
+    bytes: &mut [u8],
+    start: usize,
+)
+    requires file { file < length (files_in view.now) }
+    requires live { (file_at (files_in view.now) file).live ≡ true }
+    requires after { All (λ r. own.now.from ≤ r.offset) own.now.relocs.items }
+    requires places { All (λ r. has_width r ≡ true → r.offset + place_width r ≤ own.now.from + 4 + own.now.len) own.now.relocs.items }
+    requires whole { start + (4 + own.now.len) ≡ length bytes.old }
+    requires low { address ≤ 2 ^ 65 }
+    ensures bytes { bytes.new ≡ take start bytes.old ++ spec.relocated (files_in view.now) (binding_in view.now) (leaders_in view.now) (laid_in view.now) file own.now.from address own.now.relocs.items (drop start bytes.old) }
+    ensures len { length bytes.new ≡ length bytes.old }
+{
+    relocate(
+        view,
+        file,
+        own.from,
+        address,
+        own.relocs.as_slice(),
+        &mut bytes[start..],
+    );
+}
+
+/// Does the relocations of a record of a file, which starts at an offset of its section, and stands at an address.
+fn relocate(view: &View, file: FileNo, from: u64, address: u128, relocs: &[Reloc], bytes: &mut [u8])
+    requires file { file < length (files_in view.now) }
+    requires live { (file_at (files_in view.now) file).live ≡ true }
+    requires after { All (λ r. from ≤ r.offset) relocs.now }
+    requires places { All (λ r. has_width r ≡ true → r.offset + place_width r ≤ from + length bytes.old) relocs.now }
+    requires low { address ≤ 2 ^ 65 }
+    ensures { bytes.new ≡ spec.relocated (files_in view.now) (binding_in view.now) (leaders_in view.now) (laid_in view.now) file from address relocs.now bytes.old }
+{
+    for reloc in relocs {
+        relocate_one(view, file, from, address, reloc, bytes);
+    }
+}
+
+/// Does one relocation of a record that starts at an offset of its section, and stands at an address.
+fn relocate_one(
+    view: &View,
+    file: FileNo,
+    from: u64,
+    address: u128,
+    reloc: &Reloc,
+    bytes: &mut [u8],
+)
+    requires file { file < length (files_in view.now) }
+    requires live { (file_at (files_in view.now) file).live ≡ true }
+    requires after { from ≤ reloc.now.offset }
+    requires within { spec_fills reloc.now.kind ≡ true → reloc.now.offset - from + (spec_kind reloc.now.kind).width ≤ length bytes.old }
+    requires low { address ≤ 2 ^ 65 }
+    ensures { bytes.new ≡ spec.put (files_in view.now) (binding_in view.now) (leaders_in view.now) (laid_in view.now) file from address reloc.now bytes.old }
+{
+    if !fills_field(reloc.kind) {
+        return;
+    }
+    let at = reloc.offset - from;
+    let width = kind_of(reloc.kind).width;
+    fill_place(
+        view,
+        file,
+        reloc,
+        address + at as u128,
+        &mut bytes[at as usize..(at + width) as usize],
+    );
+}
+
+/// Puts the value of a relocation into its place, which stands at an address.
+fn fill_place(view: &View, file: FileNo, reloc: &Reloc, address: u128, place: &mut [u8])
+    requires file { file < length (files_in view.now) }
+    requires live { (file_at (files_in view.now) file).live ≡ true }
+    requires fills { FillsField reloc.now.kind }
+    requires width { length place.old ≡ (spec_kind reloc.now.kind).width }
+    requires low { address ≤ 2 ^ 66 }
+    ensures { place.new ≡ spec.filled (spec_kind reloc.now.kind) (spec.value_in (files_in view.now) (binding_in view.now) (leaders_in view.now) (laid_in view.now) file reloc.now (pos address) (pos (number_of place.old))) place.old }
+{
+    let held = LittleEndian::read_uint(place, place.len());
+    let Some(v) = value_in(view, file, reloc, address as i128, held) else {
+        return;
+    };
+    patch_bits(reloc.kind, place, v);
+}

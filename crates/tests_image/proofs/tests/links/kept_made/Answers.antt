@@ -1,0 +1,23 @@
+use Rattle.std.proofs.Common.{◌∙◌, List, [], subst}
+use Rattle.link_driver.specs.Tables.{wished}
+use Rattle.link_driver.proofs.Leading.{planned_laid}
+use Rattle.link_sections.specs.GotView.{entries_of}
+use Rattle.link_sections.specs.LaidOut.{layout_view, with_contents}
+use Rattle.link_sections.specs.PoolViews.{pools_view}
+use Rattle.lk_tables.specs.BindingView.{binding_view}
+use Rattle.lk_tables.specs.FramePlans.{plan_view}
+use Rattle.lk_tables.specs.Frames.{AreListsWithin, RecordList}
+use Rattle.lk_tables.specs.TablesView.{files_of}
+use Rattle.tests_image.proofs.tests.links.kept_made.Goals as goal
+
+pub answers_of-requires-clause-within : goal.answers_of-requires-clause-within
+answers_of-requires-clause-within g c = λ κs bound.
+    let P : List RecordList → Type 0 = AreListsWithin (files_of c.args.tables.now) in
+    subst P c.requires.frames.lists c.requires.frames.within
+
+pub answers_of-requires-clause-plan : goal.answers_of-requires-clause-plan
+answers_of-requires-clause-plan g c = λ κs bound.
+    let files = files_of c.args.tables.now in
+    let laid = with_contents (layout_view c.in-Ok.layout) (pools_view files c.in_ok-pools.pools) (entries_of c.in_ok-got.got) in
+    planned_laid (wished c.args.asked.now.options []) files (binding_view c.args.binding.now) c.args.kept.now c.as_slice-4.result.now laid (plan_view c.in_ok-plan.plan)
+    (c.as_slice-4.ensures.value ∙ c.in_ok-leaders.ensures.leaders) c.in-Ok.ensures.laid c.in_ok-plan.ensures.plan
