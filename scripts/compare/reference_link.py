@@ -476,19 +476,20 @@ def set_of(name):
 
 
 def link(inputs, entry=b'_start', gc=False, icf='none', relax=True, asked=(), unique=()):
-    """(1, line) or (0, executable) of inputs (name, bytes) in command order; `gc` is --gc-sections, `icf` the mode of --icf; `asked` and `unique` are
-    the names of --undefined and of --keep-unique."""
+    """(1, line, None) or (0, executable, the Link) of inputs (name, bytes) in command order; `gc` is --gc-sections, `icf` the mode of --icf; `asked` and
+    `unique` are the names of --undefined and of --keep-unique."""
     try:
-        return 0, Link(inputs, entry, gc, icf, relax, asked, unique).executable()
+        done = Link(inputs, entry, gc, icf, relax, asked, unique)
+        return 0, done.executable(), done
     except Defect as defect:
-        return 1, defect.args[0]
+        return 1, defect.args[0], None
 
 
 class Link:
     """A section or bound common is (file, section); a member of an output section is one of these, ('pool', key) or 'got'."""
 
     def __init__(self, inputs, entry, gc, icf, relax, asked=(), unique=()):
-        self.entry, self.relax, self.asked = entry, relax, asked
+        self.entry, self.icf, self.relax, self.asked, self.unique = entry, icf, relax, asked, unique
         self.files = read_all(inputs)
         self.live = live_of(self.files, asked)
         for n in self.live:
@@ -775,9 +776,9 @@ class Link:
     def targets_of(self, n, relocs):
         return [None if kind in (R_RELAX, R_ALIGN) else self.target(n, index, kind, addend) for _, kind, index, addend in relocs]
 
-    def fold(self, apart):
-        """Folds all sections that may be folded but these."""
-        items, parts, targets = [], {}, {}
+    def foldable(self, apart):
+        """What decides of each section that may be folded, but for these: what has to be equal in any case, and what its relocations lead to."""
+        parts, targets = {}, {}
         for key in sorted(self.kept):
             name, flags, sort, size, align = self.sections[key]
             if (sort != PROGBITS or not flags & ALLOC or not flags & EXECINSTR or flags & (WRITE | MERGE | TLS | RETAIN | LINK_ORDER) or not size
@@ -786,7 +787,6 @@ class Link:
             n, i = key
             file = self.files[n]
             s = file.sections[i]
-            items.append(key)
             said, targets[key] = [], self.targets_of(n, s.relocs)
             for (m, j, k), first, place in self.frames.get(key, ()):
                 at, data, cie, relocs = self.record((m, j, k))
@@ -796,15 +796,20 @@ class Link:
                 said.append((data[:4] + data[8:], cie_data, place, self.items_of(m, others, at), self.items_of(m, cie_relocs, cie_at)))
                 targets[key] += self.targets_of(m, others + cie_relocs)
             parts[key] = file.bytes[s.offset:s.offset + size], flags, align, output_name(name), self.items_of(n, s.relocs, 0), tuple(said)
+        return parts, targets
+
+    def fold(self, apart):
+        """Folds all sections that may be folded but these."""
+        parts, targets = self.foldable(apart)
         count = 0
         while True:
             numbers, firsts = {}, {}
-            for key in items:
+            for key in parts:
                 numbers[key] = firsts.setdefault(parts[key], key)
             if len(firsts) == count:
                 break
             count = len(firsts)
-            for key in items:
+            for key in parts:
                 parts[key] = (numbers[key],) + tuple(
                     ('one of', numbers[t[1]]) + t[2:] if t is not None and t[0] == 'section' and t[1] in numbers else t for t in targets[key])
         self.leader.update(numbers)
@@ -1257,24 +1262,25 @@ class Link:
                 fields(at + 4, 4, [(31, 20, 11)], v)
 
 
-def main():
-    out, entry, gc, icf, relax, names, listed = 'a.out', '_start', False, 'none', True, [], {}
-    words = iter(sys.argv[1:])
+def read_command(words):
+    """The executable's name, the inputs (name, bytes) or the name of one that can't be read, and what `link` takes beside them."""
+    out, names, more = 'a.out', [], {}
+    words = iter(words)
     for word in words:
         if word == '-o':
             out = next(words)
         elif word == '-e':
-            entry = next(words)
+            more['entry'] = next(words).encode()
         elif word == '--threads':
             next(words)
         elif word == '--gc-sections':
-            gc = True
+            more['gc'] = True
         elif word == '--icf':
-            icf = next(words)
+            more['icf'] = next(words)
         elif word in ('--undefined', '--keep-unique'):
-            listed[word] = next(words).encode().split(b',')
+            more['asked' if word == '--undefined' else 'unique'] = next(words).encode().split(b',')
         elif word == '--no-relax':
-            relax = False
+            more['relax'] = False
         elif word != '-s':
             names.append(word)
     inputs = []
@@ -1283,9 +1289,16 @@ def main():
             with open(name, 'rb') as file:
                 inputs.append((name.encode(), file.read()))
         except OSError:
-            print('rvld: cannot read ' + escaped(name.encode()), file=sys.stderr)
-            return 3
-    status, found = link(inputs, entry.encode(), gc, icf, relax, listed.get('--undefined', ()), listed.get('--keep-unique', ()))
+            return out, name, more
+    return out, inputs, more
+
+
+def main():
+    out, inputs, more = read_command(sys.argv[1:])
+    if isinstance(inputs, str):
+        print('rvld: cannot read ' + escaped(inputs.encode()), file=sys.stderr)
+        return 3
+    status, found, _ = link(inputs, **more)
     if status:
         print(found, file=sys.stderr)
     else:

@@ -1,6 +1,9 @@
 """Links made by chance: a few objects and archives that define, refer to, and relocate nearly as they should."""
+import struct
+
 from elf.constants import *
-from elf.write import ELSEWHERE, Texts, archive, entry, indexes, relocatable, symbol
+from elf.read import defined
+from elf.write import CALL, ELSEWHERE, RETURN, Texts, archive, entry, indexes, relocatable, symbol
 
 FORMS = [    # name, type, flags: those that come often first
     ('.text', PROGBITS, ALLOC | EXECINSTR), ('.data', PROGBITS, ALLOC | WRITE), ('.rodata', PROGBITS, ALLOC), ('.bss', NOBITS, ALLOC | WRITE),
@@ -159,11 +162,12 @@ def chance_object(chance, names, wild, entry_point):
     if entry_point:
         symbols.append(('_start', GLOBAL, 2, 1, within(size_of(1)), 0))
     own = chance.sample(names, min(len(names), chance.randrange(5)))
+    folding = [i for i in sections if rows[i - 1][3] in BODIES] or sections
     for name in own:
         way = chance.randrange(12)
         binding = chance.choice([GLOBAL, GLOBAL, WEAK, WEAK, UNIQUE])
         if way < 6 and sections:
-            i = chance.choice(sections)
+            i = chance.choice(chance.choice([sections, folding]))
             symbols.append((name, binding, chance.choice([0, 1, 2]), i, within(size_of(i)), chance.randrange(16)))
         elif way < 9:
             symbols.append((name, chance.choice([GLOBAL, GLOBAL, WEAK]), chance.choice([1, 5]), COMMON,
@@ -321,6 +325,14 @@ def chance_groups(chance, own, relocated, symbols, wild):
     return groups
 
 
+def offered(contents):
+    """The names that an object offers, none of what is none or can't be read."""
+    try:
+        return defined(contents)
+    except (LookupError, ValueError, struct.error):
+        return []
+
+
 def chance_link(chance):
     """(words, inputs): the options and the files of a link."""
     wild = chance.choice([0, 0, 0.02, 0.1])
@@ -353,4 +365,54 @@ def chance_link(chance):
             words += [option, ','.join(chance.choices(names + LINKERS[:2] + ['_start', 'local', 'number', 'nowhere'], k=chance.randrange(1, 5)))]
     if chance.random() < 0.3:
         words.append('--no-relax')
+    known = sorted({name for _, contents in inputs for name in offered(contents) if name.isidentifier()})
+    if chance.random() < 0.4:
+        words += ['--why-live', chance.choice(known * 4 + names + LINKERS[:1])]
+    if chance.random() < 0.4:
+        words += ['--why-apart', ','.join(chance.choices(known * 8 + names, k=2))]
+    return words, inputs
+
+
+def functions(chance, own, count, calls):
+    """An object of functions f<k>, each in a section of its own, with calls of others: by turns as many as `calls` has."""
+    texts, rows, entries, groups = Texts(), [], [], []
+    kinds = len(calls)
+    called = {k: [chance.choice([(k + 1) % count, (k + kinds) % count, chance.randrange(count)]) for _ in range(calls[k % kinds])] for k in own}
+    others = sorted({c for calls in called.values() for c in calls} - set(own))
+    symbols = [bytes(24)] + [symbol(texts.add('f%d' % k), GLOBAL, 2, i + 1) for i, k in enumerate(own)]
+    symbols += [symbol(texts.add('f%d' % k), GLOBAL, 0, UNDEF) for k in others]
+    symbols += [symbol(texts.add('_start'), GLOBAL, 2, 1)] * (own[0] == 0)
+    number = {k: i + 1 for i, k in enumerate(own + others)}
+    for k in own:
+        body = CALL * len(called[k]) + (RETURN if chance.random() < 0.9 else RETURN[:2] * 2)
+        rows.append(['.text.f', PROGBITS, ALLOC | EXECINSTR, body, 0, 0, 4, 0])
+        entries.append(b''.join(entry(len(CALL) * n, number[c], R_CALL_PLT, 0) for n, c in enumerate(called[k])))
+    free = list(range(1, len(own) + 1))
+    chance.shuffle(free)
+    for _ in range(chance.choice([0, 0, 1, 2])):
+        members = [free.pop() for _ in range(min(len(free), chance.randrange(5)))]
+        groups.append((chance.choice([0, 1]), members[0] if members else 1, members))
+    at_symtab = len(rows) + sum(map(bool, entries)) + len(groups) + 1
+    rows += [['.rela.text.f', RELA, INFO_LINK, table, at_symtab, i + 1, 8, 24] for i, table in enumerate(entries) if table]
+    rows += [['.group', GROUP, 0, b''.join(k.to_bytes(4, 'little') for k in [flag] + members), at_symtab, signature, 4, 4]
+             for flag, signature, members in groups]
+    rows.append(['.symtab', SYMTAB, 0, b''.join(symbols), at_symtab + 1, 1, 8, 24])
+    rows.append(['.strtab', STRTAB, 0, texts.bytes(), 0, 0, 1, 0])
+    return relocatable([tuple(row) for row in rows])
+
+
+def chance_chains(chance):
+    """(words, inputs): functions of few kinds that call one another, some of them held together by groups, and of which it is asked why."""
+    count, kinds, files = chance.randrange(2, 40), chance.randrange(1, 5), chance.randrange(1, 4)
+    calls = [chance.choice([1, 1, 2])] + [chance.choice([0, 1, 1, 2]) for _ in range(kinds - 1)]
+    inputs = [('o%d.o' % n, functions(chance, list(range(n, count, files)), count, calls)) for n in range(min(files, count))]
+    words = ['--threads', str(chance.choice([1, 3])), '--why-live', 'f%d' % chance.randrange(count)]
+    first = chance.randrange(count)
+    words += ['--why-apart', 'f%d,f%d' % (first, chance.choice([(first + kinds) % count, chance.randrange(count)]))]
+    if chance.random() < 0.4:
+        words.append('--gc-sections')
+    if chance.random() < 0.6:
+        words += ['--icf', chance.choice(['all', 'safe'])]
+    if chance.random() < 0.3:
+        words += ['--keep-unique', 'f%d' % chance.randrange(count)]
     return words, inputs

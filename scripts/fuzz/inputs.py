@@ -1,7 +1,7 @@
 #!/usr/bin/env python3
 """Links altered copies of a real object, and of an archive of real objects, with rvld; and links that are made by chance, sound or not.
 
-Usage: scripts/fuzz/inputs.py [RVLD] [--count 10000] [--mode objects|groups|archive|links|several|all] [--seed 1] [--only K] [--keep DIR]
+Usage: scripts/fuzz/inputs.py [RVLD] [--count 10000] [--mode objects|groups|archive|links|several|chains|all] [--seed 1] [--only K] [--keep DIR]
                               [--workers 3] [--loose] [--whole-calls]
 
 Copy K is made from the seed and K alone: one byte changed, the end cut off, an entry of the section table doubled, or a field of a
@@ -9,9 +9,11 @@ section, a symbol, a relocation or a group set to a hard value; for an archive a
 is linked with --gc-sections, and every second with --icf. In the mode `groups` it is a copy of a file in C++, linked with one that has the
 same groups. Link K of the mode `links` has a few files, one to sixty-four workers, and sometimes another entry, names that are asked for or
 kept unique, and objects whose numbers of sections stand apart (scripts/fuzz/chance_links.py); one of `several` has the files of a few such
-links, and up to a dozen of these are altered, so that it is seen which defect is told by any number of workers. Each run must end by itself
+links, and up to a dozen of these are altered, so that it is seen which defect is told by any number of workers; one of `chains` has functions
+that call one another, and it is asked why one of them is kept, and why two are not folded. Each run must end by itself
 within the limit of time, with status 0 (no line, an executable), 1 (the line of a defect, no executable) or 3. Its status, line and bytes
-are compared with those of scripts/compare/reference_link.py, which has the same rules in another form; --loose leaves that out.
+are compared with those of scripts/compare/reference_link.py, which has the same rules in another form, and what it says with
+scripts/compare/check_chains.py; --loose leaves that out.
 --whole-calls is for a program that shortens no call.
 --only K makes and links one copy, and leaves it in DIR.
 RVLD is $RVLD where it is not named, else crates/rvld/out/rvld.
@@ -28,15 +30,16 @@ import tempfile
 
 TOP = os.path.dirname(os.path.dirname(os.path.dirname(os.path.realpath(__file__))))
 sys.path.insert(0, os.path.join(TOP, 'scripts'))
-from compare import reference_link
+from compare import check_chains, reference_link
 from compare.reference_link import KINDS
 from elf.constants import ELF, GROUP, RELA, SYMTAB
 from elf.read import File, defined, headers
 from elf.write import archive
-from fuzz.chance_links import chance_link
+from fuzz.chance_links import chance_chains, chance_link
 
 SHOWN = r'(?:[!-$&-~]|%[0-9A-F]{2})'
 DEFECT = re.compile(r'rvld: F(\d\d) (\w+) file=(%s+) section=\d+ place=\d+ name=%s* other=%s*\n' % (SHOWN, SHOWN, SHOWN))
+ANSWERS = 'live', 'dead', 'apart', 'same', 'unfoldable', 'unknown'     # to what a link asks why
 NO_FILE = re.compile(r'rvld: cannot (?:read|write) %s+\n' % SHOWN)
 CXX = '-std=c++17 -fno-exceptions -fno-rtti -fno-threadsafe-statics -ffunction-sections -fdata-sections'.split()
 COMPILE = ('clang --target=riscv64-unknown-elf -march=rv64gc -mabi=lp64d -mcmodel=medany -O1 -ffreestanding -fno-builtin '
@@ -212,11 +215,13 @@ class Maker:
             return collected, [('x.a', altered_archive(self.archive, self.places, chance)), ('start.o', self.start)]
         if mode == 'several':
             return several_defects(chance)
+        if mode == 'chains':
+            return chance_chains(chance)
         return chance_link(chance)
 
 
 def link(rvld, words, inputs, folder, limit):
-    """The status (None where the limit of time was passed) and the line of one run in this folder."""
+    """The status (None where the limit of time was passed), the line and what was said of one run in this folder."""
     for name, contents in inputs:
         with open(os.path.join(folder, name), 'wb') as file:
             file.write(contents)
@@ -225,23 +230,26 @@ def link(rvld, words, inputs, folder, limit):
         os.remove(out)
     try:
         run = subprocess.run([rvld, '-s', '-o', 'out'] + words + [name for name, _ in inputs], cwd=folder, stdin=subprocess.DEVNULL,
-                             stdout=subprocess.DEVNULL, stderr=subprocess.PIPE, timeout=limit)
+                             stdout=subprocess.PIPE, stderr=subprocess.PIPE, timeout=limit)
     except subprocess.TimeoutExpired:
-        return None, ''
-    return run.returncode, run.stderr.decode('latin-1')
+        return None, '', ''
+    return run.returncode, run.stderr.decode('latin-1'), run.stdout.decode('latin-1')
 
 
-def compared(words, inputs, status, line, out, whole_calls):
+def compared(words, inputs, status, line, said, out, whole_calls):
     """Why the end is not that of the reference, or None."""
-    start = words[words.index('-e') + 1] if '-e' in words else '_start'
-    folded = words[words.index('--icf') + 1] if '--icf' in words else 'none'
-    asked, unique = (words[words.index(option) + 1].encode().split(b',') if option in words else () for option in ('--undefined', '--keep-unique'))
-    expected, found = reference_link.link([(name.encode(), contents) for name, contents in inputs], start.encode(), '--gc-sections' in words, folded,
-                                          not whole_calls and '--no-relax' not in words, asked, unique)
+    words, live, apart = check_chains.split(words)
+    _, _, more = reference_link.read_command(words)
+    if whole_calls:
+        more['relax'] = False
+    expected, found, done = reference_link.link([(name.encode(), contents) for name, contents in inputs], **more)
     if status != expected:
         return 'status %s, and not %s %s' % (status, expected, found if expected else '')
     if status == 1:
         return None if line == found + '\n' else 'not the line %r' % found
+    texts = check_chains.texts(done, live, apart)
+    if said.splitlines() != texts:
+        return 'said %r, and not %r' % (said, texts)
     with open(out, 'rb') as file:
         return None if file.read() == found else 'another executable'
 
@@ -255,11 +263,12 @@ def worker(number, words, rvld, modes, maker, folder, report):
         for k in range(number, words.count, words.workers):
             options, inputs = maker.copy(mode, k)
             out = os.path.join(folder, 'out')
-            status, line = link(rvld, options, inputs, folder, words.limit)
+            status, line, said = link(rvld, options, inputs, folder, words.limit)
             why, word = judged(status, line, out)
             if not why and not words.loose:
-                why = compared(options, inputs, status, line, out, words.whole_calls)
+                why = compared(options, inputs, status, line, said, out, words.whole_calls)
             counts[mode, word] += 1
+            counts.update((mode, answer[0]) for answer in map(str.split, said.splitlines()) if answer and answer[0] in ANSWERS)
             if why:
                 wrong.append('%s %d: %s: %r' % (mode, k, why, line[:200]))
     with open(report, 'w') as file:
@@ -270,7 +279,7 @@ def main():
     reader = argparse.ArgumentParser(usage=__doc__)
     reader.add_argument('rvld', nargs='?', default=os.environ.get('RVLD') or os.path.join(TOP, 'crates/rvld/out/rvld'))
     reader.add_argument('--count', type=int, default=10000)
-    reader.add_argument('--mode', choices=['objects', 'groups', 'archive', 'links', 'several', 'all'], default='all')
+    reader.add_argument('--mode', choices=['objects', 'groups', 'archive', 'links', 'several', 'chains', 'all'], default='all')
     reader.add_argument('--seed', type=int, default=1)
     reader.add_argument('--workers', type=int, default=3)
     reader.add_argument('--limit', type=float, default=20, help='seconds for one run')
@@ -282,10 +291,10 @@ def main():
     if not os.access(words.rvld, os.X_OK):
         sys.exit('inputs: no program at ' + words.rvld)
     rvld = os.path.abspath(words.rvld)
-    modes = ['objects', 'groups', 'archive', 'links', 'several'] if words.mode == 'all' else [words.mode]
+    modes = ['objects', 'groups', 'archive', 'links', 'several', 'chains'] if words.mode == 'all' else [words.mode]
     if not shutil.which('clang'):
         print('inputs: skipped the altered copies of real files (clang is not there)')
-        modes = [mode for mode in modes if mode in ('links', 'several')]
+        modes = [mode for mode in modes if mode in ('links', 'several', 'chains')]
     work = tempfile.mkdtemp()
     try:
         maker = Maker(words.seed, work, modes)
@@ -295,13 +304,13 @@ def main():
                 folder = os.path.join(words.keep or '.', mode)
                 os.makedirs(folder, exist_ok=True)
                 options, inputs = maker.copy(mode, words.only)
-                status, line = link(rvld, options, inputs, folder, words.limit)
+                status, line, said = link(rvld, options, inputs, folder, words.limit)
                 print('%s %d: rvld -s -o out %s' % (mode, words.only, ' '.join(options + [name for name, _ in inputs])))
                 print('status %s, %s' % (status, line.strip() or 'no line'))
-                print('by the reference: %s' % (compared(options, inputs, status, line, os.path.join(folder, 'out'), words.whole_calls) or 'the same'))
+                print('by the reference: %s' % (compared(options, inputs, status, line, said, os.path.join(folder, 'out'), words.whole_calls) or 'the same'))
             return 0
         for options, inputs in maker.originals:
-            status, line = link(rvld, options, inputs, work, words.limit)
+            status, line, _ = link(rvld, options, inputs, work, words.limit)
             if status == 0:
                 passed += 1
             else:

@@ -1,8 +1,8 @@
 -- What an answer says of a section's records.
 use Rattle.std.proofs.Common.{◌≡◌, ℕ, List, sym, ap, ◌∙◌}
-use Rattle.std.specs.Prelude.{Result, Ok, Err}
+use Rattle.std.specs.Prelude.{Ok, Err}
 use Rattle.lk_base.specs.declared.defects.Flaw.{Flaw}
-use Rattle.lk_tables.specs.Checks.{IsFirstBroken, NoneBroken}
+use Rattle.lk_tables.specs.Checks.{IsFirstBroken}
 use Rattle.lk_tables.specs.Objects.{relocs_for}
 use Rattle.lk_tables.proofs.Passing.{err_from_first, ok_from_none}
 use Rattle.lk_tables.specs.Records.{RecordView, records_of}

@@ -21,7 +21,7 @@ use Rattle.eh_frame.specs.declared.placing.Placed.{Placed}
 use Rattle.eh_frame.specs.Bytes.{IsKnown, cie_bytes, ended, fde_bytes, fdes_bytes, frame_bytes, placed_cies, placed_fdes, placed_from, put, relocated, with_pointer}
 use Rattle.eh_frame.specs.FrameLaws.{ArePlain, HasPlain, IsFdeWritten, IsPlain, StandAt}
 use Rattle.eh_frame.specs.Laws.{IsPlanned}
-use Rattle.eh_frame.specs.Plan.{bytes_of, plan_of, record_of, size_of}
+use Rattle.eh_frame.specs.Plan.{record_bytes, plan_of, record_by, size_of}
 use Rattle.eh_frame.proofs.KnownRecords.{plan_cies_known, plan_fdes_known, plan_uses}
 use Rattle.eh_frame.proofs.PlacedSteps.{length_placed}
 use Rattle.eh_frame.proofs.PutSteps.{fills_some, put_length, put_none}
@@ -49,7 +49,7 @@ plain_found (l ∷ ls) test at all =
     by true here later = here
     by false here later = later
 
-pub plain_record : (lists : List RecordList) (number : FrameNo) → ArePlain lists → HasPlain (record_of lists number)
+pub plain_record : (lists : List RecordList) (number : FrameNo) → ArePlain lists → HasPlain (record_by lists number)
 unfolding record_at
 plain_record lists number all = plain_found lists _ number.at all
 
@@ -82,8 +82,8 @@ module _ (files : List File) (b : Bindings) (leaders : List (Option ℕ)) (laid 
         take 4 (drop 4 (fde_bytes files b leaders laid lists start cie p)) ≡ little_bytes 4 (p.at + 4 - cie)
     unfolding fde_bytes with_pointer
     fde_pointer cie p known clear =
-        let r = record_of lists p.number in
-        let raw = bytes_of files lists p.number in
+        let r = record_by lists p.number in
+        let raw = record_bytes files lists p.number in
         let distance = little_bytes 4 (p.at + 4 - cie) in
         let long = bytes_length files lists p.number known in
         let least = known.within.least in
@@ -205,8 +205,10 @@ module _ (files : List File) (b : Bindings) (leaders : List (Option ℕ)) (laid 
       record {
         fde = p;
         cie = c;
-        fde_is = placed_number lists sizes plan.fdes k;
-        cie_is = placed_number lists 0 plan.cies u;
+        fde_is = refl;
+        cie_is = refl;
+        fde_number = placed_number lists sizes plan.fdes k;
+        cie_number = placed_number lists 0 plan.cies u;
         before = omega (arith, placed_high lists 0 plan.cies u used, placed_low lists sizes plan.fdes k lt);
         fde_stands = fde_stands;
         cie_stands = ap (λ l. take (length (cie_bytes files b leaders laid lists start c)) (drop c.at l)) parts

@@ -20,7 +20,7 @@ use Rattle.lk_tables.specs.Records.{RecordView}
 use Rattle.lk_tables.specs.RecordViews.{record_view, record_views}
 use Rattle.lk_tables.specs.Targets.{is_gone}
 use Rattle.link_sections.specs.PoolViews.{Merged}
-use Rattle.eh_frame.specs.Plan.{cie_key, cie_no, is_led, key_of, record_of}
+use Rattle.eh_frame.specs.Plan.{cie_key, cie_no, is_owner_in_place, key_of, record_by}
 use Rattle.eh_frame.specs.Uses.{Tells, list_in, one_frame, used_cie}
 
 -- an FDE whose CIE is used, and one that is not written
@@ -33,20 +33,20 @@ unused false cie x e has = refl
 unused true None x e has = let wrong : false ≡ true = has refl in absurd cc
 unused true (Some c) x e has = absurd cc
 
-led_if : (leaders : List (Option ℕ)) (merged : List (Option Merged)) (t : Bool) (o : Option ℕ) → is_led leaders merged (cond t o None) ≡ true → t ≡ true
+led_if : (leaders : List (Option ℕ)) (merged : List (Option Merged)) (t : Bool) (o : Option ℕ) → is_owner_in_place leaders merged (cond t o None) ≡ true → t ≡ true
 led_if leaders merged true o e = refl
 led_if leaders merged false o e = absurd cc
 
-led_has_cie : (files : List File) (b : Bindings) (merged : List (Option Merged)) (leaders : List (Option ℕ)) (f : ℕ) (r : RecordView) → is_led leaders merged (owner_in files b f r) ≡ true → is_some r.cie ≡ true
+led_has_cie : (files : List File) (b : Bindings) (merged : List (Option Merged)) (leaders : List (Option ℕ)) (f : ℕ) (r : RecordView) → is_owner_in_place leaders merged (owner_in files b f r) ≡ true → is_some r.cie ≡ true
 unfolding owner_in
 led_has_cie files b merged leaders f r e = led_if leaders merged (is_some r.cie) _ e
 
 module _ (files : List File) (b : Bindings) (merged : List (Option Merged)) (leaders : List (Option ℕ)) where
-  pub no_frame : (f : ℕ) (r : RecordView) (x : FrameNo) → None ≡ used_cie files b merged leaders f r → cond (is_led leaders merged (owner_in files b f r)) (x ∷ []) [] ≡ []
-  no_frame f r x e = unused (is_led leaders merged (owner_in files b f r)) r.cie x e (led_has_cie files b merged leaders f r)
+  pub no_frame : (f : ℕ) (r : RecordView) (x : FrameNo) → None ≡ used_cie files b merged leaders f r → cond (is_owner_in_place leaders merged (owner_in files b f r)) (x ∷ []) [] ≡ []
+  no_frame f r x e = unused (is_owner_in_place leaders merged (owner_in files b f r)) r.cie x e (led_has_cie files b merged leaders f r)
 
-  pub used_is : (f : ℕ) (r : RecordView) (c : ℕ) → Some c ≡ used_cie files b merged leaders f r → (is_led leaders merged (owner_in files b f r) ≡ true) × (r.cie ≡ Some c)
-  used_is f r c e = used (is_led leaders merged (owner_in files b f r)) r.cie c e
+  pub used_is : (f : ℕ) (r : RecordView) (c : ℕ) → Some c ≡ used_cie files b merged leaders f r → (is_owner_in_place leaders merged (owner_in files b f r) ≡ true) × (r.cie ≡ Some c)
+  used_is f r c e = used (is_owner_in_place leaders merged (owner_in files b f r)) r.cie c e
 
   pub one_led : (t : Bool) (x : FrameNo) → t ≡ true → cond t (x ∷ []) [] ≡ x ∷ []
   one_led true x e = refl
@@ -58,11 +58,11 @@ module _ (files : List File) (b : Bindings) (merged : List (Option Merged)) (lea
 
   -- those of the first records of a list
   abbrev pub first_frames : RecordList → ℕ → List FrameNo
-  first_frames l n = map (frame_no l.section) (filter (λ at. is_led leaders merged (owner_at files b l at)) (range_with_len 0 n))
+  first_frames l n = map (frame_no l.section) (filter (λ at. is_owner_in_place leaders merged (owner_at files b l at)) (range_with_len 0 n))
 
   pub frames_more : (l : RecordList) (at : ℕ) (before : List FrameNo) → before ++ first_frames l (at + 1) ≡ (before ++ first_frames l at) ++ one_frame files b merged leaders l at
   frames_more l at before =
-      let p : ℕ → Bool = λ k. is_led leaders merged (owner_at files b l k) in
+      let p : ℕ → Bool = λ k. is_owner_in_place leaders merged (owner_at files b l k) in
       let f = frame_no l.section in
       let done = filter p (range_with_len 0 at) in
       ap (λ ks. before ++ map f (filter p ks)) (range_more at)
@@ -71,12 +71,12 @@ module _ (files : List File) (b : Bindings) (merged : List (Option Merged)) (lea
       ∙ ap (λ fs. before ++ (map f done ++ fs)) (map_cond (p at) l.section at)
       ∙ sym (append_assoc before (map f done) (cond (p at) (f at ∷ []) []))
 
-  pub all_frames_are : (l : RecordList) (n : ℕ) → is_gone b l.section ≡ false → n ≡ length l.records → first_frames l n ≡ frames_where files b (is_led leaders merged) l
+  pub all_frames_are : (l : RecordList) (n : ℕ) → is_gone b l.section ≡ false → n ≡ length l.records → first_frames l n ≡ frames_where files b (is_owner_in_place leaders merged) l
   unfolding frames_where
   all_frames_are l n stays all =
       ap (first_frames l) all ∙ ap (λ t. cond t [] (first_frames l (length l.records))) (sym stays)
 
-  pub gone_has_none : (l : RecordList) → is_gone b l.section ≡ true → frames_where files b (is_led leaders merged) l ≡ []
+  pub gone_has_none : (l : RecordList) → is_gone b l.section ≡ true → frames_where files b (is_owner_in_place leaders merged) l ≡ []
   unfolding frames_where
   gone_has_none l gone = ap (λ t. cond t [] (first_frames l (length l.records))) gone
 
@@ -125,7 +125,7 @@ read_some (r ∷ rs) zero = refl
 read_some (r ∷ rs) (suc k) = read_some rs k
 
 record_is : (lists : List RecordList) (n : ℕ) (d : RecordList) (k : ℕ) → AreInOrder lists → n < length lists →
-    record_of lists (frame_no (get_or lists n d).section k) ≡ get_or (get_or lists n d).records k no_record
+    record_by lists (frame_no (get_or lists n d).section k) ≡ get_or (get_or lists n d).records k no_record
 unfolding record_at
 record_is lists n d k order lt =
     ap (λ o. unwrap_or (nth k o) no_record) (found_in lists n d order lt) ∙ read_some (get_or lists n d).records k

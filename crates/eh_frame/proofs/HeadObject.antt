@@ -1,16 +1,15 @@
 -- The head and the object of a file's bytes, by number.
-use Rattle.std.proofs.Common.{◌≡◌, ℕ, ◌+◌, ◌<◌, ◌≤◌, List, [], length, map, get_or, refl, sym, ap, ◌∙◌, subst, arith}
+use Rattle.std.proofs.Common.{◌≡◌, ℕ, ◌<◌, ◌≤◌, List, [], length, map, get_or, ap, ◌∙◌, arith}
 use Rattle.std.specs.Prelude.{Ok}
 use Rattle.std.specs.Global.{Vec}
-use Rattle.std.specs.List.{All, range_with_len}
 use Rattle.std.specs.List.Sorted.{IsNonDecreasingBy}
 use Rattle.std.proofs.lemmas.List.{get_or-map}
-use Rattle.std.proofs.lemmas.List.FromFn.{get_or-map-range_with_len, length-map-range_with_len}
+use Rattle.std.proofs.lemmas.List.FromFn.{get_or-map-range_with_len}
 use Rattle.lk_base.specs.declared.abi.TheConstants.{FILE_MAX}
 use Rattle.lk_tables.specs.declared.heads.Section.{Section}
 use Rattle.lk_tables.specs.declared.objects.Reloc.{Reloc}
 use Rattle.lk_tables.specs.FileHeader.{section_count}
-use Rattle.lk_tables.specs.Heads.{HeadView, head_of, sections_of}
+use Rattle.lk_tables.specs.Heads.{HeadView, head_of}
 use Rattle.lk_tables.specs.Objects.{ObjectView, object_of, parts_of, relocs_for}
 use Rattle.lk_tables.specs.Sections.{section_of}
 use Rattle.lk_tables.proofs.BodyFacts.{sections_are}

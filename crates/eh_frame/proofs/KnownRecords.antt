@@ -1,24 +1,24 @@
 -- The records that are written are there, and were read without a flaw.
-use Rattle.std.proofs.Common.{◌≡◌, ℕ, ◌+◌, ◌<◌, ◌≤◌, Bool, true, false, List, [], ◌∷◌, ◌++◌, length, map, get_or, flat_map, refl, sym, ap, ◌∙◌, subst, arith, Option, Some, None}
+use Rattle.std.proofs.Common.{◌≡◌, ℕ, ◌+◌, ◌<◌, ◌≤◌, Bool, true, false, List, [], ◌∷◌, ◌++◌, length, map, get_or, flat_map, refl, sym, ap, subst, arith, Option, Some, None}
 use Rattle.std.specs.Prelude.{if◌then◌else◌, is_some, unwrap_or}
 use Rattle.std.specs.List.{All, filter, list_any, range_with_len, sum_by}
 use Rattle.std.proofs.lemmas.List.{get_or_default, length-map}
-use Rattle.std.proofs.lemmas.List.Elements.{All-append, All-cons, All-filter, All-head, All-map, All-nil, All-push, All-tail, All-weaker}
+use Rattle.std.proofs.lemmas.List.Elements.{All-append, All-filter, All-head, All-map, All-nil, All-push, All-tail, All-weaker}
 use Rattle.std.proofs.lemmas.List.FromFn.{get_or-range_with_len, length-range_with_len}
 use Rattle.lk_tables.specs.declared.records.FrameNo.{FrameNo}
 use Rattle.lk_tables.specs.Binding.{Bindings}
 use Rattle.lk_tables.specs.Files.{File}
 use Rattle.lk_tables.specs.FramePlans.{PlanView}
-use Rattle.lk_tables.specs.Frames.{AreListsWithin, IsListWithin, IsRecordWithin, RecordList, frame_no, frames_where, no_record, owner_at, record_at}
+use Rattle.lk_tables.specs.Frames.{AreListsWithin, IsListWithin, IsRecordWithin, RecordList, frame_no, frames_where, no_record, owner_at}
 use Rattle.lk_tables.specs.Records.{RecordView}
 use Rattle.lk_tables.specs.Sites.{contents_at}
 use Rattle.lk_tables.specs.Targets.{is_gone}
 use Rattle.link_sections.specs.PoolViews.{Merged}
 use Rattle.eh_frame.specs.Bytes.{IsKnown}
-use Rattle.eh_frame.specs.Plan.{CieKey, cie_key, cie_no, first_cies, frame_len_of, header_len_of, is_alike, is_led, plan_of, record_of, size_of, with_cie, written_cies, written_fdes}
+use Rattle.eh_frame.specs.Plan.{CieKey, cie_key, cie_no, first_cies, frame_len_of, header_len_of, is_alike, is_owner_in_place, plan_of, record_by, size_of, with_cie, written_cies, written_fdes}
 use Rattle.eh_frame.proofs.ListsFound.{record_found, record_is}
 
-all_flat : {X Y : Type 0} (P : Y → Type 0) (f : X → List Y) (xs : List X) → All (λ x. All P (f x)) xs → All P (flat_map f xs)
+pub all_flat : {X Y : Type 0} (P : Y → Type 0) (f : X → List Y) (xs : List X) → All (λ x. All P (f x)) xs → All P (flat_map f xs)
 all_flat P f [] all = All-nil P
 all_flat P f (x ∷ xs) all =
     All-append P (f x) (flat_map f xs) (All-head (λ y. All P (f y)) x xs all) (all_flat P f xs (All-tail (λ y. All P (f y)) x xs all))
@@ -72,7 +72,7 @@ module _ (files : List File) (lists : List RecordList) where
       let less = subst low same (cie_below (get_or l.records at no_record) _ _ at (list.records at no_record below) below) in
       record {
         own = known_at k l at within lt is below;
-        cie = known_at k l (unwrap_or (record_of lists (frame_no l.section at)).cie 0) within lt is less;
+        cie = known_at k l (unwrap_or (record_by lists (frame_no l.section at)).cie 0) within lt is less;
       }
 
   frames_known : (b : Bindings) (test : Option ℕ → Bool) (k : ℕ) (l : RecordList) → AreListsWithin files lists → k < length lists → l ≡ get_or lists k l →
@@ -90,8 +90,8 @@ module _ (files : List File) (lists : List RecordList) where
   written_known : (b : Bindings) (merged : List (Option Merged)) (leaders : List (Option ℕ)) → AreListsWithin files lists → All Both (written_fdes files b merged lists leaders)
   unfolding written_fdes
   written_known b merged leaders within =
-      all_flat Both (frames_where files b (is_led leaders merged)) lists
-      (λ k d lt. frames_known b (is_led leaders merged) k (get_or lists k d) within lt (get_or_default lists k d (get_or lists k d) lt))
+      all_flat Both (frames_where files b (is_owner_in_place leaders merged)) lists
+      (λ k d lt. frames_known b (is_owner_in_place leaders merged) k (get_or lists k d) within lt (get_or_default lists k d (get_or lists k d) lt))
 
   first_known : (key : FrameNo → CieKey) (known cies : List FrameNo) → All (IsKnown files lists) known → All (IsKnown files lists) cies →
       All (IsKnown files lists) (first_cies key known cies)

@@ -28,5 +28,6 @@ pub mod RelocParts
 pub mod StrayChecks
 pub mod TableOrder
 pub mod TableRows
+pub mod Totals
 pub mod Walk
 pub mod Within

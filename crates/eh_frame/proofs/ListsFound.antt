@@ -1,8 +1,7 @@
 -- A record that is there is found by its numbers.
-use Rattle.std.proofs.Common.{◌≡◌, ℕ, ◌<◌, ◌≤◌, ◌==◌, Bool, true, List, length, map, get_or, find, refl, sym, ap, ◌∙◌, arith, Option, Some, None, inl, inr}
+use Rattle.std.proofs.Common.{◌≡◌, ℕ, ◌<◌, ◌==◌, true, List, length, map, get_or, find, refl, sym, ap, ◌∙◌, arith, Option, Some, None}
 use Rattle.std.specs.Prelude.{is_some, unwrap_or}
-use Rattle.std.proofs.lemmas.Bool.{cases_lt}
-use Rattle.std.proofs.lemmas.List.{get_or_default, get_or_past, get_or-map, length-map}
+use Rattle.std.proofs.lemmas.List.{get_or_default, get_or-map, length-map}
 use Rattle.std.proofs.lemmas.List.Kept.{AllPairs-from_increasing}
 use Rattle.lk_tables.specs.declared.records.FrameNo.{FrameNo}
 use Rattle.lk_tables.specs.declared.records.Record.{Record}
@@ -11,7 +10,7 @@ use Rattle.lk_tables.specs.RecordViews.{record_view}
 use Rattle.lk_tables.specs.Records.{RecordView}
 use Rattle.lk_tables.proofs.Finding.{found}
 use Rattle.lk_tables.proofs.FrameLists.{Listed, some_at}
-use Rattle.eh_frame.specs.Plan.{record_of}
+use Rattle.eh_frame.specs.Plan.{record_by}
 
 abbrev number : RecordList → ℕ
 number l = l.section
@@ -59,7 +58,7 @@ unfolding record_at
 near_is lists wanted place own r up lt is same below there =
     ap (nth wanted.at) (held_found lists wanted.section place own up lt is same) ∙ some_at own.1.items wanted.at r below there
 
-pub record_is : (lists : List RecordList) (wanted : FrameNo) (r : RecordView) → record_at lists wanted ≡ Some r → r ≡ record_of lists wanted
+pub record_is : (lists : List RecordList) (wanted : FrameNo) (r : RecordView) → record_at lists wanted ≡ Some r → r ≡ record_by lists wanted
 record_is lists wanted r is = sym (ap (λ o. unwrap_or o no_record) is)
 
 pub not_none : (o : Option RecordView) → is_some o ≡ true → o ≡ None → ⊥

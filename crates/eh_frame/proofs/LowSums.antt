@@ -23,10 +23,10 @@ use Rattle.link_sections.specs.PieceTargets.{in_section, piece_target}
 use Rattle.link_sections.specs.PoolViews.{Merged, merged_at}
 use Rattle.link_sections.specs.Sums.{addend_of}
 use Rattle.eh_frame.specs.declared.placing.Placed.{Placed}
-use Rattle.eh_frame.specs.Bytes.{sum_in, target_in}
+use Rattle.eh_frame.specs.Bytes.{sum_in, reloc_target}
 use Rattle.eh_frame.specs.FrameLaws.{ArePlain, IsPlain}
 use Rattle.eh_frame.specs.Header.{begin_of, function_of}
-use Rattle.eh_frame.specs.Plan.{record_of}
+use Rattle.eh_frame.specs.Plan.{record_by}
 use Rattle.eh_frame.specs.TableLaws.{NotLow}
 use Rattle.eh_frame.proofs.FrameStands.{plain_record}
 
@@ -82,7 +82,7 @@ sum_low n a low = omega (arith, ints, low)
 
 module _ (files : List File) (b : Bindings) (leaders : List (Option ℕ)) (laid : LaidOut) where
   reloc_low : (f : ℕ) (r : Reloc) → IsLow r.addend → IsLow (sum_in files b leaders laid f r)
-  unfolding sum_in target_in
+  unfolding sum_in reloc_target
   reloc_low f r low = sum_low _ _ (target_low laid.merging.merged (target_of files b f r) r (spot_low files b f r low) low)
 
   begin_low : (lists : List RecordList) (f from : ℕ) (relocs : List Reloc) → All (IsPlain from) relocs → IsLow (begin_of files b leaders laid lists f (first_of relocs))
@@ -96,4 +96,4 @@ module _ (files : List File) (b : Bindings) (leaders : List (Option ℕ)) (laid 
 
   pub not_low : (lists : List RecordList) (p : Placed) → ArePlain lists → NotLow files b leaders laid lists p
   unfolding function_of
-  not_low lists p plain = begin_low lists (place_of files p.number.section).file (record_of lists p.number).from (record_of lists p.number).relocs (plain_record lists p.number plain)
+  not_low lists p plain = begin_low lists (place_of files p.number.section).file (record_by lists p.number).from (record_by lists p.number).relocs (plain_record lists p.number plain)

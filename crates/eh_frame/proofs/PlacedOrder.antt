@@ -1,5 +1,5 @@
 -- Records in order of section and number: those of each section one after the other, and what is found in them.
-use Rattle.std.proofs.Common.{◌≡◌, ℕ, zero, suc, ◌+◌, ◌*◌, ◌^◌, ◌<◌, ◌≤◌, ◌==◌, Bool, true, false, List, [], ◌∷◌, ◌++◌, flat_map, refl, sym, ap, ◌∙◌, arith, subst, inl, inr, Option}
+use Rattle.std.proofs.Common.{◌≡◌, ℕ, zero, suc, ◌+◌, ◌*◌, ◌^◌, ◌<◌, ◌≤◌, ◌==◌, List, [], ◌∷◌, ◌++◌, flat_map, refl, sym, ap, ◌∙◌, arith, subst, inl, inr, Option}
 use Rattle.std.specs.List.{All, AllByRecursion, filter, range_with_len}
 use Rattle.std.proofs.lemmas.Bool.{cases_lt, cond-true, cond-false, eq-eqb, ne_eqb}
 use Rattle.std.proofs.lemmas.List.Concat.{flat_map-append}
@@ -15,7 +15,7 @@ use Rattle.lk_tables.specs.FramePlans.{PlanView}
 use Rattle.lk_tables.specs.Frames.{RecordList}
 use Rattle.link_sections.specs.LaidOut.{LaidOut}
 use Rattle.eh_frame.specs.declared.placing.Placed.{Placed}
-use Rattle.eh_frame.specs.Bytes.{IsKnown, all_placed, frame_defects, in_order, is_of, order_of, placed_defects, record_defects}
+use Rattle.eh_frame.specs.Bytes.{IsKnown, all_placed, frame_defects, placed_order, is_of, order_of, placed_defects, record_defects}
 
 -- the elements of a list by groups, of which each has a number
 abbrev group : {X : Type 0} → (X → ℕ) → (n : ℕ) → List X → List X
@@ -87,8 +87,8 @@ by_section (p ∷ ps) few up = (lower p ps few.1 up.0, by_section ps few.1 up.1)
 
 pub sections_in_order : (f : Placed → List Defect) (ps : List Placed) (total : ℕ) → All (λ (p : Placed). p.number.at < 2 ^ 32) ps →
     All (λ (p : Placed). p.number.section < total) ps →
-    flat_map f (in_order ps) ≡ flat_map (λ n. flat_map f (filter (is_of n) (in_order ps))) (range_with_len 0 total)
-unfolding in_order
+    flat_map f (placed_order ps) ≡ flat_map (λ n. flat_map f (filter (is_of n) (placed_order ps))) (range_with_len 0 total)
+unfolding placed_order
 sections_in_order f ps total few high =
     let qs = stable_order order_of ps in
     let small = recursion_from_All (λ (p : Placed). p.number.at < 2 ^ 32) qs (all_stable (λ (p : Placed). p.number.at < 2 ^ 32) order_of ps few) in
@@ -113,14 +113,14 @@ none_all : {X Y : Type 0} (f : X → List Y) (xs : List X) → AllByRecursion (�
 none_all f [] all = refl
 none_all f (x ∷ xs) all = ap (λ l. l ++ flat_map f xs) all.0 ∙ none_all f xs all.1
 
-pub none_in_order : (f : Placed → List Defect) (ps : List Placed) → flat_map f ps ≡ [] → flat_map f (in_order ps) ≡ []
-unfolding in_order
+pub none_in_order : (f : Placed → List Defect) (ps : List Placed) → flat_map f ps ≡ [] → flat_map f (placed_order ps) ≡ []
+unfolding placed_order
 none_in_order f ps none = none_all f (stable_order order_of ps) (all_order (λ p. f p ≡ []) order_of ps (each_none f ps none))
 
 -- what is wrong with the values of all that are written
 pub defects_are : (files : List File) (b : Bindings) (leaders : List (Option ℕ)) (laid : LaidOut) (lists : List RecordList) (plan : PlanView) (start : ℕ) →
     All (λ (p : Placed). IsKnown files lists p.number) (all_placed lists plan) →
-    flat_map (placed_defects files b leaders laid lists start) (in_order (all_placed lists plan)) ≡ frame_defects files b leaders laid lists plan start
+    flat_map (placed_defects files b leaders laid lists start) (placed_order (all_placed lists plan)) ≡ frame_defects files b leaders laid lists plan start
 unfolding frame_defects record_defects
 defects_are files b leaders laid lists plan start known =
     let ps = all_placed lists plan in
@@ -136,10 +136,10 @@ first_of_same xs ys found same first =
 
 pub defects_found : (files : List File) (b : Bindings) (leaders : List (Option ℕ)) (laid : LaidOut) (lists : List RecordList) (plan : PlanView) (from start : ℕ)
     (placed : List Placed) (found : Option Defect) → All (λ (p : Placed). IsKnown files lists p.number) (all_placed lists plan) → placed ≡ all_placed lists plan → from ≡ start →
-    IsFirst (flat_map (placed_defects files b leaders laid lists from) (in_order placed)) found → IsFirst (frame_defects files b leaders laid lists plan start) found
+    IsFirst (flat_map (placed_defects files b leaders laid lists from) (placed_order placed)) found → IsFirst (frame_defects files b leaders laid lists plan start) found
 defects_found files b leaders laid lists plan from start placed found known is same first =
-    first_of_same (flat_map (placed_defects files b leaders laid lists from) (in_order placed)) (frame_defects files b leaders laid lists plan start) found
-    (ap (λ s. flat_map (placed_defects files b leaders laid lists s) (in_order placed)) same
-    ∙ ap (λ ps. flat_map (placed_defects files b leaders laid lists start) (in_order ps)) is
+    first_of_same (flat_map (placed_defects files b leaders laid lists from) (placed_order placed)) (frame_defects files b leaders laid lists plan start) found
+    (ap (λ s. flat_map (placed_defects files b leaders laid lists s) (placed_order placed)) same
+    ∙ ap (λ ps. flat_map (placed_defects files b leaders laid lists start) (placed_order ps)) is
     ∙ defects_are files b leaders laid lists plan start known)
     first

@@ -12,7 +12,7 @@ use Rattle.lk_tables.specs.Checks.{NoneBroken, from_on}
 use Rattle.lk_tables.specs.Entries.{reloc_at}
 use Rattle.lk_tables.specs.Numbers.{sxword_at}
 use Rattle.lk_tables.specs.Objects.{relocs_for, relocs_in as relocs_by}
-use Rattle.lk_tables.specs.Records.{RecordView, count, end_at, first_records, has_width, place, record_of, records_of, relocs_in}
+use Rattle.lk_tables.specs.Records.{RecordView, count, end_at, first_records, has_width, start_of, record_of, records_of, relocs_in}
 use Rattle.lk_tables.specs.Relocations.{in_order, place_width, rela_place, reloc}
 use Rattle.lk_tables.specs.Sections.{section_of}
 use Rattle.lk_tables.proofs.Passing.{both_pass, ok_from_none}
@@ -22,26 +22,26 @@ use Rattle.eh_frame.specs.Sections.{bytes_of, frame_checks, stray_checks}
 use Rattle.eh_frame.proofs.Places.{place_le, place_next}
 use Rattle.eh_frame.proofs.Within.{any_in, fine_by, in_some, inside}
 
-own_start : (c : List ℕ) (q : Reloc) (j i : ℕ) → is_inside c q i ≡ true → place c j ≤ q.offset → q.offset < end_at c (place c j) → 0 < place_width q → place c j + 8 ≤ q.offset
+own_start : (c : List ℕ) (q : Reloc) (j i : ℕ) → is_inside c q i ≡ true → start_of c j ≤ q.offset → q.offset < end_at c (start_of c j) → 0 < place_width q → start_of c j + 8 ≤ q.offset
 own_start c q j i e low high wide =
     let in_i = inside c q i e in
-    let start : place c i + 8 ≤ q.offset = in_i.0 in
-    let fits : q.offset + place_width q ≤ end_at c (place c i) = in_i.1 in
+    let start : start_of c i + 8 ≤ q.offset = in_i.0 in
+    let fits : q.offset + place_width q ≤ end_at c (start_of c i) = in_i.1 in
     elim (cases_lt i j) [
       | inl before ↦ omega (arith, place_next c i, place_le c (i + 1) j (omega (arith, before)), fits, low, wide)
       | inr rest ↦ elim (cases_lt j i) [
         | inl after ↦ omega (arith, place_next c j, place_le c (j + 1) i (omega (arith, after)), start, high)
         | inr le ↦
             let same : i ≡ j = omega (arith, rest, le) in
-            subst (λ (n : ℕ). place c n + 8 ≤ q.offset) same start
+            subst (λ (n : ℕ). start_of c n + 8 ≤ q.offset) same start
       ]
     ]
 
-starts_in : (c : List ℕ) (q : Reloc) (j : ℕ) → is_stray c q ≡ false → (nat_le (place c j) q.offset && nat_lt q.offset (end_at c (place c j))) ≡ true → has_width q ≡ true →
-    place c j + 8 ≤ q.offset
+starts_in : (c : List ℕ) (q : Reloc) (j : ℕ) → is_stray c q ≡ false → (nat_le (start_of c j) q.offset && nat_lt q.offset (end_at c (start_of c j))) ≡ true → has_width q ≡ true →
+    start_of c j + 8 ≤ q.offset
 unfolding is_stray
 starts_in c q j fine here wide =
-    let p = and_parts (nat_le (place c j) q.offset) (nat_lt q.offset (end_at c (place c j))) here in
+    let p = and_parts (nat_le (start_of c j) q.offset) (nat_lt q.offset (end_at c (start_of c j))) here in
     let some = any_in (is_inside c q) 0 (count c) (in_some (has_width q) (list_any (is_inside c q) (range_with_len 0 (count c))) fine wide) in
     own_start c q j some.0 some.1 (leb-true _ _ p.0) (ltb-true _ _ p.1) (ltb-true _ _ wide)
 
@@ -71,7 +71,7 @@ one_plain : (c : List ℕ) (relocs : List Reloc) (j : ℕ) → All (λ (q : Relo
     HasPlain (record_of c relocs j)
 unfolding record_of relocs_in
 one_plain c relocs j fine low =
-    let test : Reloc → Bool = λ q. nat_le (place c j) q.offset && nat_lt q.offset (end_at c (place c j)) in
+    let test : Reloc → Bool = λ q. nat_le (start_of c j) q.offset && nat_lt q.offset (end_at c (start_of c j)) in
     let own = filter test relocs in
     let here : All (λ (q : Reloc). test q ≡ true) own = filter_passes test relocs in
     let sound_own : All (λ (q : Reloc). is_stray c q ≡ false) own = All-filter test (λ (q : Reloc). is_stray c q ≡ false) relocs fine in

@@ -1,4 +1,4 @@
--- A plan writes each FDE of a section that leads itself, once, and no other, with a CIE that is equal to its own.
+-- A plan writes each FDE of a section whose own bytes are written, once, and no other, with a CIE that is equal to its own.
 use Rattle.std.proofs.Common.{◌≡◌, ℕ, suc, ◌<◌, ◌==◌, ◌&&◌, nat_lt, Bool, true, false, cond, List, [], ◌∷◌, ◌++◌, length, map, flat_map, get_or, Contains, Option, Some, None, refl, sym, ap, ◌∙◌, subst, arith}
 use Rattle.std.specs.List.{All, AllPairs, filter, range_with_len}
 use Rattle.std.proofs.lemmas.Bool.{and_from, eq-eqb, eqb-true, lt-ltb, or_left, or_right}
@@ -14,8 +14,8 @@ use Rattle.lk_tables.specs.Frames.{AreInOrder, RecordList, frame_no, frames_at, 
 use Rattle.lk_tables.specs.Targets.{is_gone}
 use Rattle.lk_tables.proofs.SoundGroups.{pairs_map}
 use Rattle.link_sections.specs.PoolViews.{Merged}
-use Rattle.eh_frame.specs.Laws.{IsOfLeader, IsPlanned, comes_before}
-use Rattle.eh_frame.specs.Plan.{CieKey, cie_key, cie_no, is_alike, is_leader, is_led, plan_of, use_of, written_cies, written_fdes}
+use Rattle.eh_frame.specs.Laws.{IsInPlace, IsPlanned, comes_before}
+use Rattle.eh_frame.specs.Plan.{CieKey, cie_key, cie_no, is_alike, is_in_place, is_owner_in_place, plan_of, use_of, written_cies, written_fdes}
 use Rattle.eh_frame.specs.Uses.{cies_for}
 use Rattle.eh_frame.proofs.CieKeys.{cie_Decides}
 use Rattle.eh_frame.proofs.FirstCies.{first_apart, found_first}
@@ -23,10 +23,10 @@ use Rattle.eh_frame.proofs.Membership.{from_filter, from_flat, from_map, from_ra
 use Rattle.eh_frame.proofs.NotedCies.{each_known}
 
 -- pairs of a list and of another after it
-first_pairs : {X : Type 0} (R : X → X → Type 0) (x : X) (xs : List X) → AllPairs R (x ∷ xs) → All (R x) xs
+pub first_pairs : {X : Type 0} (R : X → X → Type 0) (x : X) (xs : List X) → AllPairs R (x ∷ xs) → All (R x) xs
 first_pairs R x xs all = λ k d lt. all 0 (suc k) d (omega arith) (omega (arith, lt))
 
-rest_pairs : {X : Type 0} (R : X → X → Type 0) (x : X) (xs : List X) → AllPairs R (x ∷ xs) → AllPairs R xs
+pub rest_pairs : {X : Type 0} (R : X → X → Type 0) (x : X) (xs : List X) → AllPairs R (x ∷ xs) → AllPairs R xs
 rest_pairs R x xs all = λ i j d lt high. all (suc i) (suc j) d (omega (arith, lt)) (omega (arith, high))
 
 pairs_append : {X : Type 0} (R : X → X → Type 0) (xs ys : List X) → AllPairs R xs → AllPairs R ys → All (λ x. All (R x) ys) xs → AllPairs R (xs ++ ys)
@@ -129,38 +129,38 @@ module _ (files : List File) (b : Bindings) where
       let two = get_or-map section lists j d 0 high in
       omega (arith, rises, one, two)
 
-  number_led : (leaders : List (Option ℕ)) (merged : List (Option Merged)) (o : Option ℕ) (a : ℕ) → is_number o a ≡ true → is_leader leaders merged a ≡ true → is_led leaders merged o ≡ true
+  number_led : (leaders : List (Option ℕ)) (merged : List (Option Merged)) (o : Option ℕ) (a : ℕ) → is_number o a ≡ true → is_in_place leaders merged a ≡ true → is_owner_in_place leaders merged o ≡ true
   number_led leaders merged None a is led = absurd cc
   number_led leaders merged (Some m) a is led =
-      let P : ℕ → Type 0 = λ k. is_leader leaders merged k ≡ true in
+      let P : ℕ → Type 0 = λ k. is_in_place leaders merged k ≡ true in
       subst P (sym (eqb-true m a is)) led
 
-  led_owner : (leaders : List (Option ℕ)) (merged : List (Option Merged)) (o : Option ℕ) → is_led leaders merged o ≡ true → (a : ℕ) × (o ≡ Some a) × (is_leader leaders merged a ≡ true)
+  led_owner : (leaders : List (Option ℕ)) (merged : List (Option Merged)) (o : Option ℕ) → is_owner_in_place leaders merged o ≡ true → (a : ℕ) × (o ≡ Some a) × (is_in_place leaders merged a ≡ true)
   led_owner leaders merged None led = absurd cc
   led_owner leaders merged (Some a) led = (a, refl, led)
 
-  each_led : (merged : List (Option Merged)) (lists : List RecordList) (leaders : List (Option ℕ)) (fde : FrameNo) → IsOfLeader files b merged lists leaders fde → Contains (written_fdes files b merged lists leaders) fde
+  each_led : (merged : List (Option Merged)) (lists : List RecordList) (leaders : List (Option ℕ)) (fde : FrameNo) → IsInPlace files b merged lists leaders fde → Contains (written_fdes files b merged lists leaders) fde
   unfolding frames_at written_fdes
   each_led merged lists leaders fde own =
       let a = own.section in
       let test : Option ℕ → Bool = λ owner. is_number owner a in
       let part = from_flat (frames_where files b test) lists fde own.listed in
       let f = frame_of test part.x fde part.part in
-      in_flat (frames_where files b (is_led leaders merged)) lists part.x fde part.listed
-      (has_frame (is_led leaders merged) part.x fde
-      (record { at = f.at; below = f.below; is = f.is; stays = f.stays; passes = number_led leaders merged (owner_at files b part.x f.at) a f.passes own.leads_itself }))
+      in_flat (frames_where files b (is_owner_in_place leaders merged)) lists part.x fde part.listed
+      (has_frame (is_owner_in_place leaders merged) part.x fde
+      (record { at = f.at; below = f.below; is = f.is; stays = f.stays; passes = number_led leaders merged (owner_at files b part.x f.at) a f.passes own.in_place }))
 
-  led_only : (merged : List (Option Merged)) (lists : List RecordList) (leaders : List (Option ℕ)) (fde : FrameNo) → Contains (written_fdes files b merged lists leaders) fde → IsOfLeader files b merged lists leaders fde
+  led_only : (merged : List (Option Merged)) (lists : List RecordList) (leaders : List (Option ℕ)) (fde : FrameNo) → Contains (written_fdes files b merged lists leaders) fde → IsInPlace files b merged lists leaders fde
   unfolding frames_at written_fdes
   led_only merged lists leaders fde has =
-      let part = from_flat (frames_where files b (is_led leaders merged)) lists fde has in
-      let f = frame_of (is_led leaders merged) part.x fde part.part in
+      let part = from_flat (frames_where files b (is_owner_in_place leaders merged)) lists fde has in
+      let f = frame_of (is_owner_in_place leaders merged) part.x fde part.part in
       let owner = led_owner leaders merged (owner_at files b part.x f.at) f.passes in
       let a = owner.0 in
       let test : Option ℕ → Bool = λ o. is_number o a in
       record {
         section = a;
-        leads_itself = owner.2;
+        in_place = owner.2;
         listed = in_flat (frames_where files b test) lists part.x fde part.listed
             (has_frame test part.x fde
             (record { at = f.at; below = f.below; is = f.is; stays = f.stays; passes = ap test owner.1 ∙ eq-eqb a a refl }));
@@ -168,7 +168,7 @@ module _ (files : List File) (b : Bindings) where
 
   fdes_order : (merged : List (Option Merged)) (lists : List RecordList) (leaders : List (Option ℕ)) → AreInOrder lists → AllPairs InOrder (written_fdes files b merged lists leaders)
   unfolding written_fdes
-  fdes_order merged lists leaders order = lists_order (is_led leaders merged) lists (lists_below lists order)
+  fdes_order merged lists leaders order = lists_order (is_owner_in_place leaders merged) lists (lists_below lists order)
 
 module _ (files : List File) (b : Bindings) (merged : List (Option Merged)) (lists : List RecordList) where
   abbrev key : FrameNo → CieKey
@@ -195,7 +195,7 @@ module _ (files : List File) (b : Bindings) (merged : List (Option Merged)) (lis
       let cies = cies_for key own_cie fdes in
       record {
         each = each_led files b merged lists leaders;
-        others = all_of (IsOfLeader files b merged lists leaders) fdes (led_only files b merged lists leaders);
+        others = all_of (IsInPlace files b merged lists leaders) fdes (led_only files b merged lists leaders);
         order = fdes_order files b merged lists leaders order;
         uses = λ k lt.
             let used : ℕ → Type 0 = λ n. (n < length cies) × (key (get_or cies n (frame_no 0 0)) ≡ key (own_cie (get_or fdes k (frame_no 0 0)))) in

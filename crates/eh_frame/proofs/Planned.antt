@@ -3,7 +3,7 @@ use Rattle.std.proofs.Common.{◌≡◌, ℕ, ◌+◌, ◌-◌, ◌*◌, ◌^◌
 use Rattle.std.specs.List.{sum_by}
 use Rattle.std.proofs.lemmas.Bool.{cond-false, ne_eqb}
 use Rattle.std.proofs.lemmas.List.{take_all}
-use Rattle.std.proofs.lemmas.List.Sums.{sum_by_more}
+use Rattle.std.proofs.lemmas.List.Sums.{sum_by_more, sum_by_more_le}
 use Rattle.lk_tables.specs.declared.records.FrameNo.{FrameNo}
 use Rattle.lk_tables.specs.FramePlans.{PlanView}
 use Rattle.lk_tables.specs.Binding.{Bindings}
@@ -15,14 +15,18 @@ use Rattle.eh_frame.specs.Plan.{cie_key, cie_no, frame_len_of, header_len_of, pl
 use Rattle.eh_frame.specs.Uses.{AreUses, cies_for}
 
 -- one size more, where a size is cut off at the greatest number
-size_is : (len size whole : ℕ) → size ≡ min whole (2 ^ 64 - 1) → size ≤ 2 ^ 40 - len → size ≡ whole
-size_is len size whole is fits = omega (arith, is, fits)
-
 pub len_more : (f : FrameNo → ℕ) (numbers : List FrameNo) (i : ℕ) (d : FrameNo) (start len size : ℕ) → i < length numbers → len ≡ start + sum_by f (take i numbers) →
-    size ≡ min (f (get_or numbers i d)) (2 ^ 64 - 1) → size ≤ 2 ^ 40 - len → len + size ≡ start + sum_by f (take (i + 1) numbers)
-len_more f numbers i d start len size lt held is fits =
-    let same = size_is len size (f (get_or numbers i d)) is fits in
+    size ≡ min (f (get_or numbers i d)) (2 ^ 64 - 1) → start + sum_by f numbers < 2 ^ 64 → len + size ≡ start + sum_by f (take (i + 1) numbers)
+len_more f numbers i d start len size lt held is room =
+    let low = sum_by_more_le f numbers i d lt in
+    let same : size ≡ f (get_or numbers i d) = omega (arith, is, low, room) in
     omega (arith, held, same, sum_by_more f numbers i d lt)
+
+pub len_fits : (f : FrameNo → ℕ) (numbers : List FrameNo) (i : ℕ) (d : FrameNo) (start len size : ℕ) → i < length numbers → len ≡ start + sum_by f (take i numbers) →
+    size ≡ min (f (get_or numbers i d)) (2 ^ 64 - 1) → start + sum_by f numbers < 2 ^ 64 → len + size < 2 ^ 64
+len_fits f numbers i d start len size lt held is room =
+    let low = sum_by_more_le f numbers i d lt in
+    omega (arith, held, is, low, room)
 
 pub len_all : (f : FrameNo → ℕ) (numbers : List FrameNo) (i : ℕ) (start len : ℕ) → length numbers ≤ i → len ≡ start + sum_by f (take i numbers) → len ≡ start + sum_by f numbers
 len_all f numbers i start len le held = held ∙ ap (λ l. start + sum_by f l) (take_all i numbers le)
@@ -41,12 +45,6 @@ pub header_is : (fdes : List FrameNo) → cond (length fdes == 0) 0 (12 + 8 * le
 header_is [] = refl
 header_is (fde ∷ fdes) =
     cond-false (length (fde ∷ fdes) == 0) 0 (12 + 8 * length (fde ∷ fdes)) (ne_eqb (length (fde ∷ fdes)) 0 (λ e. absurd (omega (arith, e))))
-
-size_from_cies : (lists : List RecordList) (number : FrameNo) → 4 ≤ size_of lists number
-size_from_cies lists number = omega arith
-
-pub size_least : (lists : List RecordList) (number : FrameNo) (size : ℕ) → size ≡ min (size_of lists number) (2 ^ 64 - 1) → 4 ≤ size
-size_least lists number size is = omega (arith, is, size_from_cies lists number)
 
 plan_from : (p q : PlanView) → p.cies ≡ q.cies → p.fdes ≡ q.fdes → p.uses ≡ q.uses → p.frame_len ≡ q.frame_len → p.header_len ≡ q.header_len → p ≡ q
 plan_from p q cies fdes uses frame header =

@@ -1,11 +1,11 @@
 -- A relocation done in a record, and all of them one after the other.
-use Rattle.std.proofs.Common.{◌≡◌, ℕ, suc, ◌+◌, ◌-◌, ◌<◌, ◌≤◌, Bool, true, false, if◌then◌else◌, List, [], ◌∷◌, ◌++◌, length, take, drop, get_or, refl, sym, ap, ◌∙◌, arith, ℤ, pos, Option, Some, None}
+use Rattle.std.proofs.Common.{◌≡◌, ℕ, ◌+◌, ◌-◌, ◌<◌, ◌≤◌, true, false, List, [], ◌∷◌, ◌++◌, length, take, drop, get_or, refl, sym, ap, ◌∙◌, arith, ℤ, pos, Option, Some, None}
 use borrow.Rule.Slice.PartMut.{put_mid}
-use Rattle.std.proofs.lemmas.Bool.{and_parts, cond-false, lt-ltb}
+use Rattle.std.proofs.lemmas.Bool.{cond-false, lt-ltb}
 use Rattle.std.proofs.lemmas.List.{append-nil, drop-drop, drop_all, drop_more, length-append, length-drop, length-take, take-append-drop}
 use Rattle.byteorder.specs.Numbers.{length-bytes_low_first}
 use Rattle.lk_base.specs.Formats.{Field}
-use Rattle.lk_base.specs.RelocKinds.{FillsField, HasValue, Kind, fills_field, has_value, is_uleb, kind_of, puts_value}
+use Rattle.lk_base.specs.RelocKinds.{FillsField, Kind, fills_field, has_value, kind_of, puts_value}
 use Rattle.lk_base.specs.declared.relocations.Calculation.{Calculation}
 use Rattle.lk_base.specs.declared.relocations.Calculation.TheVariants.{Nothing, Hint, Padding, Address, Distance, Partner, GotDistance, ThreadOffset, Increase, Decrease}
 use Rattle.lk_base.proofs.TableLines.{has_value_if, width_some}

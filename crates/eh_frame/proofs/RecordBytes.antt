@@ -15,7 +15,7 @@ use Rattle.lk_tables.specs.Sites.{contents_at, place_of}
 use Rattle.link_sections.specs.LaidOut.{LaidOut}
 use Rattle.eh_frame.specs.declared.placing.Placed.{Placed}
 use Rattle.eh_frame.specs.Bytes.{IsKnown, cie_bytes, ended, fde_bytes, fdes_bytes, frame_bytes, placed_cies, placed_fdes, placed_from, relocated, with_pointer}
-use Rattle.eh_frame.specs.Plan.{bytes_of, frame_len_of, record_of, size_of}
+use Rattle.eh_frame.specs.Plan.{record_bytes, frame_len_of, record_by, size_of}
 use Rattle.eh_frame.proofs.PutSteps.{relocated_length}
 
 -- what was added at the end, and changed there
@@ -34,19 +34,19 @@ pointed_length distance bytes le =
     omega (arith, le, four, front, length-append (take 4 bytes) (little_bytes 4 distance ++ drop 8 bytes), length-append (little_bytes 4 distance) (drop 8 bytes), length-drop 8 bytes)
 
 module _ (files : List File) (lists : List RecordList) where
-  pub bytes_length : (number : FrameNo) → IsKnown files lists number → length (bytes_of files lists number) ≡ size_of lists number
-  unfolding bytes_of
+  pub bytes_length : (number : FrameNo) → IsKnown files lists number → length (record_bytes files lists number) ≡ size_of lists number
+  unfolding record_bytes
   bytes_length number known =
       let within = known.within.bytes in
-      length-take-le (size_of lists number) (drop (record_of lists number).from (contents_at files number.section))
-      (omega (arith, within, length-drop (record_of lists number).from (contents_at files number.section)))
+      length-take-le (size_of lists number) (drop (record_by lists number).from (contents_at files number.section))
+      (omega (arith, within, length-drop (record_by lists number).from (contents_at files number.section)))
 
 module _ (files : List File) (b : Bindings) (leaders : List (Option ℕ)) (laid : LaidOut) (lists : List RecordList) (start : ℕ) where
   pub cie_length : (p : Placed) → IsKnown files lists p.number → length (cie_bytes files b leaders laid lists start p) ≡ size_of lists p.number
   unfolding cie_bytes
   cie_length p known =
-      relocated_length files b leaders laid (place_of files p.number.section).file (record_of lists p.number).from (start + p.at) (record_of lists p.number).relocs
-      (bytes_of files lists p.number)
+      relocated_length files b leaders laid (place_of files p.number.section).file (record_by lists p.number).from (start + p.at) (record_by lists p.number).relocs
+      (record_bytes files lists p.number)
       ∙ bytes_length files lists p.number known
 
   pub fde_length : (cie : ℕ) (p : Placed) → IsKnown files lists p.number → length (fde_bytes files b leaders laid lists start cie p) ≡ size_of lists p.number
@@ -54,9 +54,9 @@ module _ (files : List File) (b : Bindings) (leaders : List (Option ℕ)) (laid 
   fde_length cie p known =
       let long = bytes_length files lists p.number known in
       let least = known.within.least in
-      relocated_length files b leaders laid (place_of files p.number.section).file (record_of lists p.number).from (start + p.at) (record_of lists p.number).relocs
-      (with_pointer (p.at + 4 - cie) (bytes_of files lists p.number))
-      ∙ pointed_length (p.at + 4 - cie) (bytes_of files lists p.number) (omega (arith, long, least)) ∙ long
+      relocated_length files b leaders laid (place_of files p.number.section).file (record_by lists p.number).from (start + p.at) (record_by lists p.number).relocs
+      (with_pointer (p.at + 4 - cie) (record_bytes files lists p.number))
+      ∙ pointed_length (p.at + 4 - cie) (record_bytes files lists p.number) (omega (arith, long, least)) ∙ long
 
   pub cies_length : (at : ℕ) (numbers : List FrameNo) → All (IsKnown files lists) numbers →
       length (flat_map (cie_bytes files b leaders laid lists start) (placed_from lists at numbers)) ≡ sum_by (size_of lists) numbers
@@ -121,18 +121,18 @@ module _ (files : List File) (b : Bindings) (leaders : List (Option ℕ)) (laid 
       sym (append-nil old) ∙ ap (λ l. old ++ fdes_bytes files b leaders laid lists start cies l (drop k uses)) (sym (drop_all k fdes le)) ∙ held
 
   -- a record by what the code holds of it
-  pub cie_is : (p : Placed) (r : RecordView) (file : ℕ) → r ≡ record_of lists p.number → file ≡ (place_of files p.number.section).file →
+  pub cie_is : (p : Placed) (r : RecordView) (file : ℕ) → r ≡ record_by lists p.number → file ≡ (place_of files p.number.section).file →
       relocated files b leaders laid file r.from (start + p.at) r.relocs (take (4 + r.len) (drop r.from (contents_at files p.number.section)))
       ≡ cie_bytes files b leaders laid lists start p
-  unfolding cie_bytes bytes_of
+  unfolding cie_bytes record_bytes
   cie_is p r file is file_is =
       ap (λ f. relocated files b leaders laid f r.from (start + p.at) r.relocs (take (4 + r.len) (drop r.from (contents_at files p.number.section)))) file_is
       ∙ ap (λ (q : RecordView). relocated files b leaders laid (place_of files p.number.section).file q.from (start + p.at) q.relocs (take (4 + q.len) (drop q.from (contents_at files p.number.section)))) is
 
-  pub fde_is : (cie : ℕ) (p : Placed) (r : RecordView) (file : ℕ) → r ≡ record_of lists p.number → file ≡ (place_of files p.number.section).file →
+  pub fde_is : (cie : ℕ) (p : Placed) (r : RecordView) (file : ℕ) → r ≡ record_by lists p.number → file ≡ (place_of files p.number.section).file →
       relocated files b leaders laid file r.from (start + p.at) r.relocs (with_pointer (p.at + 4 - cie) (take (4 + r.len) (drop r.from (contents_at files p.number.section))))
       ≡ fde_bytes files b leaders laid lists start cie p
-  unfolding fde_bytes bytes_of
+  unfolding fde_bytes record_bytes
   fde_is cie p r file is file_is =
       ap (λ f. relocated files b leaders laid f r.from (start + p.at) r.relocs (with_pointer (p.at + 4 - cie) (take (4 + r.len) (drop r.from (contents_at files p.number.section))))) file_is
       ∙ ap (λ (q : RecordView). relocated files b leaders laid (place_of files p.number.section).file q.from (start + p.at) q.relocs (with_pointer (p.at + 4 - cie) (take (4 + q.len) (drop q.from (contents_at files p.number.section))))) is

@@ -1,5 +1,5 @@
 -- Relocations that lie in no record, and the entries of the file that they are.
-use Rattle.std.proofs.Common.{◌≡◌, ℕ, zero, suc, ◌+◌, ◌<◌, ◌≤◌, ◌==◌, ◌&&◌, ◌||◌, not, Bool, true, false, nat_lt, nat_le, cond, List, [], ◌∷◌, length, map, get_or, Option, Some, None, refl, sym, ap, ◌∙◌, subst, arith, inl, inr, eqb-true, ltb-true}
+use Rattle.std.proofs.Common.{◌≡◌, ℕ, zero, suc, ◌+◌, ◌<◌, ◌≤◌, ◌==◌, ◌&&◌, ◌||◌, not, Bool, true, false, nat_lt, cond, List, [], ◌∷◌, length, map, get_or, Option, Some, None, refl, sym, ap, ◌∙◌, subst, arith, inl, inr, eqb-true, ltb-true}
 use Rattle.std.specs.Prelude.{Ok, Err, find}
 use Rattle.std.specs.List.{list_any, range_with_len}
 use Rattle.std.proofs.lemmas.Bool.{and_left, and_parts, cases_eq}
@@ -17,10 +17,10 @@ use Rattle.lk_tables.specs.FileHeader.{section_count}
 use Rattle.lk_tables.specs.Files.{no_reloc, no_section}
 use Rattle.lk_tables.specs.Heads.{HeadView, head_of}
 use Rattle.lk_tables.specs.Objects.{relocs_for, relocs_in}
-use Rattle.lk_tables.specs.Relocations.{in_order, place_width, rela_place, reloc, relocs_of}
+use Rattle.lk_tables.specs.Relocations.{in_order, rela_place, reloc, relocs_of}
 use Rattle.lk_tables.specs.Sections.{section_of, takes_relocs}
 use Rattle.lk_tables.proofs.BodyFacts.{section_inside, sections_pass}
-use Rattle.lk_tables.proofs.Ranges.{found, IsFound}
+use Rattle.lk_tables.proofs.Ranges.{found}
 use Rattle.lk_tables.proofs.SoundHead.{head_is}
 use Rattle.lk_tables.specs.declared.records.Record.{Record}
 use Rattle.lk_tables.specs.Records.{RecordView, count, first_records, has_width, record_of, records_of}

@@ -1,8 +1,9 @@
 -- The table of functions has an entry for each FDE, in order of address.
-use Rattle.std.proofs.Common.{◌≡◌, ℕ, suc, ◌+◌, ◌-◌, ◌^◌, ◌≤◌, ◌≤ℤ◌, ◌+ℤ◌, ◌-ℤ◌, ℤ, pos, negsuc, nat_lt, Bool, true, false, cond, List, [], ◌∷◌, ◌++◌, length, drop, flat_map, get_or, Option, refl, sym, ap, ◌∙◌, arith, append_assoc}
+use Rattle.std.proofs.Common.{◌≡◌, ℕ, suc, ◌+◌, ◌-◌, ◌^◌, ◌≤◌, ◌≤ℤ◌, ◌+ℤ◌, ◌-ℤ◌, ℤ, pos, negsuc, nat_lt, Bool, true, false, cond, List, [], ◌∷◌, ◌++◌, length, take, drop, flat_map, get_or, Option, refl, sym, ap, ◌∙◌, arith, append_assoc}
 use Rattle.std.specs.Prelude.{unsigned_abs}
 use Rattle.std.specs.List.{All, AllPairs}
 use Rattle.std.specs.List.Sorted.{IsPermutation}
+use Rattle.std.proofs.Math.Seq.{take-append_seam}
 use Rattle.std.proofs.lemmas.Int.{ints}
 use Rattle.std.proofs.lemmas.List.{drop_all, drop_at, length-append}
 use Rattle.std.proofs.lemmas.List.Elements.{All-from_recursion, All-head, All-tail}
@@ -71,6 +72,14 @@ twelve a b rest one two =
     let four : length encodings ≡ 4 = refl in
     ap (drop 12) whole ∙ drop_at (encodings ++ (a ++ b)) rest 12 (omega (arith, length-append encodings (a ++ b), length-append a b, one, two, four))
 
+first_twelve : (a b rest : List ℕ) → length a ≡ 4 → length b ≡ 4 → take 12 (encodings ++ (a ++ (b ++ rest))) ≡ encodings ++ (a ++ b)
+first_twelve a b rest one two =
+    let whole : encodings ++ (a ++ (b ++ rest)) ≡ (encodings ++ (a ++ b)) ++ rest =
+    ap (λ l. encodings ++ l) (sym (append_assoc a b rest)) ∙ sym (append_assoc encodings (a ++ b) rest) in
+    let four : length encodings ≡ 4 = refl in
+    let long : 12 ≡ length (encodings ++ (a ++ b)) = omega (arith, length-append encodings (a ++ b), length-append a b, one, two, four) in
+    ap (take 12) whole ∙ ap (λ n. take n ((encodings ++ (a ++ b)) ++ rest)) long ∙ take-append_seam (encodings ++ (a ++ b)) rest
+
 module _ (files : List File) (b : Bindings) (leaders : List (Option ℕ)) (laid : LaidOut) (lists : List RecordList) where
   abbrev Above : Placed → Type 0
   Above = NotLow files b leaders laid lists
@@ -80,6 +89,8 @@ module _ (files : List File) (b : Bindings) (leaders : List (Option ℕ)) (laid 
     entries = [];
     each = IsPermutation-refl [];
     order = λ i j d lt high. absurd (omega (arith, high));
+    first = λ some. absurd (omega (arith, some));
+    none = λ no. refl;
     bytes_are = drop_all 12 [] (omega arith);
   }
   table_is (p ∷ ps) header start low =
@@ -91,6 +102,9 @@ module _ (files : List File) (b : Bindings) (leaders : List (Option ℕ)) (laid 
         each = stable_permutes key fdes;
         order = pairs_rise key Above (λ (x : Placed) (y : Placed). address x ≤ℤ address y) (λ x y own other le. in_order (address x) (address y) own other le)
             (stable_order key fdes) (rises_order key fdes) (all_stable Above key fdes low);
+        first = λ some. first_twelve (word (pos start -ℤ pos (header + 4))) (word (pos (length fdes))) (flat_map (entry_of files b leaders laid lists header start) (stable_order key fdes))
+            refl refl;
+        none = λ no. absurd (omega (arith, no));
         bytes_are = twelve (word (pos start -ℤ pos (header + 4))) (word (pos (length fdes))) (flat_map (entry_of files b leaders laid lists header start) (stable_order key fdes))
             refl refl;
       }

@@ -1,5 +1,5 @@
 -- The lines of the table of functions, in order, and how long the table is.
-use Rattle.std.proofs.Common.{◌≡◌, ℕ, ◌+◌, ◌*◌, ◌<◌, nat_lt, Bool, true, false, if◌then◌else◌, List, [], ◌∷◌, ◌++◌, length, map, flat_map, refl, sym, ap, ◌∙◌, arith, append_assoc, Option, ℤ, pos, ◌+ℤ◌, ◌-ℤ◌, ◌^◌}
+use Rattle.std.proofs.Common.{◌≡◌, ℕ, ◌+◌, ◌*◌, ◌<◌, nat_lt, Bool, true, false, if◌then◌else◌, List, [], ◌∷◌, ◌++◌, length, map, flat_map, refl, ap, ◌∙◌, arith, append_assoc, Option, ℤ, pos, ◌+ℤ◌, ◌-ℤ◌, ◌^◌}
 use Rattle.std.specs.Prelude.{unsigned_abs}
 use Rattle.std.proofs.lemmas.List.{length-append}
 use Rattle.std.proofs.lemmas.List.Folds.{flat_map-map}
@@ -15,8 +15,8 @@ use Rattle.eh_frame.specs.declared.header.Row.{Row}
 use Rattle.eh_frame.specs.declared.placing.Placed.{Placed}
 use Rattle.eh_frame.specs.Bytes.{placed_fdes, placed_from}
 use Rattle.eh_frame.specs.Header.{encodings, entry_of, header_bytes, key_of, low_word, row_bytes, row_key, row_of, table_of, word}
-use Rattle.eh_frame.specs.Plan.{header_len_of, size_of}
-use Rattle.eh_frame.proofs.PlacedSteps.{length_placed, placed_at}
+use Rattle.eh_frame.specs.Plan.{header_len_of}
+use Rattle.eh_frame.proofs.PlacedSteps.{length_placed}
 
 put_map : {X Y : Type 0} (f : X → Y) (key : Y → ℕ) (x : X) (ys : List X) → put_in key (f x) (map f ys) ≡ map f (put_in (λ z. key (f z)) x ys)
 put_map f key x [] = refl

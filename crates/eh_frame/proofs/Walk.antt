@@ -1,20 +1,18 @@
 -- The records one after another: what is known after some of them.
-use Rattle.std.proofs.Common.{◌≡◌, ℕ, ◌+◌, ◌-◌, ◌<◌, ◌≤◌, Bool, true, false, not, cond, nat_lt, List, [], ◌∷◌, ◌++◌, length, map, get_or, Option, Some, None, refl, sym, ap, ◌∙◌, subst, arith, append-nil}
-use Rattle.std.specs.Prelude.{Result, Ok, Err, find, is_some, IfOk, IfSome}
+use Rattle.std.proofs.Common.{◌≡◌, ℕ, ◌+◌, ◌-◌, ◌<◌, ◌≤◌, Bool, true, false, not, cond, List, [], ◌∷◌, ◌++◌, length, map, get_or, Option, Some, None, refl, sym, ap, ◌∙◌, subst, arith}
+use Rattle.std.specs.Prelude.{Ok, Err, is_some, IfSome}
 use Rattle.std.specs.List.{All, range_with_len}
 use Rattle.std.specs.List.Sorted.{IsNonDecreasingBy}
-use Rattle.std.proofs.lemmas.Bool.{cases_lt}
-use Rattle.std.proofs.lemmas.List.{length-append, length-map, get_or-map, map-append}
+use Rattle.std.proofs.lemmas.List.{length-append, get_or-map, map-append}
 use Rattle.std.proofs.lemmas.List.Elements.{All-append, All-cons, All-nil}
-use Rattle.std.proofs.lemmas.List.FromFn.{get_or-map-range_with_len, length-map-range_with_len}
-use Rattle.lk_base.specs.declared.defects.Flaw.{Flaw}
+use Rattle.std.proofs.lemmas.List.FromFn.{get_or-map-range_with_len}
 use Rattle.lk_base.specs.declared.kinds.TheConstants.{BAD_FRAME}
 use Rattle.lk_base.proofs.Loops.{map_step}
 use Rattle.lk_tables.specs.declared.objects.Reloc.{Reloc}
-use Rattle.lk_tables.specs.Checks.{◌says◌, checked, passes, flaw_at, from_on}
+use Rattle.lk_tables.specs.Checks.{checked, passes, flaw_at, from_on}
 use Rattle.lk_tables.proofs.Passing.{step_passes, step_fails, all_pass, checked_failed, checked_passed}
 use Rattle.lk_tables.specs.declared.records.Record.{Record}
-use Rattle.lk_tables.specs.Records.{RecordView, place, end_at, len_at, is_there, count, record_of, first_records, records_of}
+use Rattle.lk_tables.specs.Records.{RecordView, start_of, end_at, len_at, is_there, count, record_of, first_records, records_of}
 use Rattle.eh_frame.specs.RecordChecks.{is_bad_record, record_checks}
 use Rattle.lk_tables.specs.RecordViews.{record_view, record_views}
 use Rattle.eh_frame.proofs.Places.{place_next, place_le, below_count, at_count, count_most}
@@ -22,14 +20,14 @@ use Rattle.eh_frame.proofs.Places.{place_next, place_le, below_count, at_count, 
 -- some records have passed, and the next one may start at `at`
 pub record Walked (section offset : ℕ) (c : List ℕ) (relocs : List Reloc) (at : ℕ) (records : List Record) : Type 0 where
   pub few : length records ≤ count c
-  pub here : at ≡ place c (length records)
+  pub here : at ≡ start_of c (length records)
   pub start : at ≤ length c
   pub so_far : passes (from_on (record_checks section offset c relocs) (length records) (count c)) ≡ passes (from_on (record_checks section offset c relocs) 0 (count c))
   pub records_are : record_views records ≡ first_records c relocs (length records)
   pub inside : All (λ (r : Record). r.from + 8 ≤ length c) records
 
 pub begun : (section offset : ℕ) (c : List ℕ) (relocs : List Reloc) (records : List Record) → records ≡ [] → Walked section offset c relocs 0 records
-unfolding place first_records
+unfolding start_of first_records
 begun section offset c relocs records is =
     let P : List Record → Type 0 = λ list. Walked section offset c relocs 0 list in
     subst P (sym is) (record {
@@ -41,11 +39,11 @@ begun section offset c relocs records is =
       inside = All-nil (λ (r : Record). r.from + 8 ≤ length c);
     })
 
-pub view_from : (c : List ℕ) (relocs : List Reloc) (j : ℕ) → (record_of c relocs j).from ≡ place c j
+pub view_from : (c : List ℕ) (relocs : List Reloc) (j : ℕ) → (record_of c relocs j).from ≡ start_of c j
 unfolding record_of
 view_from c relocs j = refl
 
-pub view_len : (c : List ℕ) (relocs : List Reloc) (j : ℕ) → (record_of c relocs j).len ≡ len_at c (place c j)
+pub view_len : (c : List ℕ) (relocs : List Reloc) (j : ℕ) → (record_of c relocs j).len ≡ len_at c (start_of c j)
 unfolding record_of
 view_len c relocs j = refl
 
@@ -59,13 +57,13 @@ one_more c relocs records r held is =
 sound_check : (section offset : ℕ) (c : List ℕ) (relocs : List Reloc) (j : ℕ) → is_bad_record c relocs j ≡ false → checked (record_checks section offset c relocs j) (tt {0}) ≡ Ok (tt {0})
 unfolding record_checks
 sound_check section offset c relocs j sound =
-    ap (λ b. cond b (Err (flaw_at BAD_FRAME section (offset + place c j))) (Ok (tt {0}))) sound
+    ap (λ b. cond b (Err (flaw_at BAD_FRAME section (offset + start_of c j))) (Ok (tt {0}))) sound
 
 broken_check : (section offset : ℕ) (c : List ℕ) (relocs : List Reloc) (j : ℕ) → is_bad_record c relocs j ≡ true →
-    checked (record_checks section offset c relocs j) (tt {0}) ≡ Err (flaw_at BAD_FRAME section (offset + place c j))
+    checked (record_checks section offset c relocs j) (tt {0}) ≡ Err (flaw_at BAD_FRAME section (offset + start_of c j))
 unfolding record_checks
 broken_check section offset c relocs j bad =
-    ap (λ b. cond b (Err (flaw_at BAD_FRAME section (offset + place c j))) (Ok (tt {0}))) bad
+    ap (λ b. cond b (Err (flaw_at BAD_FRAME section (offset + start_of c j))) (Ok (tt {0}))) bad
 
 -- one record more
 pub walk_on : (section offset : ℕ) (c : List ℕ) (relocs : List Reloc) (at next : ℕ) (old new : List Record) (r : Record) → Walked section offset c relocs at old →
@@ -75,14 +73,14 @@ walk_on section offset c relocs at next old new r w there sound is least fits st
     let n = length old in
     let one : length (old ++ (r ∷ [])) ≡ n + 1 = length-append old (r ∷ []) in
     let low : n < count c = below_count c n w.few (subst (λ (k : ℕ). is_there c k ≡ true) w.here there) in
-    let from : r.from ≡ place c n = ap (λ (v : RecordView). v.from) is ∙ view_from c relocs n in
-    let len : r.len ≡ len_at c (place c n) = ap (λ (v : RecordView). v.len) is ∙ view_len c relocs n in
-    let after : place c (n + 1) ≡ end_at c (place c n) = place_next c n in
-    let here : next ≡ place c (n + 1) = omega (arith, step, len, after, w.here) in
+    let from : r.from ≡ start_of c n = ap (λ (v : RecordView). v.from) is ∙ view_from c relocs n in
+    let len : r.len ≡ len_at c (start_of c n) = ap (λ (v : RecordView). v.len) is ∙ view_len c relocs n in
+    let after : start_of c (n + 1) ≡ end_at c (start_of c n) = place_next c n in
+    let here : next ≡ start_of c (n + 1) = omega (arith, step, len, after, w.here) in
     let P : List Record → Type 0 = λ list. Walked section offset c relocs next list in
     subst P (sym push) (record {
       few = omega (arith, one, low);
-      here = here ∙ ap (place c) (sym one);
+      here = here ∙ ap (start_of c) (sym one);
       start = omega (arith, from, w.here, step, fits);
       so_far = ap (λ k. passes (from_on (record_checks section offset c relocs) k (count c))) one
           ∙ step_passes (record_checks section offset c relocs) n (count c) (tt {0}) (tt {0}) (passes (from_on (record_checks section offset c relocs) 0 (count c)))
@@ -119,7 +117,7 @@ walk_ends section offset c relocs at list w gone =
 
 -- the records that are read start where the definition says, and so they rise
 pub from_at : (c : List ℕ) (relocs : List Reloc) (records : List Record) (k : ℕ) (d : Record) → record_views records ≡ first_records c relocs (length records) →
-    k < length records → (get_or records k d).from ≡ place c k
+    k < length records → (get_or records k d).from ≡ start_of c k
 unfolding first_records
 from_at c relocs records k d held lt =
     let v = record_view d in
@@ -169,5 +167,5 @@ read_from c relocs slice old o r same is told value end least =
 pub smaller : (section offset : ℕ) (c : List ℕ) (relocs : List Reloc) (at : ℕ) (old : List Record) (r : Record) → Walked section offset c relocs at old → IsRead c relocs old r →
     length c - (at + (4 + r.len)) < length c - at
 smaller section offset c relocs at old r w read =
-    let from : r.from ≡ place c (length old) = ap (λ (v : RecordView). v.from) read.value ∙ view_from c relocs (length old) in
+    let from : r.from ≡ start_of c (length old) = ap (λ (v : RecordView). v.from) read.value ∙ view_from c relocs (length old) in
     omega (arith, from, w.here, read.end)

@@ -22,6 +22,7 @@ use Rattle.lk_tables.specs.FramePlans.{PlanView}
 use Rattle.lk_tables.specs.Frames.{IsRecordWithin, RecordList, record_at}
 use Rattle.lk_tables.specs.Sites.{contents_at, place_of}
 use Rattle.lk_tables.specs.Targets.{target_of}
+pub use Rattle.lk_tables.specs.Walks.{reloc_defect}
 use Rattle.link_sections.specs.declared.targets.Target.{Target}
 use Rattle.link_sections.specs.Addresses.{target_address}
 use Rattle.link_sections.specs.LaidOut.{LaidOut}
@@ -29,7 +30,7 @@ use Rattle.link_sections.specs.PieceTargets.{piece_target}
 use Rattle.link_sections.specs.Sums.{addend_of}
 use Rattle.rv_code.specs.Places.{number_of, patched}
 use Rattle.eh_frame.specs.declared.placing.Placed.{Placed}
-use Rattle.eh_frame.specs.Plan.{bytes_of, record_of, size_of}
+use Rattle.eh_frame.specs.Plan.{record_bytes, record_by, size_of}
 
 -- the calculations of the kinds that records have, from S + A, P and V
 abbrev pub computed : Calculation → (sum place held : ℤ) → Option ℤ
@@ -48,15 +49,10 @@ abbrev pub filled : Kind → Option ℤ → (place : List ℕ) → List ℕ
 filled kind None place = place
 filled kind (Some v) place = patched kind.field v place
 
--- a defect of relocation r of a section
-abbrev pub reloc_defect : DefectKind → SectionPlace → Reloc → (other : ℕ) → Defect
-reloc_defect kind place r other =
-    record { kind = kind; file = place.file; section = place.index; place = r.offset; symbol = r.symbol; other = other }
-
 abbrev pub misfit_defects : SectionPlace → Reloc → ℤ → Option Misfit → List Defect
 misfit_defects place r v None = []
-misfit_defects place r v (Some Odd) = reloc_defect kinds.ODD place r (bits_of v) ∷ []
-misfit_defects place r v (Some Range) = reloc_defect kinds.RANGE place r (bits_of v) ∷ []
+misfit_defects place r v (Some Odd) = reloc_defect kinds.ODD place.file place.index r (bits_of v) ∷ []
+misfit_defects place r v (Some Range) = reloc_defect kinds.RANGE place.file place.index r (bits_of v) ∷ []
 
 -- a value that its field does not take
 abbrev pub value_defects : SectionPlace → Reloc → Reach → Option ℤ → List Defect
@@ -79,15 +75,15 @@ pub record IsKnown (files : List File) (lists : List RecordList) (number : Frame
   pub short : length (contents_at files number.section) < 2 ^ 31
   pub there : is_some (record_at lists number) ≡ true
   pub records : ℕ
-  pub within : IsRecordWithin (length (contents_at files number.section)) records (record_of lists number)
+  pub within : IsRecordWithin (length (contents_at files number.section)) records (record_by lists number)
 
 module _ (files : List File) (b : Bindings) (leaders : List (Option ℕ)) (laid : LaidOut) where
-  unfoldable pub target_in : (f : ℕ) → Reloc → Target
-  target_in f r = piece_target laid.merging.merged (target_of files b f r)
+  unfoldable pub reloc_target : (f : ℕ) → Reloc → Target
+  reloc_target f r = piece_target laid.merging.merged (target_of files b f r)
 
   -- S + A of relocation r of file f
   unfoldable pub sum_in : (f : ℕ) → Reloc → ℤ
-  sum_in f r = pos (target_address files b leaders laid (target_in f r)) +ℤ addend_of (target_in f r) r
+  sum_in f r = pos (target_address files b leaders laid (reloc_target f r)) +ℤ addend_of (reloc_target f r) r
 
   -- its value at a place that holds a number
   unfoldable pub value_in : (f : ℕ) → Reloc → (place held : ℤ) → Option ℤ
@@ -131,8 +127,8 @@ module _ (lists : List RecordList) where
 abbrev pub order_of : Placed → ℕ
 order_of p = p.number.section * 2 ^ 32 + p.number.at
 
-unfoldable pub in_order : List Placed → List Placed
-in_order placed = stable_order order_of placed
+unfoldable pub placed_order : List Placed → List Placed
+placed_order placed = stable_order order_of placed
 
 abbrev pub is_of : (section : ℕ) → Placed → Bool
 is_of section p = p.number.section == section
@@ -141,13 +137,13 @@ module _ (files : List File) (b : Bindings) (leaders : List (Option ℕ)) (laid 
   -- a record that stands at an address, with its relocations done
   abbrev pub record_in : FrameNo → (address : ℕ) → List ℕ → List ℕ
   record_in number address bytes =
-      relocated files b leaders laid (place_of files number.section).file (record_of lists number).from address (record_of lists number).relocs bytes
+      relocated files b leaders laid (place_of files number.section).file (record_by lists number).from address (record_by lists number).relocs bytes
 
   unfoldable pub cie_bytes : (start : ℕ) → Placed → List ℕ
-  cie_bytes start p = record_in p.number (start + p.at) (bytes_of files lists p.number)
+  cie_bytes start p = record_in p.number (start + p.at) (record_bytes files lists p.number)
 
   unfoldable pub fde_bytes : (start cie : ℕ) → Placed → List ℕ
-  fde_bytes start cie p = record_in p.number (start + p.at) (with_pointer (p.at + 4 - cie) (bytes_of files lists p.number))
+  fde_bytes start cie p = record_in p.number (start + p.at) (with_pointer (p.at + 4 - cie) (record_bytes files lists p.number))
 
   -- FDEs, each with the number of its CIE
   abbrev pub fdes_bytes : (start : ℕ) → (cies : List Placed) → List Placed → (uses : List ℕ) → List ℕ
@@ -164,11 +160,11 @@ module _ (files : List File) (b : Bindings) (leaders : List (Option ℕ)) (laid 
   -- what is wrong with the values of a record
   unfoldable pub placed_defects : (start : ℕ) → Placed → List Defect
   placed_defects start p =
-      flat_map (reloc_defects files b leaders laid (place_of files p.number.section) (record_of lists p.number).from (start + p.at)) (record_of lists p.number).relocs
+      flat_map (reloc_defects files b leaders laid (place_of files p.number.section) (record_by lists p.number).from (start + p.at)) (record_by lists p.number).relocs
 
   -- of the records of a section that are written, in order
   unfoldable pub record_defects : PlanView → (start section : ℕ) → List Defect
-  record_defects plan start section = flat_map (placed_defects start) (filter (is_of section) (in_order (all_placed lists plan)))
+  record_defects plan start section = flat_map (placed_defects start) (filter (is_of section) (placed_order (all_placed lists plan)))
 
   -- of all, in order of file, section and offset
   unfoldable pub frame_defects : PlanView → (start : ℕ) → List Defect

@@ -16,7 +16,7 @@ use Rattle.eh_frame.specs.declared.format.TheConstants.{DW_EH_PE_DATAREL_SDATA4,
 use Rattle.eh_frame.specs.declared.header.Row.{Row}
 use Rattle.eh_frame.specs.declared.placing.Placed.{Placed}
 use Rattle.eh_frame.specs.Bytes.{placed_fdes, sum_in}
-use Rattle.eh_frame.specs.Plan.{record_of}
+use Rattle.eh_frame.specs.Plan.{record_by}
 
 -- the low 4 bytes of a number, as a number and as bytes
 unfoldable pub low_word : ℤ → ℕ
@@ -43,7 +43,7 @@ module _ (files : List File) (b : Bindings) (leaders : List (Option ℕ)) (laid 
 
   -- where the function of an FDE starts: S + A of its PC Begin
   unfoldable pub function_of : Placed → ℤ
-  function_of p = begin_of (place_of files p.number.section).file (first_of (record_of lists p.number).relocs)
+  function_of p = begin_of (place_of files p.number.section).file (first_of (record_by lists p.number).relocs)
 
   -- no address is as low as -2^64
   abbrev pub key_of : Placed → ℕ

@@ -1,5 +1,5 @@
 -- What a plan of unwind records promises (LSB Core, "Exception Frames").
-use Rattle.std.specs.Prelude.{◌≡◌, ℕ, ◌<◌, ◌==◌, ◌&&◌, ◌||◌, nat_lt, Bool, true, List, length, slice_index, slice_index_or, Option}
+use Rattle.std.specs.Prelude.{◌≡◌, ℕ, ◌+◌, ◌^◌, ◌<◌, ◌≤◌, ◌==◌, ◌&&◌, ◌||◌, nat_lt, Bool, true, List, length, slice_index, slice_index_or, Option}
 use Rattle.std.specs.List.{All, AllPairs, Contains}
 use Rattle.lk_tables.specs.declared.records.FrameNo.{FrameNo}
 use Rattle.lk_tables.specs.Binding.{Bindings}
@@ -7,13 +7,19 @@ use Rattle.lk_tables.specs.Files.{File}
 use Rattle.lk_tables.specs.FramePlans.{PlanView}
 use Rattle.lk_tables.specs.Frames.{RecordList, frame_no, frames_at}
 use Rattle.link_sections.specs.PoolViews.{Merged}
-use Rattle.eh_frame.specs.Plan.{cie_key, cie_no, is_leader}
+use Rattle.eh_frame.specs.Plan.{cie_key, cie_no, is_in_place}
 
--- a record is an FDE of a section that leads itself, so that its own bytes are written
-pub record IsOfLeader (files : List File) (b : Bindings) (merged : List (Option Merged)) (lists : List RecordList) (leaders : List (Option ℕ)) (fde : FrameNo) : Type 0 where
+-- a record is an FDE for a function of a section whose own bytes are written
+pub record IsInPlace (files : List File) (b : Bindings) (merged : List (Option Merged)) (lists : List RecordList) (leaders : List (Option ℕ)) (fde : FrameNo) : Type 0 where
   pub section : ℕ
-  pub leads_itself : is_leader leaders merged section ≡ true
+  pub in_place : is_in_place leaders merged section ≡ true
   pub listed : Contains (frames_at files b lists section) fde
+
+-- how many bytes it has at most. The records of a section meet nowhere, so that those of a link have no more than 2^28 sections of less than
+-- 2^31 bytes; its CIEs have no more, and as many FDEs of at least 8 bytes stand in the table
+pub record IsSmall (plan : PlanView) : Type 0 where
+  pub header : plan.header_len ≤ 2 ^ 59 + 12
+  pub frame : plan.frame_len ≤ 2 ^ 60 + 4
 
 -- in order of file, section and offset
 abbrev pub comes_before : FrameNo → FrameNo → Bool
@@ -25,11 +31,11 @@ pub record HasItsCie (files : List File) (b : Bindings) (merged : List (Option M
   pub same : cie_key files b merged lists (slice_index_or plan.cies (slice_index plan.uses k) (frame_no 0 0))
       ≡ cie_key files b merged lists (cie_no lists (slice_index_or plan.fdes k (frame_no 0 0)))
 
--- each FDE of a section that leads itself is written, and no other is; they stand in order, so each is written once; each has a CIE equal to
+-- each FDE of a section whose own bytes are written is, and no other; they stand in order, so each is written once; each has a CIE equal to
 -- its own; and no two of the CIEs are equal
 pub record IsPlanned (files : List File) (b : Bindings) (merged : List (Option Merged)) (lists : List RecordList) (leaders : List (Option ℕ)) (plan : PlanView) : Type 0 where
-  pub each : (fde : FrameNo) → IsOfLeader files b merged lists leaders fde → Contains plan.fdes fde
-  pub others : All (IsOfLeader files b merged lists leaders) plan.fdes
+  pub each : (fde : FrameNo) → IsInPlace files b merged lists leaders fde → Contains plan.fdes fde
+  pub others : All (IsInPlace files b merged lists leaders) plan.fdes
   pub order : AllPairs (λ first second. comes_before first second ≡ true) plan.fdes
   pub uses : (k : ℕ) → k < length plan.fdes → HasItsCie files b merged lists plan k
   pub apart : AllPairs (λ first second. cie_key files b merged lists first ≡ cie_key files b merged lists second → ⊥) plan.cies

@@ -18,7 +18,9 @@ use Rattle.link_sections.specs.declared.targets.Target.TheVariants as targets
 use Rattle.link_sections.specs.Leaders.{leads}
 use Rattle.link_sections.specs.PieceTargets.{piece_target}
 use Rattle.link_sections.specs.PoolViews.{Merged, is_merged}
+pub use Rattle.link_sections.specs.SameTargets.{same_target, signed_words}
 pub use Rattle.link_sections.specs.Sums.{addend_of}
+pub use Rattle.lk_tables.specs.Frames.{cie_no, record_by}
 use Rattle.eh_frame.specs.declared.cies.CieReloc.{CieReloc}
 use Rattle.lk_tables.specs.declared.records.FrameNo.{FrameNo}
 use Rattle.lk_tables.specs.Records.{RecordView}
@@ -29,27 +31,13 @@ pub record CieKey : Type 0 where
   pub bytes : List ℕ
   pub relocs : List CieReloc
 
-abbrev pub same_target : Option Target → Option Target → Bool
-same_target None None = true
-same_target (Some (targets.Section s o r)) (Some (targets.Section t p q)) = s == t && (o == p && int_eq r q)
-same_target (Some (targets.Piece s m o r)) (Some (targets.Piece t n p q)) = s == t && (m == n && (o == p && int_eq r q))
-same_target (Some (targets.Number m)) (Some (targets.Number n)) = m == n
-same_target (Some targets.Zero) (Some targets.Zero) = true
-same_target (Some (targets.Linker m)) (Some (targets.Linker n)) = m == n
-same_target (Some targets.Unbound) (Some targets.Unbound) = true
-same_target t u = false
-
 unfoldable pub same_reloc : CieReloc → CieReloc → Bool
 same_reloc r q = r.offset == q.offset && (r.kind == q.kind && (same_target r.target q.target && int_eq r.addend q.addend))
 
 unfoldable pub same_cie : CieKey → CieKey → Bool
 same_cie c d = bytes_eq c.bytes d.bytes && pointwise same_reloc c.relocs d.relocs
 
--- the same as numbers: a number with its sign, a target, a relocation
-abbrev pub signed_words : ℤ → List ℕ
-signed_words (pos n) = 0 ∷ n ∷ []
-signed_words (negsuc n) = 1 ∷ n ∷ []
-
+-- the same as numbers: a target, a relocation
 abbrev pub target_words : Option Target → List ℕ
 target_words None = 0 ∷ 0 ∷ 0 ∷ 0 ∷ 0 ∷ 0 ∷ []
 target_words (Some (targets.Section section offset rest)) = 1 ∷ section ∷ offset ∷ 0 ∷ signed_words rest
@@ -80,14 +68,14 @@ pub record IsTextOf (c : CieKey) (text : List ℕ) : Type 0 where
   pub text_is : text ≡ cie_text c
   pub fit : IsFit c
 
--- a section leads itself: its own bytes are written, as they are or, if it is merged, in a pool
-abbrev pub is_leader : (leaders : List (Option ℕ)) → (merged : List (Option Merged)) → (section : ℕ) → Bool
-is_leader leaders merged a = leads leaders a || is_merged merged a
+-- a section's own bytes are written: it leads itself, or it is merged, and they stand in a pool
+abbrev pub is_in_place : (leaders : List (Option ℕ)) → (merged : List (Option Merged)) → (section : ℕ) → Bool
+is_in_place leaders merged a = leads leaders a || is_merged merged a
 
--- a function is written where its section leads itself
-abbrev pub is_led : (leaders : List (Option ℕ)) → (merged : List (Option Merged)) → (owner : Option ℕ) → Bool
-is_led leaders merged None = false
-is_led leaders merged (Some a) = is_leader leaders merged a
+-- the section of an FDE's function is one whose own bytes are written
+abbrev pub is_owner_in_place : (leaders : List (Option ℕ)) → (merged : List (Option Merged)) → (owner : Option ℕ) → Bool
+is_owner_in_place leaders merged None = false
+is_owner_in_place leaders merged (Some a) = is_in_place leaders merged a
 
 module _ (files : List File) (b : Bindings) (merged : List (Option Merged)) where
   abbrev pub with_target : (from : ℕ) → Reloc → Target → CieReloc
@@ -106,16 +94,9 @@ module _ (files : List File) (b : Bindings) (merged : List (Option Merged)) wher
   }
 
 module _ (lists : List RecordList) where
-  abbrev pub record_of : FrameNo → RecordView
-  record_of number = unwrap_or (record_at lists number) no_record
-
-  -- the CIE of an FDE
-  abbrev pub cie_no : FrameNo → FrameNo
-  cie_no fde = frame_no fde.section (unwrap_or (record_of fde).cie 0)
-
   -- all bytes of a record
   abbrev pub size_of : FrameNo → ℕ
-  size_of number = 4 + (record_of number).len
+  size_of number = 4 + (record_by lists number).len
 
   -- the records, and a Length of 0 after them; nothing without an FDE
   abbrev pub frame_len_of : (fdes cies : List FrameNo) → ℕ
@@ -128,8 +109,8 @@ header_len_of [] = 0
 header_len_of (fde ∷ fdes) = 12 + 8 * length (fde ∷ fdes)
 
 -- the bytes of a record as they stand in its file
-unfoldable pub bytes_of : List File → List RecordList → FrameNo → List ℕ
-bytes_of files lists number = take (size_of lists number) (drop (record_of lists number).from (contents_at files number.section))
+unfoldable pub record_bytes : List File → List RecordList → FrameNo → List ℕ
+record_bytes files lists number = take (size_of lists number) (drop (record_by lists number).from (contents_at files number.section))
 
 module _ (key : FrameNo → CieKey) where
   -- a known CIE says the same
@@ -151,11 +132,11 @@ module _ (key : FrameNo → CieKey) where
 
 -- the FDEs of the functions that are written
 unfoldable pub written_fdes : List File → Bindings → List (Option Merged) → List RecordList → (leaders : List (Option ℕ)) → List FrameNo
-written_fdes files b merged lists leaders = flat_map (frames_where files b (is_led leaders merged)) lists
+written_fdes files b merged lists leaders = flat_map (frames_where files b (is_owner_in_place leaders merged)) lists
 
 module _ (files : List File) (b : Bindings) (merged : List (Option Merged)) (lists : List RecordList) where
   abbrev pub cie_key : FrameNo → CieKey
-  cie_key number = key_of files b merged number.section (record_of lists number)
+  cie_key number = key_of files b merged number.section (record_by lists number)
 
   -- the CIEs of some FDEs, of those that say the same the first
   unfoldable pub written_cies : (fdes : List FrameNo) → List FrameNo

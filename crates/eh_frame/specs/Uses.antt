@@ -13,7 +13,7 @@ use Rattle.lk_tables.specs.RecordViews.{record_views}
 use Rattle.link_sections.specs.PoolViews.{Merged}
 use Rattle.eh_frame.specs.declared.planning.Firsts.{Firsts}
 use Rattle.eh_frame.specs.declared.planning.Uses.{Uses}
-use Rattle.eh_frame.specs.Plan.{CieKey, IsFit, cie_text, first_cies, is_led, key_of, use_of, with_cie}
+use Rattle.eh_frame.specs.Plan.{CieKey, IsFit, cie_text, first_cies, is_owner_in_place, key_of, use_of, with_cie}
 
 abbrev pub list_in : (section : ℕ) → List Record → RecordList
 list_in section records = record { section = section; records = record_views records }
@@ -74,7 +74,7 @@ pub record IsNumbered (key : FrameNo → CieKey) (cies : List FrameNo) (section 
 
 -- the record, if it is an FDE that is written
 abbrev pub one_frame : List File → Bindings → List (Option Merged) → (leaders : List (Option ℕ)) → RecordList → (at : ℕ) → List FrameNo
-one_frame files b merged leaders l at = if is_led leaders merged (owner_at files b l at) then frame_no l.section at ∷ [] else []
+one_frame files b merged leaders l at = if is_owner_in_place leaders merged (owner_at files b l at) then frame_no l.section at ∷ [] else []
 
 module _ (files : List File) (b : Bindings) (merged : List (Option Merged)) where
   abbrev pub Numbers : RecordList → (cie n : ℕ) → (known known' : List (Option ℕ)) → (firsts firsts' : Firsts) → Type 0
@@ -90,8 +90,8 @@ module _ (files : List File) (b : Bindings) (merged : List (Option Merged)) wher
   abbrev pub AddsList : (leaders : List (Option ℕ)) → RecordList → (found found' : Uses) → Type 0
   AddsList leaders l found found' =
       (key : FrameNo → CieKey) (cie_of : FrameNo → FrameNo) (fdes : List FrameNo) → Tells files b merged key cie_of l →
-      AreUses key cie_of fdes found → AreUses key cie_of (fdes ++ frames_where files b (is_led leaders merged) l) found'
+      AreUses key cie_of fdes found → AreUses key cie_of (fdes ++ frames_where files b (is_owner_in_place leaders merged) l) found'
 
 -- the CIE of a record of file f, if that is an FDE that is written
 abbrev pub used_cie : List File → Bindings → List (Option Merged) → (leaders : List (Option ℕ)) → (f : ℕ) → RecordView → Option ℕ
-used_cie files b merged leaders f r = if is_led leaders merged (owner_in files b f r) then r.cie else None
+used_cie files b merged leaders f r = if is_owner_in_place leaders merged (owner_in files b f r) then r.cie else None

@@ -33,7 +33,7 @@ pub fn first_defect(
 ) -> Result<Option<Defect>, AllocError>
     requires order { AreInOrder (lists_of frames.now) }
     requires known { All (λ (p : PlacedOf). spec.IsKnown (files_in view.now) (lists_of frames.now) p.number) placed.now }
-    ensures { IfOk result (IsFirst (flat_map (spec.placed_defects (files_in view.now) (binding_in view.now) (leaders_in view.now) (laid_in view.now) (lists_of frames.now) start) (spec.in_order placed.now))) }
+    ensures { IfOk result (IsFirst (flat_map (spec.placed_defects (files_in view.now) (binding_in view.now) (leaders_in view.now) (laid_in view.now) (lists_of frames.now) start) (spec.placed_order placed.now))) }
 {
     let Some(_) = first_in(view, frames, start, placed) else {
         return Ok(None);
@@ -167,7 +167,7 @@ fn misfit_defect(place: SectionPlace, reloc: &Reloc, v: i128, misfit: Misfit) ->
 
 /// A defect of a relocation.
 fn reloc_defect(kind: DefectKind, place: SectionPlace, reloc: &Reloc, other: u64) -> Defect
-    ensures { result ≡ spec.reloc_defect kind place reloc.now other }
+    ensures { result ≡ spec.reloc_defect kind place.file place.index reloc.now other }
 {
     Defect {
         kind,

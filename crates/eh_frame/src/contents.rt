@@ -125,7 +125,7 @@ fn push_cies(
 }
 
 /// Adds the bytes of a CIE.
-#[tactic(auto, unfolding(crate::specs::Bytes::cie_bytes, crate::specs::Plan::bytes_of))]
+#[tactic(auto, unfolding(crate::specs::Bytes::cie_bytes, crate::specs::Plan::record_bytes))]
 fn push_cie(
     out: &mut Vec<u8>,
     view: &View,
@@ -160,7 +160,7 @@ fn push_fdes(
     start: u64,
     cies: &[Placed],
     fdes: &[Placed],
-    uses: &[u32],
+    uses: &[usize],
 ) -> Result<(), AllocError>
     requires order { AreInOrder (lists_of frames.now) }
     requires known { All (λ (p : PlacedOf). spec.IsKnown (files_in view.now) (lists_of frames.now) p.number) fdes.now }
@@ -176,7 +176,7 @@ fn push_fdes(
             view,
             frames,
             start,
-            offset_of(cies, uses[k] as usize),
+            offset_of(cies, uses[k]),
             fde,
             list,
         )?;
@@ -195,7 +195,7 @@ fn offset_of(placed: &[Placed], number: usize) -> u64
 }
 
 /// Adds the bytes of an FDE, whose CIE stands at an offset.
-#[tactic(auto, unfolding(crate::specs::Bytes::fde_bytes, crate::specs::Plan::bytes_of))]
+#[tactic(auto, unfolding(crate::specs::Bytes::fde_bytes, crate::specs::Plan::record_bytes))]
 fn push_fde(
     out: &mut Vec<u8>,
     view: &View,

@@ -7,6 +7,16 @@
 //! of a link, `cies` what tells CIEs apart, and `planning` which records are written. `lookups` finds a record by its numbers, `placing` says
 //! where those that are written stand, `values` what their relocations put into their places, `checking` what is wrong with these values,
 //! `relocating` does the relocations of a record, `contents` and `header` give the bytes, and `standing` says what of all this stands in them.
+//!
+//! The records of a file are read by the worker that reads its body (`records` of link_driver). `checking` and `strays` find the first that
+//! is broken; the lists of all files come in order of section number, since workers read runs of files. Once names are bound, one walk
+//! notes each FDE under the section of its function (`owners`). Whoever follows the relocations of a section (`sec_graph`) follows those of
+//! its FDEs and their CIEs too. Once leaders are known, one walk takes the FDEs of leaders, and the CIE of each as a row of bytes in a
+//! table of those that came before, so that equal ones are one (`planning`, `cies`). The layout asks for no more than how many bytes they
+//! have. After the layout the values of their relocations are tested (`checking`), and their bytes are made in one go (`contents`,
+//! `header`), before those of the executable, which copies them. Where a value of theirs does not fit, the values of all relocations are
+//! tested too, and the first by section is reported (`frames` of link_driver). `records_stand` does nothing while a program runs: its
+//! clause says that the FDEs stand so in what was made (`standing`).
 #![tactic(auto)]
 
 mod checking;

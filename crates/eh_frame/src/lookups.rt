@@ -32,7 +32,7 @@ fn is_list(frames: &Frames, section: SecNo, list: usize) -> bool {
 pub fn record_near(frames: &Frames, number: FrameNo, list: usize) -> &Record
     requires order { AreInOrder (lists_of frames.now) }
     requires there { is_some (record_at (lists_of frames.now) number) ≡ true }
-    ensures { record_view result.now ≡ spec.record_of (lists_of frames.now) number }
+    ensures { record_view result.now ≡ spec.record_by (lists_of frames.now) number }
 {
     if let Some(record) = record_of_list(frames, number, list) {
         return record;
@@ -62,7 +62,7 @@ fn record_of_list(frames: &Frames, number: FrameNo, list: usize) -> Option<&Reco
 fn record_of(frames: &Frames, number: FrameNo) -> &Record
     requires order { AreInOrder (lists_of frames.now) }
     requires there { is_some (record_at (lists_of frames.now) number) ≡ true }
-    ensures { record_view result.now ≡ spec.record_of (lists_of frames.now) number }
+    ensures { record_view result.now ≡ spec.record_by (lists_of frames.now) number }
 {
     match frames.record(number) {
         Some(record) => record,

@@ -10,10 +10,9 @@ ghost use Rattle.lk_tables.specs.RecordViews.{record_view};
 ghost use Rattle.lk_tables.specs.Sites.{place_of};
 ghost use Rattle.lk_tables.specs.TablesView.{files_of};
 ghost use Rattle.link_sections.specs.PoolViews.{merged_views};
-ghost use Rattle.eh_frame.specs.Laws.{IsPlanned};
+ghost use Rattle.eh_frame.specs.Laws.{IsPlanned, IsSmall};
 ghost use Rattle.eh_frame.specs.Plan as spec;
 ghost use Rattle.eh_frame.specs.Uses as steps;
-ghost use Rattle.eh_frame.specs.declared.planning.TheConstants.{FRAME_MAX};
 
 use crate::cies::cie_text;
 use crate::owners::owner_of;
@@ -22,12 +21,6 @@ use link_sections::{Pools, leads};
 use lk_base::SecNo;
 use lk_tables::{Binding, FrameNo, FramePlan, Frames, Record, Tables};
 use std::alloc::{AllocError, Global};
-
-/// More bytes of records are not written: no image is so large.
-const FRAME_MAX: u64 = 1 << 40;
-
-/// More CIEs have no numbers.
-const CIES_MAX: usize = 0xffff_ffff;
 
 /// CIEs of which no two say the same, and the bytes that tell each from others.
 #[derive(Drop)]
@@ -40,13 +33,12 @@ struct Firsts {
 #[derive(Drop)]
 struct Uses {
     fdes: Vec<FrameNo>,
-    uses: Vec<u32>,
+    uses: Vec<usize>,
     firsts: Firsts,
 }
 
-/// Which unwind records of a link are written, and in which order: the FDEs of functions whose sections lead themselves or are merged, and
-/// before them their CIEs, of which those that have the same bytes and stand for the same are one. The only error is out of memory; records of more
-/// than 2^40 bytes, and more than 2^32 - 1 CIEs, are answered so.
+/// Which unwind records of a link are written, and in which order: the FDEs of functions in sections whose own bytes are written, and
+/// before them their CIEs, of which those that have the same bytes and stand for the same are one. The only error is out of memory.
 #[tactic(auto, unfolding(crate::specs::Plan::plan_of, crate::specs::Plan::written_cies))]
 pub fn plan<'t>(
     alloc: Global,
@@ -56,17 +48,20 @@ pub fn plan<'t>(
     frames: &'t Frames,
     leaders: &[Option<SecNo>],
 ) -> Result<FramePlan<'t>, AllocError>
-    requires { frame_lists.AreListsWithin (files_of tables.now) (frame_lists.lists_of frames.now) }
+    requires lists { frame_lists.lists_of frames.now ≡ frame_lists.all_lists (files_of tables.now) }
+    requires within { frame_lists.AreListsWithin (files_of tables.now) (frame_lists.lists_of frames.now) }
     ensures plan { IfOk result (λ plan. plan_view plan ≡ spec.plan_of (files_of tables.now) (binding_view binding.now) (merged_views pools.now) (frame_lists.lists_of frames.now) leaders.now) }
     ensures laws { IfOk result (λ plan. IsPlanned (files_of tables.now) (binding_view binding.now) (merged_views pools.now) (frame_lists.lists_of frames.now) leaders.now (plan_view plan)) }
     ensures lent { IfOk result (λ plan. plan.frames.now ≡ frames.now) }
+    ensures small { IfOk result (λ plan. IsSmall (plan_view plan)) }
 {
+    tables.is_few();
     let Uses { fdes, uses, firsts } = find_uses(alloc, tables, binding, pools, frames, leaders)?;
     let Firsts {
         cies,
         texts: _texts,
     } = firsts;
-    let frame_len = frame_len(frames, cies.as_slice(), fdes.as_slice())?;
+    let frame_len = frame_len(frames, cies.as_slice(), fdes.as_slice());
     let header_len = header_len(fdes.len());
     Ok(FramePlan {
         frames,
@@ -157,7 +152,7 @@ fn push_section(
 }
 
 /// For so many records that no number is known.
-fn none_known(alloc: Global, count: usize) -> Result<Vec<Option<u32>>, AllocError>
+fn none_known(alloc: Global, count: usize) -> Result<Vec<Option<usize>>, AllocError>
     ensures len { IfOk result (λ known. length known.items ≡ count) }
     ensures none { IfOk result (λ known. (k : ℕ) → slice_index_or known.items k None ≡ None) }
 {
@@ -176,7 +171,7 @@ fn push_record(
     section: SecNo,
     records: &[Record],
     at: usize,
-    known: &mut [Option<u32>],
+    known: &mut [Option<usize>],
     found: &mut Uses,
 ) -> Result<(), AllocError>
     requires list { frame_lists.IsListWithin (files_of tables.now) (steps.list_in section records.now) }
@@ -222,15 +217,15 @@ fn used_cie(
     let Some(owner) = owner_of(tables, binding, file, record) else {
         return None;
     };
-    if !is_leader(pools, leaders, owner) {
+    if !is_in_place(pools, leaders, owner) {
         return None;
     }
     record.cie
 }
 
-/// Whether a section leads itself: its own bytes are written, as they are or, if it is merged, in a pool.
-fn is_leader(pools: &Pools, leaders: &[Option<SecNo>], section: SecNo) -> bool
-    ensures { result ≡ spec.is_leader leaders.now (merged_views pools.now) section }
+/// Whether a section's own bytes are written: it leads itself, or it is merged, and they stand in a pool.
+fn is_in_place(pools: &Pools, leaders: &[Option<SecNo>], section: SecNo) -> bool
+    ensures { result ≡ spec.is_in_place leaders.now (merged_views pools.now) section }
 {
     leads(leaders, section as usize) || pools.is_merged(section)
 }
@@ -244,9 +239,9 @@ fn number_of(
     section: SecNo,
     records: &[Record],
     cie: u32,
-    known: &mut [Option<u32>],
+    known: &mut [Option<usize>],
     firsts: &mut Firsts,
-) -> Result<u32, AllocError>
+) -> Result<usize, AllocError>
     requires list { frame_lists.IsListWithin (files_of tables.now) (steps.list_in section records.now) }
     requires cie { cie < length records.now }
     requires known { length known.old ≡ length records.now }
@@ -269,7 +264,7 @@ fn number_of(
 }
 
 /// The number that is known of a CIE.
-fn known_number(known: &[Option<u32>], cie: u32) -> Option<u32>
+fn known_number(known: &[Option<usize>], cie: u32) -> Option<usize>
     ensures { result ≡ slice_index_or known.now cie None }
 {
     match known.get(cie as usize) {
@@ -279,17 +274,14 @@ fn known_number(known: &[Option<u32>], cie: u32) -> Option<u32>
 }
 
 /// The number of a CIE with these bytes; if none has them, it is a new one.
-fn note_cie(firsts: &mut Firsts, cie: FrameNo, text: Vec<u8>) -> Result<u32, AllocError>
+fn note_cie(firsts: &mut Firsts, cie: FrameNo, text: Vec<u8>) -> Result<usize, AllocError>
     ensures number { IfOk result (λ n. n ≡ position_or_len (steps.has_text text.items) firsts.old.texts.keys) }
     ensures cies { OnOk result (firsts.new.cies.items ≡ firsts.old.cies.items ++ (if not (list_any (steps.has_text text.items) firsts.old.texts.keys) then cie ∷ [] else [])) }
     ensures texts { OnOk result (firsts.new.texts.keys ≡ (if list_any (steps.has_text text.items) firsts.old.texts.keys then firsts.old.texts.keys else firsts.old.texts.keys ++ text ∷ [])) }
 {
-    if CIES_MAX <= firsts.texts.len() {
-        return Err(AllocError);
-    }
     let (number, is_new) = firsts.texts.insert_full(text)?;
     push_if(&mut firsts.cies, is_new, cie)?;
-    Ok(number as u32)
+    Ok(number)
 }
 
 /// Adds a CIE, if it is wanted.
@@ -303,37 +295,31 @@ fn push_if(cies: &mut Vec<FrameNo>, wanted: bool, cie: FrameNo) -> Result<(), Al
 }
 
 /// Bytes of these records and of a Length of 0 after them; 0 if there is no FDE.
-fn frame_len(frames: &Frames, cies: &[FrameNo], fdes: &[FrameNo]) -> Result<u64, AllocError>
-    requires { frame_lists.AreInOrder (frame_lists.lists_of frames.now) }
-    ensures value { IfOk result (λ len. len ≡ spec.frame_len_of (frame_lists.lists_of frames.now) fdes.now cies.now) }
-    ensures most { IfOk result (λ len. len ≤ FRAME_MAX) }
-    ensures count { IfOk result (λ len. 4 * length fdes.now ≤ len) }
+fn frame_len(frames: &Frames, cies: &[FrameNo], fdes: &[FrameNo]) -> u64
+    requires order { frame_lists.AreInOrder (frame_lists.lists_of frames.now) }
+    requires cies_most { sum_by (spec.size_of (frame_lists.lists_of frames.now)) cies.now ≤ 2 ^ 59 }
+    requires fdes_most { sum_by (spec.size_of (frame_lists.lists_of frames.now)) fdes.now ≤ 2 ^ 59 }
+    ensures { result ≡ spec.frame_len_of (frame_lists.lists_of frames.now) fdes.now cies.now }
 {
     if fdes.len() == 0 {
-        return Ok(0);
+        return 0;
     }
-    let start = with_sizes(frames, cies, 4)?;
-    let len = with_sizes(frames, fdes, start)?;
-    Ok(len)
+    let start = with_sizes(frames, cies, 4);
+    with_sizes(frames, fdes, start)
 }
 
 /// So many bytes and those of these records.
-fn with_sizes(frames: &Frames, records: &[FrameNo], start: u64) -> Result<u64, AllocError>
+fn with_sizes(frames: &Frames, records: &[FrameNo], start: u64) -> u64
     requires order { frame_lists.AreInOrder (frame_lists.lists_of frames.now) }
-    requires most { start ≤ FRAME_MAX }
-    ensures value { IfOk result (λ len. len ≡ start + sum_by (spec.size_of (frame_lists.lists_of frames.now)) records.now) }
-    ensures most { IfOk result (λ len. len ≤ FRAME_MAX) }
-    ensures count { IfOk result (λ len. start + 4 * length records.now ≤ len) }
+    requires room { start + sum_by (spec.size_of (frame_lists.lists_of frames.now)) records.now < 2 ^ 64 }
+    ensures { result ≡ start + sum_by (spec.size_of (frame_lists.lists_of frames.now)) records.now }
 {
     let mut len = start;
     for number in records {
         let size = size_of(frames, *number);
-        if FRAME_MAX - len < size {
-            return Err(AllocError);
-        }
         len += size;
     }
-    Ok(len)
+    len
 }
 
 /// Bytes of a record.

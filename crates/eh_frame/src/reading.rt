@@ -74,7 +74,7 @@ fn start_of(records: &[Record], number: usize) -> u64
 
 /// The CIE to which the CIE Pointer of the record at an offset leads, after the earlier records.
 fn cie_before(bytes: &[u8], relocs: &[Reloc], earlier: &[Record], at: usize) -> Option<u32>
-    requires here { at ≡ spec.place bytes.now (length earlier.now) }
+    requires here { at ≡ spec.start_of bytes.now (length earlier.now) }
     requires whole { at + 8 ≤ length bytes.now }
     requires earlier { record_views earlier.now ≡ spec.first_records bytes.now relocs.now (length earlier.now) }
     requires short { length bytes.now ≤ FILE_MAX }
@@ -142,7 +142,7 @@ fn cie_of_fde(
     len: u32,
     own: &[Reloc],
 ) -> Option<u32>
-    requires here { at ≡ spec.place bytes.now (length earlier.now) }
+    requires here { at ≡ spec.start_of bytes.now (length earlier.now) }
     requires whole { at + 8 ≤ length bytes.now }
     requires len { len ≡ spec.len_at bytes.now at }
     requires own { own.now ≡ spec.relocs_in relocs.now at (spec.end_at bytes.now at) }
@@ -183,7 +183,7 @@ fn read_record(
     earlier: &[Record],
     at: usize,
 ) -> Result<Option<Record>, AllocError>
-    requires here { at ≡ spec.place bytes.now (length earlier.now) }
+    requires here { at ≡ spec.start_of bytes.now (length earlier.now) }
     requires start { at ≤ length bytes.now }
     requires ordered { IsNonDecreasingBy (λ (r : RelocOf). r.offset) relocs.now }
     requires earlier { record_views earlier.now ≡ spec.first_records bytes.now relocs.now (length earlier.now) }

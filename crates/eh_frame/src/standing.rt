@@ -12,7 +12,7 @@ ghost use Rattle.eh_frame.specs.Plan.{plan_of};
 use link_sections::View;
 use lk_tables::{FrameBytes, FramePlan};
 
-/// That what `write` gives has each FDE of a section that leads itself, once and no other: it stands whole in `.eh_frame`, its CIE Pointer
+/// That what `write` gives has each FDE of a section whose own bytes are written, once and no other: it stands whole in `.eh_frame`, its CIE Pointer
 /// leads to a CIE that has the same bytes as its own and stands for the same, and `.eh_frame_hdr` has one entry for it, in order of the
 /// addresses of the functions. What is asked of the relocations of records is seen to where they are read. Nothing is done while a program
 /// runs: all that is said here is in the clause.

@@ -43,10 +43,10 @@ fn plain_sum(view: &View, file: FileNo, reloc: &Reloc) -> i128
 }
 
 /// What a relocation stands for.
-#[tactic(auto, unfolding(crate::specs::Bytes::target_in, link_sections::specs::LaidOut::with_contents, link_sections::specs::PoolViews::pools_view))]
+#[tactic(auto, unfolding(crate::specs::Bytes::reloc_target, link_sections::specs::LaidOut::with_contents, link_sections::specs::PoolViews::pools_view))]
 fn target_of(view: &View, file: FileNo, reloc: &Reloc) -> Target
     requires { file < length (files_in view.now) }
-    ensures { result ≡ spec.target_in (files_in view.now) (binding_in view.now) (leaders_in view.now) (laid_in view.now) file reloc.now }
+    ensures { result ≡ spec.reloc_target (files_in view.now) (binding_in view.now) (leaders_in view.now) (laid_in view.now) file reloc.now }
 {
     view.pools
         .piece_target(target_in(view.tables, view.binding, file, reloc))
@@ -56,7 +56,7 @@ fn target_of(view: &View, file: FileNo, reloc: &Reloc) -> Target
 fn target_sum(view: &View, file: FileNo, reloc: &Reloc, target: Target) -> i128
     requires file { file < length (files_in view.now) }
     requires live { (file_at (files_in view.now) file).live ≡ true }
-    requires target { target ≡ spec.target_in (files_in view.now) (binding_in view.now) (leaders_in view.now) (laid_in view.now) file reloc.now }
+    requires target { target ≡ spec.reloc_target (files_in view.now) (binding_in view.now) (leaders_in view.now) (laid_in view.now) file reloc.now }
     ensures value { result ≡ pos (addresses.target_address (files_in view.now) (binding_in view.now) (leaders_in view.now) (laid_in view.now) target) +ℤ addend_of target reloc.now }
     ensures low { negsuc (2 ^ 63) ≤ℤ result }
     ensures high { result ≤ℤ pos (2 ^ 67) }

@@ -2,6 +2,11 @@
 //! header and the program headers, the unwind records and the sections at their places with their relocations done, and after them the symbol
 //! table, the names of the sections and the section headers. It is written block by block, each block by itself; the symbol table is made once.
 //!
+//! The symbol table is made. Workers test all relocations of kept sections while one thread makes the zeros of a file of 1 MB or more. Then
+//! this buffer is filled in blocks of 65,536 bytes, each worker a run of them in one go. A relocation whose field reaches over the end of a
+//! block is done in both, of which each keeps its own bytes. Of pools and of the global offset table what reaches into a block is found by
+//! bisection.
+//!
 //! `flags` finds what the executable keeps of the flags of its files, `header_bytes` has the bytes of single headers, `segments`
 //! those of all headers that stand at the start, `symbols` those of the symbol table, `sections` those of the names and of the section
 //! headers, `ends` computes where these stand, `block_headers` makes what a block has of all of them, `frames` copies the unwind records,

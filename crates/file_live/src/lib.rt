@@ -5,6 +5,8 @@
 //! command if one offers the name: workers claim the numbers of the names, as they do where names are bound, with all
 //! members after all objects. A symbol whose name a member is the first to offer pulls that member. From the objects, and
 //! the members that the command asks for, these pulls are followed, each file's once.
+//!
+//! Without an archive all files take part, and nothing is listed. `asked` finds the members that the names of the command ask for.
 #![tactic(auto)]
 
 mod asked;

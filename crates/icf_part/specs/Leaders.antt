@@ -7,19 +7,9 @@ use Rattle.std.specs.List.{list_all, list_any, range_with_len}
 use Rattle.std.specs.Ordering.{int_eq}
 use Rattle.link_sections.specs.declared.targets.Target.{Target}
 use Rattle.link_sections.specs.declared.targets.Target.TheVariants.{Section, Piece, Number, Zero, Linker, Unbound}
+pub use Rattle.link_sections.specs.SameTargets.{same_target}
 use Rattle.link_sections.specs.FoldItems.{FoldFrame, FoldItem}
 use Rattle.icf_part.specs.Folding.{Site, Key, Pair, item_at, key_of, pair, target_at}
-
--- two targets are equal
-abbrev pub same_target : Option Target → Option Target → Bool
-same_target None None = true
-same_target (Some (Section s o r)) (Some (Section t p q)) = s == t && (o == p && int_eq r q)
-same_target (Some (Piece s m o r)) (Some (Piece t n p q)) = s == t && (m == n && (o == p && int_eq r q))
-same_target (Some (Number m)) (Some (Number n)) = m == n
-same_target (Some Zero) (Some Zero) = true
-same_target (Some (Linker m)) (Some (Linker n)) = m == n
-same_target (Some Unbound) (Some Unbound) = true
-same_target t u = false
 
 -- two keys are equal
 abbrev pub same_site : Site → Site → Bool

@@ -5,6 +5,7 @@ use Rattle.std.specs.Global.{Vec}
 use Rattle.std.specs.List.{range_with_len}
 use Rattle.std.specs.declared.ops.Range.{Range}
 use Rattle.lk_base.specs.declared.defects.LinkStop.{LinkStop}
+pub use Rattle.link_sections.specs.SameTargets.{signed_words}
 use Rattle.link_sections.specs.declared.targets.Target.{Target}
 use Rattle.link_sections.specs.declared.targets.Target.TheVariants.{Section, Piece, Number, Zero, Linker, Unbound}
 use Rattle.link_sections.specs.declared.fold_items.FoldReloc.{FoldReloc}
@@ -21,11 +22,6 @@ output_of i = i.output
 -- the place in the list of a section
 unfoldable pub place_of : (sections : List ℕ) → (section : ℕ) → Option ℕ
 place_of sections section = find (λ a. slice_index sections a == section) (range_with_len 0 (length sections))
-
--- a number with its sign
-abbrev pub signed_words : ℤ → List ℕ
-signed_words (pos n) = 0 ∷ n ∷ []
-signed_words (negsuc n) = 1 ∷ n ∷ []
 
 -- a section that is an item counts by its place alone, which is no part of these
 abbrev pub place_words : Option ℕ → (section : ℕ) → List ℕ

@@ -34,7 +34,7 @@ unfolding trail_view stands_view
 none_counts w sections pools is =
     (ap (λ (t : Trail). length t.stands.starts) is ∙ length-replicate {A = ℕ} sections 0, ap (λ (t : Trail). length t.stands.pools) is ∙ length-replicate {A = ℕ} pools 0)
 
-pub room_of : (list : List HeldItem) → length list ≤ 2 ^ 30 → sum_by (λ item. item.size) (items_view list) < 2 ^ 61 + 2 ^ 40 → all_weight (orders_of (items_view list)) + 2 ^ 45 < 2 ^ 63
+pub room_of : (list : List HeldItem) → length list ≤ 2 ^ 30 → sum_by (λ item. item.size) (items_view list) < 2 ^ 61 + 2 ^ 40 → all_weight (orders_of (items_view list)) + 2 ^ 60 + 2 ^ 59 + 2 ^ 45 < 2 ^ 63
 room_of list few bytes =
     let most = weight_most (items_view list) in
     let count : length (items_view list) ≡ length list = length-map list item_view in
@@ -80,7 +80,7 @@ unfolding laid_by trail_view stands_view
 cuts_are w bounds leaders sizes sections laid is = ap (λ (l : LaidOut). l.cuts) is
 
 pub low_starts : (w : Walked) (sizes : List (List Cut)) (parts : List Item) (o : Orders) (fs : FrameSizes) (bounds : Bounds) (sections pools count : ℕ) → All AreApart sizes
-    → AreReady sizes sections pools o → all_weight o + 2 ^ 45 < 2 ^ 63 → AreSmall fs → bounds ≡ bounds_of sizes o fs
+    → AreReady sizes sections pools o → all_weight o + 2 ^ 60 + 2 ^ 59 + 2 ^ 45 < 2 ^ 63 → AreSmall fs → bounds ≡ bounds_of sizes o fs
     → trail_view w ≡ trail_of sizes parts o bounds (no_trail sections count) → All (λ start. start < 2 ^ 63) w.places.starts.items
 unfolding trail_view stands_view
 low_starts w sizes parts o fs bounds sections pools count apart ready room small bounds_is t_is =

@@ -89,7 +89,7 @@ image_between : (p : Bool) (w n : ℕ) → w ≤ n → (w ≤ (if not p then n e
 image_between true w n le = (omega arith, omega arith)
 image_between false w n le = (omega arith, omega arith)
 
-pub rising : (sizes : List (List Cut)) (o : Orders) (fs : FrameSizes) (b : Bounds) → AllFit sizes o → all_weight o + 2 ^ 45 < 2 ^ 63 → AreSmall fs → AreBounds sizes o fs b → AreRising b
+pub rising : (sizes : List (List Cut)) (o : Orders) (fs : FrameSizes) (b : Bounds) → AllFit sizes o → all_weight o + 2 ^ 60 + 2 ^ 59 + 2 ^ 45 < 2 ^ 63 → AreSmall fs → AreBounds sizes o fs b → AreRising b
 rising sizes o fs b fit room small is =
     let m = class_moves sizes o fs b fit is in
     let headers = headers_most o fs in
@@ -100,7 +100,7 @@ rising sizes o fs b fit room small is =
     let rw_near : up b.rx_end PAGE < b.rx_end + PAGE = up_below b.rx_end PAGE (omega arith) in
     let headers_is : b.headers ≡ headers_of o fs = is.headers in
     let first : b.headers_end ≡ IMAGE_BASE + (EHDR_SIZE + PHDR_SIZE * b.headers) = is.headers_end in
-    let r : (b.headers_end ≤ b.r_end) × (b.r_end ≤ b.headers_end + weight (rows_in o R) + 2 ^ 44) =
+    let r : (b.headers_end ≤ b.r_end) × (b.r_end ≤ b.headers_end + weight (rows_in o R) + 2 ^ 60 + 2 ^ 59 + 2 ^ 44) =
     (omega (arith, m.r.least, rows.0), omega (arith, m.r.most, rows.1, small.header, small.frame)) in
     let rx : (b.rx_start ≤ b.rx_end) × (b.rx_end ≤ b.rx_start + weight (rows_in o Rx)) = (omega (arith, m.rx.least, is.rx_end), omega (arith, m.rx.most, is.rx_end)) in
     let tls : (b.rw_start ≤ b.tls_bits_end) × (b.tls_bits_end ≤ b.rw_start + weight (rows_in o TlsBits)) =

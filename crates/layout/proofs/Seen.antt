@@ -64,7 +64,7 @@ laws_by files b leaders sizes parts o fs bounds pools fit is rises members zeros
 
 laws_laid : (files : List File) (b : Bindings) (pools : List Pool) (words : ℕ) (leaders : List (Option ℕ)) (sizes : List (List Cut)) (fs : FrameSizes) → AreLeaders files b leaders
     → FitSizes files b sizes → All AreCutsApart sizes → All IsSized (items files b pools words leaders)
-    → all_weight (orders_of (items files b pools words leaders)) + 2 ^ 45 < 2 ^ 63 → AreSmall fs → HasLaws files b fs (layout_of files b pools words leaders sizes fs)
+    → all_weight (orders_of (items files b pools words leaders)) + 2 ^ 60 + 2 ^ 59 + 2 ^ 45 < 2 ^ 63 → AreSmall fs → HasLaws files b fs (layout_of files b pools words leaders sizes fs)
 unfolding layout_of laid_of
 laws_laid files b pools words leaders sizes fs are fit apart sized room small =
     let parts : List Item = items files b pools words leaders in
@@ -93,7 +93,7 @@ pub record IsLawful (files : List File) (b : Bindings) (fs : FrameSizes) (layout
 
 pub laws_seen : (layout : Layout) (files : List File) (b : Bindings) (pools : List Pool) (words : ℕ) (leaders : List (Option ℕ)) (sizes : List (List Cut)) (fs : FrameSizes) → AreLeaders files b leaders
     → FitSizes files b sizes → All AreCutsApart sizes → All IsSized (items files b pools words leaders)
-    → all_weight (orders_of (items files b pools words leaders)) + 2 ^ 45 < 2 ^ 63 → AreSmall fs → layout_view layout ≡ layout_of files b pools words leaders sizes fs
+    → all_weight (orders_of (items files b pools words leaders)) + 2 ^ 60 + 2 ^ 59 + 2 ^ 45 < 2 ^ 63 → AreSmall fs → layout_view layout ≡ layout_of files b pools words leaders sizes fs
     → IsLawful files b fs layout
 laws_seen layout files b pools words leaders sizes fs are fit apart sized room small is =
     let laws : HasLaws files b fs (layout_view layout) = subst (HasLaws files b fs) (sym is) (laws_laid files b pools words leaders sizes fs are fit apart sized room small) in

@@ -364,7 +364,7 @@ module _ (files : List File) (b : Bindings) (pools : List Pool) (words : ℕ) (l
   }
 
   pub sound_laid : (limits : Limits) (fs : FrameSizes) → AllSound files → AreLeaders files b leaders → AreRisingPools pools → HaveFirsts files b pools → FitSizes files b sizes → All AreApart sizes
-      → All IsSized (items files b pools words leaders) → all_weight (orders_of (items files b pools words leaders)) + 2 ^ 45 < 2 ^ 63 → AreSmall fs → length merging.pools ≡ length pools
+      → All IsSized (items files b pools words leaders) → all_weight (orders_of (items files b pools words leaders)) + 2 ^ 60 + 2 ^ 59 + 2 ^ 45 < 2 ^ 63 → AreSmall fs → length merging.pools ≡ length pools
       → ((p : ℕ) (d : Pool) → p < length pools → (get_or merging.pools p no_pool).size ≡ (get_or pools p d).size) → words ≡ word_count table → IsWithinStandard limits
       → layout_defects limits files (layout_of files b pools words leaders sizes fs) ≡ []
       → IsSound files b leaders (with_contents (layout_of files b pools words leaders sizes fs) merging table)

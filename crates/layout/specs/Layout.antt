@@ -10,6 +10,7 @@ use Rattle.lk_base.specs.Arithmetic.{up}
 use Rattle.lk_base.specs.Defects.{count_defect, linkwide}
 use Rattle.lk_tables.specs.declared.classes.Class.{Class}
 use Rattle.lk_tables.specs.declared.classes.Class.TheVariants.{R, Rx, TlsBits, TlsNobits, RwBits, RwNobits}
+use Rattle.lk_tables.specs.FramePlans.{PlanView, plan_view}
 use Rattle.lk_tables.specs.declared.frames.FramePlan.{FramePlan}
 use Rattle.lk_tables.specs.Binding.{Bindings, first_phase}
 use Rattle.lk_tables.specs.Files.{File, section_total}
@@ -54,16 +55,19 @@ pub record FrameSizes : Type 0 where
   pub header : ℕ
   pub frame : ℕ
 
+abbrev pub sizes_in : PlanView → FrameSizes
+sizes_in plan = record { header = plan.header_len; frame = plan.frame_len }
+
 abbrev pub frame_sizes : FramePlan → FrameSizes
-frame_sizes plan = record { header = plan.header_len; frame = plan.frame_len }
+frame_sizes plan = sizes_in (plan_view plan)
 
 unfoldable pub has_frames : FrameSizes → Bool
 has_frames fs = nat_lt 0 fs.header
 
--- no memory holds more
+-- what a plan has at most, so that all addresses fit
 pub record AreSmall (fs : FrameSizes) : Type 0 where
-  pub header : fs.header ≤ 2 ^ 42
-  pub frame : fs.frame ≤ 2 ^ 42
+  pub header : fs.header ≤ 2 ^ 59 + 12
+  pub frame : fs.frame ≤ 2 ^ 60 + 4
 
 -- the program headers: that of the first segment, those of the three above, that of the unwind records, that of the stack
 unfoldable pub headers_of : Orders → FrameSizes → ℕ

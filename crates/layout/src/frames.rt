@@ -1,6 +1,6 @@
 //! Where `.eh_frame_hdr` and `.eh_frame` stand: last among what is only read (LSB Core, "Exception Frames").
 
-ghost use Rattle.std.specs.Prelude.{◌≡◌, ◌+◌, ◌<◌, ◌≤◌, ◌++◌, ◌^◌, true, codes, map, OnOk};
+ghost use Rattle.std.specs.Prelude.{◌≡◌, ◌+◌, ◌<◌, ◌≤◌, ◌++◌, ◌^◌, codes, map, OnOk};
 ghost use Rattle.link_sections.specs.LaidOut.{output_view, place_view};
 ghost use Rattle.layout.specs.Layout as spec;
 
@@ -9,9 +9,6 @@ use lk_base::abi::{IMAGE_BASE, SHF_ALLOC, SHT_PROGBITS};
 use lk_base::up;
 use lk_tables::{Class, FramePlan};
 use std::alloc::AllocError;
-
-/// No memory holds so many bytes of records.
-const FRAMES_MAX: u64 = 1 << 42;
 
 /// Where the two stand. All are addresses; without an FDE there is nothing, at `IMAGE_BASE`.
 #[derive(Clone, Copy, Debug, PartialEq, Eq)]
@@ -30,13 +27,6 @@ pub struct FrameBounds {
     pub r_end: u64,
 }
 
-/// Whether memory could hold what they have.
-pub fn is_small(plan: &FramePlan) -> bool
-    ensures { result ≡ true → spec.AreSmall (spec.frame_sizes plan.now) }
-{
-    plan.header_len <= FRAMES_MAX && plan.frame_len <= FRAMES_MAX
-}
-
 /// Whether an FDE is written.
 #[tactic(auto, unfolding(crate::specs::Layout::has_frames))]
 pub fn has_frames(plan: &FramePlan) -> bool
@@ -48,12 +38,12 @@ pub fn has_frames(plan: &FramePlan) -> bool
 /// Where they stand after everything else that is only read.
 #[tactic(auto, unfolding(crate::specs::Layout::frame_bounds))]
 pub fn frame_bounds(plan: &FramePlan, rows_end: u64) -> FrameBounds
-    requires room { rows_end + 2 ^ 44 < 2 ^ 64 }
+    requires room { rows_end + 2 ^ 61 < 2 ^ 64 }
     requires small { spec.AreSmall (spec.frame_sizes plan.now) }
     ensures value { result ≡ spec.frame_bounds (spec.frame_sizes plan.now) rows_end }
     ensures header { result.header ≤ result.header_end }
     ensures frames { result.frames ≤ result.frames_end }
-    ensures most { result.r_end ≤ rows_end + 2 ^ 44 }
+    ensures most { result.r_end ≤ rows_end + 2 ^ 60 + 2 ^ 59 + 2 ^ 10 }
 {
     if !has_frames(plan) {
         return FrameBounds {

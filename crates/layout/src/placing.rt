@@ -26,7 +26,7 @@ ghost use Rattle.layout.specs.Spots.{AreApart, AreRising, HasFrames, HaveAlignme
 ghost use Rattle.layout.specs.Walk as walk;
 
 use crate::cut_rows::lay_rows;
-use crate::frames::{FrameBounds, frame_bounds, has_frames, is_small, push_frames};
+use crate::frames::{FrameBounds, frame_bounds, has_frames, push_frames};
 use crate::places::Places;
 use crate::walk::{Cursor, Sources, greatest_alignment, is_empty, walk_class};
 use link_sections::{Bounds, Got, Layout, Member, Output, OutputPlace, Pools, Sizes};
@@ -40,8 +40,8 @@ use std::alloc::{AllocError, Global};
 /// Lays out a link: the sections that lead themselves, the pools of merged pieces, and last the linker's global offset table; and where an FDE is
 /// written, `.eh_frame_hdr` and `.eh_frame` after all else that is only read. `sizes` has by section number where each section loses bytes: a
 /// call keeps what it has there, and what an alignment keeps is found here. Refuses an alignment that needs more bytes than it has, the first in
-/// order of section and offset; then a count of output sections above its limit; then an image that is not below its limit. Or it is out of
-/// memory, as it is where the unwind records have more than 2^42 bytes.
+/// order of section and offset; then a count of output sections above its limit; then an image that is not below its limit, however large the
+/// unwind records are. Or it is out of memory.
 pub fn place<'a>(
     alloc: Global,
     tables: &Tables<'a>,
@@ -59,6 +59,7 @@ pub fn place<'a>(
     requires pools { HaveFirsts (files_of tables.now) (binding_view binding.now) pools.now.pools.items }
     requires items { items_view sections.now.items.items ≡ items (files_of tables.now) (binding_view binding.now) pools.now.pools.items (word_count (entries_of got.now)) leaders.now }
     requires sizes { spec.FitSizes (files_of tables.now) (binding_view binding.now) (sizes_of sizes.now) }
+    requires small { spec.AreSmall (spec.frame_sizes frames.now) }
     ensures goes { Goes result (spec.layout_defects limits.now (files_of tables.now) (spec.layout_of (files_of tables.now) (binding_view binding.now) pools.now.pools.items (word_count (entries_of got.now)) leaders.now (sizes_of sizes.now) (spec.frame_sizes frames.now))) }
     ensures found { IfOk result (λ layout. layout_view layout ≡ spec.layout_of (files_of tables.now) (binding_view binding.now) pools.now.pools.items (word_count (entries_of got.now)) leaders.now (sizes_of sizes.now) (spec.frame_sizes frames.now)) }
     ensures sound { IsWithinStandard limits.now → IfOk result (λ layout. IsSound (files_of tables.now) (binding_view binding.now) leaders.now (with_contents (layout_view layout) (pools_view (files_of tables.now) pools.now) (entries_of got.now))) }
@@ -97,15 +98,12 @@ fn lay_out<'a>(
     requires pools { HaveFirsts (files_of tables.now) (binding_view binding.now) pools.now.pools.items }
     requires items { items_view sections.now.items.items ≡ items (files_of tables.now) (binding_view binding.now) pools.now.pools.items (word_count (entries_of got.now)) leaders.now }
     requires sizes { spec.FitSizes (files_of tables.now) (binding_view binding.now) (sizes_of sizes.now) }
+    requires small { spec.AreSmall (spec.frame_sizes frames.now) }
     ensures goes { Goes result (spec.cut_defects (files_of tables.now) (spec.layout_of (files_of tables.now) (binding_view binding.now) pools.now.pools.items (word_count (entries_of got.now)) leaders.now (sizes_of sizes.now) (spec.frame_sizes frames.now)).cuts (section_total (files_of tables.now))) }
     ensures found { IfOk result (λ layout. layout_view layout ≡ spec.layout_of (files_of tables.now) (binding_view binding.now) pools.now.pools.items (word_count (entries_of got.now)) leaders.now (sizes_of sizes.now) (spec.frame_sizes frames.now)) }
     ensures sized { IfOk result (λ _. All IsSized (items (files_of tables.now) (binding_view binding.now) pools.now.pools.items (word_count (entries_of got.now)) leaders.now)) }
-    ensures room { IfOk result (λ _. spec.all_weight (orders_of (items (files_of tables.now) (binding_view binding.now) pools.now.pools.items (word_count (entries_of got.now)) leaders.now)) + 2 ^ 45 < 2 ^ 63) }
-    ensures small { IfOk result (λ _. spec.AreSmall (spec.frame_sizes frames.now)) }
+    ensures room { IfOk result (λ _. spec.all_weight (orders_of (items (files_of tables.now) (binding_view binding.now) pools.now.pools.items (word_count (entries_of got.now)) leaders.now)) + 2 ^ 60 + 2 ^ 59 + 2 ^ 45 < 2 ^ 63) }
 {
-    if !is_small(frames) {
-        return Err(LinkStop::Memory);
-    }
     let (walked, bounds) = walk_sections(
         alloc,
         sections,
@@ -394,7 +392,7 @@ fn walk_all<'a>(
     walked: &mut Walked<'a>,
 ) -> Result<Bounds, AllocError>
     requires ready { spec.AreReady (sizes_of from.now.sizes.now) (length walked.old.places.starts.items) (length walked.old.places.pools.items) o.now.rows }
-    requires room { spec.all_weight o.now.rows + 2 ^ 45 < 2 ^ 63 }
+    requires room { spec.all_weight o.now.rows + 2 ^ 60 + 2 ^ 59 + 2 ^ 45 < 2 ^ 63 }
     requires small { spec.AreSmall (spec.frame_sizes frames.now) }
     ensures bounds { IfOk result (λ bounds. bounds ≡ spec.bounds_of (sizes_of from.now.sizes.now) o.now.rows (spec.frame_sizes frames.now)) }
     ensures trail { IfOk result (λ bounds. spec.trail_view walked.new ≡ spec.trail_of (sizes_of from.now.sizes.now) (items_view from.now.items.now) o.now.rows bounds (spec.trail_view walked.old)) }

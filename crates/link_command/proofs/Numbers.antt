@@ -19,11 +19,11 @@ use Rattle.clap.specs.declared.builder.value_parser.ValueParser.TheVariants.{Sig
 use Rattle.clap.specs.declared.parser.ArgMatches.{ArgMatches}
 use Rattle.clap.proofs.CallerLemmas.{default_present, same_rules_by_id}
 use Rattle.clap.proofs.WalkLemmas.{both, one_text-rows}
-use Rattle.link_command.specs.Grammar.{HasGenerated, HasThreads, entry_rule, files_rule, gc_rule, generated_rule, icf_rule, map_rule, output_rule, relax_rule, rows_in, rvld_app, strip_rule, threads_rule, undefined_rule, unique_rule}
+use Rattle.link_command.specs.Grammar.{HasGenerated, HasThreads, entry_rule, files_rule, gc_rule, generated_rule, icf_rule, map_rule, output_rule, relax_rule, rows_in, rvld_app, strip_rule, threads_rule, undefined_rule, unique_rule, why_apart_rule, why_live_rule}
 use Rattle.link_command.proofs.Entries.{AllValued, IsValued, text_given, text_if_any}
 
 abbrev rvld_rules : List Rule
-rvld_rules = output_rule ∷ map_rule ∷ entry_rule ∷ threads_rule ∷ gc_rule ∷ icf_rule ∷ relax_rule ∷ strip_rule ∷ undefined_rule ∷ unique_rule ∷ generated_rule ∷ files_rule ∷ []
+rvld_rules = output_rule ∷ map_rule ∷ entry_rule ∷ threads_rule ∷ gc_rule ∷ icf_rule ∷ relax_rule ∷ strip_rule ∷ undefined_rule ∷ unique_rule ∷ why_live_rule ∷ why_apart_rule ∷ generated_rule ∷ files_rule ∷ []
 
 abbrev workers : ValueParser
 workers = Signed (pos 1) (pos 64)
@@ -134,7 +134,7 @@ threads_is = record {
   no_version = begins_apart 116 118 (codes "threads") (codes "version") refl refl refl;
 }
 
-generated_is : IsOption counts 10 generated_rule
+generated_is : IsOption counts 12 generated_rule
 generated_is = record {
   low = omega arith;
   at = λ d. refl;
@@ -237,7 +237,7 @@ module _ (old : Command) (m : ArgMatches) (p : IsParsedFrom old m) (rules : map 
   generated_in =
       let parsed = p.parsed (p.from.globals ∙ globals) in
       let rows = sym (one_text-rows (found_of m) (codes "self-input")) in
-      elim (text_if_any p.built (found_of m) (codes "self-input") counts (valued counts 10 generated_rule generated_is) no_groups generated_is.named parsed.values) [
+      elim (text_if_any p.built (found_of m) (codes "self-input") counts (valued counts 12 generated_rule generated_is) no_groups generated_is.named parsed.values) [
         | inl none ↦ inl (rows ∙ none)
         | inr got ↦ inr (got.0, rows ∙ got.1, got.2.1)
       ]

@@ -15,8 +15,9 @@ use Rattle.link_command.specs.Grammar.{taken}
 
 -- what a command asks for: the names of the executable and of the map, the entry symbol, the number of
 -- workers, whether sections that nothing refers to are left out, which equal code is folded, whether calls are relaxed, whether symbols are
--- left out, the names that are asked for as by an undefined symbol, the names whose sections are folded with no other, and what is linked: so
--- many generated objects, or the files of these names
+-- left out, the names that are asked for as by an undefined symbol, the names whose sections are folded with no other, the name of which it is said
+-- why its section is kept, the two names of which it is said why their sections are not folded, and what is linked: so many generated objects, or
+-- the files of these names
 pub record Asked : Type 0 where
   pub output : List ℕ
   pub map : Option (List ℕ)
@@ -28,6 +29,8 @@ pub record Asked : Type 0 where
   pub strip : Bool
   pub undefined : List (List ℕ)
   pub unique : List (List ℕ)
+  pub why_live : Option (List ℕ)
+  pub why_apart : List (List ℕ)
   pub generated : Option ℕ
   pub inputs : List (List ℕ)
 
@@ -77,6 +80,8 @@ asks command = record {
   strip = command.strip;
   undefined = lists_of command.undefined.items;
   unique = lists_of command.unique.items;
+  why_live = option_map (λ name. string_bytes name) command.why_live;
+  why_apart = lists_of command.why_apart.items;
   generated = generated_of command.inputs;
   inputs = names_of command.inputs;
 }
@@ -138,6 +143,8 @@ read_from rows = record {
   strip = is_on (codes "strip-all") rows;
   undefined = listed_in (codes "undefined") rows;
   unique = listed_in (codes "keep-unique") rows;
+  why_live = first_of (codes "why-live") rows;
+  why_apart = listed_in (codes "why-apart") rows;
   generated = generated_in rows;
   inputs = inputs_in rows;
 }
@@ -155,10 +162,19 @@ is_apart (Some map) output = not (bytes_eq map output)
 abbrev pub are_named : List (List ℕ) → Bool
 are_named names = list_all (λ name. not (length name == 0)) names
 
--- the command has one kind of input, an entry, two names for its two files, and no empty name in its lists
+-- a name is not empty, if there is one; there are two names, neither empty, or none
+abbrev pub is_named : Option (List ℕ) → Bool
+is_named None = true
+is_named (Some name) = not (length name == 0)
+
+abbrev pub are_two : List (List ℕ) → Bool
+are_two names = length names == 0 || (length names == 2 && are_named names)
+
+-- the command has one kind of input, an entry, two names for its two files, no empty name in its lists, and names for what is asked of them
 abbrev pub is_linkable : Asked → Bool
 is_linkable asked = has_inputs asked && (not (length asked.entry == 0) && (is_apart asked.map asked.output
-    && (are_named asked.undefined && are_named asked.unique)))
+    && (are_named asked.undefined && (are_named asked.unique
+    && (is_named asked.why_live && are_two asked.why_apart)))))
 
 -- the mode of folding is one of the three that there are
 abbrev pub is_mode : List ℕ → Bool

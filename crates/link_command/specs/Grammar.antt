@@ -84,6 +84,20 @@ unique_rule = record (new_rule (codes "keep-unique")) {
   action = Some Set;
 }
 
+-- `--why-live NAME`: why the section in which a name stands is kept
+abbrev pub why_live_rule : Rule
+why_live_rule = record (new_rule (codes "why-live")) {
+  long = Some (codes "why-live");
+  action = Some Set;
+}
+
+-- `--why-apart A,B`: why the sections in which two names stand are not folded
+abbrev pub why_apart_rule : Rule
+why_apart_rule = record (new_rule (codes "why-apart")) {
+  long = Some (codes "why-apart");
+  action = Some Set;
+}
+
 -- `--self-input N`: so many generated objects in place of files
 abbrev pub generated_rule : Rule
 generated_rule = record (new_rule (codes "self-input")) {
@@ -100,8 +114,8 @@ files_rule = record (new_rule (codes "files")) {
 
 -- the command
 unfoldable pub rvld_app : App
-rvld_app = with_rule (with_rule (with_rule (with_rule (with_rule (with_rule (with_rule (with_rule (with_rule (with_rule (with_rule (with_rule (new_app (codes "rvld"))
-    output_rule) map_rule) entry_rule) threads_rule) gc_rule) icf_rule) relax_rule) strip_rule) undefined_rule) unique_rule) generated_rule) files_rule
+rvld_app = with_rule (with_rule (with_rule (with_rule (with_rule (with_rule (with_rule (with_rule (with_rule (with_rule (with_rule (with_rule (with_rule (with_rule (new_app (codes "rvld"))
+    output_rule) map_rule) entry_rule) threads_rule) gc_rule) icf_rule) relax_rule) strip_rule) undefined_rule) unique_rule) why_live_rule) why_apart_rule) generated_rule) files_rule
 
 -- the rows of a parse
 abbrev pub rows_in : ArgMatches → List Row

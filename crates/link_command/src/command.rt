@@ -6,8 +6,8 @@ ghost use Rattle.link_command.specs.Grammar.{HasGenerated, HasThreads, rows_in};
 
 use crate::matching::matches_of;
 use crate::values::{
-    are_named, gc_of, generated_of, has_mode, icf_of, inputs_of, map_of, names_of, owned_text,
-    relax_of, strip_of, threads_of,
+    are_named, are_two, gc_of, generated_of, has_mode, icf_of, inputs_of, is_named, names_of,
+    owned_text, relax_of, strip_of, text_if, threads_of,
 };
 use clap::ArgMatches;
 use std::alloc::{AllocError, Global};
@@ -91,6 +91,10 @@ pub struct Command {
     pub undefined: Vec<Vec<u8>>,
     /// `--keep-unique`: names, none empty, whose sections are folded with no other; none where it is not given.
     pub unique: Vec<Vec<u8>>,
+    /// `--why-live`: the name, not empty, of which it is said why its section is kept, if that is asked.
+    pub why_live: Option<String>,
+    /// `--why-apart`: the two names, neither empty, of which it is said why their sections are not folded; none where that is not asked.
+    pub why_apart: Vec<Vec<u8>>,
     /// What is linked.
     pub inputs: Wanted,
 }
@@ -126,10 +130,12 @@ fn read_from(alloc: Global, matches: &ArgMatches, inputs: Wanted) -> Result<Comm
     ensures inputs { IfOk result (λ command. command.inputs ≡ inputs) }
 {
     let output = owned_text(alloc, matches, "output")?;
-    let map = map_of(alloc, matches)?;
+    let map = text_if(alloc, matches, "map")?;
     let entry = owned_text(alloc, matches, "entry")?;
     let undefined = names_of(alloc, matches, "undefined")?;
     let unique = names_of(alloc, matches, "keep-unique")?;
+    let why_live = text_if(alloc, matches, "why-live")?;
+    let why_apart = names_of(alloc, matches, "why-apart")?;
     Ok(Command {
         output,
         map,
@@ -141,6 +147,8 @@ fn read_from(alloc: Global, matches: &ArgMatches, inputs: Wanted) -> Result<Comm
         strip: strip_of(matches),
         undefined,
         unique,
+        why_live,
+        why_apart,
         inputs,
     })
 }
@@ -176,6 +184,9 @@ pub fn command_of(alloc: Global, words: &[String]) -> Result<Option<Command>, Al
         return Ok(None);
     }
     if !are_named(command.undefined.as_slice()) || !are_named(command.unique.as_slice()) {
+        return Ok(None);
+    }
+    if !is_named(&command.why_live) || !are_two(command.why_apart.as_slice()) {
         return Ok(None);
     }
     Ok(Some(command))

@@ -2,7 +2,7 @@
 
 ghost use Rattle.std.specs.Prelude.{◌≡◌, IfOk, false};
 ghost use Rattle.clap.specs.Words.{app_of, rule_of};
-ghost use Rattle.link_command.specs.Grammar.{entry_rule, files_rule, gc_rule, generated_rule, icf_rule, map_rule, output_rule, relax_rule, rvld_app, strip_rule, threads_rule, undefined_rule, unique_rule};
+ghost use Rattle.link_command.specs.Grammar.{entry_rule, files_rule, gc_rule, generated_rule, icf_rule, map_rule, output_rule, relax_rule, rvld_app, strip_rule, threads_rule, undefined_rule, unique_rule, why_apart_rule, why_live_rule};
 
 use clap::{Arg, ArgAction};
 use std::alloc::{AllocError, Global};
@@ -113,6 +113,26 @@ fn unique_option<'a>(alloc: Global) -> Arg<'a>
         .action(ArgAction::Set)
 }
 
+/// `--why-live NAME`: the report says why the section in which a name stands is kept.
+fn why_live_option<'a>(alloc: Global) -> Arg<'a>
+    ensures rule { rule_of result ≡ why_live_rule }
+    ensures local { result.global ≡ false }
+{
+    Arg::new(alloc, "why-live")
+        .long("why-live")
+        .action(ArgAction::Set)
+}
+
+/// `--why-apart A,B`: the report says why the sections in which two names stand are not folded.
+fn why_apart_option<'a>(alloc: Global) -> Arg<'a>
+    ensures rule { rule_of result ≡ why_apart_rule }
+    ensures local { result.global ≡ false }
+{
+    Arg::new(alloc, "why-apart")
+        .long("why-apart")
+        .action(ArgAction::Set)
+}
+
 /// `--self-input N`: so many generated objects are linked, in place of files.
 fn generated_option<'a>(alloc: Global) -> Arg<'a>
     ensures rule { rule_of result ≡ generated_rule }
@@ -148,6 +168,8 @@ pub(crate) fn command_line<'a>(alloc: Global) -> Result<clap::Command<'a>, Alloc
         .arg(strip_option(alloc))?
         .arg(undefined_option(alloc))?
         .arg(unique_option(alloc))?
+        .arg(why_live_option(alloc))?
+        .arg(why_apart_option(alloc))?
         .arg(generated_option(alloc))?
         .arg(files_argument(alloc))
 }

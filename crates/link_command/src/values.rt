@@ -2,7 +2,7 @@
 
 ghost use Rattle.std.specs.Prelude.{◌≡◌, ◌≤◌, IfOk, IfSome, codes, map, not, option_map, string_bytes};
 ghost use Rattle.clap.specs.Words.{first_of};
-ghost use Rattle.link_command.specs.Command.{are_named, generated_in, inputs_in, is_mode, is_on, listed_in, lists_of, mode_of, text_of, texts_of, workers_in};
+ghost use Rattle.link_command.specs.Command.{are_named, are_two, generated_in, inputs_in, is_mode, is_named, is_on, listed_in, lists_of, mode_of, text_of, texts_of, workers_in};
 ghost use Rattle.link_command.specs.Grammar.{HasGenerated, HasThreads, rows_in};
 
 use crate::command::IcfMode;
@@ -28,14 +28,18 @@ pub(crate) fn owned_text(
     text_of(matches, id).to_string(alloc)
 }
 
-/// The name of the map file, owned, if one is asked for.
-pub(crate) fn map_of(alloc: Global, matches: &ArgMatches) -> Result<Option<String>, AllocError>
-    ensures { IfOk result (λ name. option_map (λ text. string_bytes text) name ≡ first_of (codes "map") (rows_in matches.now)) }
+/// The text of an option, owned, if it is given.
+pub(crate) fn text_if(
+    alloc: Global,
+    matches: &ArgMatches,
+    id: &str,
+) -> Result<Option<String>, AllocError>
+    ensures { IfOk result (λ text. option_map (λ owned. string_bytes owned) text ≡ first_of id.now (rows_in matches.now)) }
 {
-    let Some(name) = matches.get_str("map") else {
+    let Some(text) = matches.get_str(id) else {
         return Ok(None);
     };
-    Ok(Some(name.to_string(alloc)?))
+    Ok(Some(text.to_string(alloc)?))
 }
 
 /// Whether sections that nothing refers to are left out.
@@ -91,6 +95,29 @@ pub(crate) fn are_named(names: &[Vec<u8>]) -> bool
         }
     }
     true
+}
+
+/// Whether a name is not empty, if there is one.
+pub(crate) fn is_named(name: &Option<String>) -> bool
+    ensures { result ≡ is_named (option_map (λ text. string_bytes text) name.now) }
+{
+    match name {
+        None => true,
+        Some(name) => !name.is_empty(),
+    }
+}
+
+/// Whether there are two names, neither empty, or none.
+pub(crate) fn are_two(names: &[Vec<u8>]) -> bool
+    ensures { result ≡ are_two (lists_of names.now) }
+{
+    if names.len() == 0 {
+        return true;
+    }
+    if names.len() != 2 {
+        return false;
+    }
+    are_named(names)
 }
 
 /// Whether calls are relaxed.

@@ -1,16 +1,14 @@
 -- Bodies with their unwind records, and what a link has of them.
-use Rattle.std.proofs.Common.{◌≡◌, ℕ, zero, suc, ◌+◌, ◌<◌, ◌≤◌, ◌^◌, Bool, true, false, List, [], ◌∷◌, ◌++◌, length, map, get_or, refl, sym, ap, ◌∙◌, subst, arith, inl, inr, Option, Some, None}
-use Rattle.std.specs.Prelude.{flat_map, is_some, IfSome, if◌then◌else◌, Ok}
-use Rattle.std.specs.List.{All, AllByRecursion, range_with_len}
+use Rattle.std.proofs.Common.{◌≡◌, ℕ, zero, suc, ◌+◌, ◌<◌, ◌≤◌, Bool, true, false, List, [], ◌∷◌, ◌++◌, length, map, refl, sym, ap, ◌∙◌, subst, arith, inl, inr, Option, Some, None}
+use Rattle.std.specs.Prelude.{flat_map, is_some, IfSome, if◌then◌else◌}
+use Rattle.std.specs.List.{AllByRecursion, range_with_len}
 use Rattle.std.proofs.lemmas.Bool.{cases_lt}
 use Rattle.std.proofs.lemmas.List.{map-append}
 use Rattle.std.proofs.lemmas.List.FromFn.{fill_by_all, get_or-map-range_with_len, length-map-range_with_len}
-use Rattle.lk_base.specs.declared.abi.TheConstants.{FILE_MAX}
 use Rattle.lk_tables.specs.Checks.{NoneBroken}
 use Rattle.lk_tables.specs.Files.{File, file_at, is_frame_at, no_file}
-use Rattle.lk_tables.specs.Frames.{RecordList, all_lists, list_at}
+use Rattle.lk_tables.specs.Frames.{RecordList, list_at}
 use Rattle.lk_tables.specs.Gathering.{IsBodyOf}
-use Rattle.lk_tables.specs.Heads.{head_of}
 use Rattle.lk_tables.specs.Walks.{over_file}
 use Rattle.lk_tables.specs.declared.objects.Object.{Object}
 use Rattle.work_split.specs.Shares.{EachFrom}

@@ -1,5 +1,5 @@
 -- The values of relocations and of unwind records, tested one after the other: the first defect of both.
-use Rattle.std.proofs.Common.{◌≡◌, ℕ, zero, suc, ◌+◌, ◌-◌, ◌<◌, ◌≤◌, ◌⊎◌, ◌==◌, ◌&&◌, ◌||◌, nat_lt, not, Bool, true, false, Option, Some, None, List, [], ◌∷◌, ◌++◌, flat_map, length, map, refl, sym, ap, ◌∙◌, subst, inl, inr, ⊎_elim, arith}
+use Rattle.std.proofs.Common.{◌≡◌, ℕ, zero, suc, ◌+◌, ◌-◌, ◌<◌, ◌≤◌, ◌⊎◌, ◌==◌, ◌&&◌, ◌||◌, nat_lt, not, Bool, true, false, Option, Some, None, List, [], ◌∷◌, ◌++◌, flat_map, length, refl, sym, ap, ◌∙◌, subst, inl, inr, ⊎_elim, arith}
 use Rattle.std.specs.Prelude.{codes, filter, if◌then◌else◌}
 use Rattle.std.specs.List.{AllByRecursion, range_with_len, sum_by}
 use Rattle.std.specs.Str.{bytes_eq}
@@ -30,7 +30,7 @@ use Rattle.link_sections.specs.Leaders.{leader_at, leads}
 use Rattle.link_sections.specs.PoolViews.{Merged}
 use Rattle.output_sections.specs.Items.{AreLeaders}
 use Rattle.eh_frame.specs.declared.placing.Placed.{Placed}
-use Rattle.eh_frame.specs.Bytes.{all_placed, frame_defects, in_order, is_of, order_of, placed_cies, placed_defects, placed_fdes, record_defects}
+use Rattle.eh_frame.specs.Bytes.{all_placed, frame_defects, placed_order, is_of, order_of, placed_cies, placed_defects, placed_fdes, record_defects}
 use Rattle.eh_frame.specs.Plan.{plan_of, size_of}
 use Rattle.reloc_apply.specs.Relocated.{relocation_defects, section_defects}
 use Rattle.link_driver.specs.Values.{comes_first, earlier, earlier_stop, has_records, value_defects, values_at}
@@ -38,7 +38,7 @@ use Rattle.link_driver.proofs.DefectOrder.{all_append}
 use Rattle.link_driver.proofs.FrameOrder.{all_ordered, cies_all, fdes_all, placed_all, records_section}
 use Rattle.link_driver.proofs.LaidOrder.{section_of}
 use Rattle.link_driver.proofs.PhaseOrder.{OfSection}
-use Rattle.link_driver.proofs.RecordLists.{IsKnownList, known_lists, place_known}
+use Rattle.link_driver.proofs.RecordLists.{IsKnownList, place_known}
 
 -- lists over numbers
 pub flat_same : {X : Type 0} (f g : ℕ → List X) (count a : ℕ) → ((n : ℕ) → a ≤ n → n < a + count → f n ≡ g n) → flat_map f (range_with_len a count) ≡ flat_map g (range_with_len a count)
@@ -290,7 +290,7 @@ module _ (files : List File) (b : Bindings) (leaders : List (Option ℕ)) (laid 
         by false is rest = rest
 
     record_none : (n : ℕ) → has_records files n ≡ false → record_defects files b leaders laid lists plan start n ≡ []
-    unfolding record_defects in_order
+    unfolding record_defects placed_order
     record_none n off =
         ap (flat_map (placed_defects files b leaders laid lists start))
         (filter_none n off (stable_order order_of (all_placed lists plan)) (all_ordered (λ (p : Placed). Has p.number) order_of (all_placed lists plan) placed_have))

@@ -1,9 +1,9 @@
 -- The defects of unwind records are in order: those of a section stand in the order of its records, and no record is written twice.
-use Rattle.std.proofs.Common.{◌≡◌, ℕ, zero, suc, ◌+◌, ◌-◌, ◌*◌, ◌^◌, ◌<◌, ◌≤◌, ◌⊎◌, ◌==◌, ◌&&◌, ◌||◌, nat_lt, nat_le, Bool, true, false, Option, Some, None, List, [], ◌∷◌, ◌++◌, flat_map, length, map, get_or, refl, sym, ap, ◌∙◌, subst, inl, inr, ⊎_elim, arith, ℤ, pos}
+use Rattle.std.proofs.Common.{◌≡◌, ℕ, zero, suc, ◌+◌, ◌-◌, ◌<◌, ◌≤◌, ◌⊎◌, ◌==◌, ◌&&◌, nat_lt, nat_le, Bool, true, false, Option, Some, None, List, [], ◌∷◌, ◌++◌, flat_map, length, map, get_or, refl, sym, ap, ◌∙◌, subst, inl, inr, ⊎_elim, arith, ℤ, pos}
 use Rattle.std.specs.Prelude.{filter, find, is_some, slice_index_or, unwrap_or, if◌then◌else◌}
 use Rattle.std.specs.List.{AllByRecursion, AllPairs, list_any, range_with_len}
-use Rattle.std.proofs.lemmas.Bool.{and_parts, cases_lt, cond-true, eq-eqb, eqb-true, ltb-true, leb-true, or_cases}
-use Rattle.std.proofs.lemmas.List.{get_or-map, get_or_past, length-map}
+use Rattle.std.proofs.lemmas.Bool.{and_parts, cases_lt, eqb-true, ltb-true, leb-true, or_cases}
+use Rattle.std.proofs.lemmas.List.{get_or_past}
 use Rattle.std.proofs.lemmas.List.FromFn.{get_or-map-range_with_len, length-map-range_with_len}
 use Rattle.lk_base.specs.declared.defects.Defect.{Defect}
 use Rattle.lk_base.specs.declared.defects.Misfit.{Misfit}
@@ -19,19 +19,19 @@ use Rattle.lk_tables.specs.Binding.{Bindings}
 use Rattle.lk_tables.specs.Files.{File, file_at, relocs_at, section_at}
 use Rattle.lk_tables.specs.FramePlans.{PlanView}
 use Rattle.lk_tables.specs.Frames.{RecordList, all_lists, frame_no, frames_where, no_record, nth, owner_at, owner_in, record_at}
-use Rattle.lk_tables.specs.Records.{RecordView, cie_before, cie_of, count, end_at, first_records, is_cie, is_pointed_to, place, record_of as record_in, records_of, relocs_in}
+use Rattle.lk_tables.specs.Records.{RecordView, cie_before, cie_of, count, end_at, first_records, is_cie, is_pointed_to, start_of, record_of as record_in, records_of, relocs_in}
 use Rattle.lk_tables.specs.Sections.{contents_of}
 use Rattle.lk_tables.specs.Sites.{contents_at, place_of, relocs_of}
 use Rattle.lk_tables.specs.Targets.{is_gone}
 use Rattle.link_sections.specs.LaidOut.{LaidOut}
 use Rattle.link_sections.specs.PoolViews.{Merged}
 use Rattle.eh_frame.specs.declared.placing.Placed.{Placed}
-use Rattle.eh_frame.specs.Bytes.{all_placed, in_order, is_of, misfit_defects, order_of, placed_cies, placed_defects, placed_fdes, placed_from, record_defects, reloc_defect, reloc_defects, value_defects, value_in}
+use Rattle.eh_frame.specs.Bytes.{all_placed, placed_order, is_of, misfit_defects, order_of, placed_cies, placed_defects, placed_fdes, placed_from, record_defects, reloc_defects, value_defects, value_in}
 use Rattle.eh_frame.specs.Laws.{comes_before}
-use Rattle.eh_frame.specs.Plan.{CieKey, cie_key, cie_no, first_cies, is_alike, is_led, plan_of, record_of, size_of, with_cie, written_cies, written_fdes}
+use Rattle.eh_frame.specs.Plan.{CieKey, cie_key, cie_no, first_cies, is_alike, is_owner_in_place, plan_of, record_by, size_of, with_cie, written_cies, written_fdes}
 use Rattle.eh_frame.proofs.Places.{place_le}
 use Rattle.eh_frame.proofs.PlanLaws.{plan_laws}
-use Rattle.link_driver.proofs.DefectOrder.{AreBelow, NotAfter, Ordered, Up, all_append, all_flat, all_map, all_same, all_weaker, later_place, up_append, up_filter, up_from_rises, up_if, up_walk}
+use Rattle.link_driver.proofs.DefectOrder.{NotAfter, Ordered, Up, all_append, all_map, all_same, all_weaker, later_place, up_append, up_filter, up_from_rises, up_walk}
 use Rattle.link_driver.proofs.PhaseOrder.{AreInOrder, OfReloc, OfSection, RelocsUp, relocs_apart}
 use Rattle.link_driver.proofs.RecordLists.{IsKnownList, known_lists, lists_in_order, place_known}
 
@@ -160,8 +160,8 @@ find_true {X} p (y ∷ ys) x is = by (p y) refl is (find_true p ys x)
     by false none same later = later same
 
 -- where records stand in their section
-place_end : (c : List ℕ) (j : ℕ) → end_at c (place c j) ≡ place c (suc j)
-unfolding place
+place_end : (c : List ℕ) (j : ℕ) → end_at c (start_of c j) ≡ start_of c (suc j)
+unfolding start_of
 place_end c j = refl
 
 -- the records of a section
@@ -181,12 +181,12 @@ module _ (files : List File) where
 
   -- one that is found by its number, if it is
   found_in : (lists : List RecordList) → AllByRecursion (IsKnownList files) lists → (num : FrameNo) →
-      (record_of lists num ≡ no_record) ⊎ (record_of lists num ≡ read num)
+      (record_by lists num ≡ no_record) ⊎ (record_by lists num ≡ read num)
   unfolding record_at
   found_in [] known num = inl refl
   found_in (l ∷ lists) known num = by (l.section == num.section) refl (found_in lists known.1 num)
     where
-      by : (on : Bool) → (l.section == num.section) ≡ on → (record_of lists num ≡ no_record) ⊎ (record_of lists num ≡ read num) →
+      by : (on : Bool) → (l.section == num.section) ≡ on → (record_by lists num ≡ no_record) ⊎ (record_by lists num ≡ read num) →
           (unwrap_or (nth num.at (if on then Some l else find (λ (m : RecordList). m.section == num.section) lists)) no_record ≡ no_record)
           ⊎ (unwrap_or (nth num.at (if on then Some l else find (λ (m : RecordList). m.section == num.section) lists)) no_record ≡ read num)
       by true is later =
@@ -194,7 +194,7 @@ module _ (files : List File) where
           inr (some_read l.records num.at ∙ ap (λ rs. get_or rs num.at no_record) same)
       by false is later = later
 
-  pub found : (num : FrameNo) → (record_of (all_lists files) num ≡ no_record) ⊎ (record_of (all_lists files) num ≡ read num)
+  pub found : (num : FrameNo) → (record_by (all_lists files) num ≡ no_record) ⊎ (record_by (all_lists files) num ≡ read num)
   found num = found_in (all_lists files) (known_lists files) num
 
   read_cases : (num : FrameNo) → (read num ≡ no_record) ⊎ (read num ≡ record_in (contents_at files num.section) (relocs_of files num.section) num.at)
@@ -207,15 +207,15 @@ module _ (files : List File) where
         | inr past ↦ inl (get_or_past (map give (range_with_len 0 (count c))) num.at no_record (omega (arith, past, length-map-range_with_len give 0 (count c))))
       ]
 
-  pub record_cases : (num : FrameNo) → (record_of (all_lists files) num ≡ no_record)
-      ⊎ (record_of (all_lists files) num ≡ record_in (contents_at files num.section) (relocs_of files num.section) num.at)
+  pub record_cases : (num : FrameNo) → (record_by (all_lists files) num ≡ no_record)
+      ⊎ (record_by (all_lists files) num ≡ record_in (contents_at files num.section) (relocs_of files num.section) num.at)
   record_cases num = elim (found num) [
     | inl none ↦ inl none
     | inr some ↦ elim (read_cases num) [ inl none ↦ inl (some ∙ none) | inr is ↦ inr (some ∙ is) ]
   ]
 
   -- what an FDE leads to is a CIE
-  by_cie : (c : List ℕ) (i : ℕ) → is_cie c (place c i) ≡ true → cie_of c i ≡ None
+  by_cie : (c : List ℕ) (i : ℕ) → is_cie c (start_of c i) ≡ true → cie_of c i ≡ None
   by_cie c i is = ap (λ (t : Bool). if t then None else cie_before c i) is
 
   abbrev empty : Option ℕ
@@ -227,15 +227,15 @@ module _ (files : List File) where
 
   first_none : (c : List ℕ) → cie_of c 0 ≡ None
   unfolding cie_before
-  first_none c = either_none (is_cie c (place c 0))
+  first_none c = either_none (is_cie c (start_of c 0))
 
   pointed : (c : List ℕ) (j i : ℕ) → cie_of c j ≡ Some i → cie_of c i ≡ None
   unfolding cie_before is_pointed_to
-  pointed c j i is = by (is_cie c (place c j)) is
+  pointed c j i is = by (is_cie c (start_of c j)) is
     where
       by : (t : Bool) → (if t then None else find (is_pointed_to c j) (range_with_len 0 j)) ≡ Some i → cie_of c i ≡ None
       by true num = cc
-      by false at = by_cie c i (and_parts (is_cie c (place c i)) _ (find_true (is_pointed_to c j) (range_with_len 0 j) i at)).0
+      by false at = by_cie c i (and_parts (is_cie c (start_of c i)) _ (find_true (is_pointed_to c j) (range_with_len 0 j) i at)).0
 
   none_read : (section i : ℕ) → cie_of (contents_at files section) i ≡ None → (read (frame_no section i)).cie ≡ None
   unfolding record_in
@@ -252,7 +252,7 @@ module _ (files : List File) where
   none_cie : (num : FrameNo) → (read (cie_no (all_lists files) num)).cie ≡ None
   unfolding record_in
   none_cie num =
-      let r = record_of (all_lists files) num in
+      let r = record_by (all_lists files) num in
       cie_at num.section num.at r.cie (elim (record_cases num) [
         | inl none ↦ inl (ap (λ (x : RecordView). x.cie) none)
         | inr is ↦ inr (sym (ap (λ (x : RecordView). x.cie) is))
@@ -269,11 +269,11 @@ module _ (files : List File) (b : Bindings) (merged : List (Option Merged)) (lea
   abbrev Leads : FrameNo → Type 0
   Leads num = is_some (read files num).cie ≡ true
 
-  led_some : (on : Bool) (o : Option ℕ) → is_led leaders merged (if on then o else None) ≡ true → on ≡ true
+  led_some : (on : Bool) (o : Option ℕ) → is_owner_in_place leaders merged (if on then o else None) ≡ true → on ≡ true
   led_some true o led = refl
   led_some false o led = cc
 
-  one_leads : (l : RecordList) → IsKnownList files l → (at : ℕ) → is_led leaders merged (owner_at files b l at) ≡ true → Leads (frame_no l.section at)
+  one_leads : (l : RecordList) → IsKnownList files l → (at : ℕ) → is_owner_in_place leaders merged (owner_at files b l at) ≡ true → Leads (frame_no l.section at)
   unfolding owner_in
   one_leads l known at led =
       let own = led_some (is_some (get_or l.records at no_record).cie) _ led in
@@ -286,19 +286,19 @@ module _ (files : List File) (b : Bindings) (merged : List (Option Merged)) (lea
 
   -- what holds of each FDE of a function that is written
   abbrev Each : (P : FrameNo → Type 0) → Type 0
-  Each P = (l : RecordList) → IsKnownList files l → (at : ℕ) → is_led leaders merged (owner_at files b l at) ≡ true → P (frame_no l.section at)
+  Each P = (l : RecordList) → IsKnownList files l → (at : ℕ) → is_owner_in_place leaders merged (owner_at files b l at) ≡ true → P (frame_no l.section at)
 
-  list_all : (P : FrameNo → Type 0) → Each P → (l : RecordList) → IsKnownList files l → AllByRecursion P (frames_where files b (is_led leaders merged) l)
+  list_all : (P : FrameNo → Type 0) → Each P → (l : RecordList) → IsKnownList files l → AllByRecursion P (frames_where files b (is_owner_in_place leaders merged) l)
   unfolding frames_where
   list_all P each l known =
-      let test : ℕ → Bool = λ at. is_led leaders merged (owner_at files b l at) in
+      let test : ℕ → Bool = λ at. is_owner_in_place leaders merged (owner_at files b l at) in
       unless_gone P (is_gone b l.section) _
       (all_map P (frame_no l.section) (filter test (range_with_len 0 (length l.records)))
       (filter_all (λ at. P (frame_no l.section at)) test (range_with_len 0 (length l.records)) (each l known)))
 
-  lists_all : (P : FrameNo → Type 0) → Each P → (ls : List RecordList) → AllByRecursion (IsKnownList files) ls → AllByRecursion P (flat_map (frames_where files b (is_led leaders merged)) ls)
+  lists_all : (P : FrameNo → Type 0) → Each P → (ls : List RecordList) → AllByRecursion (IsKnownList files) ls → AllByRecursion P (flat_map (frames_where files b (is_owner_in_place leaders merged)) ls)
   lists_all P each [] known = tt
-  lists_all P each (l ∷ ls) known = all_append P (frames_where files b (is_led leaders merged) l) _ (list_all P each l known.0) (lists_all P each ls known.1)
+  lists_all P each (l ∷ ls) known = all_append P (frames_where files b (is_owner_in_place leaders merged) l) _ (list_all P each l known.0) (lists_all P each ls known.1)
 
   pub fdes_all : (P : FrameNo → Type 0) → Each P → AllByRecursion P plan.fdes
   unfolding plan_of written_fdes
@@ -375,8 +375,8 @@ module _ (files : List File) (b : Bindings) (merged : List (Option Merged)) (lea
             absurd (holds.1 (one ∙ sym two) same)
       ]
 
-  section_up : (n : ℕ) → Up (Later n) (filter (is_of n) (in_order (all_placed lists plan)))
-  unfolding in_order
+  section_up : (n : ℕ) → Up (Later n) (filter (is_of n) (placed_order (all_placed lists plan)))
+  unfolding placed_order
   section_up n =
       let R : Placed → Placed → Type 0 = λ p q. (order_of p ≤ order_of q) × DifferAt p q in
       let placed = all_placed lists plan in
@@ -413,17 +413,17 @@ module _ (files : List File) (b : Bindings) (merged : List (Option Merged)) (lea
     reloc_up at from address r = values_up at r (kind_of r.kind).reach (value_in files b leaders laid at.file r (pos (address + (r.offset - from))) (pos 0))
 
     abbrev LiesIn : FrameNo → Reloc → Type 0
-    LiesIn num r = (place (contents_at files num.section) num.at ≤ r.offset) × (r.offset < place (contents_at files num.section) (suc num.at))
+    LiesIn num r = (start_of (contents_at files num.section) num.at ≤ r.offset) × (r.offset < start_of (contents_at files num.section) (suc num.at))
 
     abbrev record_relocs : FrameNo → List Reloc
-    record_relocs num = (record_of lists num).relocs
+    record_relocs num = (record_by lists num).relocs
 
     relocs_lie : (num : FrameNo) → AllByRecursion (LiesIn num) (record_relocs num)
     unfolding record_in relocs_in
     relocs_lie num =
         let P : RecordView → Type 0 = λ r. AllByRecursion (LiesIn num) r.relocs in
         let c = contents_at files num.section in
-        let from = place c num.at in
+        let from = start_of c num.at in
         let test : Reloc → Bool = λ r. nat_le from r.offset && nat_lt r.offset (end_at c from) in
         elim (record_cases files num) [
           | inl none ↦ subst P (sym none) tt
@@ -437,8 +437,8 @@ module _ (files : List File) (b : Bindings) (merged : List (Option Merged)) (lea
     -- of the section of its record, between the record's ends
     record Inside (num : FrameNo) (e : Defect) : Type 0 where
       own : OfSection (place_of files num.section).file (place_of files num.section).index e
-      low : place (contents_at files num.section) num.at ≤ e.place
-      high : e.place < place (contents_at files num.section) (suc num.at)
+      low : start_of (contents_at files num.section) num.at ≤ e.place
+      high : e.place < start_of (contents_at files num.section) (suc num.at)
 
     flat_inside : (num : FrameNo) (from address : ℕ) (rs : List Reloc) → AllByRecursion (LiesIn num) rs →
         AllByRecursion (Inside num) (flat_map (reloc_defects files b leaders laid (place_of files num.section) from address) rs)
@@ -452,7 +452,7 @@ module _ (files : List File) (b : Bindings) (merged : List (Option Merged)) (lea
 
     placed_inside : (p : Placed) → AllByRecursion (Inside p.number) (placed_defects files b leaders laid lists start p)
     unfolding placed_defects
-    placed_inside p = flat_inside p.number (record_of lists p.number).from (start + p.at) (record_relocs p.number) (relocs_lie p.number)
+    placed_inside p = flat_inside p.number (record_by lists p.number).from (start + p.at) (record_relocs p.number) (relocs_lie p.number)
 
     relocs_rise : ((f : ℕ) → AreInOrder (file_at files f)) → (num : FrameNo) → Up RelocsUp (record_relocs num)
     unfolding record_in relocs_in
@@ -468,8 +468,8 @@ module _ (files : List File) (b : Bindings) (merged : List (Option Merged)) (lea
     unfolding placed_defects
     placed_ordered rise p =
         let at = place_of files p.number.section in
-        up_walk RelocsUp NotAfter (OfReloc at.file at.index) (relocs_apart at.file at.index) (reloc_defects files b leaders laid at (record_of lists p.number).from (start + p.at))
-        (reloc_of at (record_of lists p.number).from (start + p.at)) (reloc_up at (record_of lists p.number).from (start + p.at))
+        up_walk RelocsUp NotAfter (OfReloc at.file at.index) (relocs_apart at.file at.index) (reloc_defects files b leaders laid at (record_by lists p.number).from (start + p.at))
+        (reloc_of at (record_by lists p.number).from (start + p.at)) (reloc_up at (record_by lists p.number).from (start + p.at))
         (record_relocs p.number) (relocs_rise rise p.number)
 
     abbrev InsideOf : (n : ℕ) → Placed → Defect → Type 0
@@ -479,8 +479,8 @@ module _ (files : List File) (b : Bindings) (merged : List (Option Merged)) (lea
     inside_apart n p q d e later here there =
         let place_n = place_of files n in
         let c = contents_at files n in
-        let P : ℕ → Type 0 = λ s. (d.file ≡ (place_of files s).file) × (d.section ≡ (place_of files s).index) × (d.place < place (contents_at files s) (suc p.number.at)) in
-        let Q : ℕ → Type 0 = λ s. (e.file ≡ (place_of files s).file) × (e.section ≡ (place_of files s).index) × (place (contents_at files s) q.number.at ≤ e.place) in
+        let P : ℕ → Type 0 = λ s. (d.file ≡ (place_of files s).file) × (d.section ≡ (place_of files s).index) × (d.place < start_of (contents_at files s) (suc p.number.at)) in
+        let Q : ℕ → Type 0 = λ s. (e.file ≡ (place_of files s).file) × (e.section ≡ (place_of files s).index) × (start_of (contents_at files s) q.number.at ≤ e.place) in
         let one = subst P later.0 (here.own.file, here.own.section, here.high) in
         let two = subst Q later.1 (there.own.file, there.own.section, there.low) in
         let rises = place_le c (suc p.number.at) q.number.at (omega (arith, later.2)) in
@@ -490,7 +490,7 @@ module _ (files : List File) (b : Bindings) (merged : List (Option Merged)) (lea
     unfolding record_defects
     records_ordered rise n =
         up_walk (Later n) NotAfter (InsideOf n) (inside_apart n) (placed_defects files b leaders laid lists start) placed_inside (placed_ordered rise)
-        (filter (is_of n) (in_order (all_placed lists plan))) (section_up n)
+        (filter (is_of n) (placed_order (all_placed lists plan))) (section_up n)
 
     flat_section : (n : ℕ) (ps : List Placed) → AllByRecursion (λ (p : Placed). p.number.section ≡ n) ps →
         AllByRecursion (OfSection (place_of files n).file (place_of files n).index) (flat_map (placed_defects files b leaders laid lists start) ps)
@@ -505,5 +505,5 @@ module _ (files : List File) (b : Bindings) (merged : List (Option Merged)) (lea
     pub records_section : (n : ℕ) → AllByRecursion (OfSection (place_of files n).file (place_of files n).index) (record_defects files b leaders laid lists plan start n)
     unfolding record_defects
     records_section n =
-        flat_section n (filter (is_of n) (in_order (all_placed lists plan)))
-        (filter_all (λ (p : Placed). p.number.section ≡ n) (is_of n) (in_order (all_placed lists plan)) (λ p on. eqb-true p.number.section n on))
+        flat_section n (filter (is_of n) (placed_order (all_placed lists plan)))
+        (filter_all (λ (p : Placed). p.number.section ≡ n) (is_of n) (placed_order (all_placed lists plan)) (λ p on. eqb-true p.number.section n on))

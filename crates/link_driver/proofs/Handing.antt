@@ -1,5 +1,5 @@
 -- What the steps of a link hand on, together.
-use Rattle.std.proofs.Common.{◌≡◌, ℕ, Bool, true, false, List, [], Option, refl, ap, ◌∙◌, subst}
+use Rattle.std.proofs.Common.{◌≡◌, ℕ, Bool, true, false, List, [], ◌++◌, Option, refl, ap, ap₂, ◌∙◌, subst}
 use Rattle.std.specs.Prelude.{if◌then◌else◌, Result, Ok, Err, IfOk}
 use Rattle.comdat.specs.Discarded.{discarded}
 use Rattle.link_command.specs.Command.{Asked}
@@ -12,7 +12,8 @@ use Rattle.lk_tables.specs.FramePlans.{PlanView}
 use Rattle.map_file.specs.MapText.{map_text}
 use Rattle.sym_resolve.specs.Law.{IsLawful}
 use Rattle.link_driver.specs.declared.linking.Linked.{Linked}
-use Rattle.link_driver.specs.Link.{Wishes, bound_in, bound_names, executable_in, executable_with, kept_for, kept_in, laid_out, leaders_in, linked_files, map_in, map_with, plan_in, report_in, report_with, wishes_for, wishes_in}
+use Rattle.link_driver.specs.Certificates.{apart_text, asks_why, live_text, why_text}
+use Rattle.link_driver.specs.Link.{Wishes, bound_in, bound_names, executable_in, executable_with, kept_for, kept_in, laid_out, leaders_in, linked_files, map_in, map_with, plan_in, report_in, report_with, say_in, wishes_for, wishes_in}
 use Rattle.link_driver.specs.Phases.{Gives, IsWritten, Makes}
 use Rattle.link_driver.specs.Sources.{Source, heads_in, live_in}
 
@@ -72,11 +73,24 @@ holds_in asked ss F files b kept are bound stays holds =
     (kept_for asked fs (bound_names fs asked.entry)) in
     subst R are (subst Q bound (subst P stays holds))
 
--- what the files of these sources give
-pub gives_all : (asked : Asked) (names : List (List ℕ)) (ss : List Source) (linked : Linked) →
-    Makes (wishes_in asked ss) names (linked_files asked ss) (bound_in asked ss) (kept_in asked ss) linked → Gives asked names ss linked
-unfolding executable_in map_in report_in
-gives_all asked names ss linked makes = record { executable = makes.executable; map = makes.map; report = makes.report }
+-- what the files of these sources give, once it is said what is asked why
+pub gives_all : (asked : Asked) (names : List (List ℕ)) (ss : List Source) (linked said : Linked) (why : List ℕ) →
+    Makes (wishes_in asked ss) names (linked_files asked ss) (bound_in asked ss) (kept_in asked ss) linked → said.exe.items ≡ linked.exe.items →
+    said.map.items ≡ linked.map.items → said.report.items ≡ linked.report.items ++ why →
+    why ≡ why_text asked names (linked_files asked ss) (bound_in asked ss) (kept_in asked ss) (wishes_in asked ss).barred → Gives asked names ss said
+unfolding executable_in map_in report_in say_in
+gives_all asked names ss linked said why makes exe map report is = record {
+  executable = exe ∙ makes.executable;
+  map = map ∙ makes.map;
+  report = report ∙ ap₂ (λ (a c : List ℕ). a ++ c) makes.report is;
+}
+
+-- names are no matter where nothing is asked why
+pub why_as : (asked : Asked) (names shown : List (List ℕ)) (files : List File) (b : Bindings) (kept barred : List Bool) → (asks_why asked ≡ true → names ≡ shown) →
+    why_text asked names files b kept barred ≡ why_text asked shown files b kept barred
+unfolding why_text
+why_as asked names shown files b kept barred same =
+    if_named (asks_why asked) (λ n. live_text n files b asked.undefined asked.why_live ++ apart_text n files b kept barred asked.why_apart) names shown same
 
 -- what the names of these files are bound to
 pub bound_are : (entry asked : List ℕ) (files given : List File) → files ≡ given → entry ≡ asked →

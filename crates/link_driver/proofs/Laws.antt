@@ -16,7 +16,8 @@ use Rattle.sym_resolve.proofs.Lawful.{lawful}
 use Rattle.link_command.specs.Command.{Asked}
 use Rattle.link_driver.specs.Given.{contents_for}
 use Rattle.link_driver.specs.Laws.{AreCounted, AreLeast, with_workers}
-use Rattle.link_driver.specs.Link.{bound_names, defects_in, executable_in, line_of_defect, link, link_with, map_in, report_in}
+use Rattle.link_driver.specs.Certificates.{why_text}
+use Rattle.link_driver.specs.Link.{bound_names, defects_in, executable_in, line_of_defect, link, link_with, map_in, report_in, say_in}
 use Rattle.link_driver.specs.Sources.{Source, files_in, has_body, headed, heads_in, live_in, opened, opened_files, sources, with_body}
 use Rattle.link_driver.proofs.Opened.{how_many}
 
@@ -68,7 +69,7 @@ are_least asked ss few = record { taking_part = least_files asked.undefined ss f
 
 -- no definition of Link reads the number of workers
 same_line : (asked : Asked) (inputs : List (List ℕ)) (n : ℕ) (ds : List Defect) → link_with (with_workers n asked) inputs ds ≡ link_with asked inputs ds
-unfolding executable_in map_in report_in line_of_defect
+unfolding executable_in map_in say_in report_in why_text line_of_defect
 same_line asked inputs n [] = refl
 same_line asked inputs n (d ∷ ds) = refl
 

@@ -1,3 +1,4 @@
+pub mod Certifying
 pub mod Chain
 pub mod Counting
 pub mod DefectOrder

@@ -1,17 +1,15 @@
 -- The unwind records of a link: each list is that of a section of a file that takes part, they stand in order, and each record lies in its section.
-use Rattle.std.proofs.Common.{◌≡◌, ℕ, zero, suc, ◌+◌, ◌-◌, ◌<◌, ◌≤◌, ◌^◌, Bool, true, false, List, [], ◌∷◌, ◌++◌, length, map, flat_map, drop, get_or, refl, sym, ap, ◌∙◌, subst, arith}
+use Rattle.std.proofs.Common.{◌≡◌, ℕ, zero, suc, ◌+◌, ◌-◌, ◌<◌, ◌≤◌, Bool, true, false, List, [], ◌∷◌, length, map, flat_map, drop, refl, sym, ap, ◌∙◌, subst, arith}
 use Rattle.std.specs.Prelude.{◌&&◌, nat_lt, if◌then◌else◌}
 use Rattle.std.specs.List.{All, AllByRecursion, range_with_len}
 use Rattle.std.proofs.lemmas.Bool.{cond-true}
 use Rattle.std.proofs.lemmas.List.{length-drop, length-take}
 use Rattle.std.proofs.lemmas.List.Elements.{All-from_recursion}
-use Rattle.lk_base.specs.declared.abi.TheConstants.{FILE_MAX}
 use Rattle.lk_tables.specs.declared.heads.Section.{Section}
-use Rattle.lk_tables.specs.declared.objects.Reloc.{Reloc}
 use Rattle.lk_tables.specs.declared.section_places.SectionPlace.{SectionPlace}
 use Rattle.lk_tables.specs.Checks.{NoneBroken}
 use Rattle.lk_tables.specs.FileHeader.{section_count as header_count}
-use Rattle.lk_tables.specs.Files.{AreFew, File, IsSound, file_at, first_section, is_frame_at, no_section, relocs_at, section_at, section_count, section_no, section_total}
+use Rattle.lk_tables.specs.Files.{File, IsSound, file_at, first_section, is_frame_at, no_section, relocs_at, section_at, section_count, section_no}
 use Rattle.lk_tables.specs.Frames.{AreInOrder, AreListsWithin, IsListWithin, IsRecordWithin, RecordList, all_lists, list_at}
 use Rattle.lk_tables.specs.Records.{RecordView, records_of}
 use Rattle.lk_tables.specs.Sections.{contents_of, is_frame, section_of}

@@ -1,19 +1,18 @@
 -- Sections that are barred stand alone, and where more are barred no more is folded.
 use Rattle.std.proofs.Common.{◌≡◌, ◌≢◌, ℕ, zero, suc, ◌+◌, ◌<◌, ◌==◌, ◌&&◌, ◌||◌, not, Bool, true, false, if◌then◌else◌, Option, Some, None, List, [], ◌∷◌, ◌++◌, length, map, flat_map, get_or, set, refl, sym, ap, ◌∙◌, subst, inl, inr, arith}
-use Rattle.std.specs.Prelude.{All, filter}
+use Rattle.std.specs.Prelude.{All}
 use Rattle.std.specs.List.{list_any, range_with_len}
-use Rattle.std.proofs.lemmas.Bool.{and_parts, and_from, both_ways, cases_Bool, cases_eq, cases_lt, cond-false, cond-true}
-use Rattle.std.proofs.lemmas.List.{get_or-map, get_or-set_other, get_or-set_same, get_or_past, length-map, set_past}
-use Rattle.std.proofs.lemmas.List.Elements.{All-cons, All-get_or, All-head, All-nil, All-tail}
+use Rattle.std.proofs.lemmas.Bool.{both_ways, cases_Bool, cases_eq, cases_lt}
+use Rattle.std.proofs.lemmas.List.{get_or-set_other, get_or-set_same, get_or_past, length-map, set_past}
+use Rattle.std.proofs.lemmas.List.Elements.{All-get_or, All-head, All-tail}
 use Rattle.std.proofs.lemmas.List.FromFn.{get_or-map-range_with_len, length-map-range_with_len}
 use Rattle.asked_names.specs.AskedNames.{named_sections}
-use Rattle.icf_part.specs.Folding.{AreFolded, item_at, no_item}
+use Rattle.icf_part.specs.Folding.{no_item}
 use Rattle.icf_part.specs.Leaders.{leaders_of}
 use Rattle.icf_part.proofs.Fewer.{StandAmong, folded_more}
 use Rattle.icf_part.proofs.LeadersOf.{are_leaders, leaders_within}
-use Rattle.link_command.specs.declared.command.IcfMode.{IcfMode}
-use Rattle.link_command.specs.declared.command.IcfMode.TheVariants.{All as AllMode, Off, Safe}
-use Rattle.link_command.specs.Command.{Asked, folds, is_safe}
+use Rattle.link_command.specs.declared.command.IcfMode.TheVariants.{All as AllMode, Safe}
+use Rattle.link_command.specs.Command.{Asked, folds}
 use Rattle.link_sections.specs.FoldItems.{FoldItem, section_of, sections_of}
 use Rattle.link_sections.specs.Leaders.{fold_each, folded_leaders, leader_at, own_leaders, section_at}
 use Rattle.link_sections.specs.Merging.{pools_of}
@@ -21,13 +20,13 @@ use Rattle.link_sections.specs.PoolViews.{Merged}
 use Rattle.link_sections.proofs.OwnLeaders.{own_is, same_number}
 use Rattle.lk_tables.specs.Binding.{Bindings}
 use Rattle.lk_tables.specs.Files.{File, section_total}
-use Rattle.sec_graph.specs.Foldable.{is_barred, is_foldable, item_if, item_in, item_of, items}
+use Rattle.sec_graph.specs.Foldable.{is_barred, is_foldable, item_of, items}
 use Rattle.sec_graph.specs.Taken.{address_taken}
 use Rattle.sec_graph.proofs.FoldOrder.{sections_are}
 use Rattle.sec_graph.proofs.ListParts.{each_passed}
-use Rattle.link_driver.specs.Link.{barred_of, bound_in, is_apart, kept_in, leaders_in, linked_files, wishes_in}
+use Rattle.link_driver.specs.Link.{barred_of, bound_in, is_apart, kept_in, leaders_in, linked_files}
 use Rattle.link_driver.specs.Sources.{Source}
-use Rattle.link_driver.specs.Spared.{AreFoldedSections, Spares, StandsAlone, items_for}
+use Rattle.link_driver.specs.Spared.{AreFoldedSections, Spares, StandsAlone}
 
 -- where no item is of a section, and none of its place, folding leaves the section
 module _ (list : List FoldItem) where

@@ -21,7 +21,7 @@ use Rattle.link_driver.specs.declared.driving.Ending.{Ending}
 use Rattle.link_driver.specs.declared.driving.Ending.TheVariants.{Done, Memory, Refused, Unreported, Defective, Unread, Unwritten}
 use Rattle.link_command.specs.Command.{Asked}
 use Rattle.link_driver.specs.Given.{contents_for, names_for}
-use Rattle.link_driver.specs.Link.{Link, defects_in, defects_of, executable_in, link, link_with, line_in, line_of_defect, cannot_read, map_in, report_in}
+use Rattle.link_driver.specs.Link.{Link, defects_in, defects_of, executable_in, link, link_with, line_in, line_of_defect, cannot_read, map_in, say_in}
 use Rattle.link_driver.specs.Ends.{IsUntouched, IsUnread, none_failed, one_failed, Ends, finds_defect, cannot_read_input, lacks_memory, IsTold, told_whole, told_cut}
 use Rattle.link_driver.specs.Endings.{status_of, told_line, TellsDefect, TellsUnread, IsWithin, TellsStop, TellsLoadStop, AreLoaded}
 
@@ -160,5 +160,6 @@ is_linked asked given names inputs ss linked named bytes are links =
       executable = links.gives.executable ∙ ap (executable_in asked) are' ∙ sym (ap (λ (l : Link). l.executable) gives);
       map = links.gives.map ∙ ap (map_in asked ss) shown ∙ ap (λ s. map_in asked s (shown_files (names_for asked) held (sources standard held))) are'
           ∙ sym (ap (λ (l : Link). l.map) gives);
-      report = links.gives.report ∙ ap (report_in asked) are' ∙ sym (ap (λ (l : Link). l.say) gives);
+      report = links.gives.report ∙ ap (say_in asked ss) shown ∙ ap (λ s. say_in asked s (shown_files (names_for asked) held (sources standard held))) are'
+          ∙ sym (ap (λ (l : Link). l.say) gives);
     }

@@ -1,6 +1,6 @@
 -- A body and its unwind records, checked one after the other.
-use Rattle.std.proofs.Common.{◌≡◌, ℕ, ◌+◌, ◌<◌, Bool, true, false, List, [], ◌∷◌, ◌++◌, length, map, refl, sym, ap, ◌∙◌, subst, arith}
-use Rattle.std.specs.Prelude.{◌&&◌, nat_lt, Result, Ok, Err}
+use Rattle.std.proofs.Common.{◌≡◌, ℕ, ◌+◌, ◌<◌, true, false, List, [], ◌∷◌, ◌++◌, length, sym, ap, ◌∙◌, arith}
+use Rattle.std.specs.Prelude.{◌&&◌, nat_lt, Ok, Err}
 use Rattle.std.specs.Global.{Vec}
 use Rattle.std.proofs.lemmas.Bool.{cond-false, cond-true}
 use Rattle.std.proofs.lemmas.List.{append-nil, map-append}
@@ -9,7 +9,6 @@ use Rattle.lk_tables.specs.declared.heads.Section.{Section}
 use Rattle.lk_tables.specs.declared.objects.Reloc.{Reloc}
 use Rattle.lk_tables.specs.declared.records.Record.{Record}
 use Rattle.lk_tables.specs.Checks.{passes}
-use Rattle.lk_tables.specs.FileHeader.{section_count}
 use Rattle.lk_tables.specs.Files.{File, is_frame_at, no_section, relocs_at, section_at}
 use Rattle.lk_tables.specs.Frames.{RecordList, list_view, list_views}
 use Rattle.lk_tables.specs.Heads.{head_of}

@@ -161,12 +161,16 @@ pub data IsTold (line : List ℕ) (err err' : Output) : Type 0 where
   told_cut : (size : ℕ) → size < length line → Rose err.faults err'.faults
       → err'.written ≡ told_said (take size line) err.written → IsTold line err err'
 
+-- the line of a status: none at 0 and 4, and else one of bytes that a terminal shows, and a newline
+pub data HasLine (status : ℕ) (line : List ℕ) : Type 0 where
+  no_line : (status ≡ 0) ⊎ (status ≡ 4) → line ≡ [] → HasLine status line
+  a_line : 1 ≤ status → status ≤ 3 → IsOneLine line → HasLine status line
+
 -- a run of these words ended so
 pub record EndsSo (words : List (List ℕ)) (before after : Store) (say say' err err' : Output) (status : ℕ) : Type 0 where
   pub line : List ℕ
   pub ends : Ends (asked_of words) before after say say' status line
-  -- there is none at 0 and 4, and else one: bytes that a terminal shows, and a newline
-  pub one_line : (line ≡ []) ⊎ IsOneLine line
+  pub one_line : HasLine status line
   pub told : IsTold line err err'
   -- where there is no line, nothing was asked of the standard error
   pub silent : line ≡ [] → err' ≡ err

@@ -1,15 +1,12 @@
 -- The unwind records of the files of a link (LSB Core, "Exception Frames").
-use Rattle.std.specs.Prelude.{ℕ, if◌then◌else◌, List, [], ◌∷◌, length, flat_map}
+use Rattle.std.specs.Prelude.{ℕ, if◌then◌else◌, List, [], length, flat_map}
 use Rattle.std.specs.List.{range_with_len}
-use Rattle.lk_tables.specs.Files.{File, is_frame_at, relocs_at, section_at, section_no}
-use Rattle.lk_tables.specs.Frames.{RecordList}
-use Rattle.lk_tables.specs.Records.{records_of}
-use Rattle.lk_tables.specs.Sections.{contents_of}
+use Rattle.lk_tables.specs.Files.{File, section_no}
+use Rattle.lk_tables.specs.Frames.{RecordList, records_in}
 
 -- those of section k of a file, if it has some, under its index
 abbrev pub list_in : File → (k : ℕ) → List RecordList
-list_in file k = if is_frame_at file k
-    then (record { section = k; records = records_of (contents_of file.bytes (section_at file k)) (relocs_at file k) }) ∷ [] else []
+list_in file k = records_in file k k
 
 -- those of all its sections
 unfoldable pub lists_in : File → List RecordList

@@ -32,6 +32,8 @@ with_workers n asked = record {
   strip = asked.strip;
   undefined = asked.undefined;
   unique = asked.unique;
+  why_live = asked.why_live;
+  why_apart = asked.why_apart;
   generated = asked.generated;
   inputs = asked.inputs;
 }

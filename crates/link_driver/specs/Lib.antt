@@ -1,3 +1,4 @@
+pub mod Certificates
 pub mod Contents
 pub mod Counts
 pub mod Defects

@@ -11,7 +11,8 @@ use Rattle.lk_base.specs.Limits.{standard}
 use Rattle.lk_base.specs.Lines.{defect_line, escaped}
 use Rattle.asked_names.specs.AskedNames.{named_sections}
 use Rattle.comdat.specs.Discarded.{discarded}
-use Rattle.layout.specs.Layout.{FrameSizes, layout_defects, layout_of}
+use Rattle.layout.specs.Layout.{layout_defects, layout_of}
+pub use Rattle.layout.specs.Layout.{sizes_in}
 use Rattle.link_sections.specs.InputSections.{all_kept}
 use Rattle.link_sections.specs.LaidOut.{LaidOut, with_contents}
 use Rattle.link_sections.specs.declared.got.GotEntry.{GotEntry}
@@ -37,6 +38,7 @@ use Rattle.got_tls.specs.GotList.{got_of}
 use Rattle.icf_part.specs.Leaders.{leaders_of}
 use Rattle.link_command.specs.declared.command.IcfMode.{IcfMode}
 use Rattle.link_command.specs.Command.{Asked, folds, is_safe}
+use Rattle.link_driver.specs.Certificates.{why_text}
 use Rattle.link_driver.specs.Defects.{opening_defects, reading_defects}
 use Rattle.link_driver.specs.Given.{contents_for, names_for}
 use Rattle.link_driver.specs.Reports.{report_text}
@@ -100,10 +102,6 @@ kept_for asked files b = kept_of asked.gc asked.undefined files b
 
 abbrev pub wishes_for : Asked → List File → Bindings → (kept : List Bool) → Wishes
 wishes_for asked files b kept = wishes_of asked (barred_of asked.icf asked.unique files b kept)
-
--- bytes of the two sections that hold unwind records
-abbrev pub sizes_in : PlanView → FrameSizes
-sizes_in plan = record { header = plan.header_len; frame = plan.frame_len }
 
 module _ (w : Wishes) (files : List File) (b : Bindings) (kept : List Bool) where
   -- by section number, what is merged of kept sections
@@ -228,6 +226,10 @@ module _ (asked : Asked) (ss : List Source) where
   unfoldable pub report_in : List ℕ
   report_in = report_with wishes_in linked_files bound_in kept_in
 
+  -- what is said of the link: the report, and what is asked why, where these are the names by which files are shown
+  unfoldable pub say_in : (names : List (List ℕ)) → List ℕ
+  say_in names = report_in ++ why_text asked names linked_files bound_in kept_in wishes_in.barred
+
 -- the name of section k by its header, empty if there is no such section
 abbrev pub section_name : List ℕ → HeadView → (k : ℕ) → List ℕ
 section_name b head k = option_map_or (λ s. text_of b s.name) (slice_get head.sections k) []
@@ -308,7 +310,7 @@ link_with asked inputs [] =
       status = 0;
       executable = executable_in asked ss;
       map = map_in asked ss (shown_files (names_for asked) inputs ss);
-      say = report_in asked ss;
+      say = say_in asked ss (shown_files (names_for asked) inputs ss);
       err = [];
     }
 

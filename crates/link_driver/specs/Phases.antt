@@ -18,7 +18,7 @@ use Rattle.sym_resolve.specs.Law.{IsLawful}
 use Rattle.link_driver.specs.declared.linking.Linked.{Linked}
 use Rattle.comdat.specs.Discarded.{discarded}
 use Rattle.link_driver.specs.Laws.{StopsAtLeast}
-use Rattle.link_driver.specs.Link.{Wishes, bound_in, defects_in, executable_in, executable_with, kept_in, laid_out, leaders_in, link, linked_files, map_in, map_with, placing_defects, plan_in, report_by, report_in, report_with, wishes_in}
+use Rattle.link_driver.specs.Link.{Wishes, bound_in, defects_in, executable_in, executable_with, kept_in, laid_out, leaders_in, link, linked_files, map_in, map_with, placing_defects, plan_in, report_by, report_with, say_in, wishes_in}
 use Rattle.link_driver.specs.Sources.{Source, heads_in, live_in}
 use Rattle.link_driver.specs.Tables.{IsCollected}
 use Rattle.link_driver.specs.Unwound.{Unwinds}
@@ -40,7 +40,7 @@ pub record Makes (w : Wishes) (names : List (List ℕ)) (files : List File) (b :
 pub record Gives (asked : Asked) (names : List (List ℕ)) (ss : List Source) (linked : Linked) : Type 0 where
   pub executable : linked.exe.items ≡ executable_in asked ss
   pub map : linked.map.items ≡ map_in asked ss names
-  pub report : linked.report.items ≡ report_in asked ss
+  pub report : linked.report.items ≡ say_in asked ss names
 
 -- each shortened call of a link reaches its target: no relocation of one is odd or out of range
 abbrev pub ShortenedCallsReach : Wishes → List File → Bindings → (kept : List Bool) → Type 0
@@ -57,7 +57,7 @@ HoldsPast (Err stop) earlier holds = HoldsAtStop stop earlier holds
 
 -- all pieces of which an executable is made stand whole in it: headers, unwind records and the table of their functions, sections with their
 -- relocations done, pieces of pools, the linker's table, the symbol table with its names, the names of the sections, the section headers; and so do the
--- bytes of each section, by its number; and of the unwind records each FDE of a section that leads itself is there, once and no other
+-- bytes of each section, by its number; and of the unwind records each FDE of a section whose own bytes are written is there, once and no other
 pub record StandsWhole (w : Wishes) (files : List File) (b : Bindings) (kept : List Bool) (leaders : List (Option ℕ)) (laid : LaidOut) (plan : PlanView) (exe : List ℕ) : Type 0 where
   pub pieces : AllStand files b leaders laid (contents_with files b leaders laid plan) (own_tables files b kept w.strip leaders laid) exe
   pub sections : SectionsStand files b leaders laid exe

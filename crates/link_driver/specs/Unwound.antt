@@ -12,7 +12,7 @@ use Rattle.lk_tables.specs.Frames.{all_lists}
 use Rattle.link_driver.specs.Link.{bound_in, kept_in, leaders_in, linked_files, merged_of, plan_in, wishes_in}
 use Rattle.link_driver.specs.Sources.{Source}
 
--- of the files of these sources: each FDE of a section that leads itself is written, once and no other; each has a CIE equal to its own, and no two
+-- of the files of these sources: each FDE of a section whose own bytes are written is, once and no other; each has a CIE equal to its own, and no two
 -- of the CIEs are equal
 abbrev pub Plans : (asked : Asked) → List Source → Type 0
 Plans asked ss =

@@ -1,7 +1,6 @@
-//! The top call: a command from its words to its files, its report and its line.
+//! The top call: a command from its words to its files, to what it says, and to its line.
 
 ghost use Rattle.std.specs.Prelude.{◌≡◌, ℕ, List, ◌⊎◌, ◌≤◌, ◌<◌, [], ◌∷◌, ◌++◌, take, length, slice_index_or, IfOk, OnOk, OnErr, None, Some};
-ghost use Rattle.lk_base.specs.Lines.{IsOneLine};
 ghost use Rattle.lk_depot.specs.Faults.{HasCause, Rises};
 ghost use Rattle.lk_depot.specs.Files.{told_put};
 ghost use Rattle.lk_depot.specs.Loading.{name_at};
@@ -11,7 +10,7 @@ ghost use Rattle.link_driver.specs.Contents.{input_contents, input_names};
 ghost use Rattle.link_driver.specs.Given.{contents_for, names_for};
 ghost use Rattle.link_driver.specs.Link.{cannot_read, line_of_defect};
 ghost use Rattle.link_driver.specs.Phases.{IsLinked};
-ghost use Rattle.link_driver.specs.Ends.{Accepts, IsCut, IsTold, Ends, EndsSo};
+ghost use Rattle.link_driver.specs.Ends.{Accepts, HasLine, IsCut, IsTold, Ends, EndsSo};
 ghost use Rattle.link_driver.specs.Promises.{Promises};
 ghost use Rattle.link_driver.specs.Endings.{status_of, told_line, TellsDefect, TellsUnread, TellsStop, TellsLoadStop, IsWithin, AfterReport, map_line, AreLines, AreLoaded, IsReady};
 
@@ -61,7 +60,7 @@ fn write_file<D: Depot>(
     put_all(depot, name, bytes)
 }
 
-/// Says the report.
+/// Says what there is to say.
 fn report<S: Sink>(say: &mut S, text: &[u8]) -> Ending
     ensures said { AfterReport text.now (S.output say.old) (S.output say.new) result }
     ensures faults { (S.output say.old).faults ≤ (S.output say.new).faults }
@@ -122,7 +121,7 @@ fn report_load_stop(alloc: Global, command: &Command, stop: &LoadAllStop) -> End
     }
 }
 
-/// Writes what a link gave, and says its report.
+/// Writes what a link gave, and says what there is to say of it.
 fn conclude<D: Depot, S: Sink>(
     command: &Command,
     linked: &Linked,
@@ -310,7 +309,7 @@ fn status(ending: &Ending) -> u8
 #[tactic(auto, unfolding(crate::specs::Link::bad_command, crate::specs::Link::cannot_report))]
 fn line(ending: &Ending) -> &[u8]
     ensures value { result.now ≡ told_line ending.now }
-    ensures one { (told_line ending.now ≡ []) ⊎ IsOneLine (told_line ending.now) }
+    ensures one { HasLine (status_of ending.now) (told_line ending.now) }
 {
     match ending {
         Ending::Done => &[],
@@ -338,13 +337,13 @@ fn tell<E: Sink>(err: &mut E, line: &[u8])
 /// Runs a command: reads its words, loads its inputs, links them, writes the executable, and says what there is to say.
 ///
 /// `words` are the command's, the program's name first. Inputs are loaded from `depot`, as in the order of the command, before the
-/// executable, and the map where one is asked, are begun there; all of them are named as the command says. The report goes to
-/// `say`, the line of an end that is not 0 or 4 to `err`. All memory is taken from `alloc` before a
-/// file is begun. What the inputs hold, and after a link without a defect the tables, is not given back, since a process ends next that is done
-/// with it, and to free it takes a tenth of the time of many objects: a process that goes on calls [`link`](crate::link), which keeps nothing.
+/// executable, and the map where one is asked, are begun there; all of them are named as the command says. The report, and what the command
+/// asks why, goes to `say`, the line of an end that is not 0 or 4 to `err`. All memory is taken from `alloc` before a file is begun. What the
+/// inputs hold, and after a link without a defect the tables, is not given back, since a process ends next that is done with it, and to free it
+/// takes a tenth of the time of many objects: a process that goes on calls [`link`](crate::link), which keeps nothing.
 ///
 /// The answer is the exit status: 0 linked; 1 the inputs have a defect, whose line is reported; 2 the command is refused; 3 an input
-/// could not be read, or a file or the report could not be written; 4 out of memory. `rt` starts as many workers as the
+/// could not be read, or a file or what goes to `say` could not be written; 4 out of memory. `rt` starts as many workers as the
 /// command asks for; they share the loads and the passes over files, symbols, sections and blocks. Where there are two or more, passes that do
 /// not need one another run side by side, each on a thread of its own; names, the pieces of merged sections and what folding compares are
 /// numbered, and the symbols of the executable and the map sorted, by eight threads or by as many as there are processors. `gate` is called

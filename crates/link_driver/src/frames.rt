@@ -14,6 +14,7 @@ ghost use Rattle.lk_tables.specs.Frames.{AreListsWithin, all_lists, list_views, 
 ghost use Rattle.lk_tables.specs.TablesView.{files_of};
 ghost use Rattle.eh_frame.specs.Bytes.{frame_defects};
 ghost use Rattle.eh_frame.specs.FrameLaws.{ArePlain};
+ghost use Rattle.eh_frame.specs.Laws.{IsSmall};
 ghost use Rattle.eh_frame.specs.Plan.{plan_of};
 ghost use Rattle.lk_base.specs.Firsts.{StopsAt};
 ghost use Rattle.output_sections.specs.Items.{AreLeaders};
@@ -65,6 +66,7 @@ pub fn find_plan<'t>(
     requires leaders { leaders.now ≡ leaders_for (wished options barred.now) (files_of tables.now) (binding_view binding.now) kept.now }
     ensures plan { IfOk result (λ plan. plan_view plan ≡ plan_in (wished options barred.now) (files_of tables.now) (binding_view binding.now) kept.now) }
     ensures lists { IfOk result (λ plan. lists_of plan.frames.now ≡ all_lists (files_of tables.now)) }
+    ensures small { IfOk result (λ plan. IsSmall (plan_view plan)) }
 {
     plan(alloc, tables, binding, pools, frames, leaders)
 }

@@ -7,13 +7,19 @@
 //!
 //! `linking` runs the phases: `finding` finds the files in the inputs (`sources`), `heads` and `bodies` read them by all workers, the latter with
 //! their unwind records (`records`), names are bound, and what goes into the executable is laid out (`placing`) and written, the unwind records
-//! by `frames`. `driving` reads the command, loads, links and
+//! by `frames`. What a command asks why is said by `certificates`, in the lines of `certificate_lines`. `driving` reads the command, loads, links and
 //! writes, and says how it ended, by the lines of `diagnostics`. The phases up to the layout are public one by one too, for whoever looks at
 //! what they hand on.
+//!
+//! `barring` finds the sections that are folded with no other: those in which names stand that are to be kept unique (`asked_names`), and with
+//! `--icf safe` those whose address is taken (`sec_graph::address_taken`). `reports` counts what was shortened: a call that keeps less than
+//! its eight bytes is a cut that is no alignment, and these are counted by section number.
 #![tactic(auto)]
 
 mod barring;
 mod bodies;
+mod certificate_lines;
+mod certificates;
 mod diagnostics;
 mod driving;
 mod finding;

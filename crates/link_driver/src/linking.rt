@@ -5,6 +5,7 @@ ghost use Rattle.std.specs.List.Sorted.{IsStrictlyIncreasing};
 ghost use Rattle.call_reach.specs.Reach.{AreAlike, CallsReach};
 ghost use Rattle.comdat.specs.Discarded.{discarded};
 ghost use Rattle.eh_frame.specs.FrameLaws.{ArePlain};
+ghost use Rattle.eh_frame.specs.Laws.{IsSmall};
 ghost use Rattle.eh_frame.specs.Plan.{plan_of};
 ghost use Rattle.elf_out.specs.Standing.{HasHeaderRoom};
 ghost use Rattle.file_live.specs.Live.{IsLive};
@@ -45,6 +46,7 @@ ghost use Rattle.sym_resolve.specs.Law.{IsLawful};
 
 use crate::barring::find_barred;
 use crate::bodies::read_bodies;
+use crate::certificates::{wants_names, why_text};
 use crate::finding::find_sources;
 use crate::frames::{find_frames, write_frames};
 use crate::heads::read_heads;
@@ -86,7 +88,7 @@ pub struct Linked {
     pub exe: Vec<u8>,
     /// The bytes of the map, none if no map is asked for.
     pub map: Vec<u8>,
-    /// What is said of the link, nothing if no report is asked for.
+    /// What is said of the link: the report, and what is asked why; nothing if neither is asked for.
     pub report: Vec<u8>,
 }
 
@@ -336,6 +338,7 @@ pub fn lay_out<'a, R: Threads + Sync, G: Gate>(
     requires pools { pools_view (files_of tables.now) pools.now ≡ pools_of (files_of tables.now) kept.now }
     requires leaders { leaders.now ≡ leaders_in (wished options barred.now) (files_of tables.now) (binding_view binding.now) kept.now }
     requires plan { plan_view plan.now ≡ plan_in (wished options barred.now) (files_of tables.now) (binding_view binding.now) kept.now }
+    requires small { IsSmall (plan_view plan.now) }
     requires table { entries_of got.now ≡ table_of (wished options barred.now) (files_of tables.now) (binding_view binding.now) kept.now }
     ensures goes { Goes result (layout_defects limits.now (files_of tables.now) (laid_out (wished options barred.now) (files_of tables.now) (binding_view binding.now) kept.now)) }
     ensures laid { IfOk result (λ layout. with_contents (layout_view layout) (pools_view (files_of tables.now) pools.now) (entries_of got.now) ≡ laid_out (wished options barred.now) (files_of tables.now) (binding_view binding.now) kept.now) }
@@ -637,8 +640,8 @@ pub fn link_sources<'a, R: Threads + Sync, G: Gate>(
         unique,
     )?;
     let options = options_of(command);
-    let names = names_if(alloc, options.map, inputs, sources)?;
-    let linked = match link_kept(
+    let names = names_if(alloc, wants_names(options.map, command), inputs, sources)?;
+    let mut linked = match link_kept(
         rt,
         alloc,
         limits,
@@ -655,15 +658,30 @@ pub fn link_sources<'a, R: Threads + Sync, G: Gate>(
         Ok(linked) => linked,
         Err(stop) => return Err(stop),
     };
+    // All that is written is settled from here on.
+    let why = why_text(
+        rt,
+        alloc,
+        &tables,
+        &binding,
+        &frames,
+        kept.as_slice(),
+        barred.as_slice(),
+        names.as_slice(),
+        command,
+        workers,
+        gate,
+    )?;
+    linked.report.extend_from_slice(why.as_slice())?;
     Ok((linked, tables))
 }
 
 /// Links the inputs of a command: those that it names, in order, with their bytes, or the objects that are generated for it.
 ///
 /// The answer is what the link gives if the inputs have no defect: the executable, the map if one is asked, in which files have the names of
-/// their inputs, and for generated objects the report. Else it is the first defect of the first phase that has any, before which none of that
-/// phase stands by file, section and place, whatever the number of workers and the order of their steps; or out of memory. No limit is above
-/// the standard one. The command's `threads` is from 1 to 64.
+/// their inputs, and what is to be said: for generated objects the report, and what the command asks why. Else it is the first defect of the
+/// first phase that has any, before which none of that phase stands by file, section and place, whatever the number of workers and the order
+/// of their steps; or out of memory. No limit is above the standard one. The command's `threads` is from 1 to 64.
 pub fn link<R: Threads + Sync, G: Gate>(
     rt: &R,
     alloc: Global,

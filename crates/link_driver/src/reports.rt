@@ -100,7 +100,12 @@ fn piece_total(view: &View) -> u128
 }
 
 /// Adds a word and a number.
-fn push_count(alloc: Global, text: &mut Vec<u8>, word: &[u8], count: u128) -> Result<(), AllocError>
+pub fn push_count(
+    alloc: Global,
+    text: &mut Vec<u8>,
+    word: &[u8],
+    count: u128,
+) -> Result<(), AllocError>
     ensures { OnOk result (text.new.items ≡ text.old.items ++ spec.counted word.now count) }
 {
     let digits = format!(in alloc; "{count}")?;

@@ -76,6 +76,16 @@ const HELD_TOGETHER: Object = object!([
     section!(b".text.c", 1, 6, 4; b"\x73\0\x10\0"),
 ]; [A_IN_3, START]);
 
+/// A jump to the first of four in such a group.
+const FOUR_TOGETHER: Object = object!([
+    section!(b".text", 1, 6, 4; b"\xef\0\0\0"; relocs: &[reloc!(0, 17, 1, 0)]),
+    section!(GROUP => bytes: b"\0\0\0\0\x03\0\0\0\x04\0\0\0\x05\0\0\0\x06\0\0\0"),
+    A_RETURNS,
+    B_BREAKS,
+    section!(B_BREAKS => name: b".text.c"),
+    section!(A_RETURNS => name: b".text.d"),
+]; [A_IN_3, symbol!(b"d", 1, 2, 6, 0, 4), START]);
+
 /// A group that nothing asks for.
 const IDLE_TOGETHER: Object =
     object!([RETURN, section!(GROUP => bytes: b"\x01\0\0\0\x03\0\0\0\x04\0\0\0"), A_RETURNS, B_BREAKS]; [A_IN_3, START]);
@@ -127,6 +137,7 @@ const FIRST_INPUTS: &[Input] = inputs!(
 
 const OTHER_INPUTS: &[Input] = inputs!(
     "c.o" => COMMON, "x.o" => ASKER_OF_X, "k.o" => LACKING, "far.o" => FAR, "none.o" => NAMED, "order.o" => ORDER, "asked.o" => ORDER_ASKED,
+    "four.o" => FOUR_TOGETHER,
 );
 
 /// The files that are at hand.

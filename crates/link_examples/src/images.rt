@@ -168,6 +168,12 @@ pub const KEPT_TOGETHER: Image = image!(FIRST => table: 0x1020,
     contents: &[(0x1000, b"\xef\0\x40\0\x67\x80\0\0\x73\0\x10\0"), (0x100c, b"\0.text\0.shstrtab\0")],
     sections: &[[1, 1, 6, 0x11000, 4096, 12, 4], [7, 3, 0, 0, 0x100c, 17, 1]]);
 
+/// A jump to the first of four.
+pub const KEPT_FOUR: Image = image!(FIRST => table: 0x1028,
+    segments: &[READ, [1, 5, 4096, 0x11000, 20, 20, 4096], STACK],
+    contents: &[(0x1000, b"\xef\0\x40\0\x67\x80\0\0\x73\0\x10\0\x73\0\x10\0\x67\x80\0\0"), (0x1014, b"\0.text\0.shstrtab\0")],
+    sections: &[[1, 1, 6, 0x11000, 4096, 20, 4], [7, 3, 0, 0, 0x1014, 17, 1]]);
+
 /// What goes with a `ret`, and what was told to stay.
 pub const ORDERED: Image = image!(FIRST => table: 0x1020,
     segments: &[[1, 4, 0, 0x10000, 240, 240, 4096], [1, 5, 4096, 0x11000, 4, 4, 4096], STACK],

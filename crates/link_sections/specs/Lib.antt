@@ -16,6 +16,7 @@ pub mod Merging
 pub mod PieceTargets
 pub mod PoolViews
 pub mod Pools
+pub mod SameTargets
 pub mod SizesView
 pub mod Sound
 pub mod Sums

@@ -1,5 +1,8 @@
 //! What the passes know of the sections of a link, by their numbers: what each is by its header, which are kept, which section is written
 //! in the place of each, where a section loses bytes, and where everything stands.
+//!
+//! A pool shows the number of its first section in place of its key: name, flags, size of entries and alignment are read there. `Sizes`
+//! lists the places that lose bytes, by section and offset, so a call of eight bytes is none of them.
 #![tactic(auto)]
 
 mod addresses;

@@ -1,5 +1,5 @@
 -- The unwind records of a link, and which function each FDE is for (LSB Core, "Exception Frames": PC Begin).
-use Rattle.std.specs.Prelude.{◌≡◌, ℕ, ◌+◌, ◌^◌, ◌<◌, ◌≤◌, ◌==◌, Bool, true, false, Option, Some, None, is_some, option_and_then, if◌then◌else◌, List, [], ◌∷◌, length, map, find, flat_map, slice_index_or}
+use Rattle.std.specs.Prelude.{◌≡◌, ℕ, ◌+◌, ◌^◌, ◌<◌, ◌≤◌, ◌==◌, Bool, true, false, Option, Some, None, is_some, option_and_then, unwrap_or, if◌then◌else◌, List, [], ◌∷◌, length, map, find, flat_map, slice_index_or}
 use Rattle.std.specs.Global.{Vec}
 use Rattle.std.specs.List.{All, filter, range_with_len}
 use Rattle.std.specs.List.Sorted.{IsStrictlyIncreasing}
@@ -61,6 +61,15 @@ no_record = record { from = 0; len = 0; cie = None; relocs = [] }
 abbrev pub frame_no : (section at : ℕ) → FrameNo
 frame_no section at = record { section = section; at = at }
 
+module _ (lists : List RecordList) where
+  -- the record of a number that has one
+  abbrev pub record_by : FrameNo → RecordView
+  record_by number = unwrap_or (record_at lists number) no_record
+
+  -- the CIE of an FDE
+  abbrev pub cie_no : FrameNo → FrameNo
+  cie_no fde = frame_no fde.section (unwrap_or (record_by fde).cie 0)
+
 -- a number that is there, and is this one
 abbrev pub is_number : Option ℕ → ℕ → Bool
 is_number None n = false
@@ -85,13 +94,15 @@ pub record AreListsWithin (files : List File) (lists : List RecordList) : Type 0
   pub within : All (IsListWithin files) lists
   pub order : AreInOrder lists
 
+-- the records of section k of a file, if it has some, under a number
+abbrev pub records_in : File → (k number : ℕ) → List RecordList
+records_in file k number = if is_frame_at file k
+    then (record { section = number; records = records_of (contents_of file.bytes (section_at file k)) (relocs_at file k) }) ∷ [] else []
+
 module _ (files : List File) where
-  -- the records of section k of file f, if it has some
+  -- those of section k of file f
   abbrev pub list_at : (f k : ℕ) → List RecordList
-  list_at f k =
-      let file = file_at files f in
-      if is_frame_at file k
-      then (record { section = section_no files f k; records = records_of (contents_of file.bytes (section_at file k)) (relocs_at file k) }) ∷ [] else []
+  list_at f k = records_in (file_at files f) k (section_no files f k)
 
   -- those of all sections of the files that take part
   unfoldable pub all_lists : List RecordList

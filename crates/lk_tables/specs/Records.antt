@@ -28,9 +28,9 @@ abbrev pub end_at : List ℕ → ℕ → ℕ
 end_at c at = at + 4 + len_at c at
 
 -- where record j starts
-unfoldable pub place : List ℕ → ℕ → ℕ
-place c zero = 0
-place c (suc j) = end_at c (place c j)
+unfoldable pub start_of : List ℕ → ℕ → ℕ
+start_of c zero = 0
+start_of c (suc j) = end_at c (start_of c j)
 
 -- a record starts there: neither does the section end, nor stands there a Length of 0, which ends the list
 unfoldable pub is_there : List ℕ → ℕ → Bool
@@ -38,18 +38,18 @@ is_there c at = nat_lt at (length c) && not (nat_le (at + 4) (length c) && len_a
 
 -- how many records there are, which is no more than the section has bytes
 unfoldable pub count : List ℕ → ℕ
-count c = prefix_len (λ j. is_there c (place c j)) (range_with_len 0 (length c))
+count c = prefix_len (λ j. is_there c (start_of c j)) (range_with_len 0 (length c))
 
 -- record i is a CIE, and the CIE Pointer of record j leads to it
 unfoldable pub is_pointed_to : List ℕ → (j i : ℕ) → Bool
-is_pointed_to c j i = is_cie c (place c i) && place c i + id_at c (place c j) == place c j + 4
+is_pointed_to c j i = is_cie c (start_of c i) && start_of c i + id_at c (start_of c j) == start_of c j + 4
 
 -- the CIE of record j, which stands before it; a CIE has none
 unfoldable pub cie_before : List ℕ → (j : ℕ) → Option ℕ
 cie_before c j = find (is_pointed_to c j) (range_with_len 0 j)
 
 abbrev pub cie_of : List ℕ → (j : ℕ) → Option ℕ
-cie_of c j = if is_cie c (place c j) then None else cie_before c j
+cie_of c j = if is_cie c (start_of c j) then None else cie_before c j
 
 -- the relocations that lie in so many bytes, by their offsets
 unfoldable pub relocs_in : List Reloc → (from end : ℕ) → List Reloc
@@ -65,10 +65,10 @@ first_of relocs = find has_width relocs
 -- what record j says
 unfoldable pub record_of : List ℕ → List Reloc → (j : ℕ) → RecordView
 record_of c relocs j = record {
-  from = place c j;
-  len = len_at c (place c j);
+  from = start_of c j;
+  len = len_at c (start_of c j);
   cie = cie_of c j;
-  relocs = relocs_in relocs (place c j) (end_at c (place c j));
+  relocs = relocs_in relocs (start_of c j) (end_at c (start_of c j));
 }
 
 -- the first n records, and all

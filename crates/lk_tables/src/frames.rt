@@ -54,7 +54,7 @@ pub struct FramePlan<'t> {
     /// The FDEs of functions that are written, in order of file, section and offset.
     pub fdes: Vec<FrameNo>,
     /// Of each of these the number of its CIE among those that are written.
-    pub uses: Vec<u32>,
+    pub uses: Vec<usize>,
     /// Bytes of `.eh_frame`, 0 if there is no FDE.
     pub frame_len: u64,
     /// Bytes of `.eh_frame_hdr`, 0 if there is no FDE.

@@ -1,5 +1,9 @@
 //! The tables of a link: what the relocatable objects say, as plain lists of sections, symbols and relocations, and what their names
 //! are bound to; and the definitions of which bytes say it. The readers fill these tables, and each later pass reads them.
+//!
+//! Spans count from the first byte of a file, so those of an archive's member from the member's. A section keeps its alignment as the
+//! header has it: 0 counts as 1 where it is used. Section 0 and sections of type NULL have no name; symbol 0 counts as local and undefined
+//! whatever its bytes are.
 #![tactic(auto)]
 
 mod alignments;

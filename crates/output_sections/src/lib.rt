@@ -1,5 +1,9 @@
 //! Which output section each kept section goes to, and in which order the output sections and their members stand (System V gABI,
 //! "Sections" and "Special Sections"): computed once, for those that shorten calls and for those that lay out.
+//!
+//! Of each class the items are noted in their output sections, by name, and then listed with the rank of theirs, which takes the type of
+//! the item that stands first in it (`heads`, `rows`). A stable sort by rank, first item and priority gives their order. Workers do some
+//! classes each, if there are 16,384 items.
 #![tactic(auto)]
 
 mod heads;

@@ -38,10 +38,10 @@ use Rattle.sec_graph.proofs.ListParts.{all_if, all_left, all_right, each_of, eac
 use Rattle.sec_graph.proofs.Within.{live_from}
 
 -- a member of a set, and a pair that leads from a section into it
-abbrev In : (ℕ → Bool) → ℕ → Type 0
+abbrev pub In : (ℕ → Bool) → ℕ → Type 0
 In s n = s n ≡ true
 
-abbrev Leads : (ℕ → Bool) → (from : ℕ) → Pair → Type 0
+abbrev pub Leads : (ℕ → Bool) → (from : ℕ) → Pair → Type 0
 Leads s from p = p.from ≡ from → s p.to ≡ true
 
 -- the ends of the sections of a set are in it
@@ -49,7 +49,7 @@ abbrev AllEnds : (lists : List (List ℕ)) → (s : ℕ → Bool) → Type 0
 AllEnds lists s = (section : ℕ) → s section ≡ true → All (In s) (slice_index_or lists section [])
 
 -- the pairs that lead from a section
-leads_from : (s : ℕ → Bool) (from : ℕ) (ps : List Pair) → All (Leads s from) ps → All (λ (p : Pair). In s p.to) (pairs_from from ps)
+pub leads_from : (s : ℕ → Bool) (from : ℕ) (ps : List Pair) → All (Leads s from) ps → All (λ (p : Pair). In s p.to) (pairs_from from ps)
 leads_from s from [] all = All-nil (λ (p : Pair). In s p.to)
 leads_from s from (p ∷ ps) all =
     let P : Pair → Type 0 = λ p. In s p.to in
@@ -75,7 +75,7 @@ leads_all s from (p ∷ ps) all =
     ]
 
 -- a ring: both ends of a pair are of the list; if each pair keeps the set, one of the list brings all
-Both : (ℕ → Type 0) → Pair → Type 0
+unfoldable pub Both : (ℕ → Type 0) → Pair → Type 0
 Both P p = P p.from × P p.to
 
 chain_both : (P : ℕ → Type 0) (m : ℕ) (ns : List ℕ) (first : ℕ) → P m → P first → All P ns → All (Both P) (chain m ns first)
@@ -116,10 +116,10 @@ ring_all s (m ∷ ms) keeps =
     (λ n back is. let own = back is in let on = chain_on s m ms m keeps own in All-cons (In s) m ms own on.0) (m ∷ ms) (chain_back s m ms m keeps)
 
 -- a member of a group that may stay, by its number
-Member : List File → Bindings → (f : ℕ) → List ℕ → ℕ → Type 0
+unfoldable pub Member : List File → Bindings → (f : ℕ) → List ℕ → ℕ → Type 0
 Member files b f members n = (m : ℕ) × Contains members m × IsInTable files f m × (may_stay files b f m ≡ true) × (n ≡ section_no files f m)
 
-members_are : (files : List File) (b : Bindings) (f : ℕ) (members : List ℕ) → All (Member files b f members) (flat_map (member_at files b f) members)
+pub members_are : (files : List File) (b : Bindings) (f : ℕ) (members : List ℕ) → All (Member files b f members) (flat_map (member_at files b f) members)
 unfolding member_at Member
 members_are files b f members =
     each_of (Member files b f members) (member_at files b f) members (λ m has.
@@ -128,16 +128,16 @@ members_are files b f members =
     (m, has, ltb-true m (length (file_at files f).head.sections) both.0, both.1, refl)))
 
 -- the lists of the sections of a file, and of no section
-lists_at : (files : List File) (b : Bindings) (f k : ℕ) → f < length files → k < section_count (file_at files f) →
+pub lists_at : (files : List File) (b : Bindings) (f k : ℕ) → f < length files → k < section_count (file_at files f) →
     slice_index_or (edges files b) (section_no files f k) [] ≡ ends_in files b f k
 unfolding edges
 lists_at files b f k lt less = read_by_section files (ends_in files b) f k [] lt less
 
-lists_past : (files : List File) (b : Bindings) (n : ℕ) → section_total files ≤ n → slice_index_or (edges files b) n [] ≡ []
+pub lists_past : (files : List File) (b : Bindings) (n : ℕ) → section_total files ≤ n → slice_index_or (edges files b) n [] ≡ []
 unfolding edges
 lists_past files b n le = get_or_past (by_section files (ends_in files b)) n [] (omega (arith, le, length_by_section files (ends_in files b)))
 
-owned : (files : List File) (n h : ℕ) → h ≤ length files → n < first_section files h → (f : ℕ) × IsOwner files n f
+pub owned : (files : List File) (n h : ℕ) → h ≤ length files → n < first_section files h → (f : ℕ) × IsOwner files n f
 owned files n zero le lt = absurd (omega (arith, lt))
 owned files n (suc h) le lt = elim (cases_lt n (first_section files h)) [
   | inl below ↦ owned files n h (omega (arith, le)) below
@@ -179,7 +179,7 @@ bounds_stay files b n =
     each_if P (is_bound_no n) (filter (is_named files b text) (range_with_len 0 (section_total files))) (λ _.
     each_passed P (is_named files b text) 0 (section_total files) (λ m lt named. (and_parts (may_stay_at files b m) (bytes_eq (input_at files b m).name text) named).0))
 
-same_index : (files : List File) (f i k : ℕ) → section_no files f i ≡ section_no files f k → i ≡ k
+pub same_index : (files : List File) (f i k : ℕ) → section_no files f i ≡ section_no files f k → i ≡ k
 same_index files f i k same = omega (arith, same)
 
 targets_closed : (files : List File) (b : Bindings) (s : ℕ → Bool) (f k : ℕ) → IsClosedByRules files b s → MayStay files b f k → s (section_no files f k) ≡ true →

@@ -14,7 +14,7 @@ use Rattle.lk_tables.specs.Frames.{IsListWithin, IsRecordWithin, RecordList, fra
 use Rattle.lk_tables.specs.Records.{RecordView, has_width}
 use Rattle.lk_tables.specs.Sites.{contents_at}
 use Rattle.sec_graph.specs.FrameKeys.{number_of}
-use Rattle.sec_graph.specs.FrameRelocs.{cie_no, cies_of, list_in, others, record_of, same_no, with_no}
+use Rattle.sec_graph.specs.FrameRelocs.{cie_no, cies_of, list_in, others, record_by, same_no, with_no}
 
 -- the list that is found is one of the lists, and of the section
 pub record IsFound (P : RecordList → Type 0) (section : ℕ) (l : RecordList) : Type 0 where
@@ -57,7 +57,7 @@ nth_is rs at = elim (cases_lt at (length rs)) [
       ∙ sym (get_or_past rs at no_record past)
 ]
 
-pub record_is : (lists : List RecordList) (l : RecordList) (n at : ℕ) → list_in lists n ≡ Some l → record_of lists (frame_no n at) ≡ get_or l.records at no_record
+pub record_is : (lists : List RecordList) (l : RecordList) (n at : ℕ) → list_in lists n ≡ Some l → record_by lists (frame_no n at) ≡ get_or l.records at no_record
 unfolding record_at
 record_is lists l n at is = ap (λ o. unwrap_or (nth at o) no_record) is ∙ nth_is l.records at
 
@@ -83,7 +83,7 @@ small_by files n at lists (Some l) all is =
     (omega (arith, from, ap (λ (r : RecordView). r.from) same), omega (arith, len, ap (λ (r : RecordView). r.len) same))
 
 pub small_record : (files : List File) (lists : List RecordList) (number : FrameNo) → All (IsListWithin files) lists →
-    ((record_of lists number).from < 2 ^ 32) × ((record_of lists number).len < 2 ^ 32)
+    ((record_by lists number).from < 2 ^ 32) × ((record_by lists number).len < 2 ^ 32)
 unfolding record_at
 small_record files lists number all = small_by files number.section number.at lists (list_in lists number.section) all refl
 

@@ -25,7 +25,7 @@ use Rattle.lk_tables.proofs.BoundWithin.{IsWithin, bound_within}
 use Rattle.lk_tables.proofs.BoundHas.{each_flat, each_if, either, one_if}
 use Rattle.lk_tables.proofs.FirstNumbers.{section_within}
 use Rattle.lk_tables.proofs.LiveFiles.{counted}
-use Rattle.sec_graph.specs.FrameRelocs.{cie_no, cies_of, frame_relocs, others, record_of}
+use Rattle.sec_graph.specs.FrameRelocs.{cie_no, cies_of, frame_relocs, others, record_by}
 use Rattle.sec_graph.specs.Graph.{cie_ends, fde_ends, frame_ends, record_target}
 use Rattle.sec_graph.specs.Taken.{section_of}
 use Rattle.sec_graph.proofs.FoundRecords.{cies_all, cies_parts}
@@ -40,23 +40,23 @@ module _ (files : List File) (b : Bindings) (P : ℕ → Type 0) where
   unfolding frame_relocs
   fde_all fde all =
       let lists = all_lists files in
-      let own = others (record_of lists fde).relocs in
-      flat_all P (record_target files b (place_of files fde.section).file) own (all_left (Each fde) own (record_of lists (cie_no lists fde)).relocs all)
+      let own = others (record_by lists fde).relocs in
+      flat_all P (record_target files b (place_of files fde.section).file) own (all_left (Each fde) own (record_by lists (cie_no lists fde)).relocs all)
 
   cie_all : (fde : FrameNo) → All (Each fde) (frame_relocs (all_lists files) fde) → All P (cie_ends files b (cie_no (all_lists files) fde))
   unfolding frame_relocs
   cie_all fde all =
       let lists = all_lists files in
-      let shared = (record_of lists (cie_no lists fde)).relocs in
-      flat_all P (record_target files b (place_of files fde.section).file) shared (all_right (Each fde) (others (record_of lists fde).relocs) shared all)
+      let shared = (record_by lists (cie_no lists fde)).relocs in
+      flat_all P (record_target files b (place_of files fde.section).file) shared (all_right (Each fde) (others (record_by lists fde).relocs) shared all)
 
   each_all : (fde : FrameNo) → All P (fde_ends files b fde) → All P (cie_ends files b (cie_no (all_lists files) fde)) → All (Each fde) (frame_relocs (all_lists files) fde)
   unfolding frame_relocs
   each_all fde own shared =
       let lists = all_lists files in
       let target : Reloc → List ℕ = record_target files b (place_of files fde.section).file in
-      let first = others (record_of lists fde).relocs in
-      let last = (record_of lists (cie_no lists fde)).relocs in
+      let first = others (record_by lists fde).relocs in
+      let last = (record_by lists (cie_no lists fde)).relocs in
       All-append (Each fde) first last (flat_parts P target first own) (flat_parts P target last shared)
 
   -- of all FDEs

@@ -8,7 +8,7 @@ use Rattle.lk_tables.specs.Files.{File}
 use Rattle.lk_tables.specs.Frames.{RecordList, all_lists}
 use Rattle.lk_tables.specs.Records.{RecordView}
 use Rattle.lk_tables.specs.Sites.{place_of}
-use Rattle.sec_graph.specs.FrameRelocs.{cie_no, cies_of, record_of}
+use Rattle.sec_graph.specs.FrameRelocs.{cie_no, cies_of, record_by}
 use Rattle.sec_graph.specs.Graph.{cie_ends, fde_ends}
 
 -- two parts of a list, one after the other
@@ -45,9 +45,9 @@ no_cies lists = refl
 
 -- what is said of a record that was found, of its number
 pub by_record : {Y : Type 0} (F : ℕ → RecordView → Y) (files : List File) (lists : List RecordList) (number : FrameNo) (r : RecordView) (f : ℕ) →
-    lists ≡ all_lists files → record_of lists number ≡ r → f ≡ (place_of files number.section).file → F f r ≡ F (place_of files number.section).file (record_of (all_lists files) number)
+    lists ≡ all_lists files → record_by lists number ≡ r → f ≡ (place_of files number.section).file → F f r ≡ F (place_of files number.section).file (record_by (all_lists files) number)
 by_record F files lists number r f same is file =
-    ap (λ g. F g r) file ∙ ap (F (place_of files number.section).file) (sym is) ∙ ap (λ ls. F (place_of files number.section).file (record_of ls number)) same
+    ap (λ g. F g r) file ∙ ap (F (place_of files number.section).file) (sym is) ∙ ap (λ ls. F (place_of files number.section).file (record_by ls number)) same
 
 -- a list of views, one element on
 pub views_more : {A V X : Type 0} (view : A → V) (give : X → V) (old new : List A) (x : A) (xs : List X) (i : ℕ) (d : X) → i < length xs →

@@ -11,6 +11,7 @@ pub mod Needing
 pub mod Runs
 pub mod Standing
 pub mod Unbound
+pub mod WalkClosing
 pub mod Within
 pub mod Marking
 mod TakenKept

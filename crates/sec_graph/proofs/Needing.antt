@@ -18,7 +18,7 @@ use Rattle.lk_tables.specs.Binding.{Bindings}
 use Rattle.lk_tables.specs.Files.{File, file_at, is_frame_at, relocs_at, section_at, section_no}
 use Rattle.lk_tables.specs.Frames.{RecordList, all_lists, frame_no, frames_where, is_number, list_at, no_record, owner_at, owner_in}
 use Rattle.lk_tables.specs.RecordViews.{record_view, record_views}
-use Rattle.lk_tables.specs.Records.{RecordView, cie_before, end_at, first_records, has_width, is_cie, is_pointed_to, place, record_of, records_of, relocs_in, count}
+use Rattle.lk_tables.specs.Records.{RecordView, cie_before, end_at, first_records, has_width, is_cie, is_pointed_to, start_of, record_of, records_of, relocs_in, count}
 use Rattle.lk_tables.specs.Sections.{contents_of}
 use Rattle.lk_tables.specs.Sites.{place_of}
 use Rattle.lk_tables.specs.Targets.{is_gone}
@@ -116,21 +116,21 @@ found_passes p (x ∷ xs) k is = elim (cases_Bool (p x)) [
 ]
 
 module _ (c : List ℕ) (rs : List Reloc) where
-  next_place : (j : ℕ) → place c j ≤ place c (suc j)
-  unfolding place
+  next_place : (j : ℕ) → start_of c j ≤ start_of c (suc j)
+  unfolding start_of
   next_place j = omega arith
 
-  places_rise : (j n : ℕ) → place c j ≤ place c (j + n)
-  places_rise j zero = let e : j ≡ j + 0 = omega arith in omega (arith, ap (place c) e)
+  places_rise : (j n : ℕ) → start_of c j ≤ start_of c (j + n)
+  places_rise j zero = let e : j ≡ j + 0 = omega arith in omega (arith, ap (start_of c) e)
   places_rise j (suc n) =
       let e : suc (j + n) ≡ j + suc n = omega arith in
-      omega (arith, places_rise j n, next_place (j + n), ap (place c) e)
+      omega (arith, places_rise j n, next_place (j + n), ap (start_of c) e)
 
-  places_upto : (i j : ℕ) → i ≤ j → place c i ≤ place c j
-  places_upto i j le = let e : i + (j - i) ≡ j = omega arith in omega (arith, places_rise i (j - i), ap (place c) e)
+  places_upto : (i j : ℕ) → i ≤ j → start_of c i ≤ start_of c j
+  places_upto i j le = let e : i + (j - i) ≡ j = omega arith in omega (arith, places_rise i (j - i), ap (start_of c) e)
 
-  end_is : (j : ℕ) → end_at c (place c j) ≡ place c (suc j)
-  unfolding place
+  end_is : (j : ℕ) → end_at c (start_of c j) ≡ start_of c (suc j)
+  unfolding start_of
   end_is j = refl
 
   wide : length (records_of c rs) ≡ count c
@@ -141,7 +141,7 @@ module _ (c : List ℕ) (rs : List Reloc) where
   unfolding first_records
   at_is j d lt = get_or-map-range_with_len (record_of c rs) 0 (count c) j j d lt (omega arith)
 
-  from_is : (j : ℕ) → (record_of c rs j).from ≡ place c j
+  from_is : (j : ℕ) → (record_of c rs j).from ≡ start_of c j
   unfolding record_of
   from_is j = refl
 
@@ -153,24 +153,24 @@ module _ (c : List ℕ) (rs : List Reloc) where
       (λ q is. let both = and_parts (nat_le from q.offset) (nat_lt q.offset end) is in (leb-true from q.offset both.0, ltb-true q.offset end both.1))
       (filter test rs) (passed test rs)
 
-  own_relocs : (j : ℕ) → All (λ (q : Reloc). (place c j ≤ q.offset) × (q.offset < place c (suc j))) (record_of c rs j).relocs
+  own_relocs : (j : ℕ) → All (λ (q : Reloc). (start_of c j ≤ q.offset) × (q.offset < start_of c (suc j))) (record_of c rs j).relocs
   unfolding record_of
   own_relocs j =
-      subst (λ e. All (λ (q : Reloc). (place c j ≤ q.offset) × (q.offset < e)) (record_of c rs j).relocs) (end_is j) (inside (place c j) (end_at c (place c j)))
+      subst (λ e. All (λ (q : Reloc). (start_of c j ≤ q.offset) × (q.offset < e)) (record_of c rs j).relocs) (end_is j) (inside (start_of c j) (end_at c (start_of c j)))
 
   cie_if : (test : Bool) (o : Option ℕ) (k : ℕ) → (if test then None else o) ≡ Some k → o ≡ Some k
   cie_if true o k is = let no : ⊥ = cc in absurd no
   cie_if false o k is = is
 
-  cie_none : (k : ℕ) → is_cie c (place c k) ≡ true → (record_of c rs k).cie ≡ None
+  cie_none : (k : ℕ) → is_cie c (start_of c k) ≡ true → (record_of c rs k).cie ≡ None
   unfolding record_of
-  cie_none k is = cond-true (is_cie c (place c k)) None (cie_before c k) is
+  cie_none k is = cond-true (is_cie c (start_of c k)) None (cie_before c k) is
 
-  cie_leads : (j k : ℕ) → (record_of c rs j).cie ≡ Some k → is_cie c (place c k) ≡ true
+  cie_leads : (j k : ℕ) → (record_of c rs j).cie ≡ Some k → is_cie c (start_of c k) ≡ true
   unfolding record_of cie_before is_pointed_to
   cie_leads j k is =
-      let found = cie_if (is_cie c (place c j)) (cie_before c j) k is in
-      (and_parts (is_cie c (place c k)) _ (found_passes (is_pointed_to c j) (range_with_len 0 j) k found)).0
+      let found = cie_if (is_cie c (start_of c j)) (cie_before c j) k is in
+      (and_parts (is_cie c (start_of c k)) _ (found_passes (is_pointed_to c j) (range_with_len 0 j) k found)).0
 
   pub read_apart : AreApart (records_of c rs)
   read_apart =
@@ -183,13 +183,13 @@ module _ (c : List ℕ) (rs : List Reloc) where
         starts = λ j d lt.
             let at_j = at_is j d (omega (arith, lt, wide)) in
             subst (λ (r : RecordView). All (λ (q : Reloc). r.from ≤ q.offset) r.relocs) (sym at_j)
-            (All-weaker (λ (q : Reloc). (place c j ≤ q.offset) × (q.offset < place c (suc j))) (λ (q : Reloc). (record_of c rs j).from ≤ q.offset)
+            (All-weaker (λ (q : Reloc). (start_of c j ≤ q.offset) × (q.offset < start_of c (suc j))) (λ (q : Reloc). (record_of c rs j).from ≤ q.offset)
             (λ q is. let low = is.0 in omega (arith, low, from_is j)) (record_of c rs j).relocs (own_relocs j));
         ends = λ j k d less lt.
             let at_j = at_is j d (omega (arith, less, lt, wide)) in
             let at_k = ap (λ (r : RecordView). r.from) (at_is k d (omega (arith, lt, wide))) ∙ from_is k in
             subst (λ (r : RecordView). All (λ (q : Reloc). q.offset < (get_or L k d).from) r.relocs) (sym at_j)
-            (All-weaker (λ (q : Reloc). (place c j ≤ q.offset) × (q.offset < place c (suc j))) (λ (q : Reloc). q.offset < (get_or L k d).from)
+            (All-weaker (λ (q : Reloc). (start_of c j ≤ q.offset) × (q.offset < start_of c (suc j))) (λ (q : Reloc). q.offset < (get_or L k d).from)
             (λ q is. let high = is.1 in omega (arith, high, places_upto (suc j) k (omega (arith, less)), at_k)) (record_of c rs j).relocs (own_relocs j));
         cies = λ j k is. elim (cases_lt j (length L)) [
           | inr past ↦ let none : None ≡ Some k = sym (ap (λ (r : RecordView). r.cie) (get_or_past L j no_record past)) ∙ is in let no : ⊥ = cc in absurd no
@@ -334,7 +334,7 @@ module _ (files : List File) (b : Bindings) (kept : List Bool) (l : RecordList) 
       frame_relocs lists (frame_no l.section i) ≡ others (at i).relocs ++ (at (unwrap_or (at i).cie 0)).relocs
   unfolding frame_relocs
   relocs_are i is =
-      ap (λ (x : RecordView). others x.relocs ++ (frame_spec.record_of lists (frame_no l.section (unwrap_or x.cie 0))).relocs) (record_is lists l l.section i is)
+      ap (λ (x : RecordView). others x.relocs ++ (frame_spec.record_by lists (frame_no l.section (unwrap_or x.cie 0))).relocs) (record_is lists l l.section i is)
       ∙ ap (λ (x : RecordView). others (at i).relocs ++ x.relocs) (record_is lists l l.section (unwrap_or (at i).cie 0) is)
 
   has_is : (i : ℕ) → list_in lists l.section ≡ Some l →

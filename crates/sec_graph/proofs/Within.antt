@@ -72,7 +72,7 @@ targets_below files b f (r ∷ rs) is few lt live =
     (targets_below files b f rs is few lt live)
 
 -- and what sections of a file lead to
-abbrev EndsBelow : (total : ℕ) → Pair → Type 0
+abbrev pub EndsBelow : (total : ℕ) → Pair → Type 0
 EndsBelow total p = p.to < total
 
 links_below : (files : List File) (b : Bindings) (f : ℕ) → f < length files → (file_at files f).live ≡ true → All (EndsBelow (section_total files)) (links_in files b f)
@@ -95,7 +95,7 @@ ring_below total (m ∷ ms) all =
     let P : ℕ → Type 0 = λ n. n < total in
     chain_below total m ms m (All-head P m ms all) (All-tail P m ms all)
 
-members_below : (files : List File) (b : Bindings) (f : ℕ) (ms : List ℕ) → f < length files → (file_at files f).live ≡ true →
+pub members_below : (files : List File) (b : Bindings) (f : ℕ) (ms : List ℕ) → f < length files → (file_at files f).live ≡ true →
     All (λ n. n < section_total files) (flat_map (member_at files b f) ms)
 unfolding member_at
 members_below files b f [] lt live = All-nil (λ n. n < section_total files)
@@ -134,7 +134,7 @@ frames_below files b f k is few =
     let live = live_from (file_at files file) (place_of files fde.section).index place.index in
     All-weaker (Contains relocs) (λ r. All P (record_target files b file r)) (λ r among. record_below files b file r is few place.file live) relocs (All-contains_itself relocs))
 
-ends_below : (files : List File) (b : Bindings) (f k : ℕ) → IsBindingOf files b → AreFew files → f < length files → k < section_count (file_at files f) →
+pub ends_below : (files : List File) (b : Bindings) (f k : ℕ) → IsBindingOf files b → AreFew files → f < length files → k < section_count (file_at files f) →
     All (λ n. n < section_total files) (ends_in files b f k)
 unfolding ends_in
 ends_below files b f k is few lt below =
@@ -151,7 +151,7 @@ ends_below files b f k is few lt below =
     (All-append (EndsBelow total) (links_in files b f) (flat_map (ring_in files b f) (file_at files f).object.groups)
     (links_below files b f lt live) (rings_below files b f (file_at files f).object.groups lt live)))))
 
-map_each : {X : Type 0} (P : X → Type 0) (f : ℕ → X) (from n : ℕ) → ((k : ℕ) → k < from + n → P (f k)) → All P (map f (range_with_len from n))
+pub map_each : {X : Type 0} (P : X → Type 0) (f : ℕ → X) (from n : ℕ) → ((k : ℕ) → k < from + n → P (f k)) → All P (map f (range_with_len from n))
 map_each P f from zero each = All-nil P
 map_each P f from (suc n) each =
     All-cons P (f from) (map f (range_with_len (from + 1) n)) (each from (omega arith)) (map_each P f (from + 1) n (λ k lt. each k (omega (arith, lt))))

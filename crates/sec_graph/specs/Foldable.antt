@@ -25,7 +25,7 @@ use Rattle.link_sections.specs.Leaders.{is_kept}
 use Rattle.link_sections.specs.MergeSections.{contents}
 use Rattle.link_sections.specs.PieceTargets.{piece_target}
 use Rattle.link_sections.specs.PoolViews.{Merged}
-use Rattle.sec_graph.specs.FrameRelocs.{cie_no, others, record_of}
+use Rattle.sec_graph.specs.FrameRelocs.{cie_no, others, record_by}
 
 -- functions to call at the start and at the end are made of sections of these names
 abbrev pub is_init_or_fini : List ℕ → Bool
@@ -85,7 +85,7 @@ module _ (files : List File) (b : Bindings) where
   frame_of fde =
       let place = place_of files fde.section in
       let lists = all_lists files in
-      frame_in place.file (contents (file_at files place.file) place.index) (record_of lists fde) (record_of lists (cie_no lists fde))
+      frame_in place.file (contents (file_at files place.file) place.index) (record_by lists fde) (record_by lists (cie_no lists fde))
 
   -- a section that may be folded: it is kept, and not barred
   unfoldable pub is_foldable : (kept barred : List Bool) → (section : ℕ) → Bool
@@ -118,16 +118,16 @@ module _ (files : List File) (b : Bindings) (merged : List (Option Merged)) wher
   -- the relocations of an FDE but that of PC Begin, and those of its CIE
   abbrev pub other_relocs : FrameNo → List FoldReloc
   other_relocs fde =
-      let own = record_of (all_lists files) fde in
+      let own = record_by (all_lists files) fde in
       map (record_reloc (place_of files fde.section).file own.from) (others own.relocs)
 
   abbrev pub cie_relocs : (cie : FrameNo) → List FoldReloc
   cie_relocs cie =
-      let shared = record_of (all_lists files) cie in
+      let shared = record_by (all_lists files) cie in
       map (record_reloc (place_of files cie.section).file shared.from) shared.relocs
 
-  abbrev pub frame_relocs : FrameNo → List FoldReloc
-  frame_relocs fde = other_relocs fde ++ cie_relocs (cie_no (all_lists files) fde)
+  abbrev pub frame_fold_relocs : FrameNo → List FoldReloc
+  frame_fold_relocs fde = other_relocs fde ++ cie_relocs (cie_no (all_lists files) fde)
 
   -- section number n, which is section k of file f
   unfoldable pub item_in : (n f k : ℕ) → FoldItem
@@ -140,7 +140,7 @@ module _ (files : List File) (b : Bindings) (merged : List (Option Merged)) wher
     output = output_name (input_of files b f k).name;
     own = length (relocs_at (file_at files f) k);
     frames = map (frame_of files b) (frames_at files b (all_lists files) n);
-    relocs = map (fold_reloc f) (relocs_at (file_at files f) k) ++ flat_map frame_relocs (frames_at files b (all_lists files) n);
+    relocs = map (fold_reloc f) (relocs_at (file_at files f) k) ++ flat_map frame_fold_relocs (frames_at files b (all_lists files) n);
   }
 
   abbrev pub item_of : (section : ℕ) → FoldItem

@@ -9,7 +9,8 @@ use Rattle.lk_tables.specs.declared.records.FrameNo.{FrameNo}
 use Rattle.lk_tables.specs.Binding.{Bindings}
 use Rattle.lk_tables.specs.Files.{File}
 use Rattle.lk_tables.specs.Frames.{AreListsWithin, RecordList, all_frames, all_lists, frame_no, frames_by_section, lists_of, no_record, record_at}
-use Rattle.lk_tables.specs.Records.{RecordView, has_width}
+pub use Rattle.lk_tables.specs.Frames.{cie_no, record_by}
+use Rattle.lk_tables.specs.Records.{has_width}
 
 -- the records are those of the files' sections, and each FDE is listed with the section of its function
 pub record AreFramesOf (files : List File) (b : Bindings) (frames : Frames) : Type 0 where
@@ -40,17 +41,10 @@ abbrev pub with_no : List FrameNo → FrameNo → List FrameNo
 with_no known number = if list_any (same_no number) known then known else known ++ number ∷ []
 
 module _ (lists : List RecordList) where
-  abbrev pub record_of : FrameNo → RecordView
-  record_of number = unwrap_or (record_at lists number) no_record
-
-  -- the CIE of an FDE
-  abbrev pub cie_no : FrameNo → FrameNo
-  cie_no fde = frame_no fde.section (unwrap_or (record_of fde).cie 0)
-
   -- the CIEs of FDEs, each once, by first use
   unfoldable pub cies_of : (fdes : List FrameNo) → List FrameNo
-  cies_of fdes = fold with_no [] (map cie_no fdes)
+  cies_of fdes = fold with_no [] (map (cie_no lists) fdes)
 
   -- the relocations of an FDE but that of PC Begin, and those of its CIE
   unfoldable pub frame_relocs : FrameNo → List Reloc
-  frame_relocs fde = others (record_of fde).relocs ++ (record_of (cie_no fde)).relocs
+  frame_relocs fde = others (record_by lists fde).relocs ++ (record_by lists (cie_no lists fde)).relocs

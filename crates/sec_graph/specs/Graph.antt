@@ -20,7 +20,7 @@ use Rattle.lk_tables.specs.Objects.{GroupView}
 use Rattle.lk_tables.specs.Sites.{place_of}
 use Rattle.lk_tables.specs.Targets.{target_of}
 use Rattle.sec_graph.specs.declared.pairs.Pair.{Pair}
-use Rattle.sec_graph.specs.FrameRelocs.{cies_of, others, record_of}
+use Rattle.sec_graph.specs.FrameRelocs.{cies_of, others, record_by}
 use Rattle.sec_graph.specs.Taken.{section_of}
 
 abbrev pub pair : (from to : ℕ) → Pair
@@ -97,10 +97,10 @@ module _ (files : List File) (b : Bindings) where
 
   -- the sections that an FDE names beside that of its function, and those that a CIE names
   abbrev pub fde_ends : FrameNo → List ℕ
-  fde_ends number = record_targets number (others (record_of (all_lists files) number).relocs)
+  fde_ends number = record_targets number (others (record_by (all_lists files) number).relocs)
 
   abbrev pub cie_ends : FrameNo → List ℕ
-  cie_ends number = record_targets number (record_of (all_lists files) number).relocs
+  cie_ends number = record_targets number (record_by (all_lists files) number).relocs
 
   -- those of FDEs, and then of their CIEs
   unfoldable pub frame_ends : (fdes : List FrameNo) → List ℕ

@@ -9,3 +9,4 @@ pub mod Prevailing
 pub mod Rows
 pub mod Taken
 pub mod Undefined
+pub mod WalkEdges

@@ -29,7 +29,7 @@ module _ (files : List File) (b : Bindings) (kept : List Bool) where
   unfoldable pub needed_relocs : (section : ℕ) → List Reloc
   needed_relocs section = flat_map (frame_relocs (all_lists files)) (kept_frames (list_in (all_lists files) section))
 
-  -- the link needs relocation r of section k of file f
+  -- the link needs relocation r of section k of file f: the section is kept, or r is one of an FDE for a function of a kept section, or of its CIE
   abbrev pub is_needed : (f k : ℕ) → Reloc → Bool
   is_needed f k r = is_kept kept (section_no files f k) || has_reloc (needed_relocs (section_no files f k)) r
 

@@ -194,7 +194,7 @@ fn push_bound(
 }
 
 /// Adds the sections to which pairs lead.
-fn push_seconds(ends: &mut Vec<SecNo>, pairs: &[Pair]) -> Result<(), AllocError>
+pub fn push_seconds(ends: &mut Vec<SecNo>, pairs: &[Pair]) -> Result<(), AllocError>
     ensures { OnOk result (ends.new.items ≡ ends.old.items ++ map (λ p. p.to) pairs.now) }
 {
     ends.reserve(pairs.len())?;

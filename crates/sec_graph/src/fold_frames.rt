@@ -139,7 +139,7 @@ pub fn push_frame_relocs(
     fdes: &[FrameNo],
 ) -> Result<(), AllocError>
     requires { AreFramesOf (files_of tables.now) (binding_view binding.now) frames.now }
-    ensures { OnOk result (list.new.items ≡ list.old.items ++ flat_map (spec.frame_relocs (files_of tables.now) (binding_view binding.now) (merged_views pools.now)) fdes.now) }
+    ensures { OnOk result (list.new.items ≡ list.old.items ++ flat_map (spec.frame_fold_relocs (files_of tables.now) (binding_view binding.now) (merged_views pools.now)) fdes.now) }
 {
     for fde in fdes {
         push_one(list, tables, binding, pools, frames, *fde)?;
@@ -157,7 +157,7 @@ fn push_one(
     fde: FrameNo,
 ) -> Result<(), AllocError>
     requires { AreFramesOf (files_of tables.now) (binding_view binding.now) frames.now }
-    ensures { OnOk result (list.new.items ≡ list.old.items ++ spec.frame_relocs (files_of tables.now) (binding_view binding.now) (merged_views pools.now) fde) }
+    ensures { OnOk result (list.new.items ≡ list.old.items ++ spec.frame_fold_relocs (files_of tables.now) (binding_view binding.now) (merged_views pools.now) fde) }
 {
     let cie = cie_of(frames, fde);
     push_others(list, tables, binding, pools, frames, fde)?;

@@ -41,7 +41,7 @@ pub fn found<'f>(
     requires { AreListsWithin (files_of tables.now) (lists_of frames.now) }
     ensures file { IfSome result (λ r. r.0 ≡ (place_of (files_of tables.now) number.section).file) }
     ensures within { IfSome result (λ r. r.0 < length (files_of tables.now)) }
-    ensures is { spec.record_of (lists_of frames.now) number ≡ option_map_or (λ r. record_view r.1.now) result no_record }
+    ensures is { spec.record_by (lists_of frames.now) number ≡ option_map_or (λ r. record_view r.1.now) result no_record }
 {
     let held = frames.record(number)?;
     let file = tables.place_of(number.section).file;
@@ -51,7 +51,7 @@ pub fn found<'f>(
 /// The relocations of a record, in order; none of a record that is not there.
 pub fn relocs_of(frames: &Frames, number: FrameNo) -> &[Reloc]
     requires { AreInOrder (lists_of frames.now) }
-    ensures { result.now ≡ (spec.record_of (lists_of frames.now) number).relocs }
+    ensures { result.now ≡ (spec.record_by (lists_of frames.now) number).relocs }
 {
     match frames.record(number) {
         Some(held) => held.relocs.as_slice(),
@@ -62,8 +62,8 @@ pub fn relocs_of(frames: &Frames, number: FrameNo) -> &[Reloc]
 /// Where a record starts in its section, and its Length.
 pub fn span_of(frames: &Frames, number: FrameNo) -> (u64, u64)
     requires { AreInOrder (lists_of frames.now) }
-    ensures from { result.0 ≡ (spec.record_of (lists_of frames.now) number).from }
-    ensures len { result.1 ≡ (spec.record_of (lists_of frames.now) number).len }
+    ensures from { result.0 ≡ (spec.record_by (lists_of frames.now) number).from }
+    ensures len { result.1 ≡ (spec.record_by (lists_of frames.now) number).len }
 {
     match frames.record(number) {
         Some(held) => (held.from, held.len),

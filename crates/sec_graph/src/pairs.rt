@@ -134,7 +134,7 @@ fn push_rings(
 }
 
 /// The numbers of the members of a group that may be kept.
-fn members_of(
+pub fn members_of(
     alloc: Global,
     tables: &Tables,
     binding: &Binding,

@@ -5,6 +5,10 @@
 //! a word is what its name is bound to. Then the symbols are listed whose names no file offers, and of these names alone the linker's
 //! symbols are looked up. Two strong offers of one name are a defect, and so are files with different float ABIs and an entry whose
 //! name is bound to nothing.
+//!
+//! Each piece of the list of offers is one worker's. After the claims `unbound` looks through the symbols whose names nobody offers, and
+//! `linker` gives those with a name of the linker's its rank. `named_sections` lists the sections by their names only if a `__start_` or
+//! `__stop_` name is among them. The entry's name has no number: it is looked for among the offers, by its length first.
 #![tactic(auto)]
 
 mod binding;

@@ -1,5 +1,10 @@
 //! The address of each symbol, once everything has its place (RISC-V ELF psABI, "Relocations": S).
 //!
+//! Workers find the address of each symbol as its own file defines it, each those of a run of symbol numbers, whatever file they are of, so
+//! that one large object is shared out too. Then a symbol whose name is bound to another takes that one's, from the list alone
+//! (`prevailing`). Where the output sections of a name start and end is found once for all names, before the workers start (`extents`), so
+//! no symbol's name is searched for among 65,000 output sections.
+//!
 //! `links` holds the tables of a link that is laid out, `numbers` reads the layout by section number, `bytes` gives the addresses of
 //! bytes of sections and of pieces of pools, `names` the name of a section, `places` the output sections of a name, `edges` the addresses
 //! of the linker's symbols that have fixed names, `extents` where the output sections of each name start and end. `sources` gives a

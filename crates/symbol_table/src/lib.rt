@@ -2,6 +2,9 @@
 //! and each symbol of the linker's own to which a file refers, in order of the bytes of their names. The symbol table of the executable and
 //! the map list them.
 //!
+//! Workers list the entries of the files of their pieces. The list is sorted by the bytes of names, and of equal names, which are several
+//! references to one of the linker's symbols, the first stays.
+//!
 //! `symbols` has the type of the entries, `outputs` finds the output section of a section, `entries` makes the entry of one symbol of a
 //! file, `listing` those of all files by many workers, `named` compares them by their names, and `sorting` brings them in order.
 #![tactic(auto)]

@@ -177,6 +177,11 @@ fn what_differs_is_not_folded(rt: HostRuntime) -> Result<(), Fail> {
 }
 
 #[test]
+fn pairs_say_why_functions_are_not_folded(rt: HostRuntime) -> Result<(), Fail> {
+    each_links!(rt; &OwnStores, folded::WHY)
+}
+
+#[test]
 fn alignments_keep_the_nops_that_they_need(rt: HostRuntime) -> Result<(), Fail> {
     each_links!(rt; &OwnStores, aligned::STAYING)
 }

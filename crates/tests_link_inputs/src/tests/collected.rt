@@ -1,8 +1,8 @@
 //! What `--gc-sections` keeps and drops.
 
 use link_examples::images::{
-    ALL_ORDERED, ARRAYS_ALONE, ASKED_WORD, FIRST, FRAMED, KEPT_NOTE, KEPT_ORDER, KEPT_RING,
-    KEPT_TOGETHER, ORDERED, RETURN_ALONE, RETURN_AND_BREAK, RING_ALONE,
+    ALL_ORDERED, ARRAYS_ALONE, ASKED_WORD, FIRST, FRAMED, KEPT_FOUR, KEPT_NOTE, KEPT_ORDER,
+    KEPT_RING, KEPT_TOGETHER, ORDERED, RETURN_ALONE, RETURN_AND_BREAK, RING_ALONE,
 };
 use link_examples::{Link, Refusal, Store, link, refusal};
 
@@ -34,6 +34,17 @@ pub const DROPPED: &[Link] = &[
     link!("-s", "--gc-sections", "a.o", "far.o" => FIRST; store: Store::Collected),
     link!("-s", "ring.o" => KEPT_RING; store: Store::Collected),
     link!("-s", "order.o" => ALL_ORDERED; store: Store::Collected),
+];
+
+/// Why a section is kept, with the option and without: a walk, which goes through a group in one step, or that there is none.
+pub const WHY: &[Link] = &[
+    link!("-s", "--gc-sections", "--why-live", "d", "four.o" => KEPT_FOUR; store: Store::Collected,
+        said: "live d\nroot four.o 1 .text\nto four.o 3 .text.a\nto four.o 6 .text.d\n"),
+    link!("-s", "four.o", "--why-live=d" => KEPT_FOUR; store: Store::Collected,
+        said: "live d\nroot four.o 1 .text\nto four.o 3 .text.a\nto four.o 6 .text.d\n"),
+    link!("-s", "--gc-sections", "--why-live", "_start", "ring.o" => RETURN_ALONE; store: Store::Collected, said: "live _start\nroot ring.o 1 .text\n"),
+    link!("-s", "--why-live", "a", "ring.o" => KEPT_RING; store: Store::Collected, said: "dead a\n"),
+    link!("-s", "--gc-sections", "--why-live", "no where", "ring.o" => RETURN_ALONE; store: Store::Collected, said: "unknown no%20where\n"),
 ];
 
 /// What is kept may not lack it.

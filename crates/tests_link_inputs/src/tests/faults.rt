@@ -1,7 +1,7 @@
 //! What a failed call of the store of files, or of a stream, leaves.
 
 use super::OwnStores;
-use super::generated::{TWO_ALONE, TWO_MAPPED};
+use super::generated::{TWO_ALONE, TWO_EXPLAINED, TWO_MAPPED};
 use elf_bytes::image_of;
 use link_driver::OpenGate;
 use link_examples::lines::FIRST_LINES;
@@ -104,6 +104,11 @@ const REPORTS: &[Fault] = &[
     fault!(UNREPORTED => link: TWO_MAPPED, outside: outside!(SOUND => fails: &[11], say: BROKEN), told: "rvld: cannot write m\n", calls: 12,
         executable: Some(8560),
         map: Some(0)),
+];
+
+/// What is asked why is said after the report.
+const EXPLAINED: &[Fault] = &[
+    fault!(UNREPORTED => link: TWO_EXPLAINED, outside: outside!(SOUND => say: Stream { fails: &[], room: 60 }), said: 60),
 ];
 
 /// No words but the program's name.
@@ -210,6 +215,11 @@ fn each_fault_of_the_map_leaves_the_executable(rt: HostRuntime) -> Result<(), Fa
 #[test]
 fn each_fault_of_the_report_leaves_both_files(rt: HostRuntime) -> Result<(), Fail> {
     each!(rt; fault in REPORTS => is_cut_by_any(&rt, rt.alloc(), fault)?)
+}
+
+#[test]
+fn a_fault_of_what_is_explained_leaves_the_executable(rt: HostRuntime) -> Result<(), Fail> {
+    each!(rt; fault in EXPLAINED => is_cut_by_any(&rt, rt.alloc(), fault)?)
 }
 
 #[test]

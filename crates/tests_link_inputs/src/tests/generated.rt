@@ -87,9 +87,15 @@ pub const TWO_MAPPED: Link = link!("-s", "--Map", "m", "--self-input", "2" => TW
 pub const TWO_ALONE: Link =
     link!(TWO_MAPPED => words: &["rvld", "--self-input", "2"], image: TWO_LISTED, lines: &[]);
 
+/// Two objects, and why a section is kept.
+pub const TWO_EXPLAINED: Link = link!(TWO_ALONE =>
+    words: &["rvld", "--self-input", "2", "--why-live", "g1"],
+    said: "objects 2 kept 10 folded 0 relaxed 3 pieces 2 image 8208\nlive g1\nroot gen0.o 1 .text.f\nto gen1.o 1 .text.f\nto gen1.o 3 .text.g\n");
+
 /// Few objects.
 pub const FEW: &[Link] = &[
     TWO_ALONE,
+    TWO_EXPLAINED,
     TWO_MAPPED,
     link!("-s", "--self-input", "1" => ONE; said: "objects 1 kept 5 folded 0 relaxed 1 pieces 1 image 8200\n"),
     link!("-s", "--no-relax", "--self-input=1" => ONE_LONG; said: "objects 1 kept 5 folded 0 relaxed 0 pieces 1 image 8200\n"),
@@ -128,7 +134,7 @@ const FOUR_THOUSAND: Many = (
 );
 
 /// Words, and what is said: of a name that is asked for the section is kept, with what it leads to; of equal code each copy is folded, but not the
-/// one of a name that is kept unique, nor those whose address is taken.
+/// one of a name that is kept unique, nor those whose address is taken; and why a section is kept, and why two are not folded.
 const SAID: &[(&[&str], &str)] = &[
     (
         &[
@@ -178,6 +184,37 @@ const SAID: &[(&[&str], &str)] = &[
             "--gc-sections",
         ],
         "objects 15 kept 30 folded 9 relaxed 28 pieces 0 image 4320\n",
+    ),
+    (
+        &[
+            "rvld",
+            "--gc-sections",
+            "--why-live",
+            "g1",
+            "--self-input",
+            "2",
+        ],
+        "objects 2 kept 4 folded 0 relaxed 3 pieces 0 image 4132\nlive g1\nroot gen0.o 1 .text.f\nto gen1.o 1 .text.f\nto gen1.o 3 .text.g\n",
+    ),
+    (
+        &["rvld", "--self-input", "15", "--why-apart", "f3,f4"],
+        "objects 15 kept 75 folded 0 relaxed 29 pieces 11 image 8312\napart f3 f4\npair gen3.o 1 gen4.o 1\nvia 0 pair gen3.o 3 gen4.o 3\ndiffer key\n",
+    ),
+    (
+        &["rvld", "--self-input", "15", "--why-apart", "f7,f14"],
+        "objects 15 kept 75 folded 0 relaxed 29 pieces 11 image 8312\nsame f7 f14\n",
+    ),
+    (
+        &[
+            "rvld",
+            "--self-input",
+            "2",
+            "--why-live",
+            "d1",
+            "--why-apart",
+            "f0,nowhere",
+        ],
+        "objects 2 kept 10 folded 0 relaxed 3 pieces 2 image 8208\ndead d1\nunknown nowhere\n",
     ),
 ];
 

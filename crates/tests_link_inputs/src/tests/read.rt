@@ -31,6 +31,8 @@ const COMMANDS: &[Refusal] = &[
     refusal!("--Map", "m", "--Map", "n", "a.o" => 2, 0, "bad command"),
     refusal!("--Map", "m" => 2, 0, "bad command"),
     refusal!("--map", "m", "a.o" => 2, 0, "bad command"),
+    refusal!("--why-live", "", "a.o" => 2, 0, "bad command"),
+    refusal!("--why-apart", "f", "a.o" => 2, 0, "bad command"),
     refusal!("-e", "", "a.o" => 2, 0, "bad command"),
 ];
 
@@ -150,6 +152,11 @@ fn groups_with_wrong_members_are_refused(rt: HostRuntime) -> Result<(), Fail> {
 #[test]
 fn collection_keeps_roots(rt: HostRuntime) -> Result<(), Fail> {
     each_links!(rt; &OwnStores, collected::ROOTS)
+}
+
+#[test]
+fn walks_say_why_sections_are_kept(rt: HostRuntime) -> Result<(), Fail> {
+    each_links!(rt; &OwnStores, collected::WHY)
 }
 
 #[test]

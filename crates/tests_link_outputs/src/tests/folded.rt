@@ -370,6 +370,21 @@ pub const TOGETHER: &[Link] = &[
     link!("-s", "--icf", "all", "itself.o" => CALLS_ITSELF; store: Store::Folded),
 ];
 
+/// Why functions are not folded, whether folding is asked for or not: pairs of them to one that differs, or that they are folded or may not be.
+pub const WHY: &[Link] = &[
+    link!("-s", "--icf", "all", "--why-apart", "f1,f2", "pairs.o" => ONE_PAIR; store: Store::Folded, said: "same f1 f2\n"),
+    link!("-s", "--why-apart", "f1,f2", "pairs.o" => TWO_PAIRS; store: Store::Folded, said: "same f1 f2\n"),
+    link!("-s", "--why-apart", "f1,f1", "pairs.o" => TWO_PAIRS; store: Store::Folded, said: "same f1 f1\n"),
+    link!("-s", "--why-apart=f1,g1", "pairs.o" => TWO_PAIRS; store: Store::Folded, said: "apart f1 g1\npair pairs.o 2 pairs.o 3\ndiffer key\n"),
+    link!("-s", "--icf", "all", "--keep-unique", "g2", "--why-apart", "f1,f2", "pairs.o" => TWO_PAIRS; store: Store::Folded,
+        said: "apart f1 f2\npair pairs.o 2 pairs.o 4\ndiffer target 0\n"),
+    link!("-s", "--keep-unique", "f2", "--why-apart", "f1,f2", "pairs.o" => TWO_PAIRS; store: Store::Folded, said: "unfoldable f2\n"),
+    link!("-s", "--icf", "safe", "--why-apart", "g,h", "taken.o" => TAKEN_APART; store: Store::Folded, said: "unfoldable g\n"),
+    link!("-s", "--icf", "safe", "--why-apart", "_start,h", "taken.o" => TAKEN_APART; store: Store::Folded, said: "same _start h\n"),
+    link!("-s", "--why-apart", "f1,nowhere", "--why-live", "g2", "pairs.o" => TWO_PAIRS; store: Store::Folded,
+        said: "live g2\nroot pairs.o 1 .text\nto pairs.o 4 .text.f2\nto pairs.o 5 .text.g2\nunknown nowhere\n"),
+];
+
 /// What is equal, and what is not.
 pub const EQUAL: &[Link] = &[
     link!("-s", "--icf", "all", "apart.o" => MOST_APART; store: Store::Folded),

@@ -61,6 +61,8 @@ const ACCEPTED: &[(&str, &str)] = &[
     accepted!("--icf|safe|-s|a.o" => "a.out|_start|4 folded safely stripped|a.o"),
     accepted!("--undefined|a|-s|a.o" => "a.out|_start|4 asking+a stripped|a.o"),
     accepted!("-s|--undefined=a,bc,a|a.o|--keep-unique|d" => "a.out|_start|4 asking+a+bc+a unique+d stripped|a.o"),
+    accepted!("--why-live|f|a.o" => "a.out|_start|4 why f|a.o"),
+    accepted!("--why-apart=f,g|-s|a.o|--why-live=f,g" => "a.out|_start|4 apart+f+g stripped why f,g|a.o"),
     accepted!("-s|a.o|--icf=all|--gc-sections" => "a.out|_start|4 collected folded stripped|a.o"),
     accepted!("--no-relax|-s|a.o" => "a.out|_start|4 unrelaxed stripped|a.o"),
     accepted!("-s|--icf|all|a.o|--no-relax" => "a.out|_start|4 folded unrelaxed stripped|a.o"),
@@ -99,6 +101,19 @@ const REFUSED: &[&str] = &[
     "--keep-unique|a|--keep-unique|a|a.o",
     "--keep-unique|,|a.o",
     "a.o|--keep-unique",
+    "--why-live||a.o",
+    "--why-live=|a.o",
+    "--why-live|f|--why-live|f|a.o",
+    "a.o|--why-live",
+    "--why-apart||a.o",
+    "--why-apart|f|a.o",
+    "--why-apart|f,g,h|a.o",
+    "--why-apart|,g|a.o",
+    "--why-apart|f,|a.o",
+    "--why-apart|,|a.o",
+    "--why-apart|f,g|--why-apart|f,g|a.o",
+    "a.o|--why-apart",
+    "--why|f|a.o",
     "--icf||-s|a.o",
     "--icf=|-s|a.o",
     "-s|a.o|--icf",
@@ -199,11 +214,16 @@ fn answer_to(alloc: Global, words: &[String]) -> Result<String, AllocError> {
     }
     push_names(&mut answer, " asking", command.undefined.as_slice())?;
     push_names(&mut answer, " unique", command.unique.as_slice())?;
+    push_names(&mut answer, " apart", command.why_apart.as_slice())?;
     if !command.relax {
         answer.push_str(" unrelaxed")?;
     }
     if command.strip {
         answer.push_str(" stripped")?;
+    }
+    if let Some(name) = &command.why_live {
+        answer.push_str(" why ")?;
+        answer.push_str(name.as_str())?;
     }
     if let Some(map) = &command.map {
         answer.push_str(" map ")?;

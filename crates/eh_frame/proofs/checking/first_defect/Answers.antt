@@ -7,7 +7,7 @@ use Rattle.lk_base.proofs.StableOrder.{sorted_is}
 use Rattle.lk_tables.specs.Frames.{lists_of}
 use Rattle.link_sections.specs.Views.{binding_in, files_in, laid_in, leaders_in}
 use Rattle.eh_frame.specs.declared.placing.Placed.{Placed}
-use Rattle.eh_frame.specs.Bytes.{IsKnown, in_order, order_of, placed_defects}
+use Rattle.eh_frame.specs.Bytes.{IsKnown, placed_order, order_of, placed_defects}
 use Rattle.eh_frame.proofs.PlacedOrder.{first_of_same, none_in_order}
 use Rattle.eh_frame.proofs.checking.first_defect.Goals as goal
 
@@ -30,7 +30,7 @@ first_in-requires-2-clause-known c =
     subst P (sym sorted) (all_stable Known order_of c.args.placed.now c.requires.known)
 
 pub returns : goal.returns
-unfolding in_order
+unfolding placed_order
 returns c =
     let defects = placed_defects (files_in c.args.view.now) (binding_in c.args.view.now) (leaders_in c.args.view.now) (laid_in c.args.view.now) (lists_of c.args.frames.now) c.args.start in
     let sorted : c.as_slice.result.now ≡ stable_order order_of c.args.placed.now =

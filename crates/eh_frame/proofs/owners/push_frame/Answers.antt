@@ -2,7 +2,7 @@ use Rattle.std.proofs.Common.{◌≡◌, ◌++◌, ◌∷◌, [], List, Option, 
 use Rattle.std.specs.Global.{Vec}
 use Rattle.lk_tables.specs.declared.records.FrameNo.{FrameNo}
 use Rattle.eh_frame.specs.Owners.{with_frame}
-use Rattle.eh_frame.proofs.Owning.{past, pushed}
+use Rattle.eh_frame.proofs.Owning.{pushed}
 use Rattle.eh_frame.proofs.owners.push_frame.Goals as goal
 
 items : Vec FrameNo → List FrameNo

@@ -1,12 +1,10 @@
-use Rattle.std.proofs.Common.{◌≡◌, ℕ, ◌<◌, List, Option, length, map, ap, sym, ◌∙◌, arith}
+use Rattle.std.proofs.Common.{ℕ, ◌<◌, List, Option, length, map, ap, sym, ◌∙◌, arith}
 use Rattle.std.specs.Global.{Vec}
-use Rattle.std.specs.List.{range_with_len}
 use Rattle.lk_tables.specs.BindingView.{binding_view}
 use Rattle.lk_tables.specs.Frames.{frame_no, list_view}
-use Rattle.lk_tables.specs.Sites.{place_of}
 use Rattle.lk_tables.specs.TablesView.{files_of}
 use Rattle.lk_tables.specs.declared.records.FrameNo.{FrameNo}
-use Rattle.eh_frame.specs.Owners.{with_frame, with_records}
+use Rattle.eh_frame.specs.Owners.{with_frame}
 use Rattle.eh_frame.proofs.Owning.{gone_list, owner_is, range_step, whole_list}
 use Rattle.eh_frame.proofs.owners.push_list.Goals as goal
 

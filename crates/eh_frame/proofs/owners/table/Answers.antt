@@ -1,12 +1,10 @@
-use Rattle.std.proofs.Common.{◌≡◌, ◌<◌, ℕ, List, [], length, map, replicate, ap, sym, ◌∙◌, subst, arith}
+use Rattle.std.proofs.Common.{◌<◌, [], map, replicate, ap, ◌∙◌, arith}
 use Rattle.std.specs.Global.{Vec}
-use Rattle.std.specs.List.{All}
 use Rattle.lk_tables.specs.BindingView.{binding_view}
 use Rattle.lk_tables.specs.Files.{section_total}
 use Rattle.lk_tables.specs.Frames.{RecordList, list_views}
 use Rattle.lk_tables.specs.TablesView.{files_of}
 use Rattle.lk_tables.specs.declared.records.FrameNo.{FrameNo}
-use Rattle.lk_tables.specs.declared.records.Record.{Record}
 use Rattle.eh_frame.proofs.Owning.{all_after, all_lists_are, few_records, list_holds, step_lists}
 use Rattle.eh_frame.proofs.owners.table.Goals as goal
 

@@ -5,7 +5,7 @@ use Rattle.lk_tables.specs.BindingView.{binding_view}
 use Rattle.lk_tables.specs.Frames.{IsListWithin, RecordList, frames_where, list_view, lists_of}
 use Rattle.lk_tables.specs.TablesView.{files_of}
 use Rattle.link_sections.specs.PoolViews.{merged_views}
-use Rattle.eh_frame.specs.Plan.{cie_key, cie_no, is_led, written_fdes}
+use Rattle.eh_frame.specs.Plan.{cie_key, cie_no, is_owner_in_place, written_fdes}
 use Rattle.eh_frame.specs.Uses.{AddsList, AreUses, list_in}
 use Rattle.eh_frame.proofs.FrameWalks.{list_read, lists_all, lists_more, lists_tell}
 use Rattle.eh_frame.proofs.NotedCies.{none_found}
@@ -38,7 +38,7 @@ loop-number-preserved c =
     let lists = lists_of frames in
     let key = cie_key files b merged lists in
     let own = cie_no lists in
-    let give = frames_where files b (is_led leaders merged) in
+    let give = frames_where files b (is_owner_in_place leaders merged) in
     let n = c.loop-number.number in
     let many : n < length frames.records.items = omega (arith, c.loop-number-test.true, c.len-number-end.ensures) in
     let lt : n < length lists = omega (arith, many, length-map frames.records.items list_view) in
@@ -57,4 +57,4 @@ returns c =
     let frames = c.args.frames.now in
     let lists = lists_of frames in
     let P : List FrameNo → Type 0 = λ xs. AreUses (cie_key files b (merged_views c.args.pools.now) lists) (cie_no lists) xs c.loop-number.found in
-    subst P (lists_all (frames_where files b (is_led c.args.leaders.now (merged_views c.args.pools.now))) lists c.loop-number.number (omega (arith, length-map frames.records.items list_view))) c.loop-number.invariant
+    subst P (lists_all (frames_where files b (is_owner_in_place c.args.leaders.now (merged_views c.args.pools.now))) lists c.loop-number.number (omega (arith, length-map frames.records.items list_view))) c.loop-number.invariant

@@ -1,4 +1,4 @@
-use Rattle.std.proofs.Common.{length, arith, sym, ◌∙◌}
+use Rattle.std.proofs.Common.{length, arith}
 use Rattle.lk_tables.specs.Records.{cie_before}
 use Rattle.eh_frame.proofs.OneRecord.{short_fde, other_begin, fde_is}
 use Rattle.eh_frame.proofs.reading.cie_of_fde.Goals as goal

@@ -1,5 +1,4 @@
-use Rattle.std.proofs.Common.{sym, ◌∙◌, rules}
-use Rattle.std.proofs.lemmas.Bool.{cond-true, cond-false}
+use Rattle.std.proofs.Common.{sym, ◌∙◌}
 use Rattle.eh_frame.proofs.Lengths.{whole_from}
 use Rattle.eh_frame.proofs.reading.length_at.Goals as goal
 

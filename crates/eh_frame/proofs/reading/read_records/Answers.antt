@@ -1,9 +1,6 @@
-use Rattle.std.proofs.Common.{◌≡◌, ◌+◌, ◌<◌, ◌≤◌, ◌^◌, ℕ, Bool, List, Option, length, not, arith, sym, ap, refl, true, ◌∙◌, subst}
-use Rattle.std.specs.List.{All}
+use Rattle.std.proofs.Common.{◌≡◌, List, length, arith, sym, ap, refl, true, ◌∙◌, subst}
 use Rattle.lk_tables.specs.declared.records.Record.{Record}
-use Rattle.lk_tables.specs.Records.{first_records, place}
 use Rattle.eh_frame.specs.RecordChecks.{is_bad_record}
-use Rattle.lk_tables.specs.RecordViews.{record_views}
 use Rattle.eh_frame.proofs.Walk.{begun, walk_on, walk_fails, walk_ends, few_records, is_bad_from, read_from, smaller}
 use Rattle.eh_frame.proofs.reading.read_records.Goals as goal
 

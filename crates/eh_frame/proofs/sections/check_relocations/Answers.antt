@@ -1,4 +1,4 @@
-use Rattle.std.proofs.Common.{◌≡◌, List, length, ap, sym, ◌∙◌, subst, arith}
+use Rattle.std.proofs.Common.{length, ap, sym, ◌∙◌, arith}
 use Rattle.lk_tables.specs.Files.{no_section}
 use Rattle.lk_tables.specs.Heads.{head_view}
 use Rattle.lk_tables.proofs.SoundHead.{head_of_is}

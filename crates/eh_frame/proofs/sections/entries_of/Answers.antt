@@ -1,4 +1,4 @@
-use Rattle.std.proofs.Common.{List, ap, ◌∙◌, ◌∷◌, [], ◌++◌}
+use Rattle.std.proofs.Common.{ap, ◌∙◌, ◌∷◌, [], ◌++◌}
 use Rattle.lk_base.proofs.Loops.{map_step}
 use Rattle.eh_frame.specs.declared.sections.Entry.{Entry}
 use Rattle.eh_frame.specs.Sections.{entry_at}

@@ -1,7 +1,6 @@
-use Rattle.std.proofs.Common.{◌≡◌, ◌+◌, ◌*◌, ◌/◌, ◌<◌, List, get_or, length, map, ap, ◌∙◌, arith, rules}
+use Rattle.std.proofs.Common.{◌/◌, ◌<◌, length, ap, arith, rules}
 use Rattle.lk_base.specs.declared.abi.TheConstants.{RELA_SIZE}
 use Rattle.lk_tables.specs.declared.heads.Section.{Section}
-use Rattle.eh_frame.specs.declared.sections.Entry.{Entry}
 use Rattle.eh_frame.proofs.EntryOrder.{count_is, no_entry, number_low, place_is}
 use Rattle.eh_frame.proofs.sections.entry_place.Goals as goal
 use Rattle.eh_frame.proofs.sections.entry_place.Goals.{After-number_at-entry}

@@ -1,16 +1,13 @@
-use Rattle.std.proofs.Common.{◌≡◌, ◌<◌, List, [], map, length, get_or, sym, ap, ◌∙◌, subst, arith}
+use Rattle.std.proofs.Common.{◌≡◌, List, [], map, length, get_or, sym, ap, ◌∙◌, subst, arith}
 use Rattle.std.specs.Global.{Vec}
 use Rattle.std.proofs.lemmas.List.{length-map}
 use Rattle.std.specs.List.Sorted.{IsNonDecreasingBy}
 use Rattle.std.proofs.lemmas.Result.{err_from_is_err_and}
 use Rattle.lk_tables.specs.declared.heads.Section.{Section}
 use Rattle.lk_tables.specs.declared.objects.Reloc.{Reloc}
-use Rattle.lk_tables.specs.FileHeader.{section_count}
 use Rattle.lk_tables.specs.Files.{no_section}
 use Rattle.lk_tables.specs.Heads.{head_view}
 use Rattle.lk_tables.specs.Objects.{object_view, relocs_for}
-use Rattle.lk_tables.specs.Sections.{section_of}
-use Rattle.lk_tables.specs.declared.records.Record.{Record}
 use Rattle.eh_frame.proofs.HeadObject.{count_is, in_order, lists_are, relocs_are, section_is}
 use Rattle.eh_frame.proofs.OneSection.{IsSection, all_read, records_are, records_fail, records_rise, strays_fail}
 use Rattle.eh_frame.proofs.sections.read_section.Goals as goal

@@ -1,4 +1,4 @@
-use Rattle.std.proofs.Common.{ℕ, Bool, length, sym, ◌∙◌, arith, rules, inl, inr, ap}
+use Rattle.std.proofs.Common.{length, sym, ◌∙◌, arith, rules, inl, inr, ap}
 use Rattle.std.proofs.lemmas.Bool.{cases_eq}
 use Rattle.lk_tables.proofs.Finding.{first_number}
 use Rattle.eh_frame.specs.Sections.{is_rela_for}

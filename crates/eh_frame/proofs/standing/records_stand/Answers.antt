@@ -1,4 +1,4 @@
-use Rattle.std.proofs.Common.{ℕ, ◌<◌, List, length, subst, sym}
+use Rattle.std.proofs.Common.{ℕ, ◌<◌, List, length, ap, ◌∙◌, subst, sym}
 use Rattle.lk_tables.specs.FramePlans.{PlanView, plan_view}
 use Rattle.lk_tables.specs.Frames.{lists_of}
 use Rattle.link_sections.specs.Views.{binding_in, files_in, laid_in, leaders_in}
@@ -7,8 +7,10 @@ use Rattle.eh_frame.specs.FrameLaws.{IsFdeWritten}
 use Rattle.eh_frame.specs.Laws.{IsPlanned}
 use Rattle.eh_frame.specs.TableLaws.{IsTable}
 use Rattle.eh_frame.proofs.FrameStands.{plan_written}
+use Rattle.eh_frame.proofs.KnownRecords.{plan_cies_known, plan_fdes_known, plan_frame_len, plan_uses}
 use Rattle.eh_frame.proofs.LowSums.{not_low}
 use Rattle.eh_frame.proofs.PlanLaws.{plan_laws}
+use Rattle.eh_frame.proofs.RecordBytes.{frame_length}
 use Rattle.eh_frame.proofs.TableOrder.{header_is}
 use Rattle.eh_frame.proofs.standing.records_stand.Goals as goal
 
@@ -28,6 +30,10 @@ returns c =
     let planned = subst P (sym c.requires.plan) (plan_laws files b merged lists leaders c.requires.lists.order) in
     record {
       planned = planned;
+      len = ap length c.requires.frame
+          ∙ frame_length files b leaders laid lists laid.bounds.frames plan (plan_cies_known files lists b merged leaders plan c.requires.lists c.requires.plan)
+          (plan_fdes_known files lists b merged leaders plan c.requires.lists c.requires.plan) (plan_uses files lists b merged leaders plan c.requires.plan)
+          ∙ sym (plan_frame_len files lists b merged leaders plan c.requires.plan);
       written = subst W (sym c.requires.frame) (plan_written files b leaders laid lists laid.bounds.frames plan c.requires.lists c.requires.plain c.requires.plan planned);
       table = subst T (sym c.requires.header) (header_is files b leaders laid lists plan laid.bounds.frame_header laid.bounds.frames (λ p. not_low files b leaders laid lists p c.requires.plain));
     }

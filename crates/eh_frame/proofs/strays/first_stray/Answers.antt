@@ -1,4 +1,4 @@
-use Rattle.std.proofs.Common.{ℕ, Bool, ◌≡◌, false, get_or, length, subst, sym, ◌∙◌, arith, rules, inl, inr, ap}
+use Rattle.std.proofs.Common.{ℕ, Bool, get_or, length, sym, ◌∙◌, arith, rules, inl, inr, ap}
 use Rattle.std.proofs.lemmas.Bool.{cases_eq}
 use Rattle.lk_tables.specs.Files.{no_reloc}
 use Rattle.lk_tables.proofs.Finding.{first_number}

@@ -1,11 +1,11 @@
 use Rattle.std.proofs.Common.{◌≡◌, ◌∙◌, ap, pos, ◌+ℤ◌, rules}
 use Rattle.link_sections.specs.Views.{binding_in, files_in, laid_in, leaders_in}
 use Rattle.link_sections.proofs.SymbolSums.{sum_is}
-use Rattle.eh_frame.specs.Bytes.{sum_in, target_in}
+use Rattle.eh_frame.specs.Bytes.{sum_in, reloc_target}
 use Rattle.eh_frame.proofs.values.plain_sum.Goals as goal
 
 pub returns-clause-value : goal.returns-clause-value
-unfolding sum_in target_in
+unfolding sum_in reloc_target
 returns-clause-value c =
     let files = files_in c.args.view.now in
     let b = binding_in c.args.view.now in

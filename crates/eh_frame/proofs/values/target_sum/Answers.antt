@@ -2,11 +2,11 @@ use Rattle.std.proofs.Common.{◌≡◌, ◌∙◌, ap, sym, pos, ◌+ℤ◌, ru
 use Rattle.link_sections.specs.Addresses.{linker_address}
 use Rattle.link_sections.specs.Views.{binding_in, files_in, laid_in, leaders_in}
 use Rattle.link_sections.proofs.SymbolSums.{linker_is}
-use Rattle.eh_frame.specs.Bytes.{target_in}
+use Rattle.eh_frame.specs.Bytes.{reloc_target}
 use Rattle.eh_frame.proofs.values.target_sum.Goals as goal
 
 pub returns-in-Linker-clause-value : goal.returns-in-Linker-clause-value
-unfolding target_in
+unfolding reloc_target
 returns-in-Linker-clause-value c =
     let files = files_in c.args.view.now in
     let b = binding_in c.args.view.now in

@@ -49,7 +49,7 @@ returns-in-Ok-clause-sound c few =
     subst (λ l. IsSound files b c.args.leaders.now (with_contents l merging table)) (sym c.in_ok-layout.ensures.found)
     (sound_laid files b pools.pools.items (word_count table) c.args.leaders.now sizes merging table c.args.limits.now (frame_sizes c.args.frames.now) (all_sound c.args.tables.now) c.requires.leaders pools.rising
     c.requires.pools c.requires.sizes (all_apart c.args.sizes.now.rows c.args.sizes.now.sound) c.in_ok-layout.ensures.sized c.in_ok-layout.ensures.room
-    c.in_ok-layout.ensures.small (pools_seen files pools) (sizes_seen files pools) refl few none)
+    c.requires.small (pools_seen files pools) (sizes_seen files pools) refl few none)
 
 pub returns-in-Ok-clause-within : goal.returns-in-Ok-clause-within
 returns-in-Ok-clause-within c = within_limits c.args.limits.now _ c.in-Ok.ensures
@@ -58,40 +58,40 @@ pub returns-in-Ok-clause-rising : goal.returns-in-Ok-clause-rising
 returns-in-Ok-clause-rising c =
     (laws_seen c.in_ok-layout.layout (files_of c.args.tables.now) (binding_view c.args.binding.now) c.args.pools.now.pools.items (word_count (entries_of c.args.got.now)) c.args.leaders.now
     (sizes_of c.args.sizes.now) (frame_sizes c.args.frames.now) c.requires.leaders c.requires.sizes (all_apart c.args.sizes.now.rows c.args.sizes.now.sound) c.in_ok-layout.ensures.sized
-    c.in_ok-layout.ensures.room c.in_ok-layout.ensures.small c.in_ok-layout.ensures.found).rising
+    c.in_ok-layout.ensures.room c.requires.small c.in_ok-layout.ensures.found).rising
 
 pub returns-in-Ok-clause-segments : goal.returns-in-Ok-clause-segments
 returns-in-Ok-clause-segments c =
     (laws_seen c.in_ok-layout.layout (files_of c.args.tables.now) (binding_view c.args.binding.now) c.args.pools.now.pools.items (word_count (entries_of c.args.got.now)) c.args.leaders.now
     (sizes_of c.args.sizes.now) (frame_sizes c.args.frames.now) c.requires.leaders c.requires.sizes (all_apart c.args.sizes.now.rows c.args.sizes.now.sound) c.in_ok-layout.ensures.sized
-    c.in_ok-layout.ensures.room c.in_ok-layout.ensures.small c.in_ok-layout.ensures.found).segments
+    c.in_ok-layout.ensures.room c.requires.small c.in_ok-layout.ensures.found).segments
 
 pub returns-in-Ok-clause-apart : goal.returns-in-Ok-clause-apart
 returns-in-Ok-clause-apart c =
     (laws_seen c.in_ok-layout.layout (files_of c.args.tables.now) (binding_view c.args.binding.now) c.args.pools.now.pools.items (word_count (entries_of c.args.got.now)) c.args.leaders.now
     (sizes_of c.args.sizes.now) (frame_sizes c.args.frames.now) c.requires.leaders c.requires.sizes (all_apart c.args.sizes.now.rows c.args.sizes.now.sound) c.in_ok-layout.ensures.sized
-    c.in_ok-layout.ensures.room c.in_ok-layout.ensures.small c.in_ok-layout.ensures.found).apart
+    c.in_ok-layout.ensures.room c.requires.small c.in_ok-layout.ensures.found).apart
 
 pub returns-in-Ok-clause-inside : goal.returns-in-Ok-clause-inside
 returns-in-Ok-clause-inside c =
     (laws_seen c.in_ok-layout.layout (files_of c.args.tables.now) (binding_view c.args.binding.now) c.args.pools.now.pools.items (word_count (entries_of c.args.got.now)) c.args.leaders.now
     (sizes_of c.args.sizes.now) (frame_sizes c.args.frames.now) c.requires.leaders c.requires.sizes (all_apart c.args.sizes.now.rows c.args.sizes.now.sound) c.in_ok-layout.ensures.sized
-    c.in_ok-layout.ensures.room c.in_ok-layout.ensures.small c.in_ok-layout.ensures.found).inside
+    c.in_ok-layout.ensures.room c.requires.small c.in_ok-layout.ensures.found).inside
 
 pub returns-in-Ok-clause-aligned : goal.returns-in-Ok-clause-aligned
 returns-in-Ok-clause-aligned c =
     (laws_seen c.in_ok-layout.layout (files_of c.args.tables.now) (binding_view c.args.binding.now) c.args.pools.now.pools.items (word_count (entries_of c.args.got.now)) c.args.leaders.now
     (sizes_of c.args.sizes.now) (frame_sizes c.args.frames.now) c.requires.leaders c.requires.sizes (all_apart c.args.sizes.now.rows c.args.sizes.now.sound) c.in_ok-layout.ensures.sized
-    c.in_ok-layout.ensures.room c.in_ok-layout.ensures.small c.in_ok-layout.ensures.found).aligned
+    c.in_ok-layout.ensures.room c.requires.small c.in_ok-layout.ensures.found).aligned
 
 pub returns-in-Ok-clause-zeros : goal.returns-in-Ok-clause-zeros
 returns-in-Ok-clause-zeros c =
     (laws_seen c.in_ok-layout.layout (files_of c.args.tables.now) (binding_view c.args.binding.now) c.args.pools.now.pools.items (word_count (entries_of c.args.got.now)) c.args.leaders.now
     (sizes_of c.args.sizes.now) (frame_sizes c.args.frames.now) c.requires.leaders c.requires.sizes (all_apart c.args.sizes.now.rows c.args.sizes.now.sound) c.in_ok-layout.ensures.sized
-    c.in_ok-layout.ensures.room c.in_ok-layout.ensures.small c.in_ok-layout.ensures.found).zeros
+    c.in_ok-layout.ensures.room c.requires.small c.in_ok-layout.ensures.found).zeros
 
 pub returns-in-Ok-clause-framed : goal.returns-in-Ok-clause-framed
 returns-in-Ok-clause-framed c =
     (laws_seen c.in_ok-layout.layout (files_of c.args.tables.now) (binding_view c.args.binding.now) c.args.pools.now.pools.items (word_count (entries_of c.args.got.now)) c.args.leaders.now
     (sizes_of c.args.sizes.now) (frame_sizes c.args.frames.now) c.requires.leaders c.requires.sizes (all_apart c.args.sizes.now.rows c.args.sizes.now.sound) c.in_ok-layout.ensures.sized
-    c.in_ok-layout.ensures.room c.in_ok-layout.ensures.small c.in_ok-layout.ensures.found).framed
+    c.in_ok-layout.ensures.room c.requires.small c.in_ok-layout.ensures.found).framed

@@ -18,5 +18,7 @@ returns c =
     let eight = c.in_ok-arg-8.ensures.shape c.strip_option.ensures.local ∙ ap₂ with_rule seven c.strip_option.ensures.rule in
     let nine = c.in_ok-arg-9.ensures.shape c.undefined_option.ensures.local ∙ ap₂ with_rule eight c.undefined_option.ensures.rule in
     let ten = c.in_ok-arg-10.ensures.shape c.unique_option.ensures.local ∙ ap₂ with_rule nine c.unique_option.ensures.rule in
-    let eleven = c.in_ok-arg-11.ensures.shape c.generated_option.ensures.local ∙ ap₂ with_rule ten c.generated_option.ensures.rule in
-    IfOk-weaker c.arg-12.result _ _ (λ m h. h.shape c.files_argument.ensures.local ∙ ap₂ with_rule eleven c.files_argument.ensures.rule) c.arg-12.ensures
+    let eleven = c.in_ok-arg-11.ensures.shape c.why_live_option.ensures.local ∙ ap₂ with_rule ten c.why_live_option.ensures.rule in
+    let twelve = c.in_ok-arg-12.ensures.shape c.why_apart_option.ensures.local ∙ ap₂ with_rule eleven c.why_apart_option.ensures.rule in
+    let thirteen = c.in_ok-arg-13.ensures.shape c.generated_option.ensures.local ∙ ap₂ with_rule twelve c.generated_option.ensures.rule in
+    IfOk-weaker c.arg-14.result _ _ (λ m h. h.shape c.files_argument.ensures.local ∙ ap₂ with_rule thirteen c.files_argument.ensures.rule) c.arg-14.ensures

@@ -1,4 +1,4 @@
-use Rattle.std.proofs.Common.{◌≡◌, true, List, ℕ, rules, subst, sym}
+use Rattle.std.proofs.Common.{◌≡◌, true, rules, subst, sym}
 use Rattle.link_driver.specs.Link.{about}
 use Rattle.link_driver.specs.OneLine.{is_line}
 use Rattle.link_driver.proofs.OneLine.{about_is_line}

@@ -1,6 +1,6 @@
 use Rattle.std.proofs.Common.{List, sym, ap, ◌∙◌, subst}
 use Rattle.lk_tables.specs.BindingView.{binding_view}
-use Rattle.lk_tables.specs.Frames.{AreListsWithin, RecordList, all_frames, all_lists, list_views, lists_of}
+use Rattle.lk_tables.specs.Frames.{AreListsWithin, RecordList, all_frames, all_lists, list_views}
 use Rattle.lk_tables.specs.TablesView.{files_of}
 use Rattle.link_driver.proofs.FrameContents.{both_of, records_few, sections_known}
 use Rattle.link_driver.proofs.frames.find_frames.Goals as goal

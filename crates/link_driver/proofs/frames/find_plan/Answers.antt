@@ -8,8 +8,11 @@ use Rattle.link_driver.proofs.Handing.{on_each}
 use Rattle.link_driver.proofs.Leading.{planned_are}
 use Rattle.link_driver.proofs.frames.find_plan.Goals as goal
 
-pub plan-requires : goal.plan-requires
-plan-requires c = c.requires.frames.within
+pub plan-requires-clause-lists : goal.plan-requires-clause-lists
+plan-requires-clause-lists c = c.requires.frames.lists
+
+pub plan-requires-clause-within : goal.plan-requires-clause-within
+plan-requires-clause-within c = c.requires.frames.within
 
 pub returns-clause-plan : goal.returns-clause-plan
 returns-clause-plan c =

@@ -32,6 +32,9 @@ place-requires-clause-pools g c =
     let P : List Pool → Type 0 = λ pools. HaveFirsts files b pools in
     subst P (sym (ap pool_heads c.requires.pools) ∙ pool_heads_are files c.args.pools.now) (firsts_stay files b c.args.kept.now c.requires.stay)
 
+pub place-requires-clause-small : goal.place-requires-clause-small
+place-requires-clause-small g c = record { header = c.requires.small.header; frame = c.requires.small.frame }
+
 pub place-requires-clause-sizes : goal.place-requires-clause-sizes
 place-requires-clause-sizes g c =
     sizes_fit (files_of c.args.tables.now) (binding_view c.args.binding.now) (sizes_of c.in_ok-sizes.sizes)

@@ -1,5 +1,6 @@
-use Rattle.std.proofs.Common.{◌≡◌, ◌∙◌, List, [], ◌∷◌, true, ap, sym, subst, ℕ, IfOk}
+use Rattle.std.proofs.Common.{◌≡◌, ◌∙◌, List, [], ◌∷◌, ◌++◌, true, refl, ap, ap₂, sym, subst, ℕ, IfOk}
 use Rattle.std.specs.Prelude.{Result, Ok, Err}
+use Rattle.std.proofs.lemmas.Bool.{or_left, or_right}
 use Rattle.comdat.specs.Discarded.{discarded}
 use Rattle.file_live.specs.Live.{IsLive}
 use Rattle.link_command.specs.Command.{Asked, asks, lists_of}
@@ -11,6 +12,8 @@ use Rattle.lk_base.specs.Limits.{IsWithinStandard}
 use Rattle.lk_tables.specs.BoundNames.{binding_defects}
 use Rattle.lk_tables.specs.BindingView.{binding_view}
 use Rattle.lk_tables.specs.TablesView.{files_of}
+use Rattle.link_driver.specs.declared.linking.Linked.{Linked}
+use Rattle.link_driver.specs.Certificates.{asks_why, why_text}
 use Rattle.link_driver.specs.Contents.{input_contents, input_names, names_of, sources_of}
 use Rattle.link_driver.specs.Link.{Wishes, barred_of, bound_in, bound_names, defects_in, kept_in, kept_of, last_phases, linked_files, piece_defects, placing_defects, placing_phases, wishes_for, wishes_in, wishes_of}
 use Rattle.link_driver.specs.Phases.{HoldsAtStop, LinkStands, Makes, ShortenedCallsReach, Stops}
@@ -20,7 +23,7 @@ use Rattle.link_driver.specs.Defects.{opening_defects, reading_defects}
 use Rattle.lk_tables.specs.Binding.{first_phase}
 use Rattle.link_driver.proofs.Chain.{at_reading, at_binding, at_last, at_pieces, no_defects}
 use Rattle.link_driver.proofs.FirstLeast.{least_stop}
-use Rattle.link_driver.proofs.Handing.{binding_is, bound_are, gives_all, holds_in, made_as}
+use Rattle.link_driver.proofs.Handing.{binding_is, bound_are, gives_all, holds_in, made_as, why_as}
 use Rattle.link_driver.proofs.Passing.{early_binding, early_pieces, early_reading, not_past, past_on, placing_left}
 use Rattle.sym_resolve.specs.Law.{IsLawful}
 use Rattle.link_driver.proofs.linking.link_sources.Goals as goal
@@ -101,6 +104,12 @@ link_kept-requires-clause-bound g c = λ κs within.
     binding_is c.as_str-entry.result.now files (binding_view c.in-Ok-bound.binding)
     (told_of (λ binding. binding_view binding ≡ bound_names files c.as_str-entry.result.now) c.bind_beside-few.result.1 c.in-Ok-bound.binding c.in-Ok-bound.is c.bind_beside-few.ensures.names)
 
+pub why_text-requires-clause-bound : goal.why_text-requires-clause-bound
+why_text-requires-clause-bound g c = λ κs within.
+    let files = files_of c.in-Ok.both.0 in
+    binding_is c.as_str-entry.result.now files (binding_view c.in-Ok-bound.binding)
+    (told_of (λ binding. binding_view binding ≡ bound_names files c.as_str-entry.result.now) c.bind_beside-few.result.1 c.in-Ok-bound.binding c.in-Ok-bound.is c.bind_beside-few.ensures.names)
+
 pub find_barred-requires : goal.find_barred-requires
 find_barred-requires g c =
     let files = files_of c.in-Ok.both.0 in
@@ -177,7 +186,17 @@ returns-clause-after g c =
     let L : List (List ℕ) → Type 0 = λ u. IsLive u (heads_in ss) (live_in u ss) in
     let C : List (List ℕ) → Type 0 = λ u. IsCollected u files b c.in_ok-kept.kept.items in
     let wanted : Wishes → Type 0 = λ v. v.map ≡ true → names_of given ≡ shown in
-    let alike = subst wanted wished_is (λ on. ap names_of c.as_slice-4.ensures.value ∙ c.in_ok-names.ensures on) in
+    let shows = c.wants_names.ensures in
+    let alike = subst wanted wished_is (λ on. ap names_of c.as_slice-4.ensures.value
+    ∙ c.in_ok-names.ensures (shows ∙ or_left c.options_of-options.result.map (asks_why asked) on)) in
+    let said : Linked = record { exe = linked.exe; map = linked.map; report = c.extend_from_slice.new.self } in
+    let why = c.in_ok-why.why.items in
+    let kept_again = c.as_slice-5.ensures.value ∙ sym c.as_slice-2.ensures.value in
+    let barred_again = c.as_slice-6.ensures.value ∙ sym c.as_slice-3.ensures.value ∙ barred in
+    let named_again : asks_why asked ≡ true → names_of c.as_slice-7.result.now ≡ shown = λ on. ap names_of c.as_slice-7.ensures.value ∙ c.in_ok-names.ensures (shows ∙ or_right c.options_of-options.result.map (asks_why asked) on) in
+    let why_is : why ≡ why_text asked shown files b kept w.barred =
+    c.in_ok-why.ensures ∙ ap₂ (why_text asked (names_of c.as_slice-7.result.now) files b) kept_again barred_again
+    ∙ why_as asked (names_of c.as_slice-7.result.now) shown files b kept w.barred named_again in
     record {
       sound = no_defects limits asked ss read files are few
           (ap (binding_defects files (discarded files)) (sym c.as_str-entry.ensures.value) ∙ goes)
@@ -189,9 +208,11 @@ returns-clause-after g c =
           (c.in_ok-kept.ensures.kept ∙ ap (λ u. kept_of asked.gc u files b) asks_for) (subst C asks_for (c.in_ok-kept.ensures.collected gc));
       stands = holds_in asked ss (λ v fs n k. LinkStands v fs n k exe) files b kept are named stays (subst Q wished_is c.in-Ok-link_kept.ensures.stands);
       reach = holds_in asked ss ShortenedCallsReach files b kept are named stays (subst S wished_is c.in-Ok-link_kept.ensures.reach);
-      gives = gives_all asked shown ss linked
+      gives = gives_all asked shown ss linked said why
           (holds_in asked ss (λ v fs n k. Makes v shown fs n k linked) files b kept are named stays
-          (made_as w (names_of given) shown files b kept linked alike (subst R wished_is c.in-Ok-link_kept.ensures.written)));
+          (made_as w (names_of given) shown files b kept linked alike (subst R wished_is c.in-Ok-link_kept.ensures.written)))
+          refl refl (c.in_ok-extend_from_slice.ensures.items ∙ ap (λ l. linked.report.items ++ l) c.as_slice-8.ensures.value)
+          (holds_in asked ss (λ v fs n k. why ≡ why_text asked shown fs n k v.barred) files b kept are named stays why_is);
     }
 
 -- the tables are those of the command's files

@@ -1,4 +1,4 @@
-use Rattle.std.proofs.Common.{◌++◌, List, map, ap, ◌∙◌, arith}
+use Rattle.std.proofs.Common.{◌++◌, map, ap, ◌∙◌, arith}
 use Rattle.std.specs.Vec.Iter.{into_iter_items}
 use Rattle.lk_tables.specs.Files.{file_at}
 use Rattle.lk_tables.specs.Frames.{list_views}

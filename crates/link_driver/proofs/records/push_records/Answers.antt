@@ -1,6 +1,5 @@
-use Rattle.std.proofs.Common.{◌≡◌, true, false, sym, ap, ◌∙◌}
+use Rattle.std.proofs.Common.{true, false, sym, ◌∙◌}
 use Rattle.std.proofs.lemmas.Result.{err_from_is_err_and}
-use Rattle.lk_tables.specs.Files.{is_frame_at}
 use Rattle.lk_tables.specs.FileView.{file_view}
 use Rattle.lk_tables.specs.Frames.{list_views}
 use Rattle.lk_tables.specs.Objects.{object_view}

@@ -1,0 +1,11 @@
+-- The first value of the option, by clap's rows.
+use Rattle.std.proofs.Common.{◌∙◌, ap, Some}
+use Rattle.clap.specs.Words.{found_of}
+use Rattle.clap.proofs.WalkLemmas.{first_value-rows}
+use Rattle.link_command.proofs.values.text_if.Goals as goal
+
+pub returns-in_default : goal.returns-in_default
+returns-in_default c = c.in_default.ensures ∙ first_value-rows (found_of c.args.matches.now) c.args.id.now
+
+pub returns : goal.returns
+returns c = ap Some c.in_ok-to_string.ensures.ok ∙ (c.in-Some.ensures ∙ first_value-rows (found_of c.args.matches.now) c.args.id.now)

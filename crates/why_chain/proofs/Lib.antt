@@ -1,0 +1,19 @@
+-- Lemmas of the crate.
+pub mod Among
+pub mod Apartness
+pub mod Checking
+pub mod Ends
+pub mod Exhausted
+pub mod FirstChains
+pub mod Firsts
+pub mod Gathering
+pub mod Joined
+pub mod Living
+pub mod Meets
+pub mod Orders
+pub mod Pairing
+pub mod Parting
+pub mod Placing
+pub mod Searching
+pub mod Unwinding
+pub mod Walking
