@@ -124,7 +124,7 @@ def lines_run(texts, programs):
 def commands_checked(texts):
     """The same for commands."""
     programs = {row.split('\t')[1] for row in listed('-s', 'scripts', '.ci') if row.startswith('100755')}
-    lines, begun = lines_run(texts, programs)
+    lines, begun = lines_run(texts, programs.union(listed('scripts/*.sh')))     # others that end so are parts of these
     own = {page: commands_of(texts[page], programs) for page in COMMANDED}
     not_run = own['scripts/README.md'][1]
     asked = [(page, number, command) for page, (found, _) in own.items() for number, command in found] + [('scripts', 0, it) for it in sorted(programs)]

@@ -19,6 +19,11 @@ Usage: scripts/speed.py MODE [RVLD] [--before RVLD] [--runs 5] [--peers lld,mold
   star       the same, where the first section leads to all others
   layers     400 layers of 500 sections with ten addresses of the next layer each, and 800, with --gc-sections
   random     100,000 sections with three addresses of others each, and 200,000, with --gc-sections
+  frames     50,000, 100,000 and 200,000 functions with an FDE each: one section of code, and one of FDEs
+  owners     the same, each function in a section of code of its own
+  lists      the same, and each FDE in a section `.eh_frame` of its own
+  files      4,000, 8,000 and 16,000 objects of one function with an FDE
+  cxx        C++ of 2,500, 5,000 and 10,000 functions that clean up and catch, in objects of 100 by G++
   all        all of these
   plots      all of these at four or five sizes each, with 1 and 4 workers, and with pictures in docs/figures
   draw       measures nothing: makes the pictures anew from the figures that are kept beside them
@@ -34,6 +39,7 @@ import argparse
 import hashlib
 import math
 import multiprocessing
+import multiprocessing.pool
 import os
 import random
 import resource
@@ -48,7 +54,7 @@ from xml.sax.saxutils import escape
 
 sys.path.insert(0, os.path.dirname(os.path.realpath(__file__)))
 from elf.constants import (ALLOC, EXECINSTR, FUNC, GLOBAL, INFO_LINK, LOCAL, MERGE, NOTYPE, PROGBITS, R_64, R_CALL_PLT, R_RELAX, R_SET_ULEB128, R_SUB_ULEB128,
-                           RELA, RESERVED, SECTION, STRINGS, STRTAB, SYMTAB, UNDEF, WRITE)
+                           R_32_PCREL, R_ADD32, R_SUB32, RELA, RESERVED, SECTION, STRINGS, STRTAB, SYMTAB, UNDEF, WRITE)
 from elf.write import CALL, NOP, RETURN, Texts, archive, entry, indexes, placed, relocatable, simple, symbol
 
 
@@ -315,6 +321,67 @@ def unlike(folder, count):
     return led(folder, 'unlike', count, lambda k: (k + 1) % count, body=numbered)
 
 
+# A CIE as compilers write it, of augmentation "zR": distances of four bytes from where they stand; the stack pointer is the frame's
+CIE = bytes.fromhex('1000000000000000017a5200017c01011b0c0200')
+
+
+def framed_object(first, count, texts=1, lists=1):
+    """Functions `first` on, `count` of them, in `texts` sections, with an FDE each in `lists` sections of unwind records, all with a CIE; so many have to share out evenly."""
+    names = Texts()
+    rows = [('.text.f%d' % (first + k), PROGBITS, ALLOC | EXECINSTR, RETURN * (count // texts), 0, 0, 4, 0) for k in range(texts)]
+    places = [0] + [placed(1 + k * texts // count) for k in range(count)]
+    symbols = [bytes(24)] + [symbol(names.add('f%d' % (first + k)), GLOBAL, FUNC, places[1 + k], 4 * (k % (count // texts)), 4) for k in range(count)]
+    if not first:
+        places.append(1)
+        symbols.append(symbol(names.add('_start'), GLOBAL, FUNC, 1, 0, 4))
+    at_symtab = texts + 2 * lists + 1
+    for number in range(lists):
+        records, fixes = [CIE], []
+        for k in range(count // lists):
+            at, function = len(CIE) + 20 * k, 1 + number * (count // lists) + k
+            records.append((16).to_bytes(4, 'little') + (at + 4).to_bytes(4, 'little') + bytes(12))
+            fixes += [entry(at + 8, function, R_32_PCREL), entry(at + 12, function, R_ADD32, 4), entry(at + 12, function, R_SUB32)]
+        rows.append(('.eh_frame', PROGBITS, ALLOC, b''.join(records), 0, 0, 4, 0))
+        rows.append(('.rela.eh_frame', RELA, INFO_LINK, b''.join(fixes), at_symtab, len(rows), 8, 24))
+    rows.append(('.symtab', SYMTAB, 0, b''.join(symbols), at_symtab + 1, 1, 8, 24))
+    rows.append(('.strtab', STRTAB, 0, names.bytes(), 0, 0, 1, 0))
+    if at_symtab > RESERVED:
+        rows.append(indexes(places, at_symtab))
+    return relocatable(rows)
+
+
+def framed(folder, name, count, files=1, **more):
+    """So many objects of these functions, `count` in all."""
+    place = os.path.join(folder, '%s-%d' % (name, count))
+    os.makedirs(place, exist_ok=True)
+    return [write(os.path.join(place, 'e%d.o' % k), framed_object(k * (count // files), count // files, **more)) for k in range(files)]
+
+
+# What G++ asks of the C++ library for such functions; all are empty here
+CXX_LIBRARY = ['_ZTIl', '__cxa_allocate_exception', '__cxa_throw', '__cxa_begin_catch', '__cxa_end_catch', '__cxa_rethrow', '_Unwind_Resume', '__gxx_personality_v0',
+               '_ZN5GuardC1El', '_ZN5GuardD1Ev']
+
+
+def cxx(folder, count):
+    """Objects of 100 functions each, which call the next function and one of another object, clean up, and catch what they call; and one in the C++ library's place."""
+    place = os.path.join(folder, 'cxx-%d' % count)
+    os.makedirs(place, exist_ok=True)
+    files = [write(os.path.join(place, 'library.o'), simple(CXX_LIBRARY, ['_Z2f0l'], entry_point=True))]
+    for first in range(0, count, 100):
+        called = [(k + 1) % count for k in range(first, first + 100)] + [k * 7919 % count for k in range(first, first + 100)]
+        with open(os.path.join(place, 'c%d.cpp' % first), 'w') as file:
+            file.write('struct Guard { long kept; explicit Guard(long); ~Guard(); };\n')
+            file.writelines('long f%d(long);\n' % k for k in sorted(set(called)))
+            for k in range(first, first + 100):
+                file.write('long f%d(long n) { Guard guard(n); try { if (n < %d) throw n; Guard more(n + 1); return f%d(n - 1) + f%d(n / 2); } catch (long m) { if (m == %d) throw; '
+                           'return m + guard.kept; } }\n' % (k, k % 64, (k + 1) % count, k * 7919 % count, k % 7))
+        files.append(file.name[:-4] + '.o')
+    with multiprocessing.pool.ThreadPool() as pool:
+        compiler = 'riscv64-linux-gnu-g++ -O2 -fno-pie -ffunction-sections -c -o'.split()
+        pool.map(lambda name: os.path.exists(name) or subprocess.run(compiler + [name, name[:-2] + '.cpp'], check=True), files[1:])
+    return files
+
+
 def write(path, contents):
     with open(path, 'wb') as file:
         file.write(contents)
@@ -367,11 +434,22 @@ MODES = {
              (50000, 100000, 200000), 'Sections to all of which one leads, with `--gc-sections`'),
     'layers': (layers, 'layers', (400, 800), (200, 400, 800), 'Layers of 500 sections with ten addresses of the next layer each, with `--gc-sections`'),
     'random': (at_random, 'sections', (100000, 200000), (50000, 100000, 200000), 'Sections with three addresses of others each, with `--gc-sections`'),
+    'frames': (lambda folder, count: framed(folder, 'frames', count), 'FDEs', (50000, 100000, 200000), (25000, 50000, 100000, 200000),
+               'Functions of one section with an FDE each, in one section'),
+    'owners': (lambda folder, count: framed(folder, 'owners', count, texts=count), 'FDEs', (50000, 100000, 200000), (25000, 50000, 100000, 200000),
+               'Functions in a section each, with an FDE each in one section'),
+    'lists': (lambda folder, count: framed(folder, 'lists', count, texts=count, lists=count), 'FDEs', (50000, 100000, 200000), (25000, 50000, 100000, 200000),
+              'Functions in a section each, with an FDE in a section each'),
+    'files': (lambda folder, count: framed(folder, 'files', count, files=count), 'objects', (4000, 8000, 16000), (1000, 2000, 4000, 8000, 16000),
+              'Objects of one function with an FDE'),
+    'cxx': (cxx, 'functions', (2500, 5000, 10000), (1200, 2500, 5000, 10000), 'C++ by G++: functions that clean up and catch, in objects of 100'),
 }
 # what modes ask for beside: folding, which GNU ld does not have, or collection
 FOLDED = ('links', 'cycles', 'shapes', 'unlike')
 NEWER = ('pairs',)                              # relocations that linkers of before 2024 do not know: what these say is told, and is no fault
 COLLECTED = ('chain', 'star', 'layers', 'random')
+FRAMED = ('frames', 'owners', 'lists', 'files', 'cxx')     # a table of unwind records, which rvld always makes
+COMPILED = {'cxx': 'riscv64-linux-gnu-g++'}     # the compiler that makes the files
 
 
 def commands(rvld, before, peers, threads):
@@ -664,6 +742,11 @@ def main():
                 asked = [(linker, n, words + ['--icf=all']) for linker, n, words in rows if linker != 'ld']
             elif mode in COLLECTED:
                 asked = [(linker, n, words + ['--gc-sections']) for linker, n, words in rows]
+            elif mode in FRAMED:
+                asked = [(linker, n, words + ['--eh-frame-hdr'] * (linker in ('lld', 'mold', 'ld'))) for linker, n, words in rows]
+            if mode in COMPILED and not shutil.which(COMPILED[mode]):
+                print('speed: skipped %s (%s is not there)' % (mode, COMPILED[mode]))
+                continue
             before, noted = {}, []
             print('%-16s %-5s %7s %9s %9s %8s %8s %8s %7s' %
                   (mode, 'by', 'workers', 'median ms', 'least ms', 'MB', 'ms / MB', 'to rvld', 'growth'))

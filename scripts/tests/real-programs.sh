@@ -20,30 +20,9 @@
 set -u
 script=real-programs
 . "$(dirname "${BASH_SOURCE[0]}")/common.sh"
-keep=${REAL_WORK:-}
-begin
-sources=$top/scripts/real
-said=$sources/said
-. "$sources/debian.sh"
-
-ok() { pass; tell "$1: OK"; }
-differs() { say "$1: differs: $2"; }
-refuses() { say "$1: refused: $2"; }
+. "$(dirname "${BASH_SOURCE[0]}")/links.sh"
 
 # ------------------------------------------------------------------------------------------------------------------------ links
-
-emulate() { timeout 120 qemu-riscv64 "$@"; }
-
-# run_words EXECUTABLE: how most programs are run
-run_words() { emulate "$1" one 'two words'; }
-
-# run_machine EXECUTABLE: a program with scripts/real/machine.c on a machine without a system; what it writes comes out of its UART
-run_machine() {
-    local entry
-    entry=$("$sources/image.py" "$1" "$1.image") || return 1
-    timeout 120 qemu-system-riscv64 -machine virt -bios none -m 128M -display none -monitor none -serial stdio -no-reboot \
-        -device "loader,file=$1.image,addr=0x80000000,force-raw=on" -device "loader,addr=$(printf '%#x' $((0x80000000 + 0x$entry))),cpu-num=0"
-}
 
 # made NAME RUN KNOWN WORD..: links the files among the words with the other linker and with rvld; what both make, run by the function RUN, has to
 # write what the file KNOWN of scripts/real/said has. Each link of rvld's counts; where all are OK there is one line
@@ -82,33 +61,6 @@ made() {
     [ $failed != "$before" ] || tell "$name: OK ($links links$beside)"
 }
 
-# linked NAME OUT OPTIONS WORD..: whether rvld links the files
-linked() {
-    local name=$1 out=$2 options=$3 status
-    shift 3
-    # shellcheck disable=SC2086
-    timeout "$limit" "$rvld" -o "$out" $options "$@" >told 2>&1
-    status=$?
-    [ "$status" = 0 ] && [ ! -s told ] && return 0
-    refuses "$name" "status $status, $(first_line told)"
-    return 1
-}
-
-# as_known RUN EXECUTABLE KNOWN: whether it ends with 0 and writes what the file has; else `how` tells what it does
-as_known() {
-    local status
-    "$1" "./$2" >"$2.got" 2>&1
-    status=$?
-    if [ "$status" != 0 ]; then
-        how="it ends with $status: $(tail -n 1 "$2.got" | cut -c 1-200)"
-    elif ! cmp -s "$2.got" "$3"; then
-        how="it writes $(diff "$3" "$2.got" | sed -n 2,4p | tr '\n' ' ' | cut -c 1-200)"
-    else
-        return 0
-    fi
-    return 1
-}
-
 # mapped EXECUTABLE MAP: whether the map is one, and has the names and values of the executable's symbol table; else `how` tells
 mapped() {
     how="its map does not begin as one"
@@ -116,15 +68,6 @@ mapped() {
     command -v riscv64-linux-gnu-nm >/dev/null 2>&1 || return 0
     how="its map and its symbol table differ"
     [ -n "$rvld_words" ] || cmp -s <(awk '$1 == "symbol" { print $2, $3 }' "$2" | sort) <(riscv64-linux-gnu-nm "$1" | awk '{ print $1, $3 }' | sort)
-}
-
-# driven NAME KNOWN COMMAND..: a driver's command with scripts/rvld-ld as its linker makes the program `driven`, which is run by run_words
-driven() {
-    local name=$1 known=$said/$2
-    shift 2
-    rm -f driven
-    if ! "$@" -o driven >told 2>&1; then refuses "$name" "$(first_line told)"; return; fi
-    if as_known run_words driven "$known"; then ok "$name"; else differs "$name" "$how"; fi
 }
 
 # --------------------------------------------------------------------------------------------------------------- freestanding
@@ -256,15 +199,6 @@ musl_made() {
     made "$name" "$run" "$known" "$musl/crt1.o" "$musl/crti.o" "$@" "$musl/libc.a" "$(riscv64-linux-gnu-gcc -print-libgcc-file-name)" "$musl/crtn.o"
 }
 
-# find_musl: gets the package, and sets `musl` and `musl_include`
-find_musl() {
-    [ -z "${musl:-}" ] || return 0
-    there musl riscv64-linux-gnu-gcc riscv64-linux-gnu-ar apt-get dpkg || return
-    once apt make_lists || { skip musl "no lists of Debian 13: $(tail -n 1 apt.log)"; return 1; }
-    once musl get_musl || { skip musl "no package: $(tail -n 1 musl.log)"; return 1; }
-    musl=$(dirname "$(find "$work/musl" -name crt1.o)") musl_include=$(dirname "$(find "$work/musl" -name stdio.h | head -n 1)")
-}
-
 part_musl() {
     local name
     find_musl || return
@@ -300,23 +234,6 @@ part_musl() {
 
 # ----------------------------------------------------------------------------------------------------------------------- glibc
 
-# A copy of libc.a whose member libc-tls.o has a longer .bss: GCC gave it a symbol past the end of that section, which rvld refuses (F09)
-mend_glibc() {
-    local cc=riscv64-linux-gnu-gcc
-    mkdir -p glibc && cd glibc && cp "$($cc -print-file-name=libc.a)" libc.a || return 1
-    riscv64-linux-gnu-ar x libc.a libc-tls.o || return 0 # a libc.a without that member is taken as it is
-    echo '.bss; .zero 4096' | riscv64-linux-gnu-as -o longer.o - && riscv64-linux-gnu-ld -r -o mended.o libc-tls.o longer.o &&
-        mv mended.o libc-tls.o && riscv64-linux-gnu-ar r libc.a libc-tls.o
-}
-
-# glibc_words FILE..: sets `words` to what makes a static program on glibc of these files
-glibc_words() {
-    local cc=riscv64-linux-gnu-gcc
-    words=("$($cc -print-file-name=crt1.o)" "$($cc -print-file-name=crti.o)" "$($cc -print-file-name=crtbeginT.o)" "$@"
-        "$($cc -print-file-name=libm.a)" glibc/libc.a "$($cc -print-libgcc-file-name)"
-        "$($cc -print-file-name=libgcc_eh.a)" "$($cc -print-file-name=crtend.o)" "$($cc -print-file-name=crtn.o)")
-}
-
 # glibc_made NAME KNOWN FILE..: a static program on glibc of these files
 glibc_made() {
     local name=$1 known=$2 words
@@ -345,21 +262,6 @@ part_glibc() {
         skip "glibc streams" "it is not compiled: $(first_line told)"
     fi
     [ -n "${REAL_ONCE:-}" ] || { own_rules; newer_glibc; }
-}
-
-# Debian 13's glibc and what its GCC 14 made, as static archives
-get_newer() {
-    local file
-    apt_here download libc6-dev libgcc-14-dev libstdc++-14-dev || return 1
-    for file in lib{c6,gcc-14,stdc++-14}-dev_*.deb; do dpkg -x "$file" newer || return 1; done
-}
-
-# find_newer WHAT: gets them, and sets `newer` and `newer_gcc`, their folders
-find_newer() {
-    there "$1" apt-get dpkg || return
-    once apt make_lists || { skip "$1" "no lists of Debian 13: $(tail -n 1 apt.log)"; return 1; }
-    once newer get_newer || { skip "$1" "no packages: $(tail -n 1 newer.log)"; return 1; }
-    newer=$(dirname "$(find newer -name libc.a)") newer_gcc=$(dirname "$(find newer -name libstdc++.a)")
 }
 
 # Programs on glibc 2.41, C++ with the libstdc++.a of GCC 14, whose tables of exceptions have 15,000 pairs of ULEB128 relocations
@@ -419,7 +321,7 @@ refused_so() {
 part_refused() {
     local cc=riscv64-linux-gnu-gcc crt newer newer_gcc
     [ "$is_rvld" = 1 ] || { skip "what is refused" "it is another linker that stands in rvld's place"; return; }
-    there "what is refused" $cc riscv64-linux-gnu-g++ || return
+    there "what is refused" $cc || return
     # GCC places anchors from which it reaches several variables, also past their section's end
     if { $cc -O2 -fno-pie -c -o anchors.o "$sources/anchors.c" && $cc -O2 -fno-pie -fno-section-anchors -c -o no-anchors.o "$sources/anchors.c"; } >told 2>&1; then
         refused_so "section anchors" "rvld: F09 BadSymbol file=anchors.o section=N place=N name= other=0" anchors.o
@@ -427,18 +329,12 @@ part_refused() {
     else
         skip "section anchors" "they are not compiled: $(first_line told)"
     fi
-    { $cc -O2 -c -o hello.o "$sources/hello.c" && riscv64-linux-gnu-g++ -O2 -c -o throws.o "$sources/throws.cpp"; } >told 2>&1 ||
-        { skip "what is refused of glibc" "it is not compiled: $(first_line told)"; return; }
+    $cc -O2 -c -o hello.o "$sources/hello.c" >told 2>&1 || { skip "what is refused of glibc" "it is not compiled: $(first_line told)"; return; }
     crt=("$($cc -print-file-name=crt1.o)" "$($cc -print-file-name=crti.o)" "$($cc -print-file-name=crtn.o)" "$($cc -print-libgcc-file-name)"
         "$($cc -print-file-name=libgcc_eh.a)")
     if once glibc eval '(mend_glibc)'; then
         refused_so "glibc 2.36 as it is" "rvld: F09 BadSymbol file=libc.a(libc-tls.o) section=N place=N name= other=0" "${crt[@]}" hello.o \
             "$($cc -print-file-name=libc.a)"
-        if linked "a C++ exception" throws "" "${crt[@]}" "$($cc -print-file-name=crtbeginT.o)" throws.o \
-            "$(riscv64-linux-gnu-g++ -print-file-name=libstdc++.a)" "$($cc -print-file-name=libm.a)" glibc/libc.a "$($cc -print-file-name=crtend.o)"; then
-            emulate ./throws >told 2>/dev/null
-            if [ $? = 0 ] && [ "$(head -n 1 told)" = "caught 42" ]; then ok "a C++ exception, caught"; else differs "a C++ exception" "it writes $(first_line told)"; fi
-        fi
     else
         skip "what is refused of glibc" "its libc.a is not there: $(tail -n 1 glibc.log)"
     fi
@@ -451,7 +347,6 @@ part_refused() {
 
 # --------------------------------------------------------------------------------------------- newer tools, and sizes of code
 
-get_clang() { apt_here download clang-19 libclang-cpp19 libclang-common-19-dev && for file in *clang*_"$architecture".deb; do dpkg -x "$file" linkers || return 1; done; }
 get_picolibc() { apt_here download picolibc-riscv64-unknown-elf && dpkg -x picolibc-riscv64-unknown-elf_*.deb picolibc && rm -f picolibc-riscv64-unknown-elf_*.deb; }
 
 # sized NAME WORD..: a row of the table, and what differs
@@ -464,26 +359,9 @@ sized() {
     if [ "$status" = 0 ]; then pass; else differs "size of $name" "status $status"; fi
 }
 
-# find_linkers: sets LLD and GNULD, unless LLD is given
-find_linkers() {
-    if [ -n "${LLD:-}" ]; then
-        "$LLD" --help 2>/dev/null | grep -q relax-gp || { skip size "$LLD knows no --no-relax-gp"; return 1; }
-        return 0
-    fi
-    newer_here size linkers || return 1
-    wrap new-lld usr/lib/llvm-19/bin/ld.lld
-    new-lld --help 2>/dev/null | grep -q relax-gp || { skip size "Debian 13's ld.lld does not run here"; return 1; }
-    LLD=$work/bin/new-lld
-    [ -z "${GNULD:-}" ] || return 0
-    wrap new-ld usr/bin/riscv64-linux-gnu-ld
-    if new-ld --help 2>/dev/null | grep -q relax-gp; then GNULD=$work/bin/new-ld; else skip "size beside GNU ld" "Debian 13's does not run here"; fi
-}
-
 part_newer() {
     local name options folder words bare cxx="-std=c++17 -fno-exceptions -fno-rtti -fno-threadsafe-statics"
-    newer_here "programs by clang 19" linkers clang && find_musl || return
-    wrap new-clang usr/lib/llvm-19/bin/clang -resource-dir "$(find "$work/linkers/usr/lib/llvm-19/lib/clang" -mindepth 1 -maxdepth 1 | head -n 1)"
-    new-clang --version >told 2>&1 || { skip "programs by clang 19" "it does not run here: $(first_line told)"; return; }
+    find_clang "programs by clang 19" && find_musl || return
     words="-march=rv64gc -mabi=lp64d -ffunction-sections -fdata-sections"
     for options in "-O2 -fno-pic" "-Os -fpic" "-O3 -g -fno-pic"; do
         for name in hello formats memory locals threads; do
@@ -530,7 +408,7 @@ part_newer() {
 part_size() {
     local level name folder file clang words
     there size python3 riscv64-linux-gnu-gcc || return
-    find_linkers || return
+    find_linkers size || return
     mkdir -p sizes
     echo "| bytes of code | rvld | ld.lld | ld.lld, files in rvld's order | GNU ld |"
     echo "|---|---|---|---|---|"
@@ -618,38 +496,12 @@ part_commands() {
 
 # ------------------------------------------------------------------------------------------------------------------------- all
 
-command -v qemu-riscv64 >/dev/null 2>&1 || { skip "all" "qemu-riscv64 is not there"; exit 0; }
-# what this rvld takes: an input that is not there is looked for once the command is accepted
-if [ "$("$rvld" 2>&1)" = "rvld: bad command" ]; then is_rvld=1; else is_rvld=0; fi
-if [ -n "${RVLD_WORDS+set}" ]; then
-    rvld_words=$RVLD_WORDS
-elif [ "$("$rvld" -o probe.out none.o 2>&1)" != "rvld: bad command" ]; then
-    rvld_words=
-else
-    rvld_words=-s
-fi
-# how often a program is linked, by its options, and by the number of workers
-trials=("" "--no-relax" "--gc-sections" "--gc-sections --icf all" "--gc-sections --icf safe") workers=(1 2 64) levels=(O2 Os) ways=("-O2" "-O2 -fno-pie")
-limit=300 # seconds of a link
-[ -n "$rvld_words" ] || trials+=("-s")
-[ -z "${REAL_ONCE:-}" ] || { trials=("--gc-sections"); workers=(); levels=(O2); ways=("-O2"); limit=3000; }
-has_map=0
-# shellcheck disable=SC2086
-[ "$("$rvld" $rvld_words --Map probe.map -o probe.out none.o 2>&1)" != "rvld: cannot read none.o" ] || has_map=1
-# shellcheck disable=SC2086
-if [ "$("$rvld" $rvld_words --self-input 2 -o probe.out 2>/dev/null | cut -c 1-9)" = "objects 2" ]; then has_input=1; else has_input=0; fi
-# a program `rvld` on the path, and the linker of the drivers
-mkdir -p bin drivers
-cat >bin/rvld <<END
-#!/bin/sh
-case " \$* " in *" -s "*) ;; *) set -- $rvld_words "\$@" ;; esac
-exec "$rvld" "\$@"
-END
-chmod +x bin/rvld
-ln -sf "$top/scripts/rvld-ld" drivers/ld
-rvld=$work/bin/rvld
-export RVLD=$rvld PATH=$work/bin:$PATH
-
+keep=${REAL_WORK:-}
+ready
+# by how many workers each program is linked, and how it is compiled
+workers=(1 2 64) levels=(O2 Os) ways=("-O2" "-O2 -fno-pie")
+[ -n "$rvld_words" ] || [ -n "${REAL_ONCE:-}" ] || trials+=("-s")
+[ -z "${REAL_ONCE:-}" ] || { workers=(); levels=(O2); ways=("-O2"); }
 there "each program beside ld.lld" ld.lld || true
 parts=("$@")
 [ ${#parts[@]} -gt 0 ] || parts=(free picolibc musl glibc refused commands)
