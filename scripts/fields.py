@@ -105,11 +105,11 @@ def made():
     with tempfile.TemporaryDirectory() as folder:
         for name, width, text, values in FORMS:
             values = list(dict.fromkeys(values))
-            yield f'\n// {text}'
+            yield f'// {text}'
             yield f'pub(super) const {name}: &[Encoding] = rows!['
-            rows = ', '.join(f'{v}=0x{int.from_bytes(code, "little"):0{2 * width}x}' for v, code in zip(values, encoded(width, text, values, folder)))
-            for line in textwrap.wrap(rows, 120, break_long_words=False, break_on_hyphens=False):
-                yield '    ' + line.replace('=', ' => ')
+            rows = ', '.join(f'{v}\xa0=>\xa00x{int.from_bytes(code, "little"):0{2 * width}x}' for v, code in zip(values, encoded(width, text, values, folder)))
+            for line in textwrap.wrap(rows, 150, initial_indent='    ', subsequent_indent='    ', break_long_words=False, break_on_hyphens=False):
+                yield line.replace('\xa0', ' ')
             yield '];'
 
 
@@ -121,7 +121,8 @@ macro_rules! rows {
     ($($v:literal => $place:literal),+) => {
         &[$(Encoding { v: $v, place: $place }),+]
     };
-}'''
+}
+'''
 
 
 def main():

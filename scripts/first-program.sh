@@ -14,7 +14,7 @@ if [ "${1:-}" = --unproved ]; then
     rvld=$work/rvld
     "$top/scripts/unproved.sh" --tested "$rvld"
 elif [ ! -x "$rvld" ]; then
-    echo "first-program: proving and building rvld"
+    echo "first-program: proving and building rvld: an hour on four processors where nothing was proved before (--unproved takes some minutes)"
     (cd "$top/crates/rvld" && rt run >/dev/null 2>&1) || true
     [ -x "$rvld" ] || { echo "first-program: rvld was not built: rt run in crates/rvld says why"; exit 1; }
 fi

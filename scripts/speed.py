@@ -1,7 +1,7 @@
 #!/usr/bin/env python3
 """Times rvld beside ld.lld, mold and GNU ld, each where it is there, on objects and archives made for it.
 
-Usage: scripts/speed.py MODE [RVLD] [--before RVLD] [--runs 5] [--peers lld,mold,ld] [--threads 1,2,4] [--keep DIR] [--figures DIR]
+Usage: scripts/speed.py MODE [RVLD] [--before RVLD] [--runs 5] [--peers lld,mold,ld] [--threads 1,2,4] [--sizes N,N] [--keep DIR] [--figures DIR]
 
   objects    1000, 4000 and 16000 small objects that call each other in a binary tree
   symbols    one object of 100,000 symbols and 300,000 relocations, and one of twice as many
@@ -24,16 +24,24 @@ Usage: scripts/speed.py MODE [RVLD] [--before RVLD] [--runs 5] [--peers lld,mold
   lists      the same, and each FDE in a section `.eh_frame` of its own
   files      4,000, 8,000 and 16,000 objects of one function with an FDE
   cxx        C++ of 2,500, 5,000 and 10,000 functions that clean up and catch, in objects of 100 by G++
+  units      250, 500 and 1,000 objects of 40 functions of C++ by G++, with groups, shared strings and tables; symbols kept, calls relaxed
+  debug      the same with 300 KB of debug data each, stripped and not relaxed
+  library    a quarter, a half and all members of a C library (Debian's musl for RISC-V); symbols kept, calls relaxed
+  relaxed    1,000, 4,000 and 16,000 objects of the tree with R_RISCV_RELAX; symbols kept, calls relaxed
+  data       one object with 50, 100 and 200 MB of data, with an address in each 4096 bytes
   all        all of these
   plots      all of these at four or five sizes each, with 1 and 4 workers, and with pictures in docs/figures
   draw       measures nothing: makes the pictures anew from the figures that are kept beside them
   --small    a hundredth of each size, to try the script
 
-The linkers take turns, run by run. A row has the median time, the fastest, the greatest memory of a run, and the time for each
+The linkers take turns, run by run. A row has the median time, the fastest, the median time of all processors, the greatest memory of a run, and the time for each
 megabyte of input; then its ratio to rvld with as many workers, and how both grew from the size before.
+mold spends a millisecond on each file that the command names, so more than 100 stand in one archive for it, under --whole-archive.
+With --keep the files stay in DIR, and are taken from there where an earlier run left all of them.
 With --figures (docs/figures for `plots` and `draw`) the folder gets MODE.tsv, the figures; pictures (SVG) of time and memory against size; and
 README.md, the page of all of them.
 RVLD is $RVLD where it is not named, else crates/rvld/out/rvld; `none` leaves it out. --before names another rvld, such as one built from an earlier commit.
+The peer `lld-19` is the command `ld.lld-19`, of Debian's package of that name; it takes part where it is asked for.
 """
 import argparse
 import hashlib
@@ -55,11 +63,12 @@ from xml.sax.saxutils import escape
 sys.path.insert(0, os.path.dirname(os.path.realpath(__file__)))
 from elf.constants import (ALLOC, EXECINSTR, FUNC, GLOBAL, INFO_LINK, LOCAL, MERGE, NOTYPE, PROGBITS, R_64, R_CALL_PLT, R_RELAX, R_SET_ULEB128, R_SUB_ULEB128,
                            R_32_PCREL, R_ADD32, R_SUB32, RELA, RESERVED, SECTION, STRINGS, STRTAB, SYMTAB, UNDEF, WRITE)
+from elf.read import File, members
 from elf.write import CALL, NOP, RETURN, Texts, archive, entry, indexes, placed, relocatable, simple, symbol
 
 
-def tree_object(k, count):
-    """Object k of a tree: f calls its own g and the f of two children."""
+def tree_object(k, count, hints=False):
+    """Object k of a tree: f calls its own g and the f of two children. With `hints` the calls may be relaxed."""
     children = [child for child in (2 * k + 1, 2 * k + 2) if child < count]
     text = CALL * (1 + len(children)) + RETURN
     own = (['_start'] if k == 0 else []) + ['f%d' % k]
@@ -74,7 +83,7 @@ def tree_object(k, count):
     for child in children:
         callees.append(len(symbols))
         symbols.append(symbol(names.add('f%d' % child), GLOBAL, NOTYPE, UNDEF))
-    calls = b''.join(entry(8 * i, callee, R_CALL_PLT) for i, callee in enumerate(callees))
+    calls = b''.join(entry(8 * i, callee, kind) for i, callee in enumerate(callees) for kind in ((R_CALL_PLT, R_RELAX) if hints else (R_CALL_PLT,)))
     return relocatable([
         ('.text.f', PROGBITS, ALLOC | EXECINSTR, text, 0, 0, 4, 0),
         ('.rela.text.f', RELA, INFO_LINK, calls, 8, 1, 8, 24),
@@ -148,14 +157,14 @@ def distances(count):
 def chain_archive(count):
     """An archive of `count` members. Every other one is in a chain: it calls the next of the chain."""
     half = count // 2
-    members = []
+    made = []
     index = []
     for k in range(half):
-        members.append(('chain_%d.o' % k, simple(['c%d' % k], ['c%d' % (k + 1)] if k + 1 < half else [])))
-        index.append(('c%d' % k, len(members) - 1))
-        members.append(('member_with_a_long_name_%d.o' % k, simple(['d%d' % k], ['c0'])))
-        index.append(('d%d' % k, len(members) - 1))
-    return archive(members, index)
+        made.append(('chain_%d.o' % k, simple(['c%d' % k], ['c%d' % (k + 1)] if k + 1 < half else [])))
+        index.append(('c%d' % k, len(made) - 1))
+        made.append(('member_with_a_long_name_%d.o' % k, simple(['d%d' % k], ['c0'])))
+        index.append(('d%d' % k, len(made) - 1))
+    return archive(made, index)
 
 
 def string_object(first, strings):
@@ -382,17 +391,86 @@ def cxx(folder, count):
     return files
 
 
+def unit_source(functions):
+    """C++ of one unit: each function calls the next and one of another unit; some have strings, of which some are shared, or call a member of a template, which stands
+    in a group; a class and tables have pointers to functions. `unit0000` and `that0000` are the two units' names."""
+    lines = ['long note(const char *, long);', 'struct Shape { long own; virtual long area(long) const; virtual long edge(long) const; };',
+             'template <int N> struct Part { long held; __attribute__((noinline)) long turn(long n) { held += n; return note("a part of the shape is turned", held * N); } };',
+             'namespace that0000 { %s }' % ' '.join('long function_%d(long);' % k for k in range(functions)),
+             'namespace unit0000 {', 'struct Own : Shape { long area(long n) const override; long edge(long n) const override; };']
+    lines += ['long function_%d(long);' % k for k in range(functions)]
+    for k in range(functions):
+        body = 'n += function_%d(n) + that0000::function_%d(n + %d);' % ((k + 1) % functions, k * 7 % functions, k)
+        if k % 4 == 0:
+            body += ' Part<%d> part{n}; n += part.turn(n);' % (k % 16)
+        if k % 3 == 1:
+            body += ' n += note("function %d of unit0000", n);' % k
+        if k % 5 == 2:
+            body += ' n += note("what is shared by all, number %d", n);' % (k % 10)
+        lines.append('long function_%d(long n) { %s return n ^ %d; }' % (k, body, k))
+    lines += ['long Own::area(long n) const { return n + function_1(n); }', 'long Own::edge(long n) const { return own + function_2(n); }',
+              'extern long (*const table[])(long); long (*const table[])(long) = {%s};' % ', '.join('function_%d' % k for k in range(0, functions, 2)),
+              'const char *names[] = {%s};' % ', '.join('"name %d"' % k for k in range(10)), '}']
+    return '\n'.join(lines + [''])
+
+
+# What such units ask of others, beside one another; all are empty here
+UNIT_LIBRARY = ['_Z4notePKcl', '_ZNK5Shape4areaEl', '_ZNK5Shape4edgeEl', '_ZTI5Shape', '_ZTVN10__cxxabiv120__si_class_type_infoE']
+
+
+def units(folder, count, headers=(), options=()):
+    """Units of 40 functions: one is compiled, and the others are made of it by their numbers; and an object in the place of libraries."""
+    place = os.path.join(folder, '%s-%d' % ('debug' if headers else 'units', count))
+    os.makedirs(place, exist_ok=True)
+    source, compiled = os.path.join(place, 'unit.cpp'), os.path.join(place, 'unit.o')
+    with open(source, 'w') as file:
+        file.write(''.join('#include <%s>\n' % header for header in headers) + unit_source(40))
+    subprocess.run(['riscv64-linux-gnu-g++', '-O2', '-fno-pie', '-ffunction-sections', *options, '-c', '-o', compiled, source], check=True)
+    with open(compiled, 'rb') as file:
+        contents = file.read()
+    os.remove(compiled)
+    files = [write(os.path.join(place, 'library.o'), simple(UNIT_LIBRARY, ['_ZN8unit000010function_0El'], entry_point=True))]
+    for k in range(count):
+        numbered = contents.replace(b'unit0000', b'unit%04d' % k).replace(b'that0000', b'unit%04d' % (k * 7919 % count))
+        files.append(write(os.path.join(place, 'u%d.o' % k), numbered))
+    return files
+
+
+def library(folder, share):
+    """So many hundredths of the members of Debian's musl for RISC-V, which is fetched once, and what is asked of the compiler's library."""
+    place = os.path.join(folder, 'library')
+    if not os.path.exists(os.path.join(place, 'libc.a')):
+        os.makedirs(place, exist_ok=True)
+        # (scripts/real/debian.sh gets it into the folder alone)
+        subprocess.run(['bash', '-c', 'work=$PWD; . "$0"; once lists make_lists && once musl get_musl && cp "$(find musl -name libc.a)" .', os.path.join(HERE, 'real/debian.sh')],
+                       cwd=place, check=True)
+    with open(os.path.join(place, 'libc.a'), 'rb') as file:
+        found = [contents for _, contents in members(file.read())]
+    chosen = found[:len(found) * share // 100]
+    whole = os.path.join(place, 'members-%d' % share)
+    os.makedirs(whole, exist_ok=True)
+    files = [write(os.path.join(whole, 'm%d.o' % k), contents) for k, contents in enumerate(chosen)]
+    # what no member defines is defined as empty, and the entry stands beside it
+    defined, undefined = set(), set()
+    for contents in chosen:
+        for each in File(contents).symbols():
+            if each.binding != LOCAL:
+                (undefined if each.section == UNDEF else defined).add(each.name)
+    files.append(write(os.path.join(whole, 'rest.o'), simple(sorted(undefined - defined - {'_start'}), [], entry_point=True)))
+    return files
+
+
 def write(path, contents):
     with open(path, 'wb') as file:
         file.write(contents)
     return path
 
 
-def tree(folder, count):
+def tree(folder, count, hints=False):
     """The tree's objects, in a folder for each count, since an object's callees depend on it."""
-    place = os.path.join(folder, 'tree-%d' % count)
+    place = os.path.join(folder, '%s-%d' % ('relaxed' if hints else 'tree', count))
     os.makedirs(place, exist_ok=True)
-    return [write(os.path.join(place, 'gen%d.o' % k), tree_object(k, count)) for k in range(count)]
+    return [write(os.path.join(place, 'gen%d.o' % k), tree_object(k, count, hints)) for k in range(count)]
 
 
 def wide(folder, count):
@@ -405,6 +483,19 @@ def sections(folder, count):
 
 def pairs(folder, count):
     return [write(os.path.join(folder, 'pairs-%d.o' % count), distances(count))]
+
+
+def data(folder, megabytes):
+    """One object of so much data, with an address in each 4096 bytes."""
+    words = megabytes * 10 ** 6 // 4096
+    names = Texts()
+    symbols = [bytes(24), symbol(names.add('_start'), GLOBAL, FUNC, 1, 0, 4), symbol(names.add('data'), GLOBAL, NOTYPE, 3)]
+    return [write(os.path.join(folder, 'data-%d.o' % megabytes), relocatable([
+        ('.text', PROGBITS, ALLOC | EXECINSTR, RETURN, 0, 0, 4, 0),
+        ('.rela.data', RELA, INFO_LINK, b''.join(entry(4096 * k, 2, R_64, k) for k in range(words)), 4, 3, 8, 24),
+        ('.data', PROGBITS, ALLOC | WRITE, random.Random(megabytes).randbytes(4096) * words, 0, 0, 8, 0),
+        ('.symtab', SYMTAB, 0, b''.join(symbols), 5, 1, 8, 24),
+        ('.strtab', STRTAB, 0, names.bytes(), 0, 0, 1, 0)]))]
 
 
 def chain(folder, count):
@@ -443,13 +534,24 @@ MODES = {
     'files': (lambda folder, count: framed(folder, 'files', count, files=count), 'objects', (4000, 8000, 16000), (1000, 2000, 4000, 8000, 16000),
               'Objects of one function with an FDE'),
     'cxx': (cxx, 'functions', (2500, 5000, 10000), (1200, 2500, 5000, 10000), 'C++ by G++: functions that clean up and catch, in objects of 100'),
+    'units': (units, 'objects', (250, 500, 1000), (125, 250, 500, 1000), 'C++ by G++: objects of 40 functions with groups, strings and tables, symbols kept and calls relaxed'),
+    'debug': (lambda folder, count: units(folder, count, headers=('string', 'vector'), options=('-g',)), 'objects', (250, 500, 1000), (125, 250, 500, 1000),
+              'The same with debug data, stripped and not relaxed'),
+    'library': (library, 'hundredths', (25, 50, 100), (12, 25, 50, 100), 'The members of a C library, symbols kept and calls relaxed'),
+    'relaxed': (lambda folder, count: tree(folder, count, hints=True), 'objects', (1000, 4000, 16000), (1000, 2000, 4000, 8000, 16000),
+                'Small objects that call each other in a binary tree, symbols kept and calls relaxed'),
+    'data': (data, 'MB', (50, 100, 200), (25, 50, 100, 200), 'One object of little but data'),
 }
 # what modes ask for beside: folding, which GNU ld does not have, or collection
 FOLDED = ('links', 'cycles', 'shapes', 'unlike')
 NEWER = ('pairs',)                              # relocations that linkers of before 2024 do not know: what these say is told, and is no fault
 COLLECTED = ('chain', 'star', 'layers', 'random')
-FRAMED = ('frames', 'owners', 'lists', 'files', 'cxx')     # a table of unwind records, which rvld always makes
-COMPILED = {'cxx': 'riscv64-linux-gnu-g++'}     # the compiler that makes the files
+FRAMED = ('frames', 'owners', 'lists', 'files', 'cxx', 'units', 'debug')     # a table of unwind records, which rvld always makes
+WHOLE = ('units', 'library', 'relaxed')         # symbols are kept and calls relaxed, as linkers do without options
+COMPILED = {'cxx': 'riscv64-linux-gnu-g++', 'units': 'riscv64-linux-gnu-g++', 'debug': 'riscv64-linux-gnu-g++', 'library': 'apt-get'}     # what makes the files
+
+
+PROGRAMS = {'lld': 'ld.lld', 'lld-19': 'ld.lld-19', 'mold': 'mold', 'ld': 'riscv64-linux-gnu-ld'}
 
 
 def commands(rvld, before, peers, threads):
@@ -457,13 +559,22 @@ def commands(rvld, before, peers, threads):
     rows = []
     for n in threads:
         rows += [(name, n, [program, '-s', '--no-relax', '--threads', str(n)]) for name, program in (('rvld', rvld), ('before', before)) if program]
-        if 'lld' in peers and shutil.which('ld.lld'):
-            rows.append(('lld', n, ['ld.lld', '-static', '-s', '--no-relax', '--threads=%d' % n]))
-        if 'mold' in peers and shutil.which('mold'):
+        rows += [(peer, n, [PROGRAMS[peer], '-static', '-s', '--no-relax', '--threads=%d' % n]) for peer in ('lld', 'lld-19') if peer in peers]
+        if 'mold' in peers:
             rows.append(('mold', n, ['mold', '-m', 'elf64lriscv', '-static', '-s', '--no-relax', '--no-fork', '--thread-count', str(n)]))
-    if 'ld' in peers and shutil.which('riscv64-linux-gnu-ld'):
+    if 'ld' in peers:
         rows.append(('ld', 1, ['riscv64-linux-gnu-ld', '-static', '-s', '--no-relax']))
     return rows
+
+
+def in_one_archive(files, path):
+    """The words for mold in the place of many files: one archive of all, of which nothing is left out."""
+    contents = []
+    for name in files:
+        with open(name, 'rb') as file:
+            contents.append((os.path.basename(name), file.read()))
+    write(path, archive(contents))
+    return ['--whole-archive', path, '--no-whole-archive']
 
 
 def greatest_memory(pid):
@@ -479,7 +590,7 @@ def greatest_memory(pid):
 
 
 def run(words, limit):
-    """Seconds, greatest memory in MB, status and line of one run; the status is None where the time was over."""
+    """Seconds by the clock and of all processors, greatest memory in MB, status and line of one run; the status is None where the time was over."""
     begun = time.perf_counter()
     child = subprocess.Popen(words, stdout=subprocess.DEVNULL, stderr=subprocess.PIPE)
     seen = [0]
@@ -504,23 +615,33 @@ def run(words, limit):
     # a child's peak counts from this process's own, so what was seen while it ran stands for the small ones
     own = resource.getrusage(resource.RUSAGE_SELF).ru_maxrss
     peak = usage.ru_maxrss / 1024 if usage.ru_maxrss > own else seen[0]
-    return seconds, peak, None if seconds > limit else child.returncode, line
+    return seconds, usage.ru_utime + usage.ru_stime, peak, None if seconds > limit else child.returncode, line
 
 
-def made_apart(make, *words):
-    """What `make` gives, worked out by a process of its own, so that this one stays small: it only gives names of files."""
+def made_apart(kept, make, *words):
+    """What `make` gives, worked out by a process of its own, so that this one stays small: it only gives names of files. The list `kept`, if any, holds them for later runs."""
+    if kept and os.path.exists(kept):
+        with open(kept) as lines:
+            files = lines.read().splitlines()
+        if all(map(os.path.exists, files)):
+            return files
     receiver, sender = multiprocessing.Pipe(False)
     maker = multiprocessing.get_context('fork').Process(target=lambda: sender.send(make(*words)))
     maker.start()
     given = receiver.recv()
     maker.join()
+    if kept:
+        with open(kept, 'w') as lines:
+            lines.writelines(name + '\n' for name in given)
     return given
 
 
 def measure(what, files, rows, runs, limit, out):
-    """{(linker, workers): (median, fastest, memory)} for the linkers that linked these files."""
+    """{(linker, workers): (median, fastest, median of all processors, memory)} for the linkers that linked these files."""
     megabytes = sum(os.path.getsize(file) for file in files) / 1e6
+    whole = made_apart(None, in_one_archive, files, out + '.a') if any(linker == 'mold' for linker, _, _ in rows) and len(files) > 100 else files
     times = {}
+    processors = {}
     memory = {}
     gone = set()
     made = {}                                   # the digest of rvld's executable for each number of workers
@@ -531,7 +652,7 @@ def measure(what, files, rows, runs, limit, out):
                 continue
             if os.path.exists(out):
                 os.remove(out)
-            seconds, peak, status, line = run(words + ['-o', out] + files, limit)
+            seconds, worked, peak, status, line = run(words + ['-o', out] + (whole if linker == 'mold' else files), limit)
             if status != 0 or not os.path.exists(out):
                 print('%s: %s with %d workers: status %s %s' % (what, linker, workers, status, line[:200].decode(errors='replace')))
                 gone.add(key)
@@ -544,15 +665,19 @@ def measure(what, files, rows, runs, limit, out):
                     gone.add(key)
             if turn:
                 times.setdefault(key, []).append(seconds)
+                processors.setdefault(key, []).append(worked)
             memory[key] = max(peak, memory.get(key, 0))
-    return {key: (statistics.median(list_), min(list_), memory[key]) for key, list_ in times.items() if key not in gone}, megabytes, gone
+    if whole != files:
+        os.remove(out + '.a')
+    return {key: (statistics.median(list_), min(list_), statistics.median(processors[key]), memory[key])
+            for key, list_ in times.items() if key not in gone}, megabytes, gone
 
 
 # ------------------------------------------------------------------------------------------------------------------ pictures
 
 HERE = os.path.dirname(os.path.abspath(__file__))
-NAMES = {'rvld': 'rvld', 'before': 'rvld before', 'lld': 'ld.lld', 'mold': 'mold', 'ld': 'GNU ld'}
-COLOURS = {'rvld': '#c2410c', 'before': '#d97706', 'lld': '#1d4ed8', 'mold': '#15803d', 'ld': '#6b7280'}
+NAMES = {'rvld': 'rvld', 'before': 'rvld before', 'lld': 'ld.lld', 'lld-19': 'ld.lld 19', 'mold': 'mold', 'ld': 'GNU ld'}
+COLOURS = {'rvld': '#c2410c', 'before': '#d97706', 'lld': '#1d4ed8', 'lld-19': '#7c3aed', 'mold': '#15803d', 'ld': '#6b7280'}
 WIDTH, HEIGHT, LEFT, RIGHT, TOP, BOTTOM = 640, 380, 64, 92, 58, 48
 
 
@@ -613,9 +738,9 @@ def picture(title, below, across, upwards, lines):
 
 
 def draw(folder, mode, rows, how):
-    """The pictures of a mode's figures, [(size, linker, workers, median, least, memory)] in ms and MB. Gives their names, with what each shows."""
+    """The pictures of a mode's figures, [(size, linker, workers, median, least, memory, processor time)] in ms and MB. Gives their names, with what each shows."""
     counted = MODES[mode][1]
-    some = sorted({workers for _, _, workers, _, _, _ in rows})
+    some = sorted({row[2] for row in rows})
 
     def lines(workers, column):
         """For each linker its points with that many workers; GNU ld has one."""
@@ -642,9 +767,9 @@ def draw(folder, mode, rows, how):
 def keep(folder, mode, rows, how):
     """Writes a mode's figures, for pictures to be drawn of later, with how they were measured."""
     with open(os.path.join(folder, mode + '.tsv'), 'w') as out:
-        out.write('# %s\n# size\tlinker\tthreads\tmedian ms\tleast ms\tMB\n' % how)
+        out.write('# %s\n# size\tlinker\tthreads\tmedian ms\tleast ms\tMB\tprocessor ms\n' % how)
         for row in rows:
-            out.write('%d\t%s\t%d\t%.1f\t%.1f\t%.1f\n' % row)
+            out.write('%d\t%s\t%d\t%.1f\t%.1f\t%.1f\t%.1f\n' % row)
 
 
 def kept(folder, mode):
@@ -663,7 +788,7 @@ def kept(folder, mode):
 
 def page(folder):
     """Pictures of all figures that are kept in the folder, and a page with them and with tables."""
-    out = ['# Figures with pictures', '', 'Made by `scripts/speed.py plots`, and drawn anew from the kept figures by `scripts/speed.py draw`. All link statically, without relaxing, and',
+    out = ['# Figures with pictures', '', 'Made by `scripts/speed.py plots`, and drawn anew from the kept figures by `scripts/speed.py draw`. All link statically; but for those that say so they do not relax, and',
            'strip. Time is what passes on the clock, loading and writing included. Rows have milliseconds with so many threads, and megabytes with',
            'the most. In the pictures each step of an axis is a ratio: what takes twice as long for twice as much rises by the same angle everywhere.']
     for mode, (_, counted, _, _, what) in MODES.items():
@@ -672,8 +797,8 @@ def page(folder):
             continue
         out += ['', '## %s' % what, '', how, '']
         out += ['![%s](%s)' % made[::-1] for made in draw(folder, mode, rows, how)]
-        found = {(size, linker, workers): (median, memory) for size, linker, workers, median, _, memory in rows}
-        columns = sorted({(list(NAMES).index(linker), linker, workers) for _, linker, workers, _, _, _ in rows})
+        found = {(size, linker, workers): (median, memory) for size, linker, workers, median, _, memory, *_ in rows}
+        columns = sorted({(list(NAMES).index(linker), linker, workers) for _, linker, workers, *_ in rows})
         out += ['', '| %s | %s |' % (counted, ' | '.join(['%s, %d' % (NAMES[linker], n) for _, linker, n in columns]
                                                        + ['%s, MB' % NAMES[linker] for linker in NAMES if any(linker == each for _, each, _ in columns)])),
                 '|---' * (1 + len(columns) + len({linker for _, linker, _ in columns})) + '|']
@@ -691,11 +816,11 @@ def page(folder):
 def measured_how(peers, runs):
     """A sentence on how much was measured, where, and beside which linkers."""
     said = []
-    for peer, program in (('lld', 'ld.lld'), ('mold', 'mold'), ('ld', 'riscv64-linux-gnu-ld')):
-        if peer in peers and shutil.which(program):
+    for peer, program in PROGRAMS.items():
+        if peer in peers:
             line = subprocess.run([program, '--version'], capture_output=True, text=True).stdout.split('\n')[0]
             number = [word for word in line.replace('(', ' ').split() if word[:1].isdigit()]
-            said.append('%s %s' % (NAMES[peer], number[-1] if peer == 'ld' else number[0]) if number else NAMES[peer])
+            said.append('%s %s' % (NAMES[peer].split(' 19')[0], number[-1] if peer == 'ld' else number[0]) if number else NAMES[peer])
     return '%s, on a machine with %d processors%s.' % ('Medians of %d runs' % runs if runs > 1 else 'One run', os.cpu_count() or 1,
                                                        ', beside ' + ', '.join(said) if said else '')
 
@@ -709,6 +834,7 @@ def main():
     reader.add_argument('--peers', default='lld,mold,ld')
     reader.add_argument('--threads')
     reader.add_argument('--limit', type=float, default=120, help='seconds after which a run is ended')
+    reader.add_argument('--sizes', help='sizes in place of the mode\'s own, between commas')
     reader.add_argument('--keep', help='a folder for the files, which then stay')
     reader.add_argument('--figures', help='a folder for figures and pictures')
     reader.add_argument('--small', action='store_true')
@@ -727,10 +853,12 @@ def main():
         sys.exit('speed: no program at ' + rvld)
     else:
         rvld = os.path.abspath(rvld)
-    rows = commands(rvld, words.before and os.path.abspath(words.before), words.peers.split(','), [int(n) for n in words.threads.split(',')])
-    for peer, program in (('lld', 'ld.lld'), ('mold', 'mold'), ('ld', 'riscv64-linux-gnu-ld')):
-        if peer in words.peers.split(',') and not shutil.which(program):
-            print('speed: skipped %s (%s is not there)' % (peer, program))
+    asked_peers = words.peers.split(',')
+    peers = [peer for peer, program in PROGRAMS.items() if peer in asked_peers and shutil.which(program)]
+    for peer in asked_peers:
+        if peer not in peers:
+            print('speed: skipped %s (%s is not there)' % (peer, PROGRAMS.get(peer, peer)))
+    rows = commands(rvld, words.before and os.path.abspath(words.before), peers, [int(n) for n in words.threads.split(',')])
     folder = words.keep or tempfile.mkdtemp()
     os.makedirs(folder, exist_ok=True)
     passed = failed = 0
@@ -743,31 +871,33 @@ def main():
             elif mode in COLLECTED:
                 asked = [(linker, n, words + ['--gc-sections']) for linker, n, words in rows]
             elif mode in FRAMED:
-                asked = [(linker, n, words + ['--eh-frame-hdr'] * (linker in ('lld', 'mold', 'ld'))) for linker, n, words in rows]
+                asked = [(linker, n, words + ['--eh-frame-hdr'] * (linker in PROGRAMS)) for linker, n, words in rows]
+            if mode in WHOLE:
+                asked = [(linker, n, [word for word in words if word not in ('-s', '--no-relax')]) for linker, n, words in asked]
             if mode in COMPILED and not shutil.which(COMPILED[mode]):
                 print('speed: skipped %s (%s is not there)' % (mode, COMPILED[mode]))
                 continue
             before, noted = {}, []
-            print('%-16s %-5s %7s %9s %9s %8s %8s %8s %7s' %
-                  (mode, 'by', 'workers', 'median ms', 'least ms', 'MB', 'ms / MB', 'to rvld', 'growth'))
-            for size in more_sizes if is_plots else sizes:
-                size //= 100 if words.small else 1
+            print('%-16s %-6s %7s %9s %9s %9s %8s %8s %8s %7s' %
+                  (mode, 'by', 'workers', 'median ms', 'least ms', 'cpu ms', 'MB', 'ms / MB', 'to rvld', 'growth'))
+            for size in map(int, words.sizes.split(',')) if words.sizes else more_sizes if is_plots else sizes:
+                size = max(size // 100, 1) if words.small else size
                 what = '%d %s' % (size, counted)
-                files = made_apart(make, folder, size)
+                files = made_apart(words.keep and os.path.join(folder, '%s-%d.files' % (mode, size)), make, folder, size)
                 found, megabytes, gone = measure(what, files, asked, words.runs, words.limit, os.path.join(folder, 'out'))
                 passed += len(found)
                 failed += sum(mode not in NEWER or linker in ('rvld', 'before') for linker, _ in gone)
-                for (linker, workers), (median, least, peak) in found.items():
-                    noted.append((size, linker, workers, median * 1e3, least * 1e3, peak))
+                for (linker, workers), (median, least, worked, peak) in found.items():
+                    noted.append((size, linker, workers, median * 1e3, least * 1e3, peak, worked * 1e3))
                     own = found.get(('rvld', workers))
-                    print('%-16s %-5s %7d %9.1f %9.1f %8.1f %8.2f %8s %7s' %
-                          (what, linker, workers, median * 1e3, least * 1e3, peak, median * 1e3 / megabytes,
+                    print('%-16s %-6s %7d %9.1f %9.1f %9.1f %8.1f %8.2f %8s %7s' %
+                          (what, linker, workers, median * 1e3, least * 1e3, worked * 1e3, peak, median * 1e3 / megabytes,
                            '%.2f' % (median / own[0]) if own else '-',
                            '%.2f' % (median / before[linker, workers]) if (linker, workers) in before else '-'), flush=True)
-                before = {key: median for key, (median, _, _) in found.items()}
+                before = {key: median for key, (median, _, _, _) in found.items()}
                 print('%-16s input of %.1f MB in %d files' % ('', megabytes, len(files)))
             if figures and noted:
-                keep(figures, mode, noted, measured_how(words.peers.split(','), words.runs))
+                keep(figures, mode, noted, measured_how(peers, words.runs))
         if figures:
             page(figures)
     finally:

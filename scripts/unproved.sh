@@ -3,18 +3,20 @@
 # proof, at -O0 and with a memory checker, and takes its program away; here it finds a folder of links to the toolchain in which the compiler is called
 # with -O3 and without the checker, and what was linked is kept. The tests of each index, sum and value, which a proved program has not, are taken out of
 # the module before it is compiled (scripts/untested.py), so times and memory are those of the proved program; with --tested they stay.
-# Usage: scripts/unproved.sh [--quick] [--tested] FILE     FILE: where the program goes, outside crates/; --quick: -O1, to try what it does and not how fast
+# Usage: scripts/unproved.sh [--quick] [--tested] [--piped] FILE     FILE: where the program goes, outside crates/; --quick: -O1, to try what it does and not how fast;
+# --piped: rvld_piped in place of rvld
 set -eu
-level=-O3 tested=
+level=-O3 tested= program=rvld
 while :; do
     case ${1:-} in
         --quick) level=-O1 tested=1; shift;;
         --tested) tested=1; shift;;
+        --piped) program=rvld_piped; shift;;
         *) break;;
     esac
 done
 top=$(cd "$(dirname "${BASH_SOURCE[0]}")/.." && pwd)
-[ $# = 1 ] || { echo "usage: scripts/unproved.sh [--quick] [--tested] FILE"; exit 2; }
+[ $# = 1 ] || { echo "usage: scripts/unproved.sh [--quick] [--tested] [--piped] FILE"; exit 2; }
 to=$(realpath -m "$1")
 case $to in "$top"/crates/*) echo "unproved: $1 is in crates/, where proved programs stand"; exit 2;; esac
 kit=$(dirname "$(rt doc)")
@@ -70,7 +72,7 @@ done
 WRAP
 chmod +x "$work/kit/toolchain/bin/clang" "$work/kit/toolchain/bin/ld.lld"
 # (try runs what it built, without words: status 2 is rvld's own answer to that)
-(cd "$top/crates/rvld" && "$work/kit/bin/rt" try > "$work/said" 2>&1) || true
+(cd "$top/crates/$program" && "$work/kit/bin/rt" try > "$work/said" 2>&1) || true
 [ -f "$work/linked" ] || { cat "$work/said"; echo "unproved: rt try linked nothing"; exit 1; }
 install -m 755 "$work/linked" "$to"
 echo "unproved: $1 is built, and nothing of it is proved"

@@ -150,7 +150,7 @@ def main():
     ours, peer, map_name, *names = sys.argv[1:]
     inputs = [(name.encode(), open(name, 'rb').read()) for name in names]
     same, wrong, skipped = 0, 0, 0
-    status, found = reference_link.link(inputs, relax=False)
+    status, found, _ = reference_link.link(inputs, relax=False)
     if status or open(ours, 'rb').read() != found:
         print('%s has not the bytes that the rules give%s' % (ours, ': ' + found if status else ''))
         wrong += 1

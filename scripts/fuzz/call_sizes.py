@@ -5,8 +5,8 @@ Usage: scripts/fuzz/call_sizes.py [RVLD] [--count 300] [--seed 1] [--only K] [--
 
 Each link has a few objects, in which up to eight calls stand near the ends of their reach (RISC-V ELF psABI, "Function Call Relaxation"), or
 miss one of the conditions on which a call may be shortened. Marks of eight bytes before and after each call tell what size it has in the
-executable. First come links by hand: the distances 2,046, 2,048, 1,048,574 and 1,048,576, and the first ones past these. Link K of the
-others is made from the seed and K alone; --only K makes one, and leaves its objects in DIR. RVLD is
+executable. First come links by hand: the distances 2,046, 2,048, 1,048,574 and 1,048,576, the first ones past these, and calls that get
+longer one after another. Link K of the others is made from the seed and K alone; --only K makes one, and leaves its objects in DIR. RVLD is
 $RVLD where it is not named, else crates/rvld/out/rvld.
 """
 import argparse
@@ -305,6 +305,12 @@ def by_hand():
             there = Label(True)
             rest = back + more - 8 - 3
             yield 'back %d over two' % (back + more), [File([Section('.text', parts=[*start, there, bytes(rest)]), Section('.text', parts=[Call(there, rd)])])], want
+    for count in (9, 24, 25, 60):              # each call has but the next one before its target, and is too far from it once that one is longer
+        labels = [Label() for _ in range(count)]
+        parts = [*start]
+        for k, label in enumerate(labels):
+            parts += [Call(label, 0), bytes(536), *labels[k - 1:k], bytes(946)]
+        yield 'chain of %d' % count, [File([Section('.text', parts=[*parts, bytes(556), labels[-1], bytes(2)])])], [4] * count
 
 
 def chance_calls(chance):
@@ -398,7 +404,7 @@ def tried(rvld, folder, what, files, want=None):
         return '%s: status %d, %s' % (what, ran.returncode, ran.stderr.decode().strip()), [], 0
     with open(out, 'rb') as file:
         found = sizes_in(file.read(), marks)
-    answer, raised = wanted(files, marks)
+    answer, raised = wanted(files, marks) if len(marks) <= 8 else (None, 0)        # all sizes of more calls are too many to be tried
     for sizes, whose in [(answer, 'least safe'), (want, 'by hand')]:
         if sizes is not None and sizes != found:
             return '%s: sizes %s, %s %s' % (what, found, whose, sizes), found, 0

@@ -15,7 +15,7 @@ import signal
 import subprocess
 import sys
 
-TOOL = re.compile(r'(?:^|[|;(]\s*|\$\()((?:riscv64-[a-z0-9-]+-|llvm-)[a-z+]+|clang(?:\+\+)?|qemu-(?:system-)?riscv64|gdb-multiarch|rvld(?:-ld)?|cmp|make|autoconf|cmake|meson)(?![\w+])', re.M)
+TOOL = re.compile(r'(?:^|[|;(]\s*|\$\()((?:riscv64-[a-z0-9-]+-|llvm-)[a-z+]+|clang(?:\+\+)?|qemu-(?:system-)?riscv64|gdb-multiarch|rvld(?:-ld|_piped)?|cmp|make|autoconf|cmake|meson)(?![\w+])', re.M)
 ITS_LINES = re.compile(r'^(rvld[: ]|rvld-ld: cannot run|status )', re.M)
 
 LIMIT = 3000 if os.environ.get('REAL_ONCE') else 300  # seconds that a section may take

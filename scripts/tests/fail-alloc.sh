@@ -1,8 +1,9 @@
 #!/usr/bin/env bash
 # Each allocation of a link made to fail in turn, until one is asked for that the link does not come to. Each run has to end
-# with 0 and the whole executable, or with 4 and no file, and with nothing on either stream. Linked are the sample a.o, and
-# with one worker and with four the program of many files, and with --gc-sections the one in C++ and an object of 3,000 sections,
-# one of which leads to so many that workers share what they lead to.
+# with 0 and the whole executable, or with 4 and no file, and with nothing on either stream but at 0 what the link has to say.
+# Linked are the sample a.o, and with one worker and with four generated objects, the program of many files, and with
+# --gc-sections the one in C++ and an object of 3,000 sections, one of which leads to so many that workers share what they lead to; and an object of 1 MB of
+# data, whose executable has 16 blocks.
 # Usage: scripts/tests/fail-alloc.sh [RVLD]     RVLD: the program; else $RVLD, else crates/rvld/out/rvld, built first if it is not there
 # shellcheck disable=SC1091,SC2154
 set -u
@@ -13,20 +14,21 @@ there "all" cc timeout || { say "nothing was tested"; end; }
 cc -shared -fPIC -O1 -fno-builtin -Wall -o fail.so "$top/scripts/tests/fail_alloc.c" -ldl ||
     { say "fail_alloc.c is not compiled"; end; }
 
-# each_fails WHAT WHOLE WORD..: the runs of rvld -s -o failed.out WORD.., whose executable is the file WHOLE
+# each_fails WHAT WHOLE WORD..: the runs of rvld -o failed.out WORD.., whose executable is the file WHOLE, and which say what is in the file $said
+said=/dev/null
 each_fails() {
     local n=0 status count wanting=0 linked=0 right
     while :; do
         n=$((n + 1))
         rm -f failed.out count
-        timeout 60 env FAIL_ALLOC=$n COUNT_TO=count LD_PRELOAD="$work/fail.so" "$rvld" -s -o failed.out "${@:3}" >told 2>&1
+        timeout 60 env FAIL_ALLOC=$n COUNT_TO=count LD_PRELOAD="$work/fail.so" "$rvld" -o failed.out "${@:3}" >told 2>&1
         status=$?
         count=$(cat count 2>/dev/null)
         right=0
-        if [ ! -s told ] && [ -n "$count" ]; then
+        if [ -n "$count" ]; then
             case $status in
-                0) cmp -s failed.out "$2" && right=1 ;;
-                4) [ ! -e failed.out ] && [ ! -L failed.out ] && [ "$count" -ge $n ] && right=1 ;;
+                0) cmp -s failed.out "$2" && cmp -s told "$said" && right=1 ;;
+                4) [ ! -s told ] && [ ! -e failed.out ] && [ ! -L failed.out ] && [ "$count" -ge $n ] && right=1 ;;
             esac
         fi
         if [ $right = 0 ]; then
@@ -45,7 +47,18 @@ each_fails() {
 }
 
 cp "$top/samples/first/a.o" .
-each_fails a.o "$top/samples/first/a.out" a.o
+each_fails a.o "$top/samples/first/a.out" -s a.o
+
+for objects in "2" "15 --gc-sections --icf all"; do
+    # shellcheck disable=SC2086
+    "$rvld" -o generated.out --self-input $objects >generated.said || { say "--self-input $objects: no link"; end; }
+    said=generated.said
+    for threads in 1 4; do
+        # shellcheck disable=SC2086
+        each_fails "--self-input $objects, workers: $threads" generated.out --threads "$threads" --self-input $objects
+    done
+done
+said=/dev/null
 
 if there "sections that workers share" python3; then
     python3 - "$top/scripts" <<'END' || { say "star.o is not made"; end; }
@@ -56,7 +69,16 @@ write('star.o', led_data(0, 3001, lambda k: range(1, 1501) if k == 0 else [k + 1
 END
     links star.out --gc-sections star.o || end
     for threads in 1 4; do
-        each_fails "3,001 sections, workers: $threads" star.out --gc-sections --threads "$threads" star.o
+        each_fails "3,001 sections, workers: $threads" star.out -s --gc-sections --threads "$threads" star.o
+    done
+fi
+
+# an executable of many blocks: nothing is taken once its file is begun
+if there "many blocks" python3; then
+    python3 -c 'import sys; sys.path.insert(0, sys.argv[1]); import speed; speed.data(".", 1)' "$top/scripts" || { say "data-1.o is not made"; end; }
+    links data.out data-1.o || end
+    for threads in 1 4; do
+        each_fails "1 MB of data, workers: $threads" data.out -s --threads "$threads" data-1.o
     done
 fi
 
@@ -71,7 +93,7 @@ done
 links many.out "${files[@]}" || end
 runs many.out 86 "$sources/many.said" || end
 for threads in 1 4; do
-    each_fails "many files, workers: $threads" many.out --threads "$threads" "${files[@]}"
+    each_fails "many files, workers: $threads" many.out -s --threads "$threads" "${files[@]}"
 done
 
 files=()
@@ -82,6 +104,6 @@ for source in "$sources"/templates/*.cc "$sources"/templates/*.s; do
 done
 links kept.out --gc-sections "${files[@]}" || end
 for threads in 1 4; do
-    each_fails "groups, workers: $threads" kept.out --gc-sections --threads "$threads" "${files[@]}"
+    each_fails "groups, workers: $threads" kept.out -s --gc-sections --threads "$threads" "${files[@]}"
 done
 end

@@ -2,7 +2,7 @@
 # What the scripts that link and run real programs share: read with `.` after common.sh.
 
 # ready: goes to the work folder ($keep, if it is set) and finds what this rvld takes. Sets `is_rvld`, `rvld_words`, `has_map` and `has_input`; `trials`, the options with
-# which each program is linked, and `limit`, the seconds of a link. Makes a program `rvld` on the path, and `drivers`, with the linker that drivers call
+# which each program is linked, and `limit`, the seconds of a link. Makes a program `rvld` on the path, one `rvld_piped` where that is built ($RVLD_PIPED), and `drivers`, with the linker that drivers call
 ready() {
     begin
     sources=$top/scripts/real
@@ -33,6 +33,8 @@ exec "$rvld" "\$@"
 END
     chmod +x bin/rvld
     ln -sf "$top/scripts/rvld-ld" drivers/ld
+    local piped=${RVLD_PIPED:-$top/crates/rvld_piped/out/rvld_piped}
+    [ ! -x "$piped" ] || ln -sf "$(realpath "$piped")" bin/rvld_piped
     rvld=$work/bin/rvld
     export RVLD=$rvld PATH=$work/bin:$PATH
 }
@@ -41,7 +43,10 @@ ok() { pass; tell "$1: OK"; }
 differs() { say "$1: differs: $2"; }
 refuses() { say "$1: refused: $2"; }
 
-emulate() { timeout 120 qemu-riscv64 "$@"; }
+# within WORD..: the command, for at most two minutes of a processor, and ten by the clock: no machine is so busy that a program ends by the first, and what waits for ever ends too
+within() { (ulimit -t 120 && exec timeout 600 "$@"); }
+
+emulate() { within qemu-riscv64 "$@"; }
 
 # run_words EXECUTABLE: how most programs are run
 run_words() { emulate "$1" one 'two words'; }
@@ -50,7 +55,7 @@ run_words() { emulate "$1" one 'two words'; }
 run_machine() {
     local entry
     entry=$("$sources/image.py" "$1" "$1.image") || return 1
-    timeout 120 qemu-system-riscv64 -machine virt -bios none -m 128M -display none -monitor none -serial stdio -no-reboot \
+    within qemu-system-riscv64 -machine virt -bios none -m 128M -display none -monitor none -serial stdio -no-reboot \
         -device "loader,file=$1.image,addr=0x80000000,force-raw=on" -device "loader,addr=$(printf '%#x' $((0x80000000 + 0x$entry))),cpu-num=0"
 }
 

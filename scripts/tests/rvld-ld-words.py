@@ -392,7 +392,9 @@ class Tests:
         for number in (signal.SIGTERM, signal.SIGINT, signal.SIGHUP):
             if os.path.exists(self.recorded):
                 os.remove(self.recorded)
-            run = subprocess.Popen([LD, 'a.o'], cwd=self.work, env=env, stdin=subprocess.DEVNULL, stdout=subprocess.PIPE, stderr=subprocess.PIPE)
+            # what runs in a shell's background ignores some of these, and what it starts does too
+            run = subprocess.Popen([LD, 'a.o'], cwd=self.work, env=env, stdin=subprocess.DEVNULL, stdout=subprocess.PIPE, stderr=subprocess.PIPE,
+                                   preexec_fn=lambda: signal.signal(number, signal.SIG_DFL))
             while not os.path.exists(self.recorded) and run.poll() is None:
                 time.sleep(0.01)
             with open(self.recorded) as file:

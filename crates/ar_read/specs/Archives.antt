@@ -1,6 +1,6 @@
 -- An archive: where its headers stand, which checks they have to pass, and its members in order (System V ar format with
 -- GNU long names).
-use Rattle.std.specs.Prelude.{◌≡◌, ℕ, zero, suc, ◌+◌, ◌%◌, ◌<◌, ◌≤◌, not, nat_lt, nat_eq, Option, Some, None, if◌then◌else◌, Result, List, [], ◌∷◌, ◌++◌, length, find, codes}
+use Rattle.std.specs.Prelude.{◌≡◌, ℕ, zero, suc, ◌+◌, ◌%◌, ◌<◌, ◌≤◌, ◌||◌, not, nat_lt, nat_eq, Bool, Option, Some, None, if◌then◌else◌, Result, List, [], ◌∷◌, ◌++◌, length, find, codes}
 use Rattle.std.specs.List.{range_with_len, prefix_len, filter_map, starts_with}
 use Rattle.std.specs.Option.{option_map, option_or}
 use Rattle.lk_base.specs.declared.defects.Flaw.{Flaw}
@@ -17,6 +17,10 @@ use Rattle.ar_read.specs.Names.{kind_of, name_checks, name_of, is_long_names}
 -- the next even offset
 abbrev pub even : ℕ → ℕ
 even n = n + n % 2
+
+-- a file that begins as an archive does, or as a thin one
+unfoldable pub is_archive : List ℕ → Bool
+is_archive b = starts_with nat_eq b (codes "!<arch>\n") || starts_with nat_eq b (codes "!<thin>\n")
 
 -- where the header stands that follows: after the data, and after an odd size a byte of padding
 abbrev pub next : List ℕ → ℕ → ℕ

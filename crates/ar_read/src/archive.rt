@@ -23,6 +23,14 @@ pub struct Member {
     pub body: Span,
 }
 
+/// Whether a file begins as an archive does, a thin one too.
+#[tactic(auto, unfolding(crate::specs::Archives::is_archive))]
+pub fn is_archive(bytes: &[u8]) -> bool
+    ensures { result ≡ read.is_archive bytes.now }
+{
+    bytes.starts_with(b"!<arch>\n") || bytes.starts_with(b"!<thin>\n")
+}
+
 /// The first eight bytes: those of an archive, and not of a thin one.
 #[tactic(auto, unfolding(crate::specs::Archives::magic_checks))]
 fn check_magic(bytes: &[u8]) -> Result<(), Flaw>

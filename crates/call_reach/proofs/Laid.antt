@@ -38,15 +38,18 @@ use Rattle.output_sections.proofs.Sized.{all_sound, modest}
 use Rattle.layout.proofs.Trails.{all_members, trail_members}
 use Rattle.relax.specs.declared.calls.Call.{Call}
 use Rattle.output_sections.specs.declared.rows.Row.{Row}
-use Rattle.relax.specs.CallSizes.{IsLeastSafe, all_calls, all_cuts, call_no, call_rows, calls_of, cuts_by, cuts_of, is_safe, is_size, least_sizes, place_in, reloc_of, row_at, size_in}
+use Rattle.relax.specs.CallSizes.{IsLeastSafe, all_calls, all_cuts, bytes_at, call_no, call_rows, calls_of, cuts_by, cuts_of, file_of, is_safe, is_size, least_sizes, place_in, rd_at, reloc_of, row_at, size_in}
 use Rattle.relax.specs.Jumps.{size_at}
 use Rattle.relax.specs.Placing.{IsOneSize}
 use Rattle.reloc_apply.specs.Relocated.{reloc_defects}
 use Rattle.call_reach.specs.Reach.{AreAlike, CallsReach}
 use Rattle.call_reach.proofs.Defects.{none_defect}
+use Rattle.call_reach.specs.Code.{HaveOwnCuts}
 use Rattle.call_reach.proofs.Given.{IsGiven}
 use Rattle.call_reach.proofs.LayoutRows.{IsItem, first_of, items_are, no_pool}
+use Rattle.call_reach.proofs.OwnCuts.{cuts_fit, own_cuts}
 use Rattle.call_reach.proofs.Reached.{reached}
+use Rattle.call_reach.proofs.ShortRegister.{short_register}
 use Rattle.call_reach.proofs.Shortened.{cuts_before, placed_call, row_is, safe_fits, short_call}
 
 -- safe sizes are one for each call, each of two, four or eight bytes
@@ -60,7 +63,7 @@ one_size least s is = elim (or_cases (s == 2) (s == 4 || s == 8) (and_parts (nat
   | inr more ↦ elim (or_cases (s == 4) (s == 8) more) [ inl four ↦ inr (inl (eqb-true s 4 four)) | inr eight ↦ inr (inr (eqb-true s 8 eight)) ]
 ]
 
-safe_sizes : (ms : List Row) (rows : List (List Call)) (z : List ℕ) → is_safe ms rows z ≡ true → All IsOneSize z
+pub safe_sizes : (ms : List Row) (rows : List (List Call)) (z : List ℕ) → is_safe ms rows z ≡ true → All IsOneSize z
 safe_sizes ms rows z is k d lt =
     let own = one_size (call_no rows k).least (size_at z k) (safe_fits ms rows z k is (omega (arith, lt, safe_count ms rows z is))).0 in
     subst IsOneSize (get_or_default z k 8 d lt) own
@@ -87,7 +90,7 @@ no_append : (xs ys : List Defect) → xs ++ ys ≡ [] → (xs ≡ []) × (ys ≡
 no_append [] ys none = (refl, none)
 no_append (x ∷ xs) ys none = cc
 
-none_at : (f : ℕ → List Defect) (a n k : ℕ) → flat_map f (range_with_len a n) ≡ [] → k < n → f (a + k) ≡ []
+pub none_at : (f : ℕ → List Defect) (a n k : ℕ) → flat_map f (range_with_len a n) ≡ [] → k < n → f (a + k) ≡ []
 none_at f a zero k none lt = absurd (omega (arith, lt))
 none_at f a (suc n) zero none lt =
     let e : a ≡ a + 0 = omega arith in
@@ -129,7 +132,7 @@ cuts_here : (leaders : List (Option ℕ)) (sizes : List (List Cut)) (starts : Li
 unfolding laid_cuts_of
 cuts_here leaders sizes starts n is = rw is refl
 
-laid_cuts_are : (files : List File) (b : Bindings) (pools : List Pool) (words : ℕ) (leaders : List (Option ℕ)) (sizes : List (List Cut)) (fs : FrameSizes) (view : PoolsView) (table : List GotEntry) (n : ℕ) → n < section_total files → leads leaders n ≡ true
+pub laid_cuts_are : (files : List File) (b : Bindings) (pools : List Pool) (words : ℕ) (leaders : List (Option ℕ)) (sizes : List (List Cut)) (fs : FrameSizes) (view : PoolsView) (table : List GotEntry) (n : ℕ) → n < section_total files → leads leaders n ≡ true
     → cuts_at (with_contents (layout_of files b pools words leaders sizes fs) view table) n ≡ laid_cuts (start_at (with_contents (layout_of files b pools words leaders sizes fs) view table) n) (get_or sizes n [])
 unfolding with_contents layout_of laid_of laid_by
 laid_cuts_are files b pools words leaders sizes fs view table n lt leader =
@@ -212,17 +215,14 @@ module _ (tables : Tables) (b : Bindings) (pools : List Pool) (words : ℕ) (lea
   count_rows = length-map-range_with_len (calls_of files b view.merged leaders ms false) 0 (length ms)
 
   -- without it no call is shortened
-  calls_off : (z : List ℕ) → sizes ≡ all_cuts files ms (rows false) z → CallsReach files b leaders laid
-  calls_off z sizes_are n lt leader k d k_low short =
-      let r : Reloc = get_or (relocs_of files n) k d in
-      let parts = and_parts (is_call r.kind) (nat_lt (call_size (cuts_at laid n) r.offset) 8) short in
-      let small = ltb-true (call_size (cuts_at laid n) r.offset) 8 parts.1 in
+  off_none : (z : List ℕ) → sizes ≡ all_cuts files ms (rows false) z → (n o : ℕ) → n < section_total files → leads leaders n ≡ true → call_size (cuts_at laid n) o < 8 → ⊥
+  off_none z sizes_are n o lt leader small =
       let sz : ℕ → ℕ = size_in (rows false) z (place_in ms n) in
       let cuts : cuts_at laid n ≡ laid_cuts (start_at laid n) (cuts_by sz (relocs_of files n)) =
       laid_cuts_are files b pools words leaders sizes fs view table n lt leader
       ∙ ap (λ (l : List (List Cut)). laid_cuts (start_at laid n) (get_or l n [])) sizes_are
       ∙ ap (laid_cuts (start_at laid n)) (cuts_before files ms (rows false) z n lt) in
-      let found = short_call sz (relocs_of files n) (start_at laid n) r.offset (omega (arith, small, ap (λ l. call_size l r.offset) cuts)) in
+      let found = short_call sz (relocs_of files n) (start_at laid n) o (omega (arith, small, ap (λ l. call_size l o) cuts)) in
       let placed = placed_call (rows false) z (place_in ms n) found.reloc found.small in
       let low = placed.low in
       absurd (omega (arith, low, ap length (no_row (place_in ms n))))
@@ -233,9 +233,47 @@ module _ (tables : Tables) (b : Bindings) (pools : List Pool) (words : ℕ) (lea
         | inr past ↦ get_or_past (rows false) i [] (omega (arith, past, count_rows))
       ]
 
+  calls_off : (z : List ℕ) → sizes ≡ all_cuts files ms (rows false) z → CallsReach files b leaders laid
+  calls_off z sizes_are n lt leader k d k_low short =
+      let r : Reloc = get_or (relocs_of files n) k d in
+      let parts = and_parts (is_call r.kind) (nat_lt (call_size (cuts_at laid n) r.offset) 8) short in
+      absurd (off_none z sizes_are n r.offset lt leader (ltb-true (call_size (cuts_at laid n) r.offset) 8 parts.1))
+
+  -- a call of two bytes has no register
+  pub registers : (on : Bool) (z : List ℕ) → is_safe ms (rows on) z ≡ true → sizes ≡ all_cuts files ms (rows on) z → (n k : ℕ) → n < section_total files → leads leaders n ≡ true → k < length (relocs_of files n)
+      → is_call (reloc_of files n k).kind ≡ true → call_size (cuts_at laid n) (reloc_of files n k).offset ≡ 2 → rd_at (file_of files n).bytes (bytes_at files n k + 4) ≡ 0
+  registers true z safe sizes_are n k lt leader k_low call two =
+      short_register tables b pools view.merged words leaders laid sizes z (is_given z safe sizes_are) n k lt leader k_low call two
+  registers false z safe sizes_are n k lt leader k_low call two = absurd (off_none z sizes_are n (reloc_of files n k).offset lt leader (omega (arith, two)))
+
   by_on : (on : Bool) (z : List ℕ) → is_safe ms (rows on) z ≡ true → sizes ≡ all_cuts files ms (rows on) z → CallsReach files b leaders laid
   by_on true z safe sizes_are = calls_on z safe sizes_are
   by_on false z safe sizes_are = calls_off z sizes_are
+
+-- where the cuts of its sections are
+pub own_cuts_of : (tables : Tables) (b : Bindings) (held : Pools) (words : ℕ) (leaders : List (Option ℕ)) (table : List GotEntry) (limits : Limits) (sizes : List (List Cut)) (fs : FrameSizes) (on : Bool) (laid : LaidOut)
+    → AreFew (files_of tables) → IsBindingOf (files_of tables) b → AreLeaders (files_of tables) b leaders → AreAlike (files_of tables) b leaders → HaveFirsts (files_of tables) b held.pools.items
+    → sizes ≡ cuts_of (files_of tables) b (pools_view (files_of tables) held).merged leaders (members_in (orders_of (items (files_of tables) b held.pools.items words leaders))) on
+    → IsLeastSafe (files_of tables) b (pools_view (files_of tables) held).merged leaders (members_in (orders_of (items (files_of tables) b held.pools.items words leaders))) on
+    → laid ≡ layout_of (files_of tables) b held.pools.items words leaders sizes fs
+    → IsSound (files_of tables) b leaders (with_contents laid (pools_view (files_of tables) held) table) → HaveAlignments (files_of tables) b laid
+    → layout_defects limits (files_of tables) laid ≡ []
+    → HaveOwnCuts (files_of tables) leaders (with_contents laid (pools_view (files_of tables) held) table)
+unfolding cuts_of
+own_cuts_of tables b held words leaders table limits sizes fs on _ few bound are alike firsts sizes_are least laid_is sound aligned none =
+    let files = files_of tables in
+    let view = pools_view files held in
+    let pools = held.pools.items in
+    let ms : List Row = members_in (orders_of (items files b pools words leaders)) in
+    let rows : List (List Call) = call_rows files b view.merged leaders ms on in
+    let z : List ℕ = least_sizes ms rows in
+    let L : LaidOut → Type 0 = λ l. HaveOwnCuts files leaders (with_contents l view table) in
+    let U : LaidOut → Type 0 = λ l. IsSound files b leaders (with_contents l view table) in
+    subst L (sym laid_is)
+    (own_cuts files leaders (with_contents (layout_of files b pools words leaders sizes fs) view table) sizes (cuts_fit tables sizes ms rows z (safe_sizes ms rows z least.safe) sizes_are)
+    (λ n lt leader. laid_cuts_are files b pools words leaders sizes fs view table n lt leader)
+    (registers tables b pools words leaders view table limits sizes fs few bound are alike firsts (subst U laid_is sound) (subst (HaveAlignments files b) laid_is aligned)
+    (subst (λ l. layout_defects limits files l ≡ []) laid_is none) on z least.safe sizes_are))
 
 pub calls_reach : (tables : Tables) (b : Bindings) (held : Pools) (words : ℕ) (leaders : List (Option ℕ)) (table : List GotEntry) (limits : Limits) (sizes : List (List Cut)) (fs : FrameSizes) (on : Bool) (laid : LaidOut)
     → AreFew (files_of tables) → IsBindingOf (files_of tables) b → AreLeaders (files_of tables) b leaders → AreAlike (files_of tables) b leaders → HaveFirsts (files_of tables) b held.pools.items

@@ -173,6 +173,7 @@ pub record IsLanded (files : List File) (b : Bindings) (merged : List (Option Me
   pub from : c.from ≡ i
   pub offset : c.offset ≡ (reloc_of files n k).offset
   pub to : c.to ≡ place_in ms leader
+  pub least : c.least ≡ least_of (file_of files n) (bytes_at files n k)
   pub plain : is_plain (reloc_of files n k) ≡ true
 
 cons_same : {X : Type 0} (x y : X) → x ∷ [] ≡ y ∷ [] → x ≡ y
@@ -211,6 +212,7 @@ module _ (files : List File) (b : Bindings) (merged : List (Option Merged)) (lea
             from = sym (ap (λ (x : Call). x.from) e);
             offset = sym (ap (λ (x : Call). x.offset) e);
             to = sym (ap (λ (x : Call). x.to) e);
+            least = sym (ap (λ (x : Call). x.least) e);
             plain = plain;
           }
       by false near is = no_cons c is

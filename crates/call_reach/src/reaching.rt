@@ -15,6 +15,7 @@ ghost use Rattle.output_sections.specs.Items.{AreLeaders, HaveFirsts, items};
 ghost use Rattle.layout.specs.Layout.{frame_sizes, layout_defects, layout_of};
 ghost use Rattle.layout.specs.Spots.{HaveAlignments};
 ghost use Rattle.relax.specs.CallSizes.{IsLeastSafe, cuts_of};
+ghost use Rattle.call_reach.specs.Code.{HaveOwnCuts};
 ghost use Rattle.call_reach.specs.Reach as spec;
 
 use link_sections::{Got, Layout, Pools, Sizes};
@@ -24,7 +25,8 @@ use output_sections::OutputSections;
 
 /// That each shortened call reaches its target, where `sizes` are those of `relax::sizes` and the layout is that of `layout::place` over
 /// them, of a link that it does not refuse: its relocation is neither odd nor out of range. A section has as many bytes as the one that is
-/// written in its place. Nothing is done while a program runs: all that is said here is in the clause.
+/// written in its place. Where sections lose bytes they are those of a call or an alignment of their own. Nothing is done while a program runs: all
+/// that is said here is in the clauses.
 pub fn calls_reach(
     tables: &Tables,
     binding: &Binding,
@@ -50,6 +52,7 @@ pub fn calls_reach(
     requires aligned { HaveAlignments (files_of tables.now) (binding_view binding.now) (layout_view layout.now) }
     requires room { layout_defects limits.now (files_of tables.now) (layout_view layout.now) ≡ [] }
     ensures reach { spec.CallsReach (files_of tables.now) (binding_view binding.now) leaders.now (with_contents (layout_view layout.now) (pools_view (files_of tables.now) pools.now) (entries_of got.now)) }
+    ensures cuts { HaveOwnCuts (files_of tables.now) leaders.now (with_contents (layout_view layout.now) (pools_view (files_of tables.now) pools.now) (entries_of got.now)) }
 {
     tables.is_few();
 }

@@ -1,4 +1,5 @@
 pub mod Beaten
+pub mod FewGroups
 pub mod FirstStays
 pub mod GroupLists
 pub mod Marking

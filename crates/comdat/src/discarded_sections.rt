@@ -1,11 +1,12 @@
 //! The sections that are discarded.
 
-ghost use Rattle.std.specs.Prelude.{◌≡◌, ◌≤◌, IfOk};
+ghost use Rattle.std.specs.Prelude.{◌≡◌, ◌<◌, ◌≤◌, ◌^◌, length, IfOk};
 ghost use Rattle.lk_tables.specs.TablesView.{files_of};
+ghost use Rattle.comdat.specs.Comdats.{comdat_views};
 ghost use Rattle.comdat.specs.Discarded.{comdats, discarded};
 ghost use Rattle.comdat.specs.Law.{KeepsFirst};
 
-use crate::groups::comdats_of;
+use crate::groups::{ComdatGroup, comdats_of};
 use crate::marks::mark_beaten;
 use crate::signatures::signatures_of;
 use lk_tables::Tables;
@@ -14,12 +15,16 @@ use std::alloc::{AllocError, Global};
 use std::thread::Threads;
 use work_split::Gate;
 
-/// So many groups have numbers. Those of a link are fewer: it has at most 2^28 sections, and each group is one.
-const GROUP_MAX: usize = 0x7fff_ffff;
+/// There are no more COMDAT groups than sections, since each is one. Nothing is done while a program runs: the clause is all.
+fn are_few(tables: &Tables, groups: &Vec<ComdatGroup>)
+    requires { comdat_views groups.now.items ≡ comdats (files_of tables.now) }
+    ensures { length groups.now.items < 2 ^ 31 }
+{
+    tables.is_few();
+}
 
 /// By section number, whether a section is discarded: it belongs to a COMDAT group of whose signature another stands before, in order of
-/// file and section, in the files that take part. It answers the same whatever the number of workers. More than 2^31 - 1 COMDAT groups
-/// are answered as out of memory.
+/// file and section, in the files that take part. It answers the same whatever the number of workers. The only error is out of memory.
 pub fn discard<R: Threads + Sync, G: Gate>(
     rt: &R,
     alloc: Global,
@@ -37,9 +42,7 @@ pub fn discard<R: Threads + Sync, G: Gate>(
     if groups.len() == 0 {
         return Ok(marks);
     }
-    if groups.len() > GROUP_MAX {
-        return Err(AllocError);
-    }
+    are_few(tables, &groups);
     let signatures = signatures_of(alloc, groups.as_slice())?;
     let numbers = number_texts(rt, alloc, signatures.as_slice(), workers)?;
     mark_beaten(&mut marks, tables, groups.as_slice(), numbers.as_slice());

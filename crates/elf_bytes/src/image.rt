@@ -48,20 +48,9 @@ fn fill(out: &mut Vec<u8>, offset: usize) -> Result<(), AllocError> {
 fn push_header(out: &mut Vec<u8>, image: &Image) -> Result<(), AllocError> {
     out.extend_from_slice(b"\x7fELF\x02\x01\x01\0\0\0\0\0\0\0\0\0")?;
     let last = image.sections.len() as u64;
-    let numbers = [
-        (2, 2),
-        (243, 2),
-        (1, 4),
-        (image.entry, 8),
-        (64, 8),
-        (image.table as u64, 8),
-        (image.flags, 4),
-        (64, 2),
-        (56, 2),
-        (image.segments.len() as u64, 2),
-        (64, 2),
-        (last.wrapping_add(1), 2),
-        (last, 2),
+    let numbers = numbers![
+        2 => 2; 2 => 243; 4 => 1; 8 => image.entry; 8 => 64; 8 => image.table as u64; 4 => image.flags;
+        2 => 64; 2 => 56; 2 => image.segments.len() as u64; 2 => 64; 2 => last.wrapping_add(1); 2 => last;
     ];
     push_numbers(out, &numbers)
 }
@@ -69,15 +58,9 @@ fn push_header(out: &mut Vec<u8>, image: &Image) -> Result<(), AllocError> {
 fn push_segments(out: &mut Vec<u8>, segments: &[[u64; 7]]) -> Result<(), AllocError> {
     for segment in segments {
         let [sort, flags, offset, address, file, memory, align] = *segment;
-        let numbers = [
-            (sort, 4),
-            (flags, 4),
-            (offset, 8),
-            (address, 8),
-            (address, 8),
-            (file, 8),
-            (memory, 8),
-            (align, 8),
+        let numbers = numbers![
+            4 => sort; 4 => flags; 8 => offset; 8 => address; 8 => address; 8 => file; 8 => memory;
+            8 => align;
         ];
         push_numbers(out, &numbers)?;
     }
@@ -97,14 +80,7 @@ fn push_symbols(out: &mut Vec<u8>, symbols: &[[u64; 5]]) -> Result<(), AllocErro
     push_numbers(out, &[(0, 8), (0, 8), (0, 8)])?;
     for symbol in symbols {
         let [name, info, section, value, size] = *symbol;
-        let numbers = [
-            (name, 4),
-            (info, 1),
-            (0, 1),
-            (section, 2),
-            (value, 8),
-            (size, 8),
-        ];
+        let numbers = numbers![4 => name; 1 => info; 1 => 0; 2 => section; 8 => value; 8 => size];
         push_numbers(out, &numbers)?;
     }
     Ok(())
@@ -131,17 +107,9 @@ fn push_sections(out: &mut Vec<u8>, sections: &[[u64; 7]]) -> Result<(), AllocEr
     for (index, section) in sections.iter().enumerate() {
         let [name, sort, flags, address, offset, size, align] = *section;
         let [link, info, entsize] = links_of(sort, (index as u64).wrapping_add(1));
-        let numbers = [
-            (name, 4),
-            (sort, 4),
-            (flags, 8),
-            (address, 8),
-            (offset, 8),
-            (size, 8),
-            (link, 4),
-            (info, 4),
-            (align, 8),
-            (entsize, 8),
+        let numbers = numbers![
+            4 => name; 4 => sort; 8 => flags; 8 => address; 8 => offset; 8 => size; 4 => link; 4 => info;
+            8 => align; 8 => entsize;
         ];
         push_numbers(out, &numbers)?;
     }

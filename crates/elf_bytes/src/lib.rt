@@ -2,6 +2,13 @@
 //! `archive` those of an archive from its members, and `image` those of an executable.
 #![tactic(auto)]
 
+/// Numbers, each behind its width in bytes.
+macro_rules! numbers {
+    ($($width:literal => $number:expr);+ $(;)?) => {
+        [$(($number, $width)),+]
+    };
+}
+
 mod abi;
 mod archive;
 mod image;

@@ -5,18 +5,10 @@
 #[macro_export]
 macro_rules! reloc {
     ($offset:expr, $kind:expr, $symbol:expr, $addend:expr) => {
-        $crate::Reloc {
-            offset: $offset,
-            kind: $kind,
-            symbol: $symbol,
-            addend: $addend,
-        }
+        $crate::Reloc { offset: $offset, kind: $kind, symbol: $symbol, addend: $addend }
     };
     ($base:expr => $($field:ident: $value:expr),+) => {
-        $crate::Reloc {
-            $($field: $value,)+
-            ..$base
-        }
+        $crate::Reloc { $($field: $value,)+ ..$base }
     };
 }
 
@@ -24,20 +16,10 @@ macro_rules! reloc {
 #[macro_export]
 macro_rules! symbol {
     ($name:expr, $binding:expr, $sort:expr, $section:expr, $value:expr, $size:expr) => {
-        $crate::Symbol {
-            name: $name,
-            binding: $binding,
-            sort: $sort,
-            section: $section,
-            value: $value,
-            size: $size,
-        }
+        $crate::Symbol { name: $name, binding: $binding, sort: $sort, section: $section, value: $value, size: $size }
     };
     ($base:expr => $($field:ident: $value:expr),+) => {
-        $crate::Symbol {
-            $($field: $value,)+
-            ..$base
-        }
+        $crate::Symbol { $($field: $value,)+ ..$base }
     };
 }
 
@@ -56,10 +38,23 @@ macro_rules! section {
         }
     };
     ($base:expr => $($field:ident: $value:expr),+) => {
-        $crate::Section {
-            $($field: $value,)+
-            ..$base
-        }
+        $crate::Section { $($field: $value,)+ ..$base }
+    };
+}
+
+/// The section of code, `.text` at a multiple of 4: its bytes, and its relocations.
+#[macro_export]
+macro_rules! text {
+    ($bytes:expr $(; $($reloc:expr),+)?) => {
+        $crate::Section { name: b".text", sort: 1, flags: 6, align: 4, bytes: $bytes, relocs: &[$($($reloc),+)?], ..$crate::NO_SECTION }
+    };
+}
+
+/// The section of data that may be written, `.data` at a multiple of 8: its bytes, and its relocations.
+#[macro_export]
+macro_rules! data {
+    ($bytes:expr $(; $($reloc:expr),+)?) => {
+        $crate::Section { name: b".data", sort: 1, flags: 3, align: 8, bytes: $bytes, relocs: &[$($($reloc),+)?], ..$crate::NO_SECTION }
     };
 }
 
@@ -67,34 +62,31 @@ macro_rules! section {
 #[macro_export]
 macro_rules! object {
     ([$($section:expr),* $(,)?]; [$($symbol:expr),* $(,)?]) => {
-        $crate::Object {
-            flags: 0,
-            sections: &[$($section),*],
-            symbols: &[$($symbol),*],
-        }
+        $crate::Object { flags: 0, sections: &[$($section),*], symbols: &[$($symbol),*] }
     };
     ($flags:expr; [$($section:expr),* $(,)?]; [$($symbol:expr),* $(,)?]) => {
-        $crate::Object {
-            flags: $flags,
-            sections: &[$($section),*],
-            symbols: &[$($symbol),*],
-        }
+        $crate::Object { flags: $flags, sections: &[$($section),*], symbols: &[$($symbol),*] }
     };
     ($base:expr => $($field:ident: $value:expr),+) => {
-        $crate::Object {
-            $($field: $value,)+
-            ..$base
-        }
+        $crate::Object { $($field: $value,)+ ..$base }
     };
 }
 
-/// An executable.
+/// An executable: the fields in which it differs from another; or all fields, behind a `;`.
 #[macro_export]
 macro_rules! image {
+    (; $($field:ident: $value:expr),+) => {
+        $crate::Image { $($field: $value),+ }
+    };
     ($base:expr => $($field:ident: $value:expr),+) => {
-        $crate::Image {
-            $($field: $value,)+
-            ..$base
-        }
+        $crate::Image { $($field: $value,)+ ..$base }
+    };
+}
+
+/// The symbol table of an executable: its offset, the names of the symbols and of the sections; and the symbols from number 1 on.
+#[macro_export]
+macro_rules! listed {
+    ($offset:expr, $strings:expr, $names:expr; $($symbol:expr),+) => {
+        Some($crate::Listed { offset: $offset, symbols: &[$($symbol),+], strings: $strings, names: $names })
     };
 }

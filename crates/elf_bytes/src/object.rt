@@ -87,6 +87,12 @@ pub struct Object<'a> {
 /// A section header being made: its name's place, type, flags, size, link, info, alignment and entry size.
 type Fields = [u64; 8];
 
+macro_rules! header {
+    ($($field:expr);+) => {
+        [$($field),+]
+    };
+}
+
 /// The part of an object after its header, and the section headers.
 #[derive(Drop)]
 struct Parts {
@@ -107,17 +113,9 @@ fn push_section(
     let offset = (parts.body.len() as u64).wrapping_add(64);
     push_zeros(&mut parts.body, zeros)?;
     parts.body.extend_from_slice(bytes)?;
-    let numbers = [
-        (name, 4),
-        (sort, 4),
-        (flags, 8),
-        (0, 8),
-        (offset, 8),
-        (size, 8),
-        (link, 4),
-        (info, 4),
-        (align, 8),
-        (entsize, 8),
+    let numbers = numbers![
+        4 => name; 4 => sort; 8 => flags; 8 => 0; 8 => offset; 8 => size; 4 => link; 4 => info; 8 => align;
+        8 => entsize;
     ];
     push_numbers(&mut parts.headers, &numbers)
 }
@@ -138,15 +136,9 @@ fn push_named(parts: &mut Parts, sections: &[Section], symtab: u64) -> Result<()
         parts.names.push(0)?;
         let bits = (section.zeros as u64).wrapping_add(section.bytes.len() as u64);
         let size = section.size.max(bits);
-        let fields = [
-            name,
-            section.sort,
-            section.flags,
-            size,
-            link_number(section.link, symtab),
-            section.info,
-            section.align,
-            section.entsize,
+        let link = link_number(section.link, symtab);
+        let fields = header![
+            name; section.sort; section.flags; size; link; section.info; section.align; section.entsize
         ];
         push_section(parts, fields, section.zeros, section.bytes)?;
     }
@@ -156,11 +148,8 @@ fn push_named(parts: &mut Parts, sections: &[Section], symtab: u64) -> Result<()
 fn entries_of(alloc: Global, relocs: &[Reloc]) -> Result<Vec<u8>, AllocError> {
     let mut out = Vec::new(alloc);
     for reloc in relocs {
-        let numbers = [
-            (reloc.offset, 8),
-            (reloc.kind, 4),
-            (reloc.symbol, 4),
-            (reloc.addend.cast_unsigned(), 8),
+        let numbers = numbers![
+            8 => reloc.offset; 4 => reloc.kind; 4 => reloc.symbol; 8 => reloc.addend.cast_unsigned();
         ];
         push_numbers(&mut out, &numbers)?;
     }
@@ -187,21 +176,8 @@ fn push_relocs(
             let entries = entries_of(alloc, section.relocs)?;
             let target = (index as u64).wrapping_add(1);
             let size = entries.len() as u64;
-            push_section(
-                parts,
-                [
-                    0,
-                    SHT_RELA,
-                    SHF_INFO_LINK,
-                    size,
-                    symtab,
-                    target,
-                    8,
-                    RELA_SIZE,
-                ],
-                0,
-                &entries,
-            )?;
+            let fields = header![0; SHT_RELA; SHF_INFO_LINK; size; symtab; target; 8; RELA_SIZE];
+            push_section(parts, fields, 0, &entries)?;
         }
     }
     Ok(())
@@ -241,25 +217,23 @@ fn push_indexes(
         push_numbers(&mut words, &[(number, 4)])?;
     }
     let size = words.len() as u64;
-    push_section(
-        parts,
-        [0, SHT_SYMTAB_SHNDX, 0, size, symtab, 0, 4, 4],
-        0,
-        &words,
-    )
+    let fields = header![0; SHT_SYMTAB_SHNDX; 0; size; symtab; 0; 4; 4];
+    push_section(parts, fields, 0, &words)
+}
+
+/// Adds a section of names.
+fn push_texts(parts: &mut Parts, texts: &[u8]) -> Result<(), AllocError> {
+    let fields = header![0; SHT_STRTAB; 0; texts.len() as u64; 0; 0; 1; 0];
+    push_section(parts, fields, 0, texts)
 }
 
 /// The symbol table's bytes; the names go to `texts`.
 fn table_of(alloc: Global, symbols: &[Symbol], texts: &mut Vec<u8>) -> Result<Vec<u8>, AllocError> {
     let mut out = vec![in alloc; 0u8; SYM_SIZE as usize]?;
     for symbol in symbols {
-        let numbers = [
-            (texts.len() as u64, 4),
-            (symbol.binding.wrapping_mul(16).wrapping_add(symbol.sort), 1),
-            (0, 1),
-            (index_in_entry(symbol.section), 2),
-            (symbol.value, 8),
-            (symbol.size, 8),
+        let numbers = numbers![
+            4 => texts.len() as u64; 1 => symbol.binding.wrapping_mul(16).wrapping_add(symbol.sort); 1 => 0;
+            2 => index_in_entry(symbol.section); 8 => symbol.value; 8 => symbol.size;
         ];
         push_numbers(&mut out, &numbers)?;
         texts.extend_from_slice(symbol.name)?;
@@ -284,29 +258,15 @@ fn push_symbols(
     let first = (locals as u64).wrapping_add(1);
     let link = symtab.wrapping_add(1);
     let size = table.len() as u64;
-    push_section(
-        parts,
-        [0, SHT_SYMTAB, 0, size, link, first, 8, SYM_SIZE],
-        0,
-        &table,
-    )?;
-    push_section(
-        parts,
-        [0, SHT_STRTAB, 0, texts.len() as u64, 0, 0, 1, 0],
-        0,
-        &texts,
-    )
+    let fields = header![0; SHT_SYMTAB; 0; size; link; first; 8; SYM_SIZE];
+    push_section(parts, fields, 0, &table)?;
+    push_texts(parts, &texts)
 }
 
 /// Adds the section of the sections' names.
 fn push_names(alloc: Global, parts: &mut Parts) -> Result<(), AllocError> {
     let names = Vec::from_slice(alloc, &parts.names)?;
-    push_section(
-        parts,
-        [0, SHT_STRTAB, 0, names.len() as u64, 0, 0, 1, 0],
-        0,
-        &names,
-    )?;
+    push_texts(parts, &names)?;
     pad(&mut parts.body)
 }
 
@@ -329,27 +289,15 @@ fn join(alloc: Global, flags: u64, parts: &Parts, last: u64) -> Result<Vec<u8>, 
     let mut out = Vec::from_slice(alloc, b"\x7fELF\x02\x01\x01\0\0\0\0\0\0\0\0\0")?;
     let table = (parts.body.len() as u64).wrapping_add(64);
     let count = last.wrapping_add(1);
-    let numbers = [
-        (1, 2),
-        (243, 2),
-        (1, 4),
-        (0, 8),
-        (0, 8),
-        (table, 8),
-        (flags, 4),
-        (64, 2),
-        (0, 4),
-        (64, 2),
-        (in_field(count, 0), 2),
-        (in_field(last, SHN_XINDEX), 2),
+    let numbers = numbers![
+        2 => 1; 2 => 243; 4 => 1; 8 => 0; 8 => 0; 8 => table; 4 => flags; 2 => 64; 4 => 0; 2 => 64;
+        2 => in_field(count, 0); 2 => in_field(last, SHN_XINDEX);
     ];
     push_numbers(&mut out, &numbers)?;
     out.extend_from_slice(&parts.body)?;
     push_zeros(&mut out, 32)?;
-    push_numbers(
-        &mut out,
-        &[(in_section_0(count), 8), (in_section_0(last), 4)],
-    )?;
+    let counts = [(in_section_0(count), 8), (in_section_0(last), 4)];
+    push_numbers(&mut out, &counts)?;
     push_zeros(&mut out, 20)?;
     out.extend_from_slice(&parts.headers)?;
     Ok(out)

@@ -1,10 +1,7 @@
 -- Pieces laid over a block of a file, one after the other.
 use Rattle.std.proofs.Common.{◌≡◌, ℕ, ◌+◌, ◌-◌, ◌<◌, ◌≤◌, List, [], ◌∷◌, ◌++◌, length, replicate, take, drop, slice_index, refl, ap, sym, ◌∙◌, arith}
-use Rattle.std.proofs.Math.Seq.{take-append_seam}
-use Rattle.std.proofs.lemmas.List.{ext_get_or, get_or-replicate, get_or-take, get_or-drop, length-replicate, length-take-le, length-drop, take_all}
-use Rattle.std.proofs.lemmas.Bool.Decides.{nat_tests}
+use Rattle.std.proofs.lemmas.List.{ext_get_or, get_or-replicate, get_or-take, get_or-drop, length-replicate, length-take-le, length-drop}
 use Rattle.std.proofs.lemmas.List.FromFn.{get_or-map-range_with_len, length-map-range_with_len}
-use Rattle.elf_out.specs.BlockHeaders.{StandsFor}
 use Rattle.reloc_apply.specs.Image.{Piece, ShowsFrom, over, byte_over, byte_at, image, piece}
 
 pub over_append : (u i : ℕ) (ps qs : List Piece) → byte_over u (ps ++ qs) i ≡ byte_over (byte_over u ps i) qs i
@@ -17,14 +14,6 @@ shows_both from ps qs a b c first second = (
   λ i lt. let within : i < length b = omega (arith, first.0) in
       second.1 i within ∙ ap (λ u. byte_over u qs (from + i)) (first.1 i lt) ∙ sym (over_append (slice_index a i) (from + i) ps qs),
 )
-
--- a piece that ends before a block is nothing in it
-pub stands_past : (bytes made : List ℕ) (from to : ℕ) → made ≡ [] → length bytes ≤ from → StandsFor from to (piece 0 made) (piece 0 bytes)
-stands_past bytes made from to none short = λ before place low high.
-    let no : length made ≡ 0 = ap length none in
-    let left : over (piece 0 made) before place ≡ before = grind (arith, nat_tests) in
-    let right : over (piece 0 bytes) before place ≡ before = grind (arith, nat_tests) in
-    left ∙ sym right
 
 -- the headers, the unwind records, the sections, and what follows them
 pub shows_all : (from : ℕ) (head : Piece) (frames middle ends : List Piece) (o0 o1 o2 o3 o4 : List ℕ)
@@ -59,14 +48,3 @@ part from size ps old zeros out room zeros_are shown =
     shown.1 i within ∙ ap (λ u. byte_over u ps (from + i)) zero
     ∙ sym (get_or-take n (drop from (image ps size)) i 0 below ∙ get_or-drop from (image ps size) i 0
     ∙ image_byte ps size (from + i) (omega arith)))
-
--- a vector of zeros becomes the whole file: its items are what was written and what stands after it
-pub whole : (size n : ℕ) (ps : List Piece) (zeros block after : List ℕ) → n ≡ size → zeros ≡ replicate size 0
-    → ShowsFrom 0 zeros block ps → take n (block ++ after) ≡ image ps size
-whole size n ps zeros block after n_is zeros_are shown =
-    let same : length zeros ≡ size = ap length zeros_are ∙ length-replicate size 0 in
-    let full : n ≡ length block = omega (arith, shown.0, same) in
-    let start : replicate {A = ℕ} size 0 ≡ replicate (length zeros) 0 = ap (λ k. replicate {A = ℕ} k 0) (sym same) in
-    let all : block ≡ take (length zeros) (drop 0 (image ps size)) = part 0 size ps zeros zeros block (omega (arith, same)) (zeros_are ∙ start) shown in
-    let end : length (image ps size) ≤ length zeros = omega (arith, same, image_length ps size) in
-    rw full (take-append_seam block after) ∙ all ∙ take_all (length zeros) (image ps size) end

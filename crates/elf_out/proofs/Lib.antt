@@ -4,12 +4,11 @@ pub mod EndSteps
 pub mod EntryBytes
 pub mod FlagSteps
 pub mod Away
-pub mod BlockParts
 pub mod Laying
 pub mod MemberPieces
 pub mod NameSteps
 pub mod OneByOne
 pub mod Outputs
-pub mod Runs
+pub mod Preparing
 pub mod Starting
 pub mod Whole

@@ -16,7 +16,7 @@ use Rattle.link_sections.specs.LaidOut.{LaidOut}
 use Rattle.link_sections.specs.Sound.{IsSectionMember, IsSound, is_section}
 use Rattle.link_sections.specs.Views.{binding_in, files_in, laid_in, leaders_in}
 use Rattle.elf_out.specs.Executable.{FrameContents, end_pieces, file_length, file_with, frame_pieces, headers_with, pieces_with}
-use Rattle.elf_out.specs.BlockHeaders.{headers_in}
+use Rattle.elf_out.specs.Prepared.{headers_in}
 use Rattle.elf_out.specs.Standing.{AllStand, FitFrames, FramesStand, HasHeaderRoom, HeadersStand, PiecesStand, SectionsStand, Stands, pieces_behind}
 use Rattle.elf_out.specs.Symbols.{SymbolTables}
 use Rattle.elf_out.proofs.EndPieces.{ends_up}

@@ -2,6 +2,6 @@ pub mod Symbols
 pub mod Headers
 pub mod Executable
 pub mod Ends
-pub mod BlockHeaders
+pub mod Prepared
 pub mod Standing
 pub mod TablesView

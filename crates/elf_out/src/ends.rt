@@ -5,7 +5,7 @@ ghost use Rattle.link_sections.specs.Views.{laid_in};
 ghost use Rattle.lk_base.specs.Arithmetic as arithmetic;
 ghost use Rattle.elf_out.specs.Ends.{AreEnds};
 ghost use Rattle.elf_out.specs.Executable as spec;
-ghost use Rattle.elf_out.specs.TablesView.{tables_if, tables_in};
+ghost use Rattle.elf_out.specs.TablesView.{tables_if};
 
 use crate::header_bytes::offset_of;
 use crate::sections::names_size;
@@ -88,13 +88,4 @@ pub fn table_count(tables: &Option<SymbolTables>) -> u64
         None => 0,
         Some(_) => 2,
     }
-}
-
-/// How many bytes an executable has with these tables, which are its own; out of memory if no memory holds the names of its sections.
-pub fn file_length(view: &View, tables: &Option<SymbolTables>) -> Result<u64, AllocError>
-    requires { tables_if tables.now ≡ tables_in view.now }
-    ensures { IfOk result (λ n. n ≡ spec.file_length (laid_in view.now) (tables_in view.now)) }
-{
-    let ends = ends_of(view, tables)?;
-    Ok(ends.end)
 }

@@ -3,7 +3,7 @@
 ghost use Rattle.std.specs.Prelude.{◌≡◌, ◌≤◌, ◌++◌, ◌∷◌, [], if◌then◌else◌, flat_map, length, IfOk, OnOk};
 ghost use Rattle.link_sections.specs.Views.{binding_in, files_in, laid_in, leaders_in};
 ghost use Rattle.elf_out.specs.Executable as spec;
-ghost use Rattle.elf_out.specs.BlockHeaders.{headers_in};
+ghost use Rattle.elf_out.specs.Prepared.{headers_in};
 ghost use Rattle.elf_out.specs.TablesView.{tables_if, tables_in};
 ghost use Rattle.elf_out.specs.Headers.{frame_segment, loaded, program_header, program_headers, segments, tls_segment};
 

@@ -1,10 +1,10 @@
 -- The least rank on offer for a name, offer by offer.
-use Rattle.std.proofs.Common.{◌≡◌, ℕ, ◌+◌, ◌<◌, ◌≤◌, min, Bool, true, false, if◌then◌else◌, List, [], ◌∷◌, ◌++◌, refl, sym, ap, ◌∙◌, arith}
+use Rattle.std.proofs.Common.{◌≡◌, ℕ, ◌+◌, min, Bool, true, false, if◌then◌else◌, List, [], ◌∷◌, ◌++◌, refl, sym, ap, ◌∙◌, arith}
 use Rattle.std.specs.Prelude.{flat_map}
 use Rattle.std.specs.List.{range_with_len}
 use Rattle.std.specs.Str.{bytes_eq}
 use Rattle.lk_base.proofs.Loops.{flat_step}
-use Rattle.lk_tables.specs.Binding.{Offer, is_offer, least_rank}
+use Rattle.lk_tables.specs.Binding.{Offer, least_rank}
 use Rattle.lk_tables.specs.Ranks.{no_rank}
 use Rattle.name_numbers.proofs.LeastClaims.{least_most}
 

@@ -4,4 +4,6 @@ pub mod Pulling
 pub mod Asking
 pub mod LeastOffer
 pub mod Rounds
+pub mod FirstMembers
+pub mod AnyOrder
 pub mod TakePart

@@ -40,7 +40,7 @@ puller files f g is =
     let both = and_parts (asks (symbol_at (file_at files f) i)) (is_of_member g (early files (symbol_name (file_at files f) i))) any.4 in
     record { symbol = i; inside = omega arith; asking = both.0; member = both.1 }
 
-pulls_at : (files : List File) (f g : ℕ) → IsPuller files f g → pulls files f g ≡ true
+pub pulls_at : (files : List File) (f g : ℕ) → IsPuller files f g → pulls files f g ≡ true
 unfolding pulls pulls_by
 pulls_at files f g p =
     let i = p.symbol in

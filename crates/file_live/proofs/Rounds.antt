@@ -56,7 +56,7 @@ pub live_more : (undefined : List (List ℕ)) (files : List File) (n f : ℕ) �
 unfolding live_in
 live_more undefined files n f is = or_left (live_in undefined files n f) (list_any (λ e. live_in undefined files n e && pulls files e f) (range_with_len 0 (length files))) is
 
-live_by : (undefined : List (List ℕ)) (files : List File) (n e f : ℕ) → e < length files → live_in undefined files n e ≡ true → pulls files e f ≡ true → live_in undefined files (suc n) f ≡ true
+pub live_by : (undefined : List (List ℕ)) (files : List File) (n e f : ℕ) → e < length files → live_in undefined files n e ≡ true → pulls files e f ≡ true → live_in undefined files (suc n) f ≡ true
 unfolding live_in
 live_by undefined files n e f lt is pulled =
     let test : ℕ → Bool = λ k. live_in undefined files n k && pulls files k f in
@@ -66,7 +66,7 @@ live_by undefined files n e f lt is pulled =
     or_right (live_in undefined files n f) (list_any test r)
     (list_any_at test r e 0 (omega (arith, length-range_with_len 0 (length files))) (subst P (sym at) (and_from (live_in undefined files n e) (pulls files e f) is pulled)))
 
-live_cases : (X : Type 0) (undefined : List (List ℕ)) (files : List File) (n f : ℕ) → live_in undefined files (suc n) f ≡ true → (live_in undefined files n f ≡ true → X) → ((e : ℕ) → e < length files → live_in undefined files n e ≡ true → pulls files e f ≡ true → X) → X
+pub live_cases : (X : Type 0) (undefined : List (List ℕ)) (files : List File) (n f : ℕ) → live_in undefined files (suc n) f ≡ true → (live_in undefined files n f ≡ true → X) → ((e : ℕ) → e < length files → live_in undefined files n e ≡ true → pulls files e f ≡ true → X) → X
 unfolding live_in
 live_cases X undefined files n f is before pulled =
     let test : ℕ → Bool = λ k. live_in undefined files n k && pulls files k f in
@@ -157,19 +157,19 @@ live_inside undefined files s closed zero f is =
 live_inside undefined files s closed (suc n) f is =
     live_cases (s f ≡ true) undefined files n f is (live_inside undefined files s closed n f) (λ e lt live pulled. closed.pulled e f (live_inside undefined files s closed n e live) pulled)
 
-commands_live : (undefined : List (List ℕ)) (files : List File) (n f : ℕ) → f < length files → (file_at files f).member ≡ false → live_in undefined files n f ≡ true
+pub commands_live : (undefined : List (List ℕ)) (files : List File) (n f : ℕ) → f < length files → (file_at files f).member ≡ false → live_in undefined files n f ≡ true
 unfolding live_in
 commands_live undefined files zero f lt own =
     or_left (is_command files f) (is_asked undefined files f)
     (and_from (nat_lt f (length files)) (not (file_at files f).member) (lt-ltb f (length files) lt) (not_from_false (file_at files f).member own))
 commands_live undefined files (suc n) f lt own = live_more undefined files n f (commands_live undefined files n f lt own)
 
-asked_live : (undefined : List (List ℕ)) (files : List File) (n f : ℕ) → is_asked undefined files f ≡ true → live_in undefined files n f ≡ true
+pub asked_live : (undefined : List (List ℕ)) (files : List File) (n f : ℕ) → is_asked undefined files f ≡ true → live_in undefined files n f ≡ true
 unfolding live_in
 asked_live undefined files zero f is = or_right (is_command files f) (is_asked undefined files f) is
 asked_live undefined files (suc n) f is = live_more undefined files n f (asked_live undefined files n f is)
 
-live_at : (undefined : List (List ℕ)) (files : List File) (f : ℕ) → f < length files → get_or (live_of undefined files) f false ≡ live_in undefined files (length files) f
+pub live_at : (undefined : List (List ℕ)) (files : List File) (f : ℕ) → f < length files → get_or (live_of undefined files) f false ≡ live_in undefined files (length files) f
 unfolding live_of is_live
 live_at undefined files f lt = get_or-map-range_with_len (is_live undefined files) 0 (length files) f f false lt (omega arith)
 
@@ -204,7 +204,7 @@ live_of_least undefined files within among =
       least = λ s closed g is. live_inside undefined files s closed (length files) g (sym (live_at undefined files g (inside g is)) ∙ is);
     }
 
-same_tests : (b c : Bool) → (b ≡ true → c ≡ true) → (c ≡ true → b ≡ true) → b ≡ c
+pub same_tests : (b c : Bool) → (b ≡ true → c ≡ true) → (c ≡ true → b ≡ true) → b ≡ c
 same_tests true c there back = sym (there refl)
 same_tests false true there back = back refl
 same_tests false false there back = refl

@@ -1,4 +1,5 @@
 pub mod Claims
 pub mod Live
+pub mod Order
 pub mod Pulls
 pub mod Visits

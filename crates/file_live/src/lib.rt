@@ -6,13 +6,17 @@
 //! members after all objects. A symbol whose name a member is the first to offer pulls that member. From the objects, and
 //! the members that the command asks for, these pulls are followed, each file's once.
 //!
+//! An archive may stand anywhere among the objects: `order` says so.
+//!
 //! Without an archive all files take part, and nothing is listed. `asked` finds the members that the names of the command ask for.
 #![tactic(auto)]
 
 mod asked;
 mod claims;
 mod live_files;
+mod order;
 mod pulls;
 mod search;
 
 pub use live_files::live;
+pub use order::archives_stand_anywhere;

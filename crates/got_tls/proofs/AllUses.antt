@@ -17,6 +17,7 @@ use Rattle.link_sections.specs.Leaders.{leads}
 use Rattle.link_sections.proofs.GotSteps.{own_entry}
 use Rattle.got_tls.specs.GotList.{HasAllUses, Wanted, all_added, got_of, wanted, wanted_by, wanted_in, wanted_use}
 use Rattle.got_tls.proofs.Adding.{added_append, all_are_added, any_append, asks}
+use Rattle.got_tls.proofs.UseKinds.{uses_are}
 
 -- some element of a list of lists
 or_true : (a b : Bool) → b ≡ true → (a || b) ≡ true
@@ -70,6 +71,7 @@ table_is files leaders es is = is ∙ (all_are_added (wanted files leaders)).ent
 pub has_all : (files : List File) (leaders : List (Option ℕ)) (es : List GotEntry) → es ≡ all_added [] (wanted files leaders) → AreUnlike es → HasAllUses files leaders es
 has_all files leaders es is unlike = record {
   unlike = unlike;
+  asked = uses_are;
   each = λ n lt own k d less usage asked.
       let key = key_of files (place_of files n).file (get_or (relocs_of files n) k d).symbol in
       ap (λ l. is_some (entry_of l key usage)) is

@@ -1,3 +1,4 @@
 mod Adding
 mod AllUses
 mod Keys
+pub mod UseKinds

@@ -2,6 +2,7 @@
 -- relocations ask of sections that lead themselves, in order of the first of these, and the words of each behind those of the one before.
 use Rattle.std.specs.Prelude.{◌≡◌, ℕ, ◌+◌, ◌<◌, Bool, true, Option, Some, None, is_some, if◌then◌else◌, List, [], ◌∷◌, flat_map, All}
 use Rattle.std.specs.List.{range_with_len}
+use Rattle.lk_base.specs.RelocKinds.{goes_by_got}
 use Rattle.lk_tables.specs.declared.objects.Reloc.{Reloc}
 use Rattle.lk_tables.specs.Files.{File, section_total}
 use Rattle.lk_tables.specs.Sites.{place_of, relocs_of}
@@ -59,7 +60,9 @@ all_added entries (w ∷ ws) = all_added (with_use entries w.key w.usage w.file 
 abbrev pub HasUse : List File → (n : ℕ) → List GotEntry → Reloc → Type 0
 HasUse files n entries r = (usage : GotUse) → use_of r.kind ≡ Some usage → is_some (entry_of entries (key_of files (place_of files n).file r.symbol) usage) ≡ true
 
--- each key and use has one entry at most, and each relocation that asks for one in a section that leads itself has its entry
+-- each key and use has one entry at most; a kind of relocation has a use exactly if its value is computed from the table (RISC-V ELF psABI,
+-- "Relocations": G); and each relocation that asks for one in a section that leads itself has its entry
 pub record HasAllUses (files : List File) (leaders : List (Option ℕ)) (entries : List GotEntry) : Type 0 where
   pub unlike : AreUnlike entries
+  pub asked : (kind : ℕ) → is_some (use_of kind) ≡ goes_by_got kind
   pub each : (n : ℕ) → n < section_total files → leads leaders n ≡ true → All (HasUse files n entries) (relocs_of files n)

@@ -40,3 +40,4 @@ pub mod ChosenRanks
 pub mod Spreading
 pub mod SharedItems
 pub mod SharedWhole
+pub mod Sharers

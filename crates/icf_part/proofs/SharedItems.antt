@@ -9,12 +9,11 @@ use Rattle.std.proofs.lemmas.List.FromFn.{get_or-range_with_len, length-range_wi
 use Rattle.std.proofs.lemmas.List.Kept.{AllPairs-from_increasing}
 use Rattle.link_sections.specs.FoldItems.{FoldItem}
 use Rattle.name_numbers.specs.Texts.{text_numbers}
-use Rattle.icf_part.specs.Chosen.{AreContents, AreMarked, AreShared, AreSpread, is_shared, items_at}
+use Rattle.icf_part.specs.Chosen.{AreChosen, AreContents, AreMarked, AreShared, AreSpread, is_shared, items_at}
 use Rattle.icf_part.specs.Folding.{item_at}
 use Rattle.icf_part.specs.Signatures.{bytes_of}
 use Rattle.icf_part.proofs.ChosenItems.{chosen_at, items_wide}
 use Rattle.icf_part.proofs.Refined.{one_number, one_text}
-use Rattle.icf_part.proofs.Spreading.{AreChosen}
 use Rattle.icf_part.proofs.Whole.{all_numbers}
 
 -- marks

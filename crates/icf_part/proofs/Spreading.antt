@@ -9,7 +9,7 @@ use Rattle.std.proofs.lemmas.List.Kept.{AllPairs-from_increasing}
 use Rattle.link_sections.specs.declared.targets.Target.{Target}
 use Rattle.link_sections.specs.declared.targets.Target.TheVariants.{Section}
 use Rattle.link_sections.specs.FoldItems.{FoldItem, section_of, sections_of}
-use Rattle.icf_part.specs.Chosen.{AreSpread, items_at}
+use Rattle.icf_part.specs.Chosen.{AreChosen, AreSpread, items_at}
 use Rattle.icf_part.specs.Counts.{how_many, is_new, key_count, leader_count}
 use Rattle.icf_part.specs.Folding.{Fits, HoldsAll, IsCongruence, Key, Matches, Pair, classes, item_at, key_of, no_item, pair, target_at}
 use Rattle.icf_part.specs.Leaders.{all_pairs, has_pair, same_key}
@@ -24,17 +24,11 @@ use Rattle.icf_part.proofs.SectionPlaces.{rising}
 use Rattle.icf_part.proofs.Sublists.{in_pairs}
 use Rattle.icf_part.proofs.Whole.{IsFolded, folded_by}
 
--- the chosen items are in order, and any other is alone with its contents
-pub record AreChosen (items : List FoldItem) (chosen : List ℕ) : Type 0 where
-  pub test : ℕ → Bool
-  pub list_is : chosen ≡ filter test (range_with_len 0 (length items))
-  pub alone : (a b : ℕ) → a < length items → b < length items → test a ≡ false → (item_at items b).bytes ≡ (item_at items a).bytes → b ≡ a
-
 -- the place of an item among the chosen
-record IsChosen (items : List FoldItem) (chosen : List ℕ) (a : ℕ) : Type 0 where
-  k : ℕ
-  within : k < length chosen
-  is : get_or chosen k 0 ≡ a
+pub record IsChosen (items : List FoldItem) (chosen : List ℕ) (a : ℕ) : Type 0 where
+  pub k : ℕ
+  pub within : k < length chosen
+  pub is : get_or chosen k 0 ≡ a
 
 module _ (items : List FoldItem) (chosen : List ℕ) (are : AreChosen items chosen) where
   abbrev some : List FoldItem
@@ -48,17 +42,17 @@ module _ (items : List FoldItem) (chosen : List ℕ) (are : AreChosen items chos
       let P : List ℕ → Type 0 = All (λ a. a < length items) in
       subst P (sym are.list_is) (passing_within are.test (length items))
 
-  passes : (k : ℕ) → k < length chosen → are.test (get_or chosen k 0) ≡ true
+  pub passes : (k : ℕ) → k < length chosen → are.test (get_or chosen k 0) ≡ true
   passes =
       let P : List ℕ → Type 0 = λ l. (k : ℕ) → k < length l → are.test (get_or l k 0) ≡ true in
       subst P (sym are.list_is) (passes_at are.test (length items))
 
-  ranked : (a : ℕ) → a < length items → are.test a ≡ true → (how_many are.test a < length chosen) × (get_or chosen (how_many are.test a) 0 ≡ a)
+  pub ranked : (a : ℕ) → a < length items → are.test a ≡ true → (how_many are.test a < length chosen) × (get_or chosen (how_many are.test a) 0 ≡ a)
   ranked a la is =
       let P : List ℕ → Type 0 = λ l. (how_many are.test a < length l) × (get_or l (how_many are.test a) 0 ≡ a) in
       subst P (sym are.list_is) (rank_below are.test a (length items) la is, rank_at are.test (length items) a la is)
 
-  sides : (a : ℕ) → a < length items → IsChosen items chosen a ⊎ (are.test a ≡ false)
+  pub sides : (a : ℕ) → a < length items → IsChosen items chosen a ⊎ (are.test a ≡ false)
   sides a la = elim (cases_Bool (are.test a)) [
     | inl is ↦ let r = ranked a la is in inl (record { k = how_many are.test a; within = r.0; is = r.1 })
     | inr fails ↦ inr fails
@@ -67,7 +61,7 @@ module _ (items : List FoldItem) (chosen : List ℕ) (are : AreChosen items chos
   unlisted : (a : ℕ) → are.test a ≡ false → (i : ℕ) → i < length chosen → get_or chosen i 0 ≢ a
   unlisted a fails i lt e = true≢false (sym (passes i lt) ∙ ap are.test e ∙ fails)
 
-  apart : (i j : ℕ) → i < length chosen → j < length chosen → get_or chosen i 0 ≡ get_or chosen j 0 → i ≡ j
+  pub apart : (i j : ℕ) → i < length chosen → j < length chosen → get_or chosen i 0 ≡ get_or chosen j 0 → i ≡ j
   apart i j li lj e = elim (cases_lt i j) [
     | inl less ↦ absurd (omega (arith, AllPairs-from_increasing chosen rises i j 0 less lj, e))
     | inr le ↦ elim (cases_lt j i) [

@@ -1,5 +1,5 @@
 -- Some of the items: those whose contents another item has. Any other is folded with none, and leads itself.
-use Rattle.std.specs.Prelude.{◌≡◌, ◌≢◌, ℕ, ◌<◌, ◌==◌, ◌||◌, not, Bool, false, true, List, length, map, slice_index, slice_index_or}
+use Rattle.std.specs.Prelude.{◌≡◌, ◌≢◌, ℕ, ◌<◌, ◌==◌, ◌||◌, not, Bool, false, true, Option, Some, List, [], ◌∷◌, length, map, slice_index, slice_index_or, slice_set}
 use Rattle.std.specs.List.{filter, range_with_len}
 use Rattle.link_sections.specs.declared.fold_items.FoldItem.{FoldItem as LentItem}
 use Rattle.link_sections.specs.FoldItems.{FoldItem, item_views}
@@ -32,6 +32,23 @@ pub record AreShared (bytes list : List ℕ) : Type 0 where
   pub test : ℕ → Bool
   pub list_is : list ≡ filter test (range_with_len 0 (length bytes))
   pub alone : (a b : ℕ) → a < length bytes → b < length bytes → test a ≡ false → slice_index bytes b ≡ slice_index bytes a → b ≡ a
+
+-- the chosen items are in order, and any other is alone with its contents
+pub record AreChosen (items : List FoldItem) (chosen : List ℕ) : Type 0 where
+  pub test : ℕ → Bool
+  pub list_is : chosen ≡ filter test (range_with_len 0 (length items))
+  pub alone : (a b : ℕ) → a < length items → b < length items → test a ≡ false → (item_at items b).bytes ≡ (item_at items a).bytes → b ≡ a
+
+-- some of the items: they stand in order, and any other is alone with its contents
+pub record AreSharers (items some : List FoldItem) : Type 0 where
+  pub chosen : List ℕ
+  pub among : AreChosen items chosen
+  pub some_are : some ≡ items_at items chosen
+
+-- sections that lead themselves, one after the other
+abbrev pub own_leading : (sections : List ℕ) → List (Option ℕ) → List (Option ℕ)
+own_leading [] leaders = leaders
+own_leading (n ∷ ns) leaders = own_leading ns (slice_set leaders n (Some n))
 
 -- of n items the first k chosen ones have the leaders that these are among the chosen, and all others lead themselves
 pub record AreSpread (n : ℕ) (chosen : List ℕ) (k : ℕ) (leaders list : List ℕ) : Type 0 where

@@ -18,7 +18,7 @@ use crate::parts::pieces_of;
 use crate::places::{all_places, sections_of};
 use crate::refining::refine;
 use crate::rests::all_rests;
-use crate::sharing::{chosen_numbers, shared_items, spread_leaders};
+use crate::sharing::{ITEM_END, chosen_numbers, shared_items, spread_leaders};
 use crate::steps::Steps;
 use crate::walks::count_leaders;
 use link_sections::FoldItem;
@@ -27,9 +27,6 @@ use std::ops::Range;
 use std::sync::ledger::Ledger;
 use std::thread::Threads;
 use work_split::Gate;
-
-/// More items than a link can have sections.
-const ITEM_END: usize = 1 << 31;
 
 /// For each item the place of its leader: the least item that can stand for it. Items are given in order of their sections' numbers. The
 /// answer is the same whatever the number of workers; each makes what is compared of one piece of the items whose contents another has, and

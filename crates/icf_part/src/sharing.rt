@@ -1,13 +1,57 @@
 //! Items whose contents another has, the only ones that are compared further: any other leads itself.
 
-ghost use Rattle.std.specs.Prelude.{◌≡◌, ℕ, ◌<◌, ◌^◌, All, if◌then◌else◌, length, map, slice_index, slice_index_or, slice_set, true, false, IfOk};
+ghost use Rattle.std.specs.Prelude.{◌≡◌, ℕ, ◌<◌, ◌^◌, All, if◌then◌else◌, length, map, slice_index, slice_index_or, slice_set, true, false, Some, IfOk};
 ghost use Rattle.std.specs.List.{filter, range_with_len};
 ghost use Rattle.std.specs.List.Sorted.{IsStrictlyIncreasing};
+ghost use Rattle.name_numbers.specs.Texts.{lent_texts, text_numbers};
 ghost use Rattle.icf_part.specs.Chosen.{AreMarked, AreShared, AreSpread};
 ghost use Rattle.icf_part.specs.Chosen as spec;
 
 use crate::turns::push_if;
+use lk_base::SecNo;
+use name_numbers::number_texts;
 use std::alloc::{AllocError, Global};
+use std::thread::Threads;
+
+/// More items than a link can have sections.
+pub const ITEM_END: usize = 1 << 31;
+
+/// Places of texts, in order, among them all of those that others equal. What stands for an item whose contents are none of them is itself, so
+/// nothing else of it is looked at. More than one worker numbers texts by threads, eight or as many as there are processors. The only error is
+/// out of memory, which 2^31 texts or more are answered with.
+pub fn shared_texts<R: Threads + Sync>(
+    rt: &R,
+    alloc: Global,
+    texts: &[&[u8]],
+    workers: u32,
+) -> Result<Vec<u32>, AllocError>
+    ensures { IfOk result (λ list. AreShared (text_numbers (lent_texts texts.now)) list.items) }
+{
+    if texts.len() >= ITEM_END {
+        return Err(AllocError);
+    }
+    let numbers = number_texts(rt, alloc, texts, workers)?;
+    let list = shared_items(alloc, numbers.as_slice())?;
+    Ok(list)
+}
+
+/// Has each of some sections lead itself, if it has a number in the list. Takes no memory.
+pub fn lead_themselves(leaders: &mut Vec<Option<SecNo>>, sections: &[SecNo])
+    ensures { leaders.new.items ≡ spec.own_leading sections.now leaders.old.items }
+{
+    for i in 0..sections.len() {
+        lead_itself(leaders, sections[i]);
+    }
+}
+
+/// Has a section lead itself.
+fn lead_itself(leaders: &mut Vec<Option<SecNo>>, section: SecNo)
+    ensures { leaders.new.items ≡ slice_set leaders.old.items section (Some section) }
+{
+    if (section as usize) < leaders.len() {
+        leaders[section as usize] = Some(section);
+    }
+}
 
 /// The places of the items whose contents another has, in order; `bytes` are the numbers of all items' contents.
 pub fn shared_items(alloc: Global, bytes: &[u32]) -> Result<Vec<u32>, AllocError>

@@ -7,6 +7,8 @@
 mod hash;
 mod rule;
 mod table;
+#[cfg(test)]
+mod tests;
 mod texts;
 
 pub use hash::hash_of;

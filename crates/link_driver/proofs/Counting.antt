@@ -86,6 +86,11 @@ few_firsts pools i d rising lt =
     let first : Pool → ℕ = λ p. p.first in
     omega (arith, index_most (map first pools) rising i (omega (arith, lt, length-map pools first)), get_or-map-within first pools i d 0 lt)
 
+-- the linker's table of a view
+pub table_is : (l : LaidOut) (v : PoolsView) (t : List GotEntry) → (with_contents l v t).table ≡ t
+unfolding with_contents
+table_is l v t = refl
+
 -- what the report counts of a view
 pub cuts_are : (l : Layout) (v : PoolsView) (t : List GotEntry) (n : ℕ) → cuts_at (with_contents (layout_view l) v t) n ≡ cut_views (get_or l.sizes.rows n [])
 unfolding with_contents layout_view

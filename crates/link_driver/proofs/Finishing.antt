@@ -9,7 +9,7 @@ use Rattle.lk_depot.specs.Output.{Output, told_said}
 use Rattle.lk_depot.proofs.Counts.{later_then_rose}
 use Rattle.link_driver.specs.declared.driving.Ending.{Ending}
 use Rattle.link_driver.specs.declared.driving.Ending.TheVariants.{Done, Memory, Refused, Unreported, Defective, Unread, Unwritten}
-use Rattle.link_driver.specs.declared.linking.Linked.{Linked}
+use Rattle.link_driver.specs.Linked.{LinkedView}
 use Rattle.link_command.specs.Command.{Asked}
 use Rattle.link_driver.specs.Link.{link, cannot_write}
 use Rattle.link_driver.specs.Ends.{Accepts, IsCut, never_begun, cut_short, with_map, with_file, Ends, links, cannot_write_output, cannot_write_map, cannot_say}
@@ -25,7 +25,7 @@ cut_from first next after name kind bytes bytes' files kinds same (cut_short siz
     (f ∙ ap (told_put name (take size bytes)) files ∙ ap (λ xs. told_put name (take size xs) first.files) same)
     (k ∙ ap (told_put name kind) kinds)
 
-module _ (asked : Asked) (before now after : Store) (inputs : List (List ℕ)) (linked : Linked) where
+module _ (asked : Asked) (before now after : Store) (inputs : List (List ℕ)) (linked : LinkedView) where
   accepted : IsReady asked before now inputs linked → after.unread ≡ now.unread → Accepts (Some asked) before after asked inputs
   accepted ready unread = record {
     asks = refl;
@@ -41,7 +41,7 @@ module _ (asked : Asked) (before now after : Store) (inputs : List (List ℕ)) (
 
   -- the executable was not written
   pub output_cut : (say : Output) (line : List ℕ) → IsReady asked before now inputs linked
-      → IsCut now after asked.output Executable linked.exe.items → Rises now.begun after.begun → Rose now.faults after.faults
+      → IsCut now after asked.output Executable linked.exe → Rises now.begun after.begun → Rose now.faults after.faults
       → after.unread ≡ now.unread → line ≡ cannot_write asked.output
       → Ends (Some asked) before after say say 3 line
   output_cut say line ready left begun faults unread line_is =
@@ -60,22 +60,22 @@ module _ (asked : Asked) (before now after : Store) (inputs : List (List ℕ)) (
 
   -- all was written, and the report was said or not
   pub reported : (say say' : Output) (ending : Ending) → IsReady asked before now inputs linked
-      → after.files ≡ with_map asked.map linked.map.items (told_put asked.output linked.exe.items now.files)
+      → after.files ≡ with_map asked.map linked.map (told_put asked.output linked.exe now.files)
       → after.kinds ≡ with_map asked.map Plain (told_put asked.output Executable now.kinds)
-      → after.unread ≡ now.unread → AfterReport linked.report.items say say' ending
+      → after.unread ≡ now.unread → AfterReport linked.report say say' ending
       → Ends (Some asked) before after say say' (status_of ending) (told_line ending)
   reported say say' ending ready files kinds unread said = by ending said
     where
       files_are : after.files ≡ with_map asked.map (link (Some asked) inputs).map (told_put asked.output (link (Some asked) inputs).executable before.files)
       files_are =
-          files ∙ ap (λ f. with_map asked.map linked.map.items (told_put asked.output linked.exe.items f)) ready.inputs_are.untouched.files
-          ∙ ap (λ e. with_map asked.map linked.map.items (told_put asked.output e before.files)) ready.is_link.executable
+          files ∙ ap (λ f. with_map asked.map linked.map (told_put asked.output linked.exe f)) ready.inputs_are.untouched.files
+          ∙ ap (λ e. with_map asked.map linked.map (told_put asked.output e before.files)) ready.is_link.executable
           ∙ ap (λ m. with_map asked.map m (told_put asked.output (link (Some asked) inputs).executable before.files)) ready.is_link.map
 
       kinds_are : after.kinds ≡ with_map asked.map Plain (told_put asked.output Executable before.kinds)
       kinds_are = kinds ∙ ap (λ k. with_map asked.map Plain (told_put asked.output Executable k)) ready.inputs_are.untouched.kinds
 
-      by : (ending : Ending) → AfterReport linked.report.items say say' ending
+      by : (ending : Ending) → AfterReport linked.report say say' ending
           → Ends (Some asked) before after say say' (status_of ending) (told_line ending)
       by Done said = links (record {
         asked = asked;
@@ -109,11 +109,11 @@ module _ (asked : Asked) (before now after : Store) (inputs : List (List ℕ)) (
       by (Unwritten line) said = absurd said
 
 -- the executable was written, and the map was not
-pub map_cut : (asked : Asked) (before now next after : Store) (inputs : List (List ℕ)) (linked : Linked) (name : List ℕ) (say : Output) (line : List ℕ)
+pub map_cut : (asked : Asked) (before now next after : Store) (inputs : List (List ℕ)) (linked : LinkedView) (name : List ℕ) (say : Output) (line : List ℕ)
     → IsReady asked before now inputs linked → asked.map ≡ Some name
-    → next.files ≡ told_put asked.output linked.exe.items now.files → next.kinds ≡ told_put asked.output Executable now.kinds
+    → next.files ≡ told_put asked.output linked.exe now.files → next.kinds ≡ told_put asked.output Executable now.kinds
     → Rises now.begun next.begun → now.faults ≤ next.faults → next.unread ≡ now.unread
-    → IsCut next after name Plain linked.map.items → Rises next.begun after.begun → Rose next.faults after.faults
+    → IsCut next after name Plain linked.map → Rises next.begun after.begun → Rose next.faults after.faults
     → after.unread ≡ next.unread → line ≡ cannot_write name
     → Ends (Some asked) before after say say 3 line
 map_cut asked before now next after inputs linked name say line ready map_is files kinds begun later unread left begun' faults unread' line_is =
@@ -128,7 +128,7 @@ map_cut asked before now next after inputs linked name say line ready map_is fil
       begun = omega (arith, ready.inputs_are.untouched.begun, begun.later, begun'.rose, begun'.later);
       faults = omega (arith, ready.inputs_are.faults, later, faults);
       left = cut_from (with_file asked.output Executable (link (Some asked) inputs).executable before) next after name Plain _ _
-          (files ∙ ap (told_put asked.output linked.exe.items) ready.inputs_are.untouched.files
+          (files ∙ ap (told_put asked.output linked.exe) ready.inputs_are.untouched.files
           ∙ ap (λ e. told_put asked.output e before.files) ready.is_link.executable)
           (kinds ∙ ap (told_put asked.output Executable) ready.inputs_are.untouched.kinds)
           ready.is_link.map left;

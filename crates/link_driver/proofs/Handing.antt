@@ -11,7 +11,7 @@ use Rattle.lk_tables.specs.Files.{File}
 use Rattle.lk_tables.specs.FramePlans.{PlanView}
 use Rattle.map_file.specs.MapText.{map_text}
 use Rattle.sym_resolve.specs.Law.{IsLawful}
-use Rattle.link_driver.specs.declared.linking.Linked.{Linked}
+use Rattle.link_driver.specs.Linked.{LinkedView}
 use Rattle.link_driver.specs.Certificates.{apart_text, asks_why, live_text, why_text}
 use Rattle.link_driver.specs.Link.{Wishes, bound_in, bound_names, executable_in, executable_with, kept_for, kept_in, laid_out, leaders_in, linked_files, map_in, map_with, plan_in, report_in, report_with, say_in, wishes_for, wishes_in}
 use Rattle.link_driver.specs.Phases.{Gives, IsWritten, Makes}
@@ -36,7 +36,7 @@ unfolding bound_names
 binding_is entry files b names = (discarded files, entry, names)
 
 -- what files give that are laid out as Link says
-pub made_of : (w : Wishes) (names : List (List ℕ)) (files : List File) (b : Bindings) (kept : List Bool) (leaders : List (Option ℕ)) (laid : LaidOut) (plan : PlanView) (linked : Linked) →
+pub made_of : (w : Wishes) (names : List (List ℕ)) (files : List File) (b : Bindings) (kept : List Bool) (leaders : List (Option ℕ)) (laid : LaidOut) (plan : PlanView) (linked : LinkedView) →
     leaders ≡ leaders_in w files b kept → laid ≡ laid_out w files b kept → plan ≡ plan_in w files b kept → IsWritten w names files b kept leaders laid plan linked →
     Makes w names files b kept linked
 unfolding executable_with map_with report_with
@@ -52,7 +52,7 @@ if_named : (on : Bool) (give : List (List ℕ) → List ℕ) (a b : List (List �
 if_named true give a b same = ap give (same refl)
 if_named false give a b same = refl
 
-pub made_as : (w : Wishes) (names shown : List (List ℕ)) (files : List File) (b : Bindings) (kept : List Bool) (linked : Linked) → (w.map ≡ true → names ≡ shown) →
+pub made_as : (w : Wishes) (names shown : List (List ℕ)) (files : List File) (b : Bindings) (kept : List Bool) (linked : LinkedView) → (w.map ≡ true → names ≡ shown) →
     Makes w names files b kept linked → Makes w shown files b kept linked
 unfolding map_with
 made_as w names shown files b kept linked same makes = record {
@@ -74,9 +74,9 @@ holds_in asked ss F files b kept are bound stays holds =
     subst R are (subst Q bound (subst P stays holds))
 
 -- what the files of these sources give, once it is said what is asked why
-pub gives_all : (asked : Asked) (names : List (List ℕ)) (ss : List Source) (linked said : Linked) (why : List ℕ) →
-    Makes (wishes_in asked ss) names (linked_files asked ss) (bound_in asked ss) (kept_in asked ss) linked → said.exe.items ≡ linked.exe.items →
-    said.map.items ≡ linked.map.items → said.report.items ≡ linked.report.items ++ why →
+pub gives_all : (asked : Asked) (names : List (List ℕ)) (ss : List Source) (linked said : LinkedView) (why : List ℕ) →
+    Makes (wishes_in asked ss) names (linked_files asked ss) (bound_in asked ss) (kept_in asked ss) linked → said.exe ≡ linked.exe →
+    said.map ≡ linked.map → said.report ≡ linked.report ++ why →
     why ≡ why_text asked names (linked_files asked ss) (bound_in asked ss) (kept_in asked ss) (wishes_in asked ss).barred → Gives asked names ss said
 unfolding executable_in map_in report_in say_in
 gives_all asked names ss linked said why makes exe map report is = record {

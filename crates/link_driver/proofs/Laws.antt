@@ -5,6 +5,8 @@ use Rattle.std.specs.List.{range_with_len, sum}
 use Rattle.std.proofs.lemmas.List.FromFn.{length-map-range_with_len}
 use Rattle.comdat.specs.Discarded.{discarded}
 use Rattle.file_live.specs.Live.{IsLive}
+use Rattle.file_live.specs.Order.{StandsAnywhere}
+use Rattle.file_live.proofs.AnyOrder.{stands_anywhere}
 use Rattle.file_live.proofs.Asking.{asked_within}
 use Rattle.file_live.proofs.Pulling.{pull_within}
 use Rattle.file_live.proofs.Rounds.{live_of_least}
@@ -50,13 +52,21 @@ pub few_symbols : (undefined : List (List ℕ)) (ss : List Source) → AreCounte
 few_symbols undefined ss few = omega (arith, total_same undefined ss, few.symbols)
 
 module _ (undefined : List (List ℕ)) (ss : List Source) (few : AreCounted ss) where
+  few_heads : length (heads_in ss) < 2 ^ 24
+  few_heads = omega (arith, how_many ss, few.files)
+
+  few_named : symbol_total (heads_in ss) < 2 ^ 31
+  few_named = omega (arith, few.symbols)
+
   -- the files that take part are the least closed set
   pub least_files : IsLive undefined (heads_in ss) (live_in undefined ss)
   unfolding live_in
   least_files =
-      let files : length (heads_in ss) < 2 ^ 24 = omega (arith, how_many ss, few.files) in
-      let symbols : symbol_total (heads_in ss) < 2 ^ 31 = omega (arith, few.symbols) in
-      live_of_least undefined (heads_in ss) (pull_within (heads_in ss) files symbols) (asked_within undefined (heads_in ss) files symbols)
+      live_of_least undefined (heads_in ss) (pull_within (heads_in ss) few_heads few_named) (asked_within undefined (heads_in ss) few_heads few_named)
+
+  -- whichever way the objects stand among the archives
+  pub any_place : StandsAnywhere undefined (heads_in ss)
+  any_place = stands_anywhere undefined (heads_in ss) few_heads few_named
 
   -- each name is bound to its least offer
   pub least_offers : (entry : List ℕ) → IsLawful (files_in undefined ss) (discarded (files_in undefined ss)) entry (bound_names (files_in undefined ss) entry)
@@ -65,7 +75,7 @@ module _ (undefined : List (List ℕ)) (ss : List Source) (few : AreCounted ss) 
       lawful (files_in undefined ss) (discarded (files_in undefined ss)) (few_files undefined ss few) (few_symbols undefined ss few) entry
 
 pub are_least : (asked : Asked) (ss : List Source) → AreCounted ss → AreLeast asked ss
-are_least asked ss few = record { taking_part = least_files asked.undefined ss few; bound = least_offers asked.undefined ss few asked.entry }
+are_least asked ss few = record { taking_part = least_files asked.undefined ss few; anywhere = any_place asked.undefined ss few; bound = least_offers asked.undefined ss few asked.entry }
 
 -- no definition of Link reads the number of workers
 same_line : (asked : Asked) (inputs : List (List ℕ)) (n : ℕ) (ds : List Defect) → link_with (with_workers n asked) inputs ds ≡ link_with asked inputs ds

@@ -1,9 +1,7 @@
 -- What the passes before the layout hand on, together: leaders, and where everything stands.
 use Rattle.std.proofs.Common.{◌≡◌, ℕ, ◌<◌, Bool, true, false, List, Option, length, refl, sym, ap, ◌∙◌, subst, arith}
 use Rattle.std.specs.List.{All}
-use Rattle.std.specs.Prelude.{slice_index}
 use Rattle.std.specs.List.Sorted.{IsStrictlyIncreasing}
-use Rattle.std.proofs.lemmas.List.{length-map}
 use Rattle.std.proofs.lemmas.Bool.{and_parts, cond-false, cond-true}
 use Rattle.std.proofs.lemmas.List.Elements.{All-map}
 use Rattle.eh_frame.specs.Plan.{plan_of}
@@ -20,8 +18,7 @@ use Rattle.link_sections.specs.declared.got.GotEntry.{GotEntry}
 use Rattle.link_sections.specs.declared.pools.Pool.{Pool}
 use Rattle.link_sections.specs.declared.pools.Pools.{Pools}
 use Rattle.link_sections.specs.Cuts.{Cut}
-use Rattle.link_sections.specs.declared.fold_items.FoldItem.{FoldItem as LentItem}
-use Rattle.link_sections.specs.FoldItems.{FoldItem, item_view, item_views, section_of, sections_of}
+use Rattle.link_sections.specs.FoldItems.{FoldItem, section_of, sections_of}
 use Rattle.link_sections.specs.GotEntries.{word_count}
 use Rattle.link_sections.specs.LaidOut.{LaidOut, with_contents}
 use Rattle.link_sections.specs.Leaders.{folded_leaders, is_kept, own_leaders}
@@ -129,18 +126,6 @@ unfolding plan_in laid_out with_contents
 planned_laid w files b kept leaders laid plan lead found planned =
     planned ∙ ap (λ (l : LaidOut). plan_of files b l.merging.merged (all_lists files) (leaders_in w files b kept)) (sym found)
     ∙ ap (plan_of files b laid.merging.merged (all_lists files)) (sym lead)
-
--- the places of leaders, as they are found
-pub lead_items : (items : List LentItem) (l : List ℕ) → length l ≡ length (item_views items) → All (λ p. p < length items) l →
-    ((a : ℕ) → slice_index l (slice_index l a) ≡ slice_index l a) → LeadItems (length (item_views items)) l
-lead_items items l count places own = record {
-  count = count;
-  within = λ a lt.
-      let low : a < length l = omega (arith, lt, count) in
-      let below : slice_index l a < length items = places a 0 low in
-      omega (arith, below, length-map items item_view);
-  own = λ a lt. own a;
-}
 
 -- folded sections have leaders that may stay and lead themselves
 pub folded_stay : (files : List File) (b : Bindings) (kept barred : List Bool) (pools : Pools) (own leaders : List (Option ℕ)) (list : List FoldItem) (places : List ℕ) →

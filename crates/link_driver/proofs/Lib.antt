@@ -1,3 +1,4 @@
+pub mod BlockWise
 pub mod Certifying
 pub mod Chain
 pub mod Counting
@@ -11,8 +12,10 @@ pub mod Fitting
 pub mod FrameContents
 pub mod FrameOrder
 pub mod Gathered
+pub mod InsideTables
 pub mod Handing
 pub mod Keeping
+pub mod KnownHeads
 pub mod LaidOrder
 pub mod Laws
 pub mod Leading
@@ -31,4 +34,5 @@ pub mod Unwinding
 pub mod ValueOrder
 pub mod Whole
 pub mod WholeBodies
-pub mod Writing
+pub mod Sharing
+pub mod WrittenFiles

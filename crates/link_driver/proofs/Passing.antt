@@ -23,7 +23,6 @@ use Rattle.lk_tables.specs.Files.{File}
 use Rattle.lk_tables.specs.FramePlans.{PlanView}
 use Rattle.lk_tables.specs.TablesView.{files_of}
 use Rattle.sec_graph.specs.Foldable.{items}
-use Rattle.link_driver.specs.declared.linking.Linked.{Linked}
 use Rattle.link_driver.specs.Defects.{opening_defects, reading_defects}
 use Rattle.link_driver.specs.Link.{Wishes, binding_phases, bound_names, kept_for, laid_out, leaders_in, piece_defects, placing_defects, placing_phases, plan_in, wishes_for}
 use Rattle.link_driver.specs.Phases.{HoldsAtStop, HoldsPast, ShortenedCallsReach}
@@ -73,8 +72,8 @@ not_past (stops.Defect d) defects P begins = λ none. let some : [] ≡ d ∷ be
 not_past stops.Memory defects P at = tt
 
 -- what holds in any case
-pub past_all : (r : Result Linked LinkStop) (defects : List Defect) (P : Type 0) → P → HoldsPast r defects P
-past_all (Ok linked) defects P holds = holds
+pub past_all : {X : Type 0} (r : Result X LinkStop) (defects : List Defect) (P : Type 0) → P → HoldsPast r defects P
+past_all (Ok value) defects P holds = holds
 past_all (Err (stops.Defect d)) defects P holds = λ none. holds
 past_all (Err stops.Memory) defects P holds = tt
 

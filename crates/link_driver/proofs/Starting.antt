@@ -16,7 +16,7 @@ use Rattle.lk_base.specs.Firsts.{StopsAt}
 use Rattle.lk_base.specs.Limits.{standard}
 use Rattle.link_driver.specs.Phases.{IsLinked, Links}
 use Rattle.link_driver.specs.Sources.{Source, shown_files, sources}
-use Rattle.link_driver.specs.declared.linking.Linked.{Linked}
+use Rattle.link_driver.specs.Linked.{LinkedView}
 use Rattle.link_driver.specs.declared.driving.Ending.{Ending}
 use Rattle.link_driver.specs.declared.driving.Ending.TheVariants.{Done, Memory, Refused, Unreported, Defective, Unread, Unwritten}
 use Rattle.link_command.specs.Command.{Asked}
@@ -145,7 +145,7 @@ not_linked asked before now say given inputs ss link_stop.Memory ending loaded b
     rw telling (lacking (Some asked) before now say loaded.untouched (none_failed loaded.unread))
 
 -- what a link without a defect gives is what Link is: of inputs with these names and bytes
-pub is_linked : (asked : Asked) (given names inputs : List (List ℕ)) (ss : List Source) (linked : Linked) → names ≡ names_for asked → inputs ≡ contents_for asked given
+pub is_linked : (asked : Asked) (given names inputs : List (List ℕ)) (ss : List Source) (linked : LinkedView) → names ≡ names_for asked → inputs ≡ contents_for asked given
     → ss ≡ sources standard inputs → Links standard asked (shown_files names inputs ss) ss linked → IsLinked asked given linked
 unfolding link
 is_linked asked given names inputs ss linked named bytes are links =

@@ -1,18 +1,21 @@
 -- A link past its layout: there is room for the headers, and what is written stands whole.
-use Rattle.std.proofs.Common.{◌≡◌, ℕ, ◌+◌, ◌*◌, Bool, List, Option, length, sym, ap, ◌∙◌, arith, subst}
+use Rattle.std.proofs.Common.{◌≡◌, ℕ, ◌+◌, ◌*◌, Bool, List, [], Option, length, sym, ap, ◌∙◌, arith, subst}
 use Rattle.lk_base.specs.declared.abi.TheConstants.{EHDR_SIZE, IMAGE_BASE, PF_R, PF_W, PF_X, PHDR_SIZE}
 use Rattle.lk_tables.specs.Binding.{Bindings}
 use Rattle.lk_tables.specs.Files.{File}
 use Rattle.lk_tables.specs.FramePlans.{PlanView}
+use Rattle.call_reach.specs.Code.{CodeStands}
 use Rattle.link_sections.specs.declared.layouts.Bounds.{Bounds}
 use Rattle.link_sections.specs.LaidOut.{LaidOut}
 use Rattle.layout.specs.Layout.{count_of}
 use Rattle.layout.specs.Spots.{AreRising, HaveSegments}
+use Rattle.got_tls.specs.GotList.{HasAllUses}
 use Rattle.elf_out.specs.Executable.{own_tables}
 use Rattle.elf_out.specs.Headers.{frame_segment, loaded, segments, stack_segment, tls_segment}
 use Rattle.elf_out.specs.Standing.{FramesStand, HasHeaderRoom, HeadersStand, PiecesStand, SectionsStand}
 use Rattle.elf_out.proofs.Appends.{six_count}
 use Rattle.elf_out.proofs.Whole.{all_stand}
+use Rattle.reloc_apply.specs.Relocated.{relocation_defects}
 use Rattle.link_driver.specs.Link.{Wishes, laid_out, leaders_in, plan_in}
 use Rattle.link_driver.specs.Phases.{LinkStands, StandsWhole}
 use Rattle.link_driver.specs.Unwound.{Unwinds}
@@ -34,13 +37,16 @@ header_room b have rising = record {
 pub stands_so : (w : Wishes) (files : List File) (b : Bindings) (kept : List Bool) (leaders : List (Option ℕ)) (laid : LaidOut) (plan : PlanView) (exe made : List ℕ) → made ≡ exe
     → HeadersStand files b leaders laid (own_tables files b kept w.strip leaders laid) exe → FramesStand laid (contents_with files b leaders laid plan) exe
     → PiecesStand files b leaders laid (own_tables files b kept w.strip leaders laid) exe → SectionsStand files b leaders laid exe
-    → Unwinds files b leaders laid plan (contents_with files b leaders laid plan)
+    → Unwinds files b leaders laid plan (contents_with files b leaders laid plan) → relocation_defects files b leaders laid ≡ [] → CodeStands files b leaders laid → HasAllUses files leaders laid.table
     → StandsWhole w files b kept leaders laid plan made
-stands_so w files b kept leaders laid plan exe made is head records others stand unwound =
+stands_so w files b kept leaders laid plan exe made is head records others stand unwound done code uses =
     let whole : StandsWhole w files b kept leaders laid plan exe = record {
       pieces = all_stand files b leaders laid (contents_with files b leaders laid plan) (own_tables files b kept w.strip leaders laid) exe head records others;
       sections = stand;
       records = unwound;
+      done = done;
+      code = code;
+      uses = uses;
     } in
     subst (StandsWhole w files b kept leaders laid plan) (sym is) whole
 

@@ -11,9 +11,9 @@ use Rattle.lk_base.specs.declared.defects.LinkStop.TheVariants as stops
 use Rattle.link_driver.specs.declared.driving.Ending.{Ending}
 use Rattle.link_driver.specs.declared.driving.Ending.TheVariants.{Done, Memory, Refused, Unreported, Defective, Unread, Unwritten}
 use Rattle.link_driver.specs.declared.diagnostics.Lines.{Lines}
-use Rattle.link_driver.specs.declared.linking.Linked.{Linked}
 use Rattle.link_command.specs.Command.{Asked}
 use Rattle.link_driver.specs.Link.{bad_command, cannot_read, cannot_report, cannot_write, line_of_defect}
+use Rattle.link_driver.specs.Linked.{LinkedView}
 use Rattle.link_driver.specs.Phases.{IsLinked}
 use Rattle.link_driver.specs.Ends.{IsUntouched}
 
@@ -89,6 +89,6 @@ pub record AreLoaded (asked : Asked) (before now : Store) (inputs : List (List �
   pub faults : before.faults ≤ now.faults
 
 -- and they were linked
-pub record IsReady (asked : Asked) (before now : Store) (inputs : List (List ℕ)) (linked : Linked) : Type 0 where
+pub record IsReady (asked : Asked) (before now : Store) (inputs : List (List ℕ)) (linked : LinkedView) : Type 0 where
   pub inputs_are : AreLoaded asked before now inputs
   pub is_link : IsLinked asked inputs linked

@@ -2,6 +2,7 @@
 use Rattle.std.specs.Prelude.{◌≡◌, ℕ, ◌≤◌, ◌&&◌, ◌||◌, ◌==◌, not, nat_lt, Bool, false, List, All, length}
 use Rattle.comdat.specs.Discarded.{discarded}
 use Rattle.file_live.specs.Live.{IsLive}
+use Rattle.file_live.specs.Order.{StandsAnywhere}
 use Rattle.link_command.specs.Command.{Asked}
 use Rattle.link_driver.specs.Given.{contents_for}
 use Rattle.link_driver.specs.Link.{bound_in, linked_files}
@@ -43,10 +44,11 @@ pub record AreCounted (ss : List Source) : Type 0 where
   pub files : length ss ≤ standard.files
   pub symbols : symbol_total (heads_in ss) ≤ standard.symbols
 
--- the files that take part are the least set with the command's objects, the members that it asks for and all that these pull; each name is bound to the least offer of it,
--- if there is one, and bound COMMON symbols get the greatest room asked for
+-- the files that take part are the least set with the command's objects, the members that it asks for and all that these pull, and an archive may stand anywhere among
+-- the objects; each name is bound to the least offer of it, if there is one, and bound COMMON symbols get the greatest room asked for
 pub record AreLeast (asked : Asked) (ss : List Source) : Type 0 where
   pub taking_part : IsLive asked.undefined (heads_in ss) (live_in asked.undefined ss)
+  pub anywhere : StandsAnywhere asked.undefined (heads_in ss)
   pub bound : IsLawful (linked_files asked ss) (discarded (linked_files asked ss)) asked.entry (bound_in asked ss)
 
 -- a defect of a file comes before another by file, section and place; one of no file comes before none

@@ -6,8 +6,10 @@ pub mod Endings
 pub mod Ends
 pub mod Frames
 pub mod Given
+pub mod Known
 pub mod Laws
 pub mod Link
+pub mod Linked
 pub mod OneLine
 pub mod Phases
 pub mod Placing

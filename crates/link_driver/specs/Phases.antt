@@ -7,40 +7,43 @@ use Rattle.lk_base.specs.declared.limits.Limits.{Limits}
 use Rattle.lk_tables.specs.Binding.{Bindings}
 use Rattle.lk_tables.specs.Files.{File}
 use Rattle.lk_tables.specs.FramePlans.{PlanView}
+use Rattle.call_reach.specs.Code.{CodeStands}
 use Rattle.call_reach.specs.Reach.{CallsReach}
 use Rattle.elf_out.specs.Executable.{executable, own_tables}
 use Rattle.elf_out.specs.Standing.{AllStand, SectionsStand}
 use Rattle.file_live.specs.Live.{IsLive}
+use Rattle.got_tls.specs.GotList.{HasAllUses}
 use Rattle.link_command.specs.Command.{Asked}
 use Rattle.link_sections.specs.LaidOut.{LaidOut}
 use Rattle.map_file.specs.MapText.{map_text}
+use Rattle.reloc_apply.specs.Relocated.{relocation_defects}
 use Rattle.sym_resolve.specs.Law.{IsLawful}
-use Rattle.link_driver.specs.declared.linking.Linked.{Linked}
 use Rattle.comdat.specs.Discarded.{discarded}
 use Rattle.link_driver.specs.Laws.{StopsAtLeast}
 use Rattle.link_driver.specs.Link.{Wishes, bound_in, defects_in, executable_in, executable_with, kept_in, laid_out, leaders_in, link, linked_files, map_in, map_with, placing_defects, plan_in, report_by, report_with, say_in, wishes_in}
+use Rattle.link_driver.specs.Linked.{LinkedView}
 use Rattle.link_driver.specs.Sources.{Source, heads_in, live_in}
 use Rattle.link_driver.specs.Tables.{IsCollected}
 use Rattle.link_driver.specs.Unwound.{Unwinds}
 use Rattle.link_driver.specs.Values.{contents_with}
 
 -- what files give that have no defect and are laid out so, with these unwind records: `names` are those by which they are shown
-pub record IsWritten (w : Wishes) (names : List (List ℕ)) (files : List File) (b : Bindings) (kept : List Bool) (leaders : List (Option ℕ)) (laid : LaidOut) (plan : PlanView) (linked : Linked) : Type 0 where
-  pub executable : linked.exe.items ≡ executable files b kept w.strip leaders laid (contents_with files b leaders laid plan)
-  pub map : linked.map.items ≡ (if w.map then map_text names files b leaders laid kept else [])
-  pub report : linked.report.items ≡ report_by w.generated files kept leaders laid
+pub record IsWritten (w : Wishes) (names : List (List ℕ)) (files : List File) (b : Bindings) (kept : List Bool) (leaders : List (Option ℕ)) (laid : LaidOut) (plan : PlanView) (linked : LinkedView) : Type 0 where
+  pub executable : linked.exe ≡ executable files b kept w.strip leaders laid (contents_with files b leaders laid plan)
+  pub map : linked.map ≡ (if w.map then map_text names files b leaders laid kept else [])
+  pub report : linked.report ≡ report_by w.generated files kept leaders laid
 
 -- what these files give, if they have no defect
-pub record Makes (w : Wishes) (names : List (List ℕ)) (files : List File) (b : Bindings) (kept : List Bool) (linked : Linked) : Type 0 where
-  pub executable : linked.exe.items ≡ executable_with w files b kept
-  pub map : linked.map.items ≡ map_with w files b kept names
-  pub report : linked.report.items ≡ report_with w files b kept
+pub record Makes (w : Wishes) (names : List (List ℕ)) (files : List File) (b : Bindings) (kept : List Bool) (linked : LinkedView) : Type 0 where
+  pub executable : linked.exe ≡ executable_with w files b kept
+  pub map : linked.map ≡ map_with w files b kept names
+  pub report : linked.report ≡ report_with w files b kept
 
 -- what a link without a defect gives
-pub record Gives (asked : Asked) (names : List (List ℕ)) (ss : List Source) (linked : Linked) : Type 0 where
-  pub executable : linked.exe.items ≡ executable_in asked ss
-  pub map : linked.map.items ≡ map_in asked ss names
-  pub report : linked.report.items ≡ say_in asked ss names
+pub record Gives (asked : Asked) (names : List (List ℕ)) (ss : List Source) (linked : LinkedView) : Type 0 where
+  pub executable : linked.exe ≡ executable_in asked ss
+  pub map : linked.map ≡ map_in asked ss names
+  pub report : linked.report ≡ say_in asked ss names
 
 -- each shortened call of a link reaches its target: no relocation of one is odd or out of range
 abbrev pub ShortenedCallsReach : Wishes → List File → Bindings → (kept : List Bool) → Type 0
@@ -51,17 +54,23 @@ abbrev pub HoldsAtStop : LinkStop → (earlier : List Defect) → Type 0 → Typ
 HoldsAtStop (stops.Defect defect) earlier holds = earlier ≡ [] → holds
 HoldsAtStop stops.Memory earlier holds = Unit {0}
 
-abbrev pub HoldsPast : Result Linked LinkStop → (earlier : List Defect) → Type 0 → Type 0
-HoldsPast (Ok linked) earlier holds = holds
+abbrev pub HoldsPast : {X : Type 0} → Result X LinkStop → (earlier : List Defect) → Type 0 → Type 0
+HoldsPast (Ok value) earlier holds = holds
 HoldsPast (Err stop) earlier holds = HoldsAtStop stop earlier holds
 
 -- all pieces of which an executable is made stand whole in it: headers, unwind records and the table of their functions, sections with their
 -- relocations done, pieces of pools, the linker's table, the symbol table with its names, the names of the sections, the section headers; and so do the
--- bytes of each section, by its number; and of the unwind records each FDE of a section whose own bytes are written is there, once and no other
+-- bytes of each section, by its number; of the unwind records each FDE of a section whose own bytes are written is there, once and no other; and each
+-- relocation of a section that is written can be done, so that no block of the executable is refused. At the places of relocations code does what they
+-- ask for: the processor goes to S + A from a branch, a jump and a call, shortened or not, two parts of one value add up to it, and alignments keep nops;
+-- and what is computed from the linker's table has its entry there
 pub record StandsWhole (w : Wishes) (files : List File) (b : Bindings) (kept : List Bool) (leaders : List (Option ℕ)) (laid : LaidOut) (plan : PlanView) (exe : List ℕ) : Type 0 where
   pub pieces : AllStand files b leaders laid (contents_with files b leaders laid plan) (own_tables files b kept w.strip leaders laid) exe
   pub sections : SectionsStand files b leaders laid exe
   pub records : Unwinds files b leaders laid plan (contents_with files b leaders laid plan)
+  pub done : relocation_defects files b leaders laid ≡ []
+  pub code : CodeStands files b leaders laid
+  pub uses : HasAllUses files leaders laid.table
 
 abbrev pub LinkStands : Wishes → List File → Bindings → (kept : List Bool) → (exe : List ℕ) → Type 0
 LinkStands w files b kept exe = StandsWhole w files b kept (leaders_in w files b kept) (laid_out w files b kept) (plan_in w files b kept) exe
@@ -69,13 +78,14 @@ LinkStands w files b kept exe = StandsWhole w files b kept (leaders_in w files b
 -- a link without a defect gives Link. Of Link's own words it is said, as laws: the files that take part are the least set with
 -- the command's objects, the members that it asks for and all that these pull; each name is bound to the least offer of it, if there is one, and bound COMMON
 -- symbols get the greatest room asked for; what garbage collection keeps is the least set with the roots that the rules close; each
--- piece of the executable, and each section, stands whole in it, with the unwind records that belong to it; and each shortened call reaches its target
-pub record Links (limits : Limits) (asked : Asked) (names : List (List ℕ)) (ss : List Source) (linked : Linked) : Type 0 where
+-- piece of the executable, and each section, stands whole in it, with the unwind records that belong to it, and its code does at the places of
+-- relocations what they ask for; and each shortened call reaches its target
+pub record Links (limits : Limits) (asked : Asked) (names : List (List ℕ)) (ss : List Source) (linked : LinkedView) : Type 0 where
   pub sound : defects_in limits asked ss ≡ []
   pub taking_part : IsLive asked.undefined (heads_in ss) (live_in asked.undefined ss)
   pub bound : IsLawful (linked_files asked ss) (discarded (linked_files asked ss)) asked.entry (bound_in asked ss)
   pub collected : asked.gc ≡ true → IsCollected asked.undefined (linked_files asked ss) (bound_in asked ss) (kept_in asked ss)
-  pub stands : LinkStands (wishes_in asked ss) (linked_files asked ss) (bound_in asked ss) (kept_in asked ss) linked.exe.items
+  pub stands : LinkStands (wishes_in asked ss) (linked_files asked ss) (bound_in asked ss) (kept_in asked ss) linked.exe
   pub reach : ShortenedCallsReach (wishes_in asked ss) (linked_files asked ss) (bound_in asked ss) (kept_in asked ss)
   pub gives : Gives asked names ss linked
 
@@ -87,18 +97,13 @@ pub record Stops (limits : Limits) (asked : Asked) (ss : List Source) (stop : Li
       (ShortenedCallsReach (wishes_in asked ss) (linked_files asked ss) (bound_in asked ss) (kept_in asked ss))
 
 -- Link if there is no defect, the first defect if there is one, before which none stands, or out of memory
-abbrev pub AfterLink : Limits → Asked → (names : List (List ℕ)) → List Source → Result Linked LinkStop → Type 0
+abbrev pub AfterLink : Limits → Asked → (names : List (List ℕ)) → List Source → Result LinkedView LinkStop → Type 0
 AfterLink limits asked names ss (Ok linked) = Links limits asked names ss linked
 AfterLink limits asked names ss (Err stop) = Stops limits asked ss stop
 
--- of a link and its tables, the link
-abbrev pub linked_of : {T : Type 0} → Result (Linked × T) LinkStop → Result Linked LinkStop
-linked_of (Ok both) = Ok both.0
-linked_of (Err stop) = Err stop
-
 -- what a link without a defect gives is what Link is
-pub record IsLinked (asked : Asked) (given : List (List ℕ)) (linked : Linked) : Type 0 where
+pub record IsLinked (asked : Asked) (given : List (List ℕ)) (linked : LinkedView) : Type 0 where
   pub status : (link (Some asked) given).status ≡ 0
-  pub executable : linked.exe.items ≡ (link (Some asked) given).executable
-  pub map : linked.map.items ≡ (link (Some asked) given).map
-  pub report : linked.report.items ≡ (link (Some asked) given).say
+  pub executable : linked.exe ≡ (link (Some asked) given).executable
+  pub map : linked.map ≡ (link (Some asked) given).map
+  pub report : linked.report ≡ (link (Some asked) given).say

@@ -1,7 +1,9 @@
 -- What is settled of a link before anything is written.
 use Rattle.std.specs.Prelude.{◌≡◌, Bool, List}
+use Rattle.call_reach.specs.Code.{HaveOwnCuts}
 use Rattle.call_reach.specs.Reach.{CallsReach}
 use Rattle.elf_out.specs.Standing.{HasHeaderRoom}
+use Rattle.got_tls.specs.GotList.{HasAllUses}
 use Rattle.link_sections.specs.GotView.{entries_of}
 use Rattle.link_sections.specs.LaidOut.{LaidOut, layout_view, with_contents}
 use Rattle.link_sections.specs.PoolViews.{pools_view}
@@ -20,7 +22,8 @@ use Rattle.link_driver.specs.Link.{Wishes, laid_out, leaders_in, plan_in}
 abbrev pub laid_by : List File → Placement → LaidOut
 laid_by files p = with_contents (layout_view p.layout) (pools_view files p.pools) (entries_of p.got)
 
--- it is the one of Link; its layout is sound and has room for the headers and for the unwind records, and each shortened call reaches its target
+-- it is the one of Link; its layout is sound and has room for the headers and for the unwind records, each shortened call reaches its target,
+-- where a section loses bytes is a call's or an alignment's own place, and what is computed from the linker's table has its entry there
 pub record IsPlacement (w : Wishes) (files : List File) (b : Bindings) (kept : List Bool) (p : Placement) : Type 0 where
   pub leaders : p.leaders.items ≡ leaders_in w files b kept
   pub lead : AreLeaders files b p.leaders.items
@@ -31,3 +34,5 @@ pub record IsPlacement (w : Wishes) (files : List File) (b : Bindings) (kept : L
   pub room : HasHeaderRoom p.layout.bounds
   pub framed : HasFrames (frame_sizes p.plan) p.layout.bounds
   pub reach : CallsReach files b p.leaders.items (laid_by files p)
+  pub cuts : HaveOwnCuts files p.leaders.items (laid_by files p)
+  pub uses : HasAllUses files p.leaders.items (entries_of p.got)

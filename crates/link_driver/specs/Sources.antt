@@ -1,9 +1,10 @@
 -- The files of a link by number: the inputs in the order of the command, each archive followed by those of its members that are
 -- ELF files (System V ar format).
-use Rattle.std.specs.Prelude.{ℕ, ◌&&◌, ◌||◌, not, nat_lt, nat_eq, Bool, true, false, Option, Some, None, if◌then◌else◌, Result, Ok, Err, List, [], ◌∷◌, ◌++◌, length, map, flat_map, slice_index_or, codes}
-use Rattle.std.specs.List.{range_with_len, starts_with}
+use Rattle.std.specs.Prelude.{ℕ, ◌&&◌, not, nat_lt, Bool, true, false, Option, Some, None, if◌then◌else◌, Result, Ok, Err, List, [], ◌∷◌, ◌++◌, length, map, flat_map, slice_index_or, codes}
+use Rattle.std.specs.List.{range_with_len}
 use Rattle.ar_read.specs.declared.archive.Member.{Member}
-use Rattle.ar_read.specs.Archives.{archive_of}
+use Rattle.ar_read.specs.Archives.{archive_of, is_archive}
+use Rattle.elf_read.specs.Magic.{is_elf}
 use Rattle.lk_base.specs.declared.defects.Flaw.{Flaw}
 use Rattle.lk_base.specs.declared.limits.Limits.{Limits}
 use Rattle.lk_base.specs.Limits.{oversize}
@@ -31,14 +32,7 @@ no_source = record { input = 0; label = None; member = false; archive = false; b
 abbrev pub input_at : List (List ℕ) → ℕ → List ℕ
 input_at inputs f = slice_index_or inputs f []
 
--- an input that begins as an archive does
-unfoldable pub is_archive : List ℕ → Bool
-is_archive b = starts_with nat_eq b (codes "!<arch>\n") || starts_with nat_eq b (codes "!<thin>\n")
-
--- a member that begins as an ELF file does; others are passed over
-unfoldable pub is_elf : List ℕ → Bool
-is_elf b = starts_with nat_eq b (0x7f ∷ 0x45 ∷ 0x4c ∷ 0x46 ∷ [])
-
+-- members that do not begin as an ELF file does are passed over
 abbrev pub member_source : (input : ℕ) → List ℕ → Member → List Source
 member_source input b m = if is_elf (text_of b m.body)
     then record { input = input; label = Some m.name; member = true; archive = false; bytes = text_of b m.body; flaw = None } ∷ [] else []

@@ -1,7 +1,8 @@
 -- What the steps of a link hand on.
 use Rattle.std.specs.Prelude.{◌≡◌, ℕ, true, Bool, List, length, ◌↔◌}
 use Rattle.lk_tables.specs.Binding.{Bindings}
-use Rattle.lk_tables.specs.Files.{File, section_total}
+use Rattle.lk_tables.specs.Files.{File, file_at, section_total}
+use Rattle.lk_tables.specs.Inside.{IsBodyInside, IsHeadInside}
 use Rattle.lk_tables.specs.Reach.{IsReach}
 use Rattle.link_sections.specs.InputSections.{may_stay_at}
 use Rattle.link_sections.specs.Leaders.{is_kept}
@@ -13,6 +14,11 @@ use Rattle.sec_graph.specs.Kept.{HasEnds, IsClosedByRules}
 -- what a link is asked for, where these sections are to be folded with no other
 abbrev pub wished : Options → (barred : List Bool) → Wishes
 wished o barred = record { gc = o.gc; icf = o.icf; barred = barred; relax = o.relax; strip = o.strip; map = o.map; generated = o.generated }
+
+-- of each file that takes part each index, offset and size lies where it must: those of its head and of its body
+abbrev pub AreInside : List File → Type 0
+AreInside files = (f : ℕ) → (file_at files f).live ≡ true
+    → IsHeadInside (file_at files f).bytes (file_at files f).head × IsBodyInside (file_at files f).bytes (file_at files f).head (file_at files f).object
 
 -- by section number, and each that is kept may be
 pub record MayStay (files : List File) (b : Bindings) (kept : List Bool) : Type 0 where

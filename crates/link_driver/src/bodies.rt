@@ -10,7 +10,7 @@ ghost use Rattle.lk_tables.specs.Files.{symbol_total};
 ghost use Rattle.lk_tables.specs.FileView.{file_view, file_views};
 ghost use Rattle.lk_tables.specs.Frames.{AreListsWithin, all_lists, list_views};
 ghost use Rattle.lk_tables.specs.Heads.{head_of, head_view};
-ghost use Rattle.lk_tables.specs.TablesView.{files_of, heads_of};
+ghost use Rattle.lk_tables.specs.TablesView.{files_of, have_numbers, heads_of};
 ghost use Rattle.work_split.specs.Shares.{IsShare};
 ghost use Rattle.link_command.specs.Command.{lists_of};
 ghost use Rattle.link_driver.specs.Contents.{sources_of};
@@ -171,6 +171,7 @@ pub fn read_bodies<'a, R: Threads + Sync, G: Gate>(
     ensures records { IfOk result (λ both. list_views both.1.items ≡ all_lists (files_of both.0)) }
     ensures within { IfOk result (λ both. AreListsWithin (files_of both.0) (all_lists (files_of both.0))) }
     ensures plain { IfOk result (λ both. ArePlain (all_lists (files_of both.0))) }
+    ensures numbered { IfOk result (λ both. have_numbers both.0 ≡ true) }
 {
     let bodies = match read_numbered(rt, alloc, sources, live, &mut heads, workers, gate) {
         Ok(bodies) => bodies,

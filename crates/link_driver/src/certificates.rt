@@ -1,6 +1,6 @@
 //! Why a section is kept, and why two are not folded.
 
-ghost use Rattle.std.specs.Prelude.{◌≡◌, ◌<◌, ◌≤◌, ◌||◌, ◌∷◌, [], All, Some, length, slice_get, string_bytes, IfOk, IfSome};
+ghost use Rattle.std.specs.Prelude.{◌≡◌, ◌<◌, ◌≤◌, ◌==◌, ◌||◌, ◌∷◌, [], All, Some, length, slice_get, slice_index, string_bytes, IfOk, IfSome};
 ghost use Rattle.std.specs.Option.{option_map};
 ghost use Rattle.std.specs.List.Sorted.{IsStrictlyIncreasing};
 ghost use Rattle.link_command.specs.Command.{asks, lists_of};
@@ -12,9 +12,11 @@ ghost use Rattle.lk_tables.specs.BoundNames.{IsBindingOf};
 ghost use Rattle.lk_tables.specs.Files.{section_total};
 ghost use Rattle.lk_tables.specs.TablesView.{files_of};
 ghost use Rattle.sec_graph.specs.FrameRelocs.{AreFramesOf};
+ghost use Rattle.why_chain.specs.Aparts.{apart_chain, chain_view};
 ghost use Rattle.why_chain.specs.Walks.{sections_in};
 
 use crate::certificate_lines::{chain_text, name_at, name_line, walk_text};
+use crate::linking::fold_items;
 use asked_names::sections_of_names;
 use link_command::Command;
 use link_sections::FoldItem;
@@ -23,9 +25,11 @@ use lk_tables::{Binding, Frames, Tables};
 use sec_gc::roots;
 use sec_graph::{edges, items, walk_edges};
 use std::alloc::{AllocError, Global};
+use std::marker::Brand;
+use std::sync::ledger::Blank;
 use std::thread::Threads;
 use str_merge::merge;
-use why_chain::{LiveChain, Pair, place_of, why_apart, why_live};
+use why_chain::{ApartChain, LiveChain, Pair, place_of, why_apart, why_apart_within, why_live};
 use work_split::Gate;
 
 /// One name as a list.
@@ -154,8 +158,65 @@ fn live_text<R: Threads + Sync, G: Gate>(
     )
 }
 
+/// Whether two items have one leader.
+fn have_one_leader(leaders: &[u32], pair: Pair) -> bool
+    requires one { pair.one < length leaders.now }
+    requires two { pair.two < length leaders.now }
+    ensures { result ≡ (slice_index leaders.now pair.one == slice_index leaders.now pair.two) }
+{
+    leaders[pair.one] == leaders[pair.two]
+}
+
+/// Why two items are not folded, by their places, once it is known which items are.
+fn chain_once_folded<R: Threads + Sync, G: Gate>(
+    rt: &R,
+    alloc: Global,
+    items: &[FoldItem],
+    pair: Pair,
+    workers: u32,
+    gate: &G,
+) -> Result<Option<ApartChain>, AllocError>
+    requires some { 1 ≤ workers }
+    requires most { workers ≤ 64 }
+    requires order { IsStrictlyIncreasing (sections_of (item_views items.now)) }
+    requires one { pair.one < length items.now }
+    requires two { pair.two < length items.now }
+    ensures { IfOk result (λ chain. option_map chain_view chain ≡ apart_chain (item_views items.now) pair.one pair.two) }
+{
+    let leaders = fold_items::<R, G, Brand>(rt, alloc, items, workers, gate, Blank::new(1))?;
+    if have_one_leader(leaders.as_slice(), pair) {
+        return Ok(None);
+    }
+    why_apart(alloc, items, pair.one, pair.two)
+}
+
+/// Why two items are not folded, by their places. A search that ends soon tells it; where it would compare more pairs than there are items, which it may
+/// do of items that are folded, it is found first which are.
+fn find_chain<R: Threads + Sync, G: Gate>(
+    rt: &R,
+    alloc: Global,
+    items: &[FoldItem],
+    pair: Pair,
+    workers: u32,
+    gate: &G,
+) -> Result<Option<ApartChain>, AllocError>
+    requires some { 1 ≤ workers }
+    requires most { workers ≤ 64 }
+    requires order { IsStrictlyIncreasing (sections_of (item_views items.now)) }
+    requires one { pair.one < length items.now }
+    requires two { pair.two < length items.now }
+    ensures { IfOk result (λ chain. option_map chain_view chain ≡ apart_chain (item_views items.now) pair.one pair.two) }
+{
+    let found = why_apart_within(alloc, items, pair.one, pair.two, items.len())?;
+    let Some(chain) = found else {
+        return chain_once_folded(rt, alloc, items, pair, workers, gate);
+    };
+    Ok(chain)
+}
+
 /// Why two items are not folded, by their places, where two names stand in them.
-fn chain_lines(
+fn chain_lines<R: Threads + Sync, G: Gate>(
+    rt: &R,
     alloc: Global,
     tables: &Tables,
     names: &[Vec<u8>],
@@ -163,19 +224,24 @@ fn chain_lines(
     pair: Pair,
     one: &[u8],
     two: &[u8],
+    workers: u32,
+    gate: &G,
 ) -> Result<Vec<u8>, AllocError>
+    requires some { 1 ≤ workers }
+    requires most { workers ≤ 64 }
     requires order { IsStrictlyIncreasing (sections_of (item_views items.now)) }
     requires within { All (λ s. s < section_total (files_of tables.now)) (sections_of (item_views items.now)) }
     requires one { pair.one < length items.now }
     requires two { pair.two < length items.now }
     ensures { IfOk result (λ text. text.items ≡ spec.lines_of_pair (names_of names.now) (files_of tables.now) (item_views items.now) one.now two.now pair) }
 {
-    let chain = why_apart(alloc, items, pair.one, pair.two)?;
+    let chain = find_chain(rt, alloc, items, pair, workers, gate)?;
     chain_text(alloc, tables, names, items, pair, one, two, &chain)
 }
 
 /// Why two sections are not folded, in which two names stand.
-fn apart_lines(
+fn apart_lines<R: Threads + Sync, G: Gate>(
+    rt: &R,
     alloc: Global,
     tables: &Tables,
     names: &[Vec<u8>],
@@ -184,7 +250,11 @@ fn apart_lines(
     two: &[u8],
     s: SecNo,
     t: SecNo,
+    workers: u32,
+    gate: &G,
 ) -> Result<Vec<u8>, AllocError>
+    requires some { 1 ≤ workers }
+    requires most { workers ≤ 64 }
     requires order { IsStrictlyIncreasing (sections_of (item_views items.now)) }
     requires within { All (λ s. s < section_total (files_of tables.now)) (sections_of (item_views items.now)) }
     ensures { IfOk result (λ text. text.items ≡ spec.lines_of_both (names_of names.now) (files_of tables.now) (item_views items.now) one.now two.now s t) }
@@ -196,6 +266,7 @@ fn apart_lines(
         return name_line(alloc, b"unfoldable ", two);
     };
     chain_lines(
+        rt,
         alloc,
         tables,
         names,
@@ -203,6 +274,8 @@ fn apart_lines(
         Pair { one: a, two: b },
         one,
         two,
+        workers,
+        gate,
     )
 }
 
@@ -237,7 +310,19 @@ fn both_text<R: Threads + Sync, G: Gate>(
     };
     let pools = merge(rt, alloc, tables, kept, workers, gate)?;
     let items = items(alloc, tables, binding, &pools, kept, barred, frames)?;
-    apart_lines(alloc, tables, names, items.as_slice(), one, two, s, t)
+    apart_lines(
+        rt,
+        alloc,
+        tables,
+        names,
+        items.as_slice(),
+        one,
+        two,
+        s,
+        t,
+        workers,
+        gate,
+    )
 }
 
 /// The same of two names that are asked for; nothing where not two names are asked for.
@@ -287,7 +372,7 @@ pub fn wants_names(map: bool, command: &Command) -> bool
 }
 
 /// Whether a command asks why a section is kept, or why two are not folded.
-fn asks_why(command: &Command) -> bool
+pub fn asks_why(command: &Command) -> bool
     ensures { result ≡ spec.asks_why (asks command.now) }
 {
     command.why_live.is_some() || command.why_apart.len() != 0

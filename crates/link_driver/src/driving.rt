@@ -1,14 +1,18 @@
 //! The top call: a command from its words to its files, to what it says, and to its line.
 
-ghost use Rattle.std.specs.Prelude.{◌≡◌, ℕ, List, ◌⊎◌, ◌≤◌, ◌<◌, [], ◌∷◌, ◌++◌, take, length, slice_index_or, IfOk, OnOk, OnErr, None, Some};
+ghost use Rattle.std.specs.Prelude.{◌≡◌, ℕ, List, ◌⊎◌, ◌≤◌, ◌<◌, [], ◌∷◌, ◌++◌, take, length, slice_index_or, IfOk, IfSome, OnOk, OnErr, None, Some};
 ghost use Rattle.lk_depot.specs.Faults.{HasCause, Rises};
 ghost use Rattle.lk_depot.specs.Files.{told_put};
 ghost use Rattle.lk_depot.specs.Loading.{name_at};
+ghost use Rattle.lk_depot.specs.declared.kinds.FileKind.TheVariants.{Executable};
 ghost use Rattle.lk_depot.specs.Store.{Store};
 ghost use Rattle.link_command.specs.Command.{asked_of, asks, texts_of};
 ghost use Rattle.link_driver.specs.Contents.{input_contents, input_names};
 ghost use Rattle.link_driver.specs.Given.{contents_for, names_for};
+ghost use Rattle.link_driver.specs.Known.{AreHeads};
 ghost use Rattle.link_driver.specs.Link.{cannot_read, line_of_defect};
+ghost use Rattle.link_driver.specs.Sources.{sources};
+ghost use Rattle.lk_base.specs.Limits.{standard};
 ghost use Rattle.link_driver.specs.Phases.{IsLinked};
 ghost use Rattle.link_driver.specs.Ends.{Accepts, HasLine, IsCut, IsTold, Ends, EndsSo};
 ghost use Rattle.link_driver.specs.Promises.{Promises};
@@ -18,10 +22,12 @@ use crate::diagnostics::{Lines, line_about, line_for, lines_for};
 use crate::finding::find_sources;
 use crate::inputs::{Inputs, generated_inputs, inputs_of};
 use crate::line::Line;
-use crate::linking::{Linked, link_with_tables};
+use crate::linked::Linked;
+use crate::linking::link_with_heads;
 use link_command::{Command, Wanted, command_of};
 use lk_base::{Defect, Limits, LinkStop};
 use lk_depot::{Depot, Failed, FileKind, LoadAllStop, Sink, put_all, say_all};
+use lk_tables::Head;
 use std::alloc::{AllocError, Global};
 use std::mem::forget;
 use std::thread::Threads;
@@ -29,7 +35,7 @@ use work_split::Gate;
 
 /// How a run ended.
 #[derive(Drop)]
-enum Ending {
+pub enum Ending {
     Done,
     Memory,
     Refused,
@@ -40,6 +46,26 @@ enum Ending {
     Unread { line: Line },
     /// A file could not be written.
     Unwritten { line: Line },
+}
+
+/// Begins the executable and writes it.
+fn write_output<R: Threads + Sync, D: Depot, G: Gate>(
+    rt: &R,
+    depot: &mut D,
+    name: &str,
+    linked: &mut Linked,
+    gate: &G,
+) -> Result<(), Failed>
+    ensures files { OnOk result ((D.store depot.new).files ≡ told_put name.now linked.old.exe (D.store depot.old).files) }
+    ensures kinds { OnOk result ((D.store depot.new).kinds ≡ told_put name.now Executable (D.store depot.old).kinds) }
+    ensures cut { OnErr result (IsCut (D.store depot.old) (D.store depot.new) name.now Executable linked.old.exe) }
+    ensures begun { Rises (D.store depot.old).begun (D.store depot.new).begun }
+    ensures cause { HasCause (D.store depot.old).faults (D.store depot.new).faults result }
+    ensures unread { (D.store depot.new).unread ≡ (D.store depot.old).unread }
+    ensures lists { linked.new ≡ linked.old }
+{
+    depot.begin(name, FileKind::Executable)?;
+    linked.write_exe(rt, depot, name, gate)
 }
 
 /// Begins a file and writes it.
@@ -61,7 +87,7 @@ fn write_file<D: Depot>(
 }
 
 /// Says what there is to say.
-fn report<S: Sink>(say: &mut S, text: &[u8]) -> Ending
+fn say_text<S: Sink>(say: &mut S, text: &[u8]) -> Ending
     ensures said { AfterReport text.now (S.output say.old) (S.output say.new) result }
     ensures faults { (S.output say.old).faults ≤ (S.output say.new).faults }
 {
@@ -110,7 +136,7 @@ fn report_stop(alloc: Global, command: &Command, inputs: &Inputs, stop: &LinkSto
 }
 
 /// Why the inputs were not loaded.
-fn report_load_stop(alloc: Global, command: &Command, stop: &LoadAllStop) -> Ending
+pub fn report_load_stop(alloc: Global, command: &Command, stop: &LoadAllStop) -> Ending
     requires { IsWithin (asks command.now).inputs stop.now }
     ensures { TellsLoadStop (asks command.now) stop.now result }
 {
@@ -122,14 +148,16 @@ fn report_load_stop(alloc: Global, command: &Command, stop: &LoadAllStop) -> End
 }
 
 /// Writes what a link gave, and says what there is to say of it.
-fn conclude<D: Depot, S: Sink>(
+fn conclude<R: Threads + Sync, D: Depot, S: Sink, G: Gate>(
+    rt: &R,
     command: &Command,
-    linked: &Linked,
+    linked: &mut Linked,
     lines: Lines,
     depot: &mut D,
     say: &mut S,
+    gate: &G,
 ) -> Ending
-    ensures ends { (before : Store) (inputs : List (List ℕ)) → IsReady (asks command.now) before (D.store depot.old) inputs linked.now
+    ensures ends { (before : Store) (inputs : List (List ℕ)) → IsReady (asks command.now) before (D.store depot.old) inputs linked.old
         → AreLines (asks command.now) lines
         → Ends (Some (asks command.now)) before (D.store depot.new) (S.output say.old) (S.output say.new) (status_of result) (told_line result) }
     ensures faults { (D.store depot.old).faults ≤ (D.store depot.new).faults }
@@ -137,32 +165,34 @@ fn conclude<D: Depot, S: Sink>(
     ensures say_faults { (S.output say.old).faults ≤ (S.output say.new).faults }
 {
     let output = command.output.as_str();
-    match write_file(depot, output, FileKind::Executable, &linked.exe) {
+    match write_output(rt, depot, output, linked, gate) {
         Ok(()) => {}
         Err(_) => return Ending::Unwritten { line: lines.output },
     }
     let Some(map) = &command.map else {
-        return report(say, &linked.report);
+        return say_text(say, linked.report());
     };
-    match write_file(depot, map.as_str(), FileKind::Plain, &linked.map) {
+    match write_file(depot, map.as_str(), FileKind::Plain, linked.map()) {
         Ok(()) => {}
         Err(_) => return Ending::Unwritten { line: lines.map },
     }
-    report(say, &linked.report)
+    say_text(say, linked.report())
 }
 
-/// Links the inputs of a command, which were loaded or generated.
-fn link_inputs<R: Threads + Sync, D: Depot, S: Sink, G: Gate>(
+/// Links the inputs of a command, which were loaded or generated; with the heads of its files, where these are `known`.
+pub fn link_inputs<R: Threads + Sync, D: Depot, S: Sink, G: Gate>(
     rt: &R,
     alloc: Global,
     command: &Command,
     inputs: &Inputs,
+    known: Option<Vec<Option<Head>>>,
     depot: &mut D,
     say: &mut S,
     gate: &G,
 ) -> Ending
     requires some { 1 ≤ command.now.threads }
     requires most { command.now.threads ≤ 64 }
+    requires known { IfSome known (λ list. AreHeads (sources standard (input_contents inputs.now)) list.items) }
     requires names { input_names inputs.now ≡ names_for (asks command.now) }
     ensures ends { (before : Store) (given : List (List ℕ)) → AreLoaded (asks command.now) before (D.store depot.old) given
         → input_contents inputs.now ≡ contents_for (asks command.now) given
@@ -172,15 +202,18 @@ fn link_inputs<R: Threads + Sync, D: Depot, S: Sink, G: Gate>(
     ensures say_faults { (S.output say.old).faults ≤ (S.output say.new).faults }
 {
     let limits = Limits::standard();
-    let (linked, tables) = match link_with_tables(rt, alloc, command, inputs, &limits, gate) {
-        Ok(both) => both,
+    let linked = match link_with_heads(rt, alloc, command, inputs, known, &limits, gate) {
+        Ok(linked) => linked,
         Err(stop) => return report_stop(alloc, command, inputs, &stop),
     };
-    forget(tables);
     let Ok(lines) = lines_for(alloc, command) else {
         return Ending::Memory;
     };
-    conclude(command, &linked, lines, depot, say)
+    // No memory is taken from here on.
+    let mut linked = linked;
+    let ending = conclude(rt, command, &mut linked, lines, depot, say, gate);
+    forget(linked);
+    ending
 }
 
 /// Loads the files of an accepted command and links them.
@@ -209,13 +242,13 @@ fn link_files<R: Threads + Sync, D: Depot, S: Sink, G: Gate>(
     let Ok(inputs) = inputs_of(alloc, names, contents) else {
         return Ending::Memory;
     };
-    let ending = link_inputs(rt, alloc, command, &inputs, depot, say, gate);
+    let ending = link_inputs(rt, alloc, command, &inputs, None, depot, say, gate);
     forget(inputs);
     ending
 }
 
 /// Generates the objects of an accepted command and links them.
-fn link_generated<R: Threads + Sync, D: Depot, S: Sink, G: Gate>(
+pub fn link_generated<R: Threads + Sync, D: Depot, S: Sink, G: Gate>(
     rt: &R,
     alloc: Global,
     command: &Command,
@@ -236,7 +269,7 @@ fn link_generated<R: Threads + Sync, D: Depot, S: Sink, G: Gate>(
     let Ok(inputs) = generated_inputs(alloc, objects) else {
         return Ending::Memory;
     };
-    let ending = link_inputs(rt, alloc, command, &inputs, depot, say, gate);
+    let ending = link_inputs(rt, alloc, command, &inputs, None, depot, say, gate);
     forget(inputs);
     ending
 }
@@ -291,7 +324,7 @@ fn conduct<R: Threads + Sync, D: Depot, S: Sink, G: Gate>(
 }
 
 /// The status of an ending.
-fn status(ending: &Ending) -> u8
+pub fn status(ending: &Ending) -> u8
     ensures { result ≡ status_of ending.now }
 {
     match ending {
@@ -307,7 +340,7 @@ fn status(ending: &Ending) -> u8
 
 /// The line of an ending.
 #[tactic(auto, unfolding(crate::specs::Link::bad_command, crate::specs::Link::cannot_report))]
-fn line(ending: &Ending) -> &[u8]
+pub fn line(ending: &Ending) -> &[u8]
     ensures value { result.now ≡ told_line ending.now }
     ensures one { HasLine (status_of ending.now) (told_line ending.now) }
 {
@@ -323,7 +356,7 @@ fn line(ending: &Ending) -> &[u8]
 }
 
 /// Tells a line, where there is one.
-fn tell<E: Sink>(err: &mut E, line: &[u8])
+pub fn tell<E: Sink>(err: &mut E, line: &[u8])
     ensures told { IsTold line.now (E.output err.old) (E.output err.new) }
     ensures silent { line.now ≡ [] → (E.output err.new) ≡ (E.output err.old) }
     ensures faults { (E.output err.old).faults ≤ (E.output err.new).faults }
@@ -338,9 +371,10 @@ fn tell<E: Sink>(err: &mut E, line: &[u8])
 ///
 /// `words` are the command's, the program's name first. Inputs are loaded from `depot`, as in the order of the command, before the
 /// executable, and the map where one is asked, are begun there; all of them are named as the command says. The report, and what the command
-/// asks why, goes to `say`, the line of an end that is not 0 or 4 to `err`. All memory is taken from `alloc` before a file is begun. What the
-/// inputs hold, and after a link without a defect the tables, is not given back, since a process ends next that is done with it, and to free it
-/// takes a tenth of the time of many objects: a process that goes on calls [`link`](crate::link), which keeps nothing.
+/// asks why, goes to `say`, the line of an end that is not 0 or 4 to `err`. All memory is taken from `alloc` before a file is begun; the
+/// executable is never held whole. What the inputs hold, and after a link without a defect the tables, is not given back, since a process ends
+/// next that is done with it, and to free it takes a tenth of the time of many objects: a process that goes on calls [`link`](crate::link),
+/// which keeps nothing.
 ///
 /// The answer is the exit status: 0 linked; 1 the inputs have a defect, whose line is reported; 2 the command is refused; 3 an input
 /// could not be read, or a file or what goes to `say` could not be written; 4 out of memory. `rt` starts as many workers as the

@@ -4,30 +4,15 @@ ghost use Rattle.std.specs.Prelude.{◌≡◌, ℕ, ◌<◌, ◌≤◌, ◌^◌,
 ghost use Rattle.lk_base.specs.Limits.{IsWithinStandard};
 ghost use Rattle.lk_base.specs.declared.abi.TheConstants.{FILE_MAX};
 ghost use Rattle.link_driver.specs.Contents.{input_contents, sources_of};
-ghost use Rattle.link_driver.specs.Sources.{input_at, input_sources, is_archive, is_elf, member_source, sources, whole_source};
+ghost use Rattle.link_driver.specs.Sources.{input_at, input_sources, member_source, sources, whole_source};
 
 use crate::inputs::Inputs;
 use crate::sources::Source;
-use ar_read::{Member, members};
+use ar_read::{Member, is_archive, members};
+use elf_read::is_elf;
 use lk_base::{Flaw, Limits, ReadFault, check_file_size};
 use lk_tables::text_of;
 use std::alloc::{AllocError, Global};
-
-/// Whether an input begins as an archive does.
-#[tactic(auto, unfolding(crate::specs::Sources::is_archive))]
-fn is_archive(bytes: &[u8]) -> bool
-    ensures { result ≡ is_archive bytes.now }
-{
-    bytes.starts_with(b"!<arch>\n") || bytes.starts_with(b"!<thin>\n")
-}
-
-/// Whether a member begins as an ELF file does.
-#[tactic(auto, unfolding(crate::specs::Sources::is_elf))]
-fn is_elf(bytes: &[u8]) -> bool
-    ensures { result ≡ is_elf bytes.now }
-{
-    bytes.starts_with(&[0x7f, 0x45, 0x4c, 0x46])
-}
 
 /// Adds a member that is an ELF file.
 fn push_member<'a>(

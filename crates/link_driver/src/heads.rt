@@ -1,6 +1,6 @@
 //! The first phase of a link: the head of each file is read, by the workers.
 
-ghost use Rattle.std.specs.Prelude.{◌≡◌, ℕ, ◌<◌, ◌≤◌, ◌^◌, ◌+◌, All, length, flat_map, map, IfOk};
+ghost use Rattle.std.specs.Prelude.{◌≡◌, ℕ, ◌<◌, ◌≤◌, ◌^◌, ◌+◌, All, length, flat_map, map, IfOk, IfSome};
 ghost use Rattle.std.specs.List.{range_with_len};
 ghost use Rattle.lk_base.specs.Firsts.{Goes};
 ghost use Rattle.lk_base.specs.Limits.{IsWithinStandard};
@@ -10,6 +10,7 @@ ghost use Rattle.lk_tables.specs.TablesView.{heads_of};
 ghost use Rattle.work_split.specs.Shares.{EachFrom, IsShare};
 ghost use Rattle.link_driver.specs.Contents.{source_view, sources_of};
 ghost use Rattle.link_driver.specs.Defects.{defect_in, head_defects, head_defects_at, reading_defects};
+ghost use Rattle.link_driver.specs.Known.{AreHeads};
 ghost use Rattle.link_driver.specs.Reading.{HasFewSymbols, IsHeadAt, IsHeadOf};
 ghost use Rattle.link_driver.specs.Sources.{headed, heads_in};
 ghost use Rattle.link_driver.specs.Stops.{stop_for};
@@ -130,6 +131,31 @@ fn read_first<R: Threads + Sync, G: Gate>(
     )
 }
 
+/// The heads of the first `count` files: those that were read before, if they are of as many, else they are read.
+fn heads_for<R: Threads + Sync, G: Gate>(
+    rt: &R,
+    alloc: Global,
+    sources: &[Source],
+    known: Option<Vec<Option<Head>>>,
+    count: usize,
+    workers: u32,
+    gate: &G,
+) -> Result<Vec<Option<Head>>, LinkStop>
+    requires count { count ≤ length sources.now }
+    requires few { count < 2 ^ 24 }
+    requires known { IfSome known (λ list. AreHeads (sources_of sources.now) list.items) }
+    requires some { 1 ≤ workers }
+    requires most { workers ≤ 64 }
+    ensures { IsShare (head_defects_at (sources_of sources.now)) (IsHeadAt (sources_of sources.now)) 0 count result }
+{
+    if let Some(list) = known {
+        if list.len() == count {
+            return Ok(list);
+        }
+    }
+    read_first(rt, alloc, sources, count, workers, gate)
+}
+
 /// The first files of a link with their heads.
 fn gather<'a>(
     alloc: Global,
@@ -165,18 +191,20 @@ fn count_symbols(files: &[File]) -> u64
     total
 }
 
-/// Reads the head of each file. A link of more files than the limit has them as its defect, if none of the first, up to
-/// the limit, has one. It answers the same whatever the number of workers.
+/// Reads the head of each file, unless these are `known` from an earlier reading. A link of more files than the limit has them as its defect, if
+/// none of the first, up to the limit, has one. It answers the same whatever the number of workers.
 #[tactic(auto, unfolding(crate::specs::Defects::reading_defects, crate::specs::Sources::heads_in))]
 pub fn read_heads<'a, R: Threads + Sync, G: Gate>(
     rt: &R,
     alloc: Global,
     limits: &Limits,
     sources: &[Source<'a>],
+    known: Option<Vec<Option<Head>>>,
     workers: u32,
     gate: &G,
 ) -> Result<Heads<'a>, LinkStop>
     requires limits { IsWithinStandard limits.now }
+    requires known { IfSome known (λ list. AreHeads (sources_of sources.now) list.items) }
     requires some { 1 ≤ workers }
     requires most { workers ≤ 64 }
     ensures goes { Goes result (reading_defects limits.now (sources_of sources.now)) }
@@ -185,7 +213,7 @@ pub fn read_heads<'a, R: Threads + Sync, G: Gate>(
     ensures symbols { IfOk result (λ heads. symbol_total (heads_of heads) ≤ limits.now.symbols) }
 {
     let count = (sources.len() as u64).min(limits.files);
-    let list = match read_first(rt, alloc, sources, count as usize, workers, gate) {
+    let list = match heads_for(rt, alloc, sources, known, count as usize, workers, gate) {
         Ok(list) => list,
         Err(stop) => return Err(stop),
     };

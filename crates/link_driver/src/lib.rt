@@ -6,10 +6,16 @@
 //! bytes of a file.
 //!
 //! `linking` runs the phases: `finding` finds the files in the inputs (`sources`), `heads` and `bodies` read them by all workers, the latter with
-//! their unwind records (`records`), names are bound, and what goes into the executable is laid out (`placing`) and written, the unwind records
-//! by `frames`. What a command asks why is said by `certificates`, in the lines of `certificate_lines`. `driving` reads the command, loads, links and
-//! writes, and says how it ended, by the lines of `diagnostics`. The phases up to the layout are public one by one too, for whoever looks at
+//! their unwind records (`records`), names are bound, what goes into the executable is laid out (`placing`), and all is made that is written but the
+//! executable's bytes (`writing`), the unwind records by `frames`. What a command asks why is said by `certificates`, in the lines of `certificate_lines`, and is found while the rest is made. What a link gives (`linked`)
+//! owns the tables (`executable`), and makes the executable from them block by block while it is written. `driving` reads the command, loads, links
+//! and writes, and says how it ended, by the lines of `diagnostics`. `piped` has `run_piped`, which reads the inputs while it loads them. The phases up to the layout are public one by one too, for whoever looks at
 //! what they hand on.
+//!
+//! The executable is nowhere whole, and no memory is taken once its file is begun: a window has room for as many blocks of 65,536 bytes as there
+//! are workers, or as the file has blocks, or for one where there are so few relocations that a thread would cost more than it does. Each worker
+//! makes one block of the window (`elf_out::fill_window`), then the blocks are added to the file in order, each by a call of its own, and the next
+//! window takes their place.
 //!
 //! `barring` finds the sections that are folded with no other: those in which names stand that are to be kept unique (`asked_names`), and with
 //! `--icf safe` those whose address is taken (`sec_graph::address_taken`). `reports` counts what was shortened: a call that keeps less than
@@ -22,13 +28,16 @@ mod certificate_lines;
 mod certificates;
 mod diagnostics;
 mod driving;
+mod executable;
 mod finding;
 mod frames;
 mod heads;
 mod inputs;
 mod line;
+mod linked;
 mod linking;
 mod numbering;
+mod piped;
 mod placing;
 mod records;
 mod reports;
@@ -36,6 +45,7 @@ mod sections;
 mod shown;
 mod sources;
 mod symbol_names;
+mod writing;
 
 pub use barring::find_barred;
 pub use driving::run;
@@ -43,9 +53,9 @@ pub use finding::find_sources;
 pub use frames::{find_frames, find_plan, write_frames};
 pub use inputs::Inputs;
 pub use link_command::{Command, IcfMode, Wanted};
-pub use linking::{
-    Linked, Options, bind_names, find_kept, find_leaders, lay_out, link, link_with_tables,
-    read_files,
-};
+pub use linked::Linked;
+pub use linking::{Options, bind_names, find_kept, find_leaders, lay_out, link, read_files};
+pub use piped::run_piped;
+pub use piped_reads::{Piped, PipedFile, PipedFlaw, read_piped};
 pub use sources::Source;
 pub use work_split::{Gate, OpenGate};

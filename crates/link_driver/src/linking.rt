@@ -1,16 +1,16 @@
 //! The link of one command, pass after pass.
 
-ghost use Rattle.std.specs.Prelude.{◌≡◌, ℕ, ◌<◌, ◌≤◌, ◌^◌, ◌∷◌, [], true, Bool, List, if◌then◌else◌, All, length, slice_index, IfOk};
+ghost use Rattle.std.specs.Prelude.{◌≡◌, ◌<◌, ◌≤◌, ◌^◌, ◌∷◌, [], true, Bool, List, if◌then◌else◌, All, map, IfOk, IfSome};
 ghost use Rattle.std.specs.List.Sorted.{IsStrictlyIncreasing};
+ghost use Rattle.call_reach.specs.Code.{HaveOwnCuts};
 ghost use Rattle.call_reach.specs.Reach.{AreAlike, CallsReach};
 ghost use Rattle.comdat.specs.Discarded.{discarded};
 ghost use Rattle.eh_frame.specs.FrameLaws.{ArePlain};
 ghost use Rattle.eh_frame.specs.Laws.{IsSmall};
-ghost use Rattle.eh_frame.specs.Plan.{plan_of};
 ghost use Rattle.elf_out.specs.Standing.{HasHeaderRoom};
 ghost use Rattle.file_live.specs.Live.{IsLive};
-ghost use Rattle.icf_part.specs.Folding.{AreLeaders as ItemLeaders};
-ghost use Rattle.icf_part.specs.Leaders.{leaders_of};
+ghost use Rattle.icf_part.specs.Chosen.{AreSharers};
+ghost use Rattle.icf_part.specs.Folding.{AreLeaders as ItemLeaders, HoldsAll, IsCongruence, classes};
 ghost use Rattle.output_sections.specs.Items.{AreLeaders};
 ghost use Rattle.layout.specs.Layout.{frame_sizes, layout_defects};
 ghost use Rattle.layout.specs.Spots.{HasFrames};
@@ -19,7 +19,7 @@ ghost use Rattle.link_sections.specs.FoldItems.{item_views, sections_of};
 ghost use Rattle.link_sections.specs.GotView.{entries_of};
 ghost use Rattle.link_sections.specs.LaidOut.{layout_view, with_contents};
 ghost use Rattle.link_sections.specs.Merging.{pools_of};
-ghost use Rattle.link_sections.specs.PoolViews.{pools_view};
+ghost use Rattle.link_sections.specs.PoolViews.{merged_views, pools_view};
 ghost use Rattle.link_sections.specs.Sound.{IsSound};
 ghost use Rattle.lk_base.specs.Firsts.{Goes};
 ghost use Rattle.lk_base.specs.Limits.{IsWithinStandard};
@@ -27,70 +27,57 @@ ghost use Rattle.lk_tables.specs.BoundNames.{IsBindingOf};
 ghost use Rattle.lk_tables.specs.Binding.{first_phase};
 ghost use Rattle.lk_tables.specs.BoundNames.{binding_defects};
 ghost use Rattle.lk_tables.specs.BindingView.{binding_view};
+ghost use Rattle.lk_tables.specs.Files.{section_total};
 ghost use Rattle.lk_tables.specs.FramePlans.{plan_view};
-ghost use Rattle.lk_tables.specs.Frames.{AreListsWithin, all_lists, list_views, lists_of as record_lists};
-ghost use Rattle.lk_tables.specs.NameNumbers.{NumbersNames, heads_alone};
-ghost use Rattle.lk_tables.specs.TablesView.{files_of};
-ghost use Rattle.lk_tables.specs.Uppers.{AreListed, section_uppers};
+ghost use Rattle.lk_tables.specs.Frames.{AreListsWithin, all_lists, list_views};
+ghost use Rattle.lk_tables.specs.TablesView.{files_of, have_numbers};
+ghost use Rattle.link_driver.specs.Certificates.{why_text};
 ghost use Rattle.link_driver.specs.Contents.{input_contents, input_names, names_of, sources_of};
 ghost use Rattle.link_driver.specs.Defects.{opening_defects, reading_defects};
-ghost use Rattle.link_driver.specs.Link.{bound_names, kept_of, laid_out, last_phases, leaders_in, piece_defects, placing_phases, plan_in, report_by, table_of, wishes_of};
-ghost use Rattle.link_driver.specs.Phases.{AfterLink, HoldsPast, IsWritten, LinkStands, Makes, ShortenedCallsReach, StandsWhole, linked_of};
-ghost use Rattle.link_driver.specs.Placing.{laid_by};
+ghost use Rattle.link_driver.specs.Known.{AreHeads};
+ghost use Rattle.link_driver.specs.Laws.{AreCounted, AreLeast};
+ghost use Rattle.link_driver.specs.Link.{bound_names, kept_of, laid_out, last_phases, leaders_in, piece_defects, placing_phases, plan_in, table_of, wishes_of};
+ghost use Rattle.link_driver.specs.Linked.{IsSettled, settled_view};
+ghost use Rattle.link_driver.specs.Phases.{AfterLink, HoldsPast, LinkStands, Makes, ShortenedCallsReach};
 ghost use Rattle.link_driver.specs.Sources.{files_in, heads_in, live_in, shown_files, sources};
-ghost use Rattle.link_driver.specs.Tables.{IsCollected, MayStay, wished};
-ghost use Rattle.link_driver.specs.Values.{value_defects};
-ghost use Rattle.map_file.specs.MapView.{map_in};
+ghost use Rattle.link_driver.specs.Tables.{AreInside, IsCollected, MayStay, wished};
+ghost use Rattle.sec_graph.specs.Foldable.{item_of};
 ghost use Rattle.sec_graph.specs.FrameRelocs.{AreFramesOf};
 ghost use Rattle.sym_resolve.specs.Law.{IsLawful};
 
 use crate::barring::find_barred;
 use crate::bodies::read_bodies;
-use crate::certificates::{wants_names, why_text};
+use crate::certificates::{asks_why, wants_names, why_text};
 use crate::finding::find_sources;
-use crate::frames::{find_frames, write_frames};
+use crate::frames::find_frames;
 use crate::heads::read_heads;
 use crate::inputs::Inputs;
-use crate::numbering::number_for_members;
-use crate::placing::{Placement, place_beside};
-use crate::reports::report_if;
+use crate::linked::Linked;
+use crate::numbering::{number_for_members, numbers_of};
+use crate::placing::place_beside;
 use crate::shown::names_if;
 use crate::sources::Source;
+use crate::writing::{Settled, write};
 use call_reach::calls_reach;
 use comdat::discard;
-use elf_out::write_executable;
 use file_live::live;
-use icf_part::{Steps, fold};
+use icf_part::{Steps, fold, lead_themselves, shared_texts};
 use layout::place;
 use link_command::{Command, Wanted};
-use link_sections::{FoldItem, Got, Layout, Pools, View, all_kept, fold_leaders, own_leaders};
+use link_sections::{FoldItem, Got, Layout, Pools, all_kept, fold_leaders, own_leaders};
 use lk_base::{Limits, LinkStop, SecNo, check_count};
-use lk_tables::{Binding, FramePlan, Frames, NameNumbers, Record, Tables, Uppers};
-use map_file::map_text;
-use name_numbers::number_names;
+use lk_tables::{Binding, FramePlan, Frames, Head, Record, Tables};
 use output_sections::order_sections;
 use relax::sizes;
 use sec_gc::{keep, roots};
-use sec_graph::{edges, items};
+use sec_graph::{contents_of, edges, foldable, items_at};
 use std::alloc::{AllocError, Global};
 use std::marker::Brand;
 use std::sync::ledger::{Blank, Ledger};
 use std::thread::{Threads, join_mut};
 use str_merge::{piece_bound, piece_count};
 use sym_resolve::bind;
-use symbol_addresses::find_addresses;
 use work_split::Gate;
-
-/// What a link without a defect gives.
-#[derive(Drop)]
-pub struct Linked {
-    /// The bytes of the executable.
-    pub exe: Vec<u8>,
-    /// The bytes of the map, none if no map is asked for.
-    pub map: Vec<u8>,
-    /// What is said of the link: the report, and what is asked why; nothing if neither is asked for.
-    pub report: Vec<u8>,
-}
 
 /// Reads all files: their heads, and then the bodies of those that take part, with their unwind records, which are given too: in order of
 /// section number those of each section that has some.
@@ -115,9 +102,37 @@ pub fn read_files<'a, R: Threads + Sync, G: Gate>(
     ensures records { IfOk result (λ both. list_views both.1.items ≡ all_lists (files_of both.0)) }
     ensures within { IfOk result (λ both. AreListsWithin (files_of both.0) (all_lists (files_of both.0))) }
     ensures plain { IfOk result (λ both. ArePlain (all_lists (files_of both.0))) }
+    ensures numbered { IfOk result (λ both. have_numbers both.0 ≡ true) }
+    ensures taking_part { IfOk result (λ _. IsLive (lists_of undefined.now) (heads_in (sources_of sources.now)) (live_in (lists_of undefined.now) (sources_of sources.now))) }
+    ensures inside { IfOk result (λ both. AreInside (files_of both.0)) }
+{
+    read_files_after(rt, alloc, limits, sources, None, undefined, workers, gate)
+}
+
+/// Reads all files, unless their heads are `known` from an earlier reading: then their bodies alone.
+fn read_files_after<'a, R: Threads + Sync, G: Gate>(
+    rt: &R,
+    alloc: Global,
+    limits: &Limits,
+    sources: &[Source<'a>],
+    known: Option<Vec<Option<Head>>>,
+    undefined: &[Vec<u8>],
+    workers: u32,
+    gate: &G,
+) -> Result<(Tables<'a>, Vec<(SecNo, Vec<Record>)>), LinkStop>
+    requires limits { IsWithinStandard limits.now }
+    requires known { IfSome known (λ list. AreHeads (sources_of sources.now) list.items) }
+    requires some { 1 ≤ workers }
+    requires most { workers ≤ 64 }
+    ensures goes { Goes result (first_phase (reading_defects limits.now (sources_of sources.now) ∷ opening_defects limits.now (lists_of undefined.now) (sources_of sources.now) ∷ [])) }
+    ensures tables { IfOk result (λ both. files_of both.0 ≡ files_in (lists_of undefined.now) (sources_of sources.now)) }
+    ensures records { IfOk result (λ both. list_views both.1.items ≡ all_lists (files_of both.0)) }
+    ensures within { IfOk result (λ both. AreListsWithin (files_of both.0) (all_lists (files_of both.0))) }
+    ensures plain { IfOk result (λ both. ArePlain (all_lists (files_of both.0))) }
+    ensures numbered { IfOk result (λ both. have_numbers both.0 ≡ true) }
     ensures taking_part { IfOk result (λ _. IsLive (lists_of undefined.now) (heads_in (sources_of sources.now)) (live_in (lists_of undefined.now) (sources_of sources.now))) }
 {
-    let mut heads = match read_heads(rt, alloc, limits, sources, workers, gate) {
+    let mut heads = match read_heads(rt, alloc, limits, sources, known, workers, gate) {
         Ok(heads) => heads,
         Err(stop) => return Err(stop),
     };
@@ -270,7 +285,18 @@ pub fn find_leaders<R: Threads + Sync, G: Gate>(
     if !options.icf {
         return Ok(leaders);
     }
-    let items = items(alloc, tables, binding, pools, kept, barred, frames)?;
+    let sections = foldable(alloc, tables, binding, kept, barred)?;
+    lead_themselves(&mut leaders, sections.as_slice());
+    let items = shared_items(
+        rt,
+        alloc,
+        tables,
+        binding,
+        frames,
+        pools,
+        sections.as_slice(),
+        workers,
+    )?;
     let places = fold_items::<R, G, Brand>(
         rt,
         alloc,
@@ -283,8 +309,40 @@ pub fn find_leaders<R: Threads + Sync, G: Gate>(
     Ok(leaders)
 }
 
+/// What decides of those of some sections whose contents another of them has with which others each is folded, in order: any other leads
+/// itself. The only error is out of memory.
+fn shared_items<'a, R: Threads + Sync>(
+    rt: &R,
+    alloc: Global,
+    tables: &Tables<'a>,
+    binding: &Binding,
+    frames: &Frames,
+    pools: &Pools,
+    sections: &[SecNo],
+    workers: u32,
+) -> Result<Vec<FoldItem<'a>>, AllocError>
+    requires frames { AreFramesOf (files_of tables.now) (binding_view binding.now) frames.now }
+    requires within { All (λ n. n < section_total (files_of tables.now)) sections.now }
+    requires order { IsStrictlyIncreasing sections.now }
+    ensures sharers { IfOk result (λ list. AreSharers (map (item_of (files_of tables.now) (binding_view binding.now) (merged_views pools.now)) sections.now) (item_views list.items)) }
+    ensures order { IfOk result (λ list. IsStrictlyIncreasing (sections_of (item_views list.items))) }
+{
+    let texts = contents_of(alloc, tables, sections)?;
+    let places = shared_texts(rt, alloc, texts.as_slice(), workers)?;
+    let items = items_at(
+        alloc,
+        tables,
+        binding,
+        pools,
+        frames,
+        sections,
+        places.as_slice(),
+    )?;
+    Ok(items)
+}
+
 /// The leaders of items. How many classes became two is counted and not asked for.
-fn fold_items<R: Threads + Sync, G: Gate, L: Ledger>(
+pub fn fold_items<R: Threads + Sync, G: Gate, L: Ledger>(
     rt: &R,
     alloc: Global,
     items: &[FoldItem],
@@ -298,10 +356,9 @@ fn fold_items<R: Threads + Sync, G: Gate, L: Ledger>(
     requires name { blank.name ≡ L.name }
     requires parts { blank.parts ≡ L.parts }
     requires part { 0 < L.parts }
-    ensures value { IfOk result (λ l. l.items ≡ leaders_of (item_views items.now)) }
     ensures leaders { IfOk result (λ l. ItemLeaders (item_views items.now) l.items) }
-    ensures places { IfOk result (λ l. All (λ p. p < length items.now) l.items) }
-    ensures own { IfOk result (λ l. (a : ℕ) → slice_index l.items (slice_index l.items a) ≡ slice_index l.items a) }
+    ensures congruence { IfOk result (λ l. IsCongruence (item_views items.now) (classes l.items)) }
+    ensures greatest { IfOk result (λ l. HoldsAll (item_views items.now) l.items) }
 {
     let mut steps: Steps<L> = Steps::open(blank);
     fold(rt, alloc, items, workers, gate, &mut steps)
@@ -346,6 +403,7 @@ pub fn lay_out<'a, R: Threads + Sync, G: Gate>(
     ensures room { IfOk result (λ layout. HasHeaderRoom layout.bounds) }
     ensures framed { IfOk result (λ layout. HasFrames (frame_sizes plan.now) layout.bounds) }
     ensures reach { IfOk result (λ layout. CallsReach (files_of tables.now) (binding_view binding.now) leaders.now (with_contents (layout_view layout) (pools_view (files_of tables.now) pools.now) (entries_of got.now))) }
+    ensures cuts { IfOk result (λ layout. HaveOwnCuts (files_of tables.now) leaders.now (with_contents (layout_view layout) (pools_view (files_of tables.now) pools.now) (entries_of got.now))) }
 {
     let on = options.relax;
     let sections = order_sections(
@@ -367,127 +425,36 @@ pub fn lay_out<'a, R: Threads + Sync, G: Gate>(
     }
 }
 
-/// The map of a link, if one is asked for.
-fn map_if<R: Threads + Sync, G: Gate>(
-    rt: &R,
-    alloc: Global,
-    view: &View,
-    wanted: bool,
-    workers: u32,
-    gate: &G,
-) -> Result<Vec<u8>, AllocError>
-    requires some { 1 ≤ workers }
-    requires most { workers ≤ 64 }
-    ensures { IfOk result (λ map. map.items ≡ (if wanted then map_in view.now else [])) }
-{
-    if !wanted {
-        return Ok(Vec::new(alloc));
-    }
-    map_text(rt, alloc, view, workers, gate)
-}
-
-/// What a link that is placed so gives: the executable, and the map and the report, if these are asked for.
-fn write<R: Threads + Sync, G: Gate>(
-    rt: &R,
-    alloc: Global,
-    tables: &Tables,
-    binding: &Binding,
-    kept: &[bool],
-    barred: &[bool],
-    placement: &Placement,
-    uppers: &Uppers,
-    numbers: &NameNumbers,
-    names: &[Vec<u8>],
-    options: Options,
-    workers: u32,
-    gate: &G,
-) -> Result<Linked, LinkStop>
-    requires some { 1 ≤ workers }
-    requires most { workers ≤ 64 }
-    requires bound { IsBindingOf (files_of tables.now) (binding_view binding.now) }
-    requires numbers { NumbersNames (heads_alone (files_of tables.now)) numbers.now }
-    requires listed { AreListed (section_uppers (files_of tables.now)) uppers.now }
-    requires lead { AreLeaders (files_of tables.now) (binding_view binding.now) placement.now.leaders.items }
-    requires lists { record_lists placement.now.plan.frames.now ≡ all_lists (files_of tables.now) }
-    requires within { AreListsWithin (files_of tables.now) (all_lists (files_of tables.now)) }
-    requires plain { ArePlain (all_lists (files_of tables.now)) }
-    requires plan { plan_view placement.now.plan ≡ plan_of (files_of tables.now) (binding_view binding.now) (laid_by (files_of tables.now) placement.now).merging.merged (all_lists (files_of tables.now)) placement.now.leaders.items }
-    requires sound { IsSound (files_of tables.now) (binding_view binding.now) placement.now.leaders.items (laid_by (files_of tables.now) placement.now) }
-    requires room { HasHeaderRoom placement.now.layout.bounds }
-    requires framed { HasFrames (frame_sizes placement.now.plan) placement.now.layout.bounds }
-    ensures goes { Goes result (value_defects (files_of tables.now) (binding_view binding.now) placement.now.leaders.items (laid_by (files_of tables.now) placement.now) (plan_view placement.now.plan)) }
-    ensures written { IfOk result (λ linked. IsWritten (wished options barred.now) (names_of names.now) (files_of tables.now) (binding_view binding.now) kept.now placement.now.leaders.items (laid_by (files_of tables.now) placement.now) (plan_view placement.now.plan) linked) }
-    ensures stands { IfOk result (λ linked. StandsWhole (wished options barred.now) (files_of tables.now) (binding_view binding.now) kept.now placement.now.leaders.items (laid_by (files_of tables.now) placement.now) (plan_view placement.now.plan) linked.exe.items) }
-{
-    let leaders = placement.leaders.as_slice();
-    let addresses = find_addresses(
-        rt,
-        alloc,
-        tables,
-        binding,
-        &placement.pools,
-        leaders,
-        &placement.got,
-        &placement.layout,
-        workers,
-        gate,
-    )?;
-    let view = View {
-        tables,
-        binding,
-        kept,
-        pools: &placement.pools,
-        leaders,
-        got: &placement.got,
-        layout: &placement.layout,
-        addresses: &addresses,
-        uppers,
-        numbers,
-        names,
-        strip: options.strip,
-    };
-    let frames = match write_frames(rt, alloc, &view, &placement.plan, workers, gate) {
-        Ok(frames) => frames,
-        Err(stop) => return Err(stop),
-    };
-    let exe = match write_executable(rt, alloc, &view, &frames, workers, gate) {
-        Ok(exe) => exe,
-        Err(stop) => return Err(stop),
-    };
-    let map = map_if(rt, alloc, &view, options.map, workers, gate)?;
-    let report = report_if(alloc, &view, options.generated)?;
-    Ok(Linked { exe, map, report })
-}
-
-/// What files give whose names are bound and numbered, if these sections are kept. Files are shown by `names`.
-fn link_numbered<R: Threads + Sync, G: Gate>(
+/// What is made of files whose names are bound and numbered, if these sections are kept. Files are shown by `names`.
+fn link_kept<'a, 't, R: Threads + Sync, G: Gate>(
     rt: &R,
     alloc: Global,
     limits: &Limits,
-    tables: &Tables,
+    tables: &Tables<'a>,
     binding: &Binding,
-    frames: &Frames,
+    frames: &'t Frames,
     kept: &[bool],
     barred: &[bool],
-    numbers: &NameNumbers,
     names: &[Vec<u8>],
     options: Options,
     workers: u32,
     gate: &G,
-) -> Result<Linked, LinkStop>
+) -> Result<Settled<'a, 't>, LinkStop>
     requires limits { IsWithinStandard limits.now }
     requires some { 1 ≤ workers }
     requires most { workers ≤ 64 }
     requires bound { IsBindingOf (files_of tables.now) (binding_view binding.now) }
-    requires numbers { NumbersNames (heads_alone (files_of tables.now)) numbers.now }
+    requires numbered { have_numbers tables.now ≡ true }
     requires frames { AreFramesOf (files_of tables.now) (binding_view binding.now) frames.now }
     requires plain { ArePlain (all_lists (files_of tables.now)) }
     requires stay { MayStay (files_of tables.now) (binding_view binding.now) kept.now }
     ensures goes { Goes result (first_phase (last_phases limits.now (wished options barred.now) (files_of tables.now) (binding_view binding.now) kept.now)) }
-    ensures written { IfOk result (λ linked. Makes (wished options barred.now) (names_of names.now) (files_of tables.now) (binding_view binding.now) kept.now linked) }
-    ensures stands { IfOk result (λ linked. LinkStands (wished options barred.now) (files_of tables.now) (binding_view binding.now) kept.now linked.exe.items) }
+    ensures settled { IfOk result (IsSettled (files_of tables.now) (binding_view binding.now) kept.now options.strip) }
+    ensures written { IfOk result (λ settled. Makes (wished options barred.now) (names_of names.now) (files_of tables.now) (binding_view binding.now) kept.now (settled_view (files_of tables.now) (binding_view binding.now) kept.now options.strip settled)) }
+    ensures stands { IfOk result (λ settled. LinkStands (wished options barred.now) (files_of tables.now) (binding_view binding.now) kept.now (settled_view (files_of tables.now) (binding_view binding.now) kept.now options.strip settled).exe) }
     ensures reach { HoldsPast result (first_phase (placing_phases limits.now (wished options barred.now) (files_of tables.now) (binding_view binding.now) kept.now)) (ShortenedCallsReach (wished options barred.now) (files_of tables.now) (binding_view binding.now) kept.now) }
 {
+    let numbers = numbers_of(tables);
     // What kept sections refer to is defined, and nothing moves, from here on.
     let (uppers, placement) = match place_beside(
         rt, alloc, limits, tables, binding, frames, kept, barred, numbers, options, workers, gate,
@@ -495,50 +462,90 @@ fn link_numbered<R: Threads + Sync, G: Gate>(
         Ok(both) => both,
         Err(stop) => return Err(stop),
     };
-    write(
+    // Each relocation can be done, and no more memory is needed for the executable, from here on.
+    let written = match write(
         rt, alloc, tables, binding, kept, barred, &placement, &uppers, numbers, names, options,
         workers, gate,
-    )
+    ) {
+        Ok(written) => written,
+        Err(stop) => return Err(stop),
+    };
+    Ok(Settled {
+        uppers,
+        placement,
+        written,
+    })
 }
 
-/// What files give whose names are bound, if these sections are kept.
-fn link_kept<R: Threads + Sync, G: Gate>(
+/// Whether what a command asks why is found while the rest is made.
+fn finds_beside(command: &Command, workers: u32) -> bool {
+    workers != 1 && asks_why(command)
+}
+
+/// What is made of files whose names are bound and numbered, if these sections are kept, and what is said to what a command asks why. With two workers or
+/// more another thread finds the latter meanwhile, since neither needs the other. Files are shown by `names`.
+fn link_beside<'a, 't, R: Threads + Sync, G: Gate>(
     rt: &R,
     alloc: Global,
     limits: &Limits,
-    tables: &Tables,
+    tables: &Tables<'a>,
     binding: &Binding,
-    frames: &Frames,
+    frames: &'t Frames,
     kept: &[bool],
     barred: &[bool],
     names: &[Vec<u8>],
+    command: &Command,
     options: Options,
     workers: u32,
     gate: &G,
-) -> Result<Linked, LinkStop>
+) -> (
+    Result<Settled<'a, 't>, LinkStop>,
+    Result<Vec<u8>, AllocError>,
+)
     requires limits { IsWithinStandard limits.now }
     requires some { 1 ≤ workers }
     requires most { workers ≤ 64 }
     requires bound { IsBindingOf (files_of tables.now) (binding_view binding.now) }
+    requires numbered { have_numbers tables.now ≡ true }
     requires frames { AreFramesOf (files_of tables.now) (binding_view binding.now) frames.now }
     requires plain { ArePlain (all_lists (files_of tables.now)) }
     requires stay { MayStay (files_of tables.now) (binding_view binding.now) kept.now }
-    ensures goes { Goes result (first_phase (last_phases limits.now (wished options barred.now) (files_of tables.now) (binding_view binding.now) kept.now)) }
-    ensures written { IfOk result (λ linked. Makes (wished options barred.now) (names_of names.now) (files_of tables.now) (binding_view binding.now) kept.now linked) }
-    ensures stands { IfOk result (λ linked. LinkStands (wished options barred.now) (files_of tables.now) (binding_view binding.now) kept.now linked.exe.items) }
-    ensures reach { HoldsPast result (first_phase (placing_phases limits.now (wished options barred.now) (files_of tables.now) (binding_view binding.now) kept.now)) (ShortenedCallsReach (wished options barred.now) (files_of tables.now) (binding_view binding.now) kept.now) }
+    ensures goes { Goes result.0 (first_phase (last_phases limits.now (wished options barred.now) (files_of tables.now) (binding_view binding.now) kept.now)) }
+    ensures settled { IfOk result.0 (IsSettled (files_of tables.now) (binding_view binding.now) kept.now options.strip) }
+    ensures written { IfOk result.0 (λ settled. Makes (wished options barred.now) (names_of names.now) (files_of tables.now) (binding_view binding.now) kept.now (settled_view (files_of tables.now) (binding_view binding.now) kept.now options.strip settled)) }
+    ensures stands { IfOk result.0 (λ settled. LinkStands (wished options barred.now) (files_of tables.now) (binding_view binding.now) kept.now (settled_view (files_of tables.now) (binding_view binding.now) kept.now options.strip settled).exe) }
+    ensures reach { HoldsPast result.0 (first_phase (placing_phases limits.now (wished options barred.now) (files_of tables.now) (binding_view binding.now) kept.now)) (ShortenedCallsReach (wished options barred.now) (files_of tables.now) (binding_view binding.now) kept.now) }
+    ensures why { IfOk result.1 (λ text. text.items ≡ why_text (asks command.now) (names_of names.now) (files_of tables.now) (binding_view binding.now) kept.now barred.now) }
 {
-    if let Some(numbers) = tables.names() {
-        return link_numbered(
-            rt, alloc, limits, tables, binding, frames, kept, barred, numbers, names, options,
-            workers, gate,
+    if !finds_beside(command, workers) {
+        let made = link_kept(
+            rt, alloc, limits, tables, binding, frames, kept, barred, names, options, workers, gate,
         );
+        let told = why_text(
+            rt, alloc, tables, binding, frames, kept, barred, names, command, workers, gate,
+        );
+        return (made, told);
     }
-    tables.is_few();
-    let numbers = number_names(rt, alloc, tables.files(), workers)?;
-    link_numbered(
-        rt, alloc, limits, tables, binding, frames, kept, barred, &numbers, names, options,
-        workers, gate,
+    join_mut(
+        rt,
+        &mut || -> Result<Settled, LinkStop>
+            requires { IsWithinStandard limits.now × (1 ≤ workers) × (workers ≤ 64) × IsBindingOf (files_of tables.now) (binding_view binding.now) × (have_numbers tables.now ≡ true) × AreFramesOf (files_of tables.now) (binding_view binding.now) frames.now × ArePlain (all_lists (files_of tables.now)) × MayStay (files_of tables.now) (binding_view binding.now) kept.now }
+            ensures { Goes result (first_phase (last_phases limits.entry.now (wished options barred.entry.now) (files_of tables.entry.now) (binding_view binding.entry.now) kept.entry.now)) × IfOk result (IsSettled (files_of tables.entry.now) (binding_view binding.entry.now) kept.entry.now options.strip) × IfOk result (λ settled. Makes (wished options barred.entry.now) (names_of names.entry.now) (files_of tables.entry.now) (binding_view binding.entry.now) kept.entry.now (settled_view (files_of tables.entry.now) (binding_view binding.entry.now) kept.entry.now options.strip settled)) × IfOk result (λ settled. LinkStands (wished options barred.entry.now) (files_of tables.entry.now) (binding_view binding.entry.now) kept.entry.now (settled_view (files_of tables.entry.now) (binding_view binding.entry.now) kept.entry.now options.strip settled).exe) × HoldsPast result (first_phase (placing_phases limits.entry.now (wished options barred.entry.now) (files_of tables.entry.now) (binding_view binding.entry.now) kept.entry.now)) (ShortenedCallsReach (wished options barred.entry.now) (files_of tables.entry.now) (binding_view binding.entry.now) kept.entry.now) }
+        {
+            link_kept(
+                rt, alloc, limits, tables, binding, frames, kept, barred, names, options, workers,
+                gate,
+            )
+        },
+        &mut || -> Result<Vec<u8>, AllocError>
+            requires { IsBindingOf (files_of tables.now) (binding_view binding.now) × AreFramesOf (files_of tables.now) (binding_view binding.now) frames.now }
+            ensures { IfOk result (λ text. text.items ≡ why_text (asks command.entry.now) (names_of names.entry.now) (files_of tables.entry.now) (binding_view binding.entry.now) kept.entry.now barred.entry.now) }
+        {
+            // One thread is enough, so that the others are left to the link.
+            why_text(
+                rt, alloc, tables, binding, frames, kept, barred, names, command, 1, gate,
+            )
+        },
     )
 }
 
@@ -590,27 +597,29 @@ fn bind_beside<R: Threads + Sync, G: Gate>(
     )
 }
 
-/// Links the files of a command, which are found in these inputs: pass after pass, and the defects of each are those of its phase. Gives the
-/// tables too.
+/// Links the files of a command, which are found in these inputs: pass after pass, and the defects of each are those of its phase.
 pub fn link_sources<'a, R: Threads + Sync, G: Gate>(
     rt: &R,
     alloc: Global,
     command: &Command,
     inputs: &Inputs,
     sources: &[Source<'a>],
+    known: Option<Vec<Option<Head>>>,
     limits: &Limits,
     gate: &G,
-) -> Result<(Linked, Tables<'a>), LinkStop>
+) -> Result<Linked<'a>, LinkStop>
     requires limits { IsWithinStandard limits.now }
+    requires known { IfSome known (λ list. AreHeads (sources_of sources.now) list.items) }
     requires some { 1 ≤ command.now.threads }
     requires most { command.now.threads ≤ 64 }
-    ensures after { AfterLink limits.now (asks command.now) (shown_files (input_names inputs.now) (input_contents inputs.now) (sources_of sources.now)) (sources_of sources.now) (linked_of result) }
-    ensures tables { IfOk result (λ both. files_of both.1 ≡ files_in (asks command.now).undefined (sources_of sources.now)) }
+    ensures { AfterLink limits.now (asks command.now) (shown_files (input_names inputs.now) (input_contents inputs.now) (sources_of sources.now)) (sources_of sources.now) result }
 {
     let workers = command.threads;
     let undefined = command.undefined.as_slice();
     let unique = command.unique.as_slice();
-    let (tables, records) = match read_files(rt, alloc, limits, sources, undefined, workers, gate) {
+    let (tables, records) = match read_files_after(
+        rt, alloc, limits, sources, known, undefined, workers, gate,
+    ) {
         Ok(both) => both,
         Err(stop) => return Err(stop),
     };
@@ -641,7 +650,7 @@ pub fn link_sources<'a, R: Threads + Sync, G: Gate>(
     )?;
     let options = options_of(command);
     let names = names_if(alloc, wants_names(options.map, command), inputs, sources)?;
-    let mut linked = match link_kept(
+    let (made, told) = link_beside(
         rt,
         alloc,
         limits,
@@ -651,73 +660,84 @@ pub fn link_sources<'a, R: Threads + Sync, G: Gate>(
         kept.as_slice(),
         barred.as_slice(),
         names.as_slice(),
+        command,
         options,
         workers,
         gate,
-    ) {
-        Ok(linked) => linked,
+    );
+    let settled = match made {
+        Ok(settled) => settled,
         Err(stop) => return Err(stop),
     };
     // All that is written is settled from here on.
-    let why = why_text(
-        rt,
-        alloc,
-        &tables,
-        &binding,
-        &frames,
-        kept.as_slice(),
-        barred.as_slice(),
-        names.as_slice(),
-        command,
-        workers,
-        gate,
-    )?;
-    linked.report.extend_from_slice(why.as_slice())?;
-    Ok((linked, tables))
+    let Ok(why) = told else {
+        return Err(LinkStop::Memory);
+    };
+    let Ok(linked) = Linked::of(
+        tables,
+        binding,
+        kept,
+        settled,
+        options.strip,
+        why.as_slice(),
+    ) else {
+        return Err(LinkStop::Memory);
+    };
+    Ok(linked)
 }
 
 /// Links the inputs of a command: those that it names, in order, with their bytes, or the objects that are generated for it.
 ///
-/// The answer is what the link gives if the inputs have no defect: the executable, the map if one is asked, in which files have the names of
-/// their inputs, and what is to be said: for generated objects the report, and what the command asks why. Else it is the first defect of the
-/// first phase that has any, before which none of that phase stands by file, section and place, whatever the number of workers and the order
-/// of their steps; or out of memory. No limit is above the standard one. The command's `threads` is from 1 to 64.
-pub fn link<R: Threads + Sync, G: Gate>(
-    rt: &R,
-    alloc: Global,
-    command: &Command,
-    inputs: &Inputs,
-    limits: &Limits,
-    gate: &G,
-) -> Result<Linked, LinkStop>
-    requires limits { IsWithinStandard limits.now }
-    requires some { 1 ≤ command.now.threads }
-    requires most { command.now.threads ≤ 64 }
-    ensures { AfterLink limits.now (asks command.now) (shown_files (input_names inputs.now) (input_contents inputs.now) (sources limits.now (input_contents inputs.now))) (sources limits.now (input_contents inputs.now)) result }
-{
-    match link_with_tables(rt, alloc, command, inputs, limits, gate) {
-        Ok((linked, _)) => Ok(linked),
-        Err(stop) => Err(stop),
-    }
-}
-
-/// Does what [`link`] does, and gives the tables that were read of the inputs as well. They borrow the inputs and are the caller's; at a stop
-/// they are freed. To free their many lists takes a tenth of the time of a link of many objects: who is about to end the process can
-/// [`forget`](std::mem::forget) them.
-pub fn link_with_tables<'a, R: Threads + Sync, G: Gate>(
+/// The answer is what the link gives if the inputs have no defect: the executable, which is made while it is written, the map if one is asked,
+/// in which files have the names of their inputs, and what is to be said: for generated objects the report, and what the command asks why.
+/// Else it is the first defect of the first phase that has any, before which none of that phase stands by file, section and place, whatever
+/// the number of workers and the order of their steps; or out of memory. Whatever the answer, the files that take part are the least closed set
+/// and each name is bound to its least offer. No limit is above the standard one. The command's `threads` is from 1 to 64.
+///
+/// What is given lends the inputs' bytes. To free its many lists takes a tenth of the time of a link of many objects: who is about to end the
+/// process can [`forget`](std::mem::forget) it.
+pub fn link<'a, R: Threads + Sync, G: Gate>(
     rt: &R,
     alloc: Global,
     command: &Command,
     inputs: &'a Inputs,
     limits: &Limits,
     gate: &G,
-) -> Result<(Linked, Tables<'a>), LinkStop>
+) -> Result<Linked<'a>, LinkStop>
     requires limits { IsWithinStandard limits.now }
     requires some { 1 ≤ command.now.threads }
     requires most { command.now.threads ≤ 64 }
-    ensures after { AfterLink limits.now (asks command.now) (shown_files (input_names inputs.now) (input_contents inputs.now) (sources limits.now (input_contents inputs.now))) (sources limits.now (input_contents inputs.now)) (linked_of result) }
-    ensures tables { IfOk result (λ both. files_of both.1 ≡ files_in (asks command.now).undefined (sources limits.now (input_contents inputs.now))) }
+    ensures after { AfterLink limits.now (asks command.now) (shown_files (input_names inputs.now) (input_contents inputs.now) (sources limits.now (input_contents inputs.now))) (sources limits.now (input_contents inputs.now)) result }
+    ensures least { AreCounted (sources limits.now (input_contents inputs.now)) → AreLeast (asks command.now) (sources limits.now (input_contents inputs.now)) }
+{
+    link_with_heads(rt, alloc, command, inputs, None, limits, gate)
+}
+
+/// Does what [`link`] does, and reads no heads where those of all files are `known` from an earlier reading.
+pub fn link_with_heads<'a, R: Threads + Sync, G: Gate>(
+    rt: &R,
+    alloc: Global,
+    command: &Command,
+    inputs: &'a Inputs,
+    known: Option<Vec<Option<Head>>>,
+    limits: &Limits,
+    gate: &G,
+) -> Result<Linked<'a>, LinkStop>
+    requires limits { IsWithinStandard limits.now }
+    requires known { IfSome known (λ list. AreHeads (sources limits.now (input_contents inputs.now)) list.items) }
+    requires some { 1 ≤ command.now.threads }
+    requires most { command.now.threads ≤ 64 }
+    ensures { AfterLink limits.now (asks command.now) (shown_files (input_names inputs.now) (input_contents inputs.now) (sources limits.now (input_contents inputs.now))) (sources limits.now (input_contents inputs.now)) result }
 {
     let sources = find_sources(alloc, limits, inputs)?;
-    link_sources(rt, alloc, command, inputs, sources.as_slice(), limits, gate)
+    link_sources(
+        rt,
+        alloc,
+        command,
+        inputs,
+        sources.as_slice(),
+        known,
+        limits,
+        gate,
+    )
 }

@@ -6,7 +6,7 @@ ghost use Rattle.std.specs.List.{range_with_len};
 ghost use Rattle.lk_tables.specs.Files.{symbol_total};
 ghost use Rattle.lk_tables.specs.FileView.{file_views};
 ghost use Rattle.lk_tables.specs.NameNumbers.{NumbersNames, heads_alone};
-ghost use Rattle.lk_tables.specs.TablesView.{heads_of};
+ghost use Rattle.lk_tables.specs.TablesView.{are_numbered, files_of, have_numbers, heads_of};
 ghost use Rattle.work_split.specs.Shares.{IsShare};
 ghost use Rattle.link_driver.specs.Contents.{sources_of};
 ghost use Rattle.link_driver.specs.Defects.{body_defects_at};
@@ -17,7 +17,7 @@ use crate::bodies::read_each;
 use crate::records::Body;
 use crate::sources::Source;
 use lk_base::LinkStop;
-use lk_tables::{File, Heads, NameNumbers};
+use lk_tables::{File, Heads, NameNumbers, Tables};
 use name_numbers::number_names;
 use std::alloc::{AllocError, Global};
 use std::thread::{Threads, join_mut};
@@ -57,11 +57,20 @@ fn number<R: Threads + Sync>(
     workers: u32,
 ) -> Result<(), AllocError>
     requires { symbol_total (heads_of heads.old) < 2 ^ 31 }
-    ensures { heads_of heads.new ≡ heads_of heads.old }
+    ensures same { heads_of heads.new ≡ heads_of heads.old }
+    ensures numbered { IfOk result (λ _. are_numbered heads.new ≡ true) }
 {
     let names = number_names(rt, alloc, heads.files(), workers)?;
     heads.keep_names(names);
     Ok(())
+}
+
+/// The numbers of the names of files, which came with them.
+pub fn numbers_of<'t>(tables: &'t Tables) -> &'t NameNumbers
+    requires { have_numbers tables.now ≡ true }
+    ensures { NumbersNames (heads_alone (files_of tables.now)) result.now }
+{
+    tables.names().unwrap()
 }
 
 /// Numbers the names of all files if one of these is a member, since it is found by names which members take part.
@@ -100,6 +109,7 @@ fn read_beside<R: Threads + Sync, G: Gate>(
     requires most { workers ≤ 64 }
     ensures share { IsShare (body_defects_at (sources_of sources.now) live.now) (IsBodyAt (sources_of sources.now) live.now) 0 (length sources.now) result }
     ensures same { heads_of heads.new ≡ heads_of heads.old }
+    ensures numbered { IfOk result (λ _. are_numbered heads.new ≡ true) }
 {
     let files = heads.files();
     let (names, bodies) = join_mut(
@@ -142,6 +152,7 @@ pub fn read_numbered<R: Threads + Sync, G: Gate>(
     requires most { workers ≤ 64 }
     ensures share { IsShare (body_defects_at (sources_of sources.now) live.now) (IsBodyAt (sources_of sources.now) live.now) 0 (length sources.now) result }
     ensures same { heads_of heads.new ≡ heads_of heads.old }
+    ensures numbered { IfOk result (λ _. are_numbered heads.new ≡ true) }
 {
     if heads.names().is_some() {
         return read_each(rt, alloc, sources, live, heads.files(), workers, gate);

@@ -1,9 +1,10 @@
 //! The executables of the examples, worked out by hand.
 
-use elf_bytes::{Image, image};
+use crate::{code, code_and_data};
+pub use elf_bytes::Image;
+use elf_bytes::image;
 
 pub const STACK: [u64; 7] = [0x6474_e551, 6, 0, 0, 0, 0, 16];
-
 /// The headers of an executable of three program headers, and of one of four.
 pub const READ: [u64; 7] = [1, 4, 0, 0x10000, 232, 232, 4096];
 
@@ -30,20 +31,13 @@ pub const FIRST: Image = Image {
 };
 
 /// A call of what is not defined goes to 0.
-pub const WEAK_CALL: Image =
-    image!(FIRST => contents: &[(0x1000, b"\x97\xf0\xfe\xff\xe7\x80\0\0"), (0x1008, NAMES)]);
-
+pub const WEAK_CALL: Image = code!(8 => 0x1020; b"\x97\xf0\xfe\xff\xe7\x80\0\0");
 /// The first with a `ret` of another file behind it.
-pub const TWO_FILES: Image = image!(FIRST =>
-    segments: &[READ, [1, 5, 0x1000, 0x11000, 12, 12, 4096], STACK],
-    contents: &[(0x1000, b"\xef\0\x40\0\x67\x80\0\0\x67\x80\0\0"), (0x100c, NAMES)],
-    sections: &[[1, 1, 6, 0x11000, 0x1000, 12, 4], [7, 3, 0, 0, 0x100c, 17, 1]]);
+pub const TWO_FILES: Image = code!(12 => 0x1020; b"\xef\0\x40\0\x67\x80\0\0\x67\x80\0\0");
 
 /// The first with two of them.
-pub const THREE_FILES: Image = image!(FIRST => table: 0x1028,
-    segments: &[READ, [1, 5, 0x1000, 0x11000, 16, 16, 4096], STACK],
-    contents: &[(0x1000, b"\xef\0\x40\0\x67\x80\0\0\x67\x80\0\0\x67\x80\0\0"), (0x1010, NAMES)],
-    sections: &[[1, 1, 6, 0x11000, 0x1000, 16, 4], [7, 3, 0, 0, 0x1010, 17, 1]]);
+pub const THREE_FILES: Image =
+    code!(16 => 0x1028; b"\xef\0\x40\0\x67\x80\0\0\x67\x80\0\0\x67\x80\0\0");
 
 /// Two files, and a common of 8 bytes.
 pub const COMMON_OF_8: Image = image!(FIRST => table: 0x1028,
@@ -62,28 +56,21 @@ pub const WIDE_COMMON: Image = image!(COMMON_OF_16 =>
     sections: &[[1, 1, 6, 0x11000, 0x1000, 8, 4], [7, 8, 3, 0x12000, 0x2000, 16, 16], [12, 3, 0, 0, 0x1008, 22, 1]]);
 
 /// The address 0x12800 less 0x11000 in two halves, and a word of a name that is not defined.
-pub const HALVES: Image = image!(FIRST => table: 0x2020,
-    segments: &[READ_OF_FOUR, [1, 5, 0x1000, 0x11000, 8, 8, 4096], [1, 6, 0x2000, 0x12000, 8, 8, 4096], STACK],
-    contents: &[(0x1000, b"\x17\x25\0\0\x13\x05\x05\x80"), (0x2000, b"\x07\0\0\0\0\0\0\0"), (0x2008, NAMES_WITH_DATA)],
-    sections: &[[1, 1, 6, 0x11000, 0x1000, 8, 4], [7, 1, 3, 0x12000, 0x2000, 8, 8], [13, 3, 0, 0, 0x2008, 23, 1]]);
+pub const HALVES: Image =
+    code_and_data!(8, 8 => 0x2020; b"\x17\x25\0\0\x13\x05\x05\x80"; b"\x07\0\0\0\0\0\0\0");
 
 /// A jump to a `ret` of another file.
-pub const ASKED: Image =
-    image!(TWO_FILES => contents: &[(0x1000, b"\xef\0\x80\0\x67\x80\0\0\x67\x80\0\0"), (0x100c, NAMES)]);
-
+pub const ASKED: Image = code!(12 => 0x1020; b"\xef\0\x80\0\x67\x80\0\0\x67\x80\0\0");
 /// A jump to an `ebreak` of another file.
-pub const ASKED_BREAK: Image =
-    image!(TWO_FILES => contents: &[(0x1000, b"\xef\0\x80\0\x67\x80\0\0\x73\0\x10\0"), (0x100c, NAMES)]);
+pub const ASKED_BREAK: Image = code!(12 => 0x1020; b"\xef\0\x80\0\x67\x80\0\0\x73\0\x10\0");
 
 /// A jump back to a `ret` of a file before.
 pub const ASKED_BEFORE: Image =
-    image!(TWO_FILES => entry: 0x11004, contents: &[(0x1000, b"\x67\x80\0\0\xef\xf0\xdf\xff\x67\x80\0\0"), (0x100c, NAMES)]);
+    code!(12 => 0x1020; b"\x67\x80\0\0\xef\xf0\xdf\xff\x67\x80\0\0"; entry: 0x11004);
 
 /// A jump to a file behind another, and from there a jump back to that.
-pub const ASKED_TWICE: Image = image!(FIRST => table: 0x1028,
-    segments: &[READ, [1, 5, 0x1000, 0x11000, 20, 20, 4096], STACK],
-    contents: &[(0x1000, b"\xef\0\xc0\0\x67\x80\0\0\x67\x80\0\0\xef\xf0\xdf\xff\x67\x80\0\0"), (0x1014, NAMES)],
-    sections: &[[1, 1, 6, 0x11000, 0x1000, 20, 4], [7, 3, 0, 0, 0x1014, 17, 1]]);
+pub const ASKED_TWICE: Image =
+    code!(20 => 0x1028; b"\xef\0\xc0\0\x67\x80\0\0\x67\x80\0\0\xef\xf0\xdf\xff\x67\x80\0\0");
 
 /// The first, and a common of 8 bytes.
 pub const ASKED_COMMON: Image = image!(COMMON_OF_16 =>
@@ -91,52 +78,28 @@ pub const ASKED_COMMON: Image = image!(COMMON_OF_16 =>
     sections: &[[1, 1, 6, 0x11000, 0x1000, 8, 4], [7, 8, 3, 0x12000, 0x2000, 8, 8], [12, 3, 0, 0, 0x1008, 22, 1]]);
 
 /// A jump to the second of two copies of one function.
-pub const BOTH_COPIES: Image = image!(FIRST => table: 0x1028,
-    segments: &[READ, [1, 5, 4096, 0x11000, 16, 16, 4096], STACK],
-    contents: &[(0x1000, b"\xef\0\xc0\0\x67\x80\0\0\x67\x80\0\0\x73\0\x10\0"), (0x1010, b"\0.text\0.shstrtab\0")],
-    sections: &[[1, 1, 6, 0x11000, 4096, 16, 4], [7, 3, 0, 0, 0x1010, 17, 1]]);
+pub const BOTH_COPIES: Image =
+    code!(16 => 0x1028; b"\xef\0\xc0\0\x67\x80\0\0\x67\x80\0\0\x73\0\x10\0");
 
 /// Two functions.
-pub const RETURN_AND_BREAK: Image = image!(FIRST => table: 0x1020,
-    segments: &[READ, [1, 5, 4096, 0x11000, 8, 8, 4096], STACK],
-    contents: &[(0x1000, b"\x67\x80\0\0\x73\0\x10\0"), (0x1008, b"\0.text\0.shstrtab\0")],
-    sections: &[[1, 1, 6, 0x11000, 4096, 8, 4], [7, 3, 0, 0, 0x1008, 17, 1]]);
+pub const RETURN_AND_BREAK: Image = code!(8 => 0x1020; b"\x67\x80\0\0\x73\0\x10\0");
 
 /// Jumps to the first copy, which is a file's, and to a member's function.
-pub const BOTH_ASKED: Image = image!(FIRST => table: 0x1028,
-    segments: &[READ, [1, 5, 4096, 0x11000, 20, 20, 4096], STACK],
-    contents: &[(0x1000, b"\xef\0\xc0\0\xef\0\xc0\0\x67\x80\0\0\x73\0\x10\0\x67\x80\0\0"), (0x1014, b"\0.text\0.shstrtab\0")],
-    sections: &[[1, 1, 6, 0x11000, 4096, 20, 4], [7, 3, 0, 0, 0x1014, 17, 1]]);
+pub const BOTH_ASKED: Image =
+    code!(20 => 0x1028; b"\xef\0\xc0\0\xef\0\xc0\0\x67\x80\0\0\x73\0\x10\0\x67\x80\0\0");
 
 /// Jumps to the first copy, which is a member's, and to another function of this member.
-pub const BOTH_BEFORE: Image = image!(FIRST => entry: 0x11008, table: 0x1028,
-    segments: &[READ, [1, 5, 4096, 0x11000, 20, 20, 4096], STACK],
-    contents: &[(0x1000, b"\x67\x80\0\0\x67\x80\0\0\xef\xf0\xdf\xff\xef\xf0\x5f\xff\x67\x80\0\0"), (0x1014, b"\0.text\0.shstrtab\0")],
-    sections: &[[1, 1, 6, 0x11000, 4096, 20, 4], [7, 3, 0, 0, 0x1014, 17, 1]]);
+pub const BOTH_BEFORE: Image =
+    code!(20 => 0x1028; b"\x67\x80\0\0\x67\x80\0\0\xef\xf0\xdf\xff\xef\xf0\x5f\xff\x67\x80\0\0"; entry: 0x11008);
 
 /// Two functions, and a word of a name without a definition.
-pub const WEAK_WORD: Image = image!(FIRST => table: 0x1028,
-    segments: &[READ, [1, 5, 4096, 0x11000, 16, 16, 4096], STACK],
-    contents: &[(0x1000, b"\x67\x80\0\0\x73\0\x10\0\0\0\0\0\0\0\0\0"), (0x1010, b"\0.text\0.shstrtab\0")],
-    sections: &[[1, 1, 6, 0x11000, 4096, 16, 4], [7, 3, 0, 0, 0x1010, 17, 1]]);
-
+pub const WEAK_WORD: Image = code!(16 => 0x1028; b"\x67\x80\0\0\x73\0\x10\0\0\0\0\0\0\0\0\0");
 /// One `ret`.
-pub const RETURN_ALONE: Image = image!(FIRST => table: 0x1018,
-    segments: &[READ, [1, 5, 4096, 0x11000, 4, 4, 4096], STACK],
-    contents: &[(0x1000, b"\x67\x80\0\0"), (0x1004, b"\0.text\0.shstrtab\0")],
-    sections: &[[1, 1, 6, 0x11000, 4096, 4, 4], [7, 3, 0, 0, 0x1004, 17, 1]]);
-
+pub const RETURN_ALONE: Image = code!(4 => 0x1018; b"\x67\x80\0\0");
 /// A `ret`, and two functions that jump to each other.
-pub const KEPT_RING: Image = image!(FIRST => table: 0x1020,
-    segments: &[READ, [1, 5, 4096, 0x11000, 12, 12, 4096], STACK],
-    contents: &[(0x1000, b"\x67\x80\0\0\xef\0\x40\0\xef\xf0\xdf\xff"), (0x100c, b"\0.text\0.shstrtab\0")],
-    sections: &[[1, 1, 6, 0x11000, 4096, 12, 4], [7, 3, 0, 0, 0x100c, 17, 1]]);
-
+pub const KEPT_RING: Image = code!(12 => 0x1020; b"\x67\x80\0\0\xef\0\x40\0\xef\xf0\xdf\xff");
 /// The two alone; the first of them is the entry.
-pub const RING_ALONE: Image = image!(FIRST => table: 0x1020,
-    segments: &[READ, [1, 5, 4096, 0x11000, 8, 8, 4096], STACK],
-    contents: &[(0x1000, b"\xef\0\x40\0\xef\xf0\xdf\xff"), (0x1008, b"\0.text\0.shstrtab\0")],
-    sections: &[[1, 1, 6, 0x11000, 4096, 8, 4], [7, 3, 0, 0, 0x1008, 17, 1]]);
+pub const RING_ALONE: Image = code!(8 => 0x1020; b"\xef\0\x40\0\xef\xf0\xdf\xff");
 
 /// A `ret` between the code that runs before and after it.
 pub const FRAMED: Image = image!(FIRST => entry: 0x11004, table: 0x1030,
@@ -163,16 +126,11 @@ pub const ARRAYS_ALONE: Image = image!(FIRST => table: 0x2060,
     ]);
 
 /// A jump to the function after it, and another.
-pub const KEPT_TOGETHER: Image = image!(FIRST => table: 0x1020,
-    segments: &[READ, [1, 5, 4096, 0x11000, 12, 12, 4096], STACK],
-    contents: &[(0x1000, b"\xef\0\x40\0\x67\x80\0\0\x73\0\x10\0"), (0x100c, b"\0.text\0.shstrtab\0")],
-    sections: &[[1, 1, 6, 0x11000, 4096, 12, 4], [7, 3, 0, 0, 0x100c, 17, 1]]);
+pub const KEPT_TOGETHER: Image = code!(12 => 0x1020; b"\xef\0\x40\0\x67\x80\0\0\x73\0\x10\0");
 
 /// A jump to the first of four.
-pub const KEPT_FOUR: Image = image!(FIRST => table: 0x1028,
-    segments: &[READ, [1, 5, 4096, 0x11000, 20, 20, 4096], STACK],
-    contents: &[(0x1000, b"\xef\0\x40\0\x67\x80\0\0\x73\0\x10\0\x73\0\x10\0\x67\x80\0\0"), (0x1014, b"\0.text\0.shstrtab\0")],
-    sections: &[[1, 1, 6, 0x11000, 4096, 20, 4], [7, 3, 0, 0, 0x1014, 17, 1]]);
+pub const KEPT_FOUR: Image =
+    code!(20 => 0x1028; b"\xef\0\x40\0\x67\x80\0\0\x73\0\x10\0\x73\0\x10\0\x67\x80\0\0");
 
 /// What goes with a `ret`, and what was told to stay.
 pub const ORDERED: Image = image!(FIRST => table: 0x1020,

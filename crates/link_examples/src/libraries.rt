@@ -2,7 +2,7 @@
 
 use crate::objects::{ASKED_M, BREAK, COMMON_OF_8, RETURN, START, STRONG, TO_SECOND};
 use crate::{library, member};
-use elf_bytes::{Object, Symbol, THIN, object, section, symbol};
+use elf_bytes::{Object, Symbol, THIN, object, section, symbol, text};
 pub use elf_bytes::{ARCHIVE, Archive, Contents, Member};
 
 /// An input that is an archive: its name, the archive, and what stands after its members.
@@ -19,23 +19,18 @@ const M: Symbol = symbol!(b"m", 1, 2, 1, 0, 4);
 
 /// `n` of one `ret`.
 const RETURNING: Object = object!([RETURN]; [N]);
-
 /// A weak one.
 const WEAKLY_RETURNING: Object = object!(RETURNING => symbols: &[symbol!(b"n", 2, 2, 1, 0, 4)]);
-
 /// `n` of one `ebreak`.
 const BREAKING: Object = object!(RETURNING => sections: &[BREAK]);
 
 /// `n` with a jump to `m`.
-const CALLING: Object =
-    object!([section!(b".text", 1, 6, 4; b"\xef\0\0\0\x67\x80\0\0"; relocs: &[TO_SECOND])]; [N, ASKED_M]);
+const CALLING: Object = object!([text!(b"\xef\0\0\0\x67\x80\0\0"; TO_SECOND)]; [N, ASKED_M]);
 
 /// `n` in a compressed section.
 const COMPRESSED: Object = object!(RETURNING => sections: &[section!(RETURN => flags: 0x806)]);
-
 /// `n` for another float ABI.
 const DOUBLE: Object = object!(RETURNING => flags: 4);
-
 /// `m`, `m` and `n`, `w`, `_start`, and what nothing asks for, each of one `ret`.
 const OFFER_OF_M: Object = object!(RETURNING => symbols: &[M]);
 
@@ -82,7 +77,6 @@ pub const SEVEN_MEMBERS: Library =
 
 /// No members.
 pub const EMPTY: Library = library!("lib.a";);
-
 /// Members that are no objects.
 pub const WITH_TEXT: Library = library!("lib.a"; NOTES, ONE, NOTES);
 
@@ -92,20 +86,16 @@ pub const INDEXED: Library =
 
 /// `w` alone.
 pub const OFFER_OF_WEAK: Library = library!("lib.a"; member!(b"w.o", OFFER_OF_W));
-
 /// `m`, and `n` that asks for it.
 pub const CHAIN: Library = library!("lib.a"; TWO, CALLER);
-
 /// The same in two archives.
 pub const CHAIN_END: Library = library!("two.a"; TWO);
 
 pub const CHAIN_BEGIN: Library = library!("caller.a"; CALLER);
-
 /// `n` in two members.
 pub const FIRST_RETURNS: Library = library!("lib.a"; ONE, BREAKER);
 
 pub const FIRST_BREAKS: Library = library!("lib.a"; BREAKER, ONE);
-
 /// The first weak.
 pub const WEAK_FIRST: Library = library!("lib.a"; WEAK, BREAKER);
 
@@ -115,28 +105,22 @@ pub const COMMON_FIRST: Library =
 
 /// `x` as a function.
 pub const STRONG_ALONE: Library = library!("lib.a"; member!(b"strong.o", STRONG));
-
 /// A member whose body has a defect.
 pub const PACKED_LAST: Library = library!("lib.a"; ONE, PACKED);
 
 pub const PACKED_FIRST: Library = library!("lib.a"; PACKED, ONE);
-
 /// A member for another float ABI.
 pub const DOUBLE_LAST: Library = library!("lib.a"; ONE, member!(b"double.o", DOUBLE));
 
 pub const DOUBLE_FIRST: Library = library!("lib.a"; member!(b"double.o", DOUBLE), ONE);
-
 /// A member whose head has a defect.
 pub const CUT_MEMBER: Library = library!("lib.a"; ONE, CUT);
 
 pub const LONG_CUT_MEMBER: Library = library!("lib.a"; LONG, LONG_CUT);
-
 /// `n` that asks for `m`, which is not there.
 pub const CALLER_ALONE: Library = library!("lib.a"; CALLER);
-
 /// `_start` alone.
 pub const START_ALONE: Library = library!("lib.a"; member!(b"start.o", OFFER_OF_START));
-
 /// A thin archive.
 pub const NO_MEMBERS_BYTES: Library = library!("lib.a"; ; magic: THIN);
 

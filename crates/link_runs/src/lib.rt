@@ -7,6 +7,6 @@ mod macros;
 mod refusals;
 mod runs;
 
-pub use links::{is_linked, is_linked_by_any};
-pub use refusals::{is_refused, is_refused_by_any};
-pub use runs::{Left, run_over, run_with};
+pub use links::{is_linked, is_linked_by_any, leaves};
+pub use refusals::{is_refused, is_refused_by_any, refuses};
+pub use runs::{Left, run_over, run_piped_over, run_with};

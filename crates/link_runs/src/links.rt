@@ -1,9 +1,9 @@
 //! What a link leaves.
 
-use crate::runs::run_with;
+use crate::runs::{Left, run_with};
 use elf_bytes::image_of;
 use link_driver::{Gate, OpenGate};
-use link_examples::{Call, Link, SOUND, Stores, WORKERS, text_of};
+use link_examples::{Link, SOUND, Stores, WORKERS, call, text_of};
 use lk_depot::{FileKind, MemDepot, MemSink};
 use std::alloc::{AllocError, Global};
 use std::thread::Threads;
@@ -35,14 +35,13 @@ pub fn is_linked<R: Threads + Sync, S: Stores, G: Gate>(
     workers: &[&str],
     gate: &G,
 ) -> Result<bool, AllocError> {
-    let call = Call {
-        words: link.words,
-        workers,
-        store: link.store,
-        libraries: link.libraries,
-        outside: &SOUND,
-    };
+    let call = call!(link.words, workers, link.store, link.libraries; &SOUND);
     let left = run_with(rt, alloc, stores, &call, gate)?;
+    leaves(alloc, &left, link)
+}
+
+/// Whether a run left the executable and the map of a command, and said what it has to say.
+pub fn leaves(alloc: Global, left: &Left, link: &Link) -> Result<bool, AllocError> {
     let image = image_of(alloc, &link.image)?;
     let text = text_of(alloc, link.lines)?;
     Ok(

@@ -11,6 +11,20 @@ macro_rules! each {
     }};
 }
 
+/// That a condition holds of each row of a list with each number of workers, which the caller imports as `WORKERS`; a failure names the row's
+/// number.
+#[macro_export]
+macro_rules! each_by_any {
+    ($rt:ident; $row:ident, $workers:ident in $rows:expr => $holds:expr) => {{
+        for (index, $row) in $rows.iter().enumerate() {
+            for $workers in WORKERS {
+                assert!($rt; $holds, "example {}", index);
+            }
+        }
+        Ok(())
+    }};
+}
+
 /// That each link of a list leaves what it should, with each number of workers.
 #[macro_export]
 macro_rules! each_links {

@@ -1,8 +1,8 @@
 //! What a command leaves that links nothing.
 
-use crate::runs::run_with;
+use crate::runs::{Left, run_with};
 use link_driver::OpenGate;
-use link_examples::{Call, Refusal, SOUND, Stores, WORKERS};
+use link_examples::{Refusal, SOUND, Stores, WORKERS, call};
 use std::alloc::{AllocError, Global};
 use std::thread::Threads;
 
@@ -14,21 +14,18 @@ pub fn is_refused<R: Threads + Sync, S: Stores>(
     refusal: &Refusal,
     workers: &[&str],
 ) -> Result<bool, AllocError> {
-    let call = Call {
-        words: refusal.words,
-        workers,
-        store: refusal.store,
-        libraries: refusal.libraries,
-        outside: &SOUND,
-    };
+    let call = call!(refusal.words, workers, refusal.store, refusal.libraries; &SOUND);
     let left = run_with(rt, alloc, stores, &call, &OpenGate)?;
-    Ok(
-        left.status == refusal.status
-            && left.say.calls() == 0
-            && left.err.written() == refusal.line.as_bytes()
-            && left.depot.calls() == refusal.loads
-            && left.depot.begun() == 0,
-    )
+    Ok(refuses(&left, refusal))
+}
+
+/// Whether a run left no file, and the line and the status of a command.
+pub fn refuses(left: &Left, refusal: &Refusal) -> bool {
+    left.status == refusal.status
+        && left.say.calls() == 0
+        && left.err.written() == refusal.line.as_bytes()
+        && left.depot.calls() == refusal.loads
+        && left.depot.begun() == 0
 }
 
 /// Whether it does with each number of workers.

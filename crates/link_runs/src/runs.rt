@@ -1,9 +1,10 @@
 //! Runs of commands over files and streams in memory.
 
-use link_driver::{Gate, run};
+use link_driver::{Gate, run, run_piped};
 use link_examples::{Call, Files, Outside, Stores, Stream, files_of, words_of};
 use lk_depot::{MemDepot, MemSink};
 use std::alloc::{AllocError, Global};
+use std::sync::Wait;
 use std::thread::Threads;
 
 /// What a run leaves.
@@ -57,4 +58,25 @@ pub fn run_with<R: Threads + Sync, S: Stores, G: Gate>(
     let files = files_of(alloc, stores, call.store, call.libraries)?;
     let words = words_of(alloc, call.words, call.workers)?;
     run_over(rt, alloc, words.as_slice(), files, call.outside, gate)
+}
+
+/// Runs a command over these files as `rvld_piped` does.
+pub fn run_piped_over<R: Threads + Wait + Sync, G: Gate>(
+    rt: &R,
+    alloc: Global,
+    words: &[String],
+    files: Files,
+    outside: &Outside,
+    gate: &G,
+) -> Result<Left, AllocError> {
+    let mut depot = depot_of(alloc, files, outside)?;
+    let mut say = sink_of(alloc, &outside.say)?;
+    let mut err = sink_of(alloc, &outside.err)?;
+    let status = run_piped(rt, alloc, words, &mut depot, &mut say, &mut err, gate);
+    Ok(Left {
+        status,
+        depot,
+        say,
+        err,
+    })
 }

@@ -57,13 +57,8 @@ fn the_first_stop_ends_the_loads(rt: HostRuntime) -> Result<(), Fail> {
     assert_eq!(rt; unreadable.faults(), 1);
     assert_eq!(rt; unreadable.unread().len(), 1);
     assert_eq!(rt; unreadable.unread()[0].as_str(), "a.o");
-    let mut lacking = MemDepot::new(
-        alloc,
-        vec![in alloc; file(alloc, "b.o", b"second")?]?,
-        Vec::new(alloc),
-        4,
-        16,
-    )?;
+    let second = vec![in alloc; file(alloc, "b.o", b"second")?]?;
+    let mut lacking = MemDepot::new(alloc, second, Vec::new(alloc), 4, 16)?;
     let absent = load_all(alloc, &mut lacking, names.as_slice());
     assert_eq!(rt; absent.err(), Some(LoadAllStop::Absent { index: 1 }));
     let shared = lacking.load_files(&rt, alloc, names.as_slice(), 4);

@@ -1,6 +1,8 @@
 //! The outside for real: the files of the system as a store, and the two standard streams to write to. Their contracts say
 //! what failed, and nothing of what a file holds or a stream was given: that is the system's.
 //!
+//! Beside these it has what a program does first: its words (`words_of`), and what it asks of the system for its memory and its streams.
+//!
 //! Of a list of files each worker reads a share, up to the first that it can't read. The shares are joined in order, and the first failure
 //! of all is answered, counted and named. A worker is given 32 files at least, so a list of up to 63 is read file after file, and none
 //! after the first failure. Each loading thread keeps a buffer of 128 KB, so that a file costs an open, a seek, a read for each 128 KB and
@@ -8,11 +10,13 @@
 #![tactic(auto)]
 
 mod output;
+mod program;
 mod reading;
 mod real_depot;
 mod std_sink;
 #[cfg(test)]
 mod tests;
 
+pub use program::{keep_freed_memory, null_device, words_of};
 pub use real_depot::RealDepot;
 pub use std_sink::{StdSink, Stream};

@@ -39,6 +39,12 @@ fn holds(rt: &HostRuntime, name: &str, bytes: &[u8]) -> bool {
     fs::read(rt, name).is_ok_and(|found| found.as_slice() == bytes)
 }
 
+/// Whether a depot loads exactly these bytes.
+fn loads(depot: &mut RealDepot<'_>, alloc: Global, name: &str, bytes: &[u8]) -> bool {
+    let loaded = depot.load(alloc, name);
+    loaded.is_ok_and(|found| found.as_slice() == bytes)
+}
+
 /// The permissions of the file of this name, 0 if there is none.
 fn mode_of(rt: &HostRuntime, name: &str) -> u32 {
     match fs::metadata(rt, name) {
@@ -61,66 +67,37 @@ fn names_in(rt: &HostRuntime, folder: &str) -> io::Result<usize> {
 fn files_are_made_written_and_read(rt: HostRuntime) -> Result<(), Fail> {
     let alloc = rt.alloc();
     let folder = made_folder(&rt, alloc, "made")?;
-    let program = joined(alloc, folder.as_str(), "program")?;
-    let notes = joined(alloc, folder.as_str(), "notes")?;
-    let nowhere = joined(alloc, folder.as_str(), "nowhere/program")?;
+    let program = joined(alloc, &folder, "program")?;
+    let notes = joined(alloc, &folder, "notes")?;
+    let nowhere = joined(alloc, &folder, "nowhere/program")?;
     let mut depot = RealDepot::new(&rt, alloc);
 
     // An executable is made, and may be run; the map beside it may not.
-    assert!(rt;
-        is_written(
-            &mut depot,
-            program.as_str(),
-            FileKind::Executable,
-            b"first text"
-        )
-    );
-    assert!(rt; is_written(&mut depot, notes.as_str(), FileKind::Plain, b"note"));
+    assert!(rt; is_written(&mut depot, &program, FileKind::Executable, b"first text"));
+    assert!(rt; is_written(&mut depot, &notes, FileKind::Plain, b"note"));
     // Whoever may read the plain file may read the program, and run it.
-    let plain = mode_of(&rt, notes.as_str());
+    let plain = mode_of(&rt, &notes);
     assert_eq!(rt; plain & 0o7733, 0o600);
-    assert_eq!(rt;
-        mode_of(&rt, program.as_str()),
-        plain | ((plain & 0o444) >> 2)
-    );
+    assert_eq!(rt; mode_of(&rt, &program), plain | ((plain & 0o444) >> 2));
 
     // An append goes on at the end, also after another file was written to.
-    assert_eq!(rt;
-        put_all(&mut depot, program.as_str(), b", and more"),
-        Ok(())
-    );
-    assert_eq!(rt; put_all(&mut depot, program.as_str(), b"!"), Ok(()));
-    assert!(rt;
-        depot.load(alloc, program.as_str()).is_ok_and(|bytes| bytes.as_slice()
-            == b"first text, and more!".as_slice())
-    );
+    assert_eq!(rt; put_all(&mut depot, &program, b", and more"), Ok(()));
+    assert_eq!(rt; put_all(&mut depot, &program, b"!"), Ok(()));
+    assert!(rt; loads(&mut depot, alloc, &program, b"first text, and more!"));
     assert_eq!(rt; depot.faults(), 0);
     assert_eq!(rt; depot.begun(), 2);
 
     // The end of these is not found by seeking.
-    assert!(rt;
-        depot
-            .load(alloc, "/dev/null")
-            .is_ok_and(|bytes| bytes.is_empty())
-    );
-    assert!(rt;
-        depot
-            .load(alloc, "/proc/self/status")
-            .is_ok_and(|bytes| !bytes.is_empty())
-    );
+    assert!(rt; loads(&mut depot, alloc, "/dev/null", b""));
+    let status = depot.load(alloc, "/proc/self/status");
+    assert!(rt; status.is_ok_and(|bytes| !bytes.is_empty()));
 
     // A file that cannot be read or written is a fault.
-    assert_eq!(rt;
-        depot.load(alloc, nowhere.as_str()).err(),
-        Some(LoadStop::Failed)
-    );
-    assert_eq!(rt;
-        depot.load(alloc, folder.as_str()).err(),
-        Some(LoadStop::Failed)
-    );
-    assert_eq!(rt; depot.begin(nowhere.as_str(), FileKind::Plain), Err(Failed));
-    assert_eq!(rt; depot.begin(folder.as_str(), FileKind::Plain), Err(Failed));
-    assert_eq!(rt; depot.append(nowhere.as_str(), b"x"), Err(Failed));
+    assert_eq!(rt; depot.load(alloc, &nowhere).err(), Some(LoadStop::Failed));
+    assert_eq!(rt; depot.load(alloc, &folder).err(), Some(LoadStop::Failed));
+    assert_eq!(rt; depot.begin(&nowhere, FileKind::Plain), Err(Failed));
+    assert_eq!(rt; depot.begin(&folder, FileKind::Plain), Err(Failed));
+    assert_eq!(rt; depot.append(&nowhere, b"x"), Err(Failed));
     assert_eq!(rt; depot.faults(), 5);
     assert_eq!(rt; depot.begun(), 4);
     assert_eq!(rt; depot.unread().len(), 2);
@@ -142,17 +119,13 @@ fn long_text(alloc: Global, len: u32) -> Result<Vec<u8>, AllocError> {
 fn long_files_are_read_whole(rt: HostRuntime) -> Result<(), Fail> {
     let alloc = rt.alloc();
     let folder = made_folder(&rt, alloc, "long")?;
-    let name = joined(alloc, folder.as_str(), "long")?;
+    let name = joined(alloc, &folder, "long")?;
     let mut depot = RealDepot::new(&rt, alloc);
     // Around the most bytes that are read at once, and many times as many.
     for len in [131_071, 131_072, 131_073, 262_144, 400_000] {
         let text = long_text(alloc, len)?;
-        stands(&rt, name.as_str(), text.as_slice(), 0o600)?;
-        assert!(rt;
-            depot
-                .load(alloc, name.as_str())
-                .is_ok_and(|bytes| bytes.as_slice() == text.as_slice())
-        );
+        stands(&rt, &name, &text, 0o600)?;
+        assert!(rt; loads(&mut depot, alloc, &name, &text));
     }
     assert_eq!(rt; depot.faults(), 0);
     fs::remove_dir_all(&rt, folder.as_str())?;
@@ -229,12 +202,12 @@ fn failed_place<R: Threads + Sync>(
 fn workers_load_in_order(rt: HostRuntime) -> Result<(), Fail> {
     let alloc = rt.alloc();
     let folder = made_folder(&rt, alloc, "many")?;
-    let names = made_files(&rt, alloc, folder.as_str(), 200)?;
+    let names = made_files(&rt, alloc, &folder, 200)?;
     assert_eq!(rt; names.len(), 200);
     let mut depot = RealDepot::new(&rt, alloc);
-    assert!(rt; are_loaded(&rt, alloc, &mut depot, names.as_slice(), 1));
-    assert!(rt; are_loaded(&rt, alloc, &mut depot, names.as_slice(), 2));
-    assert!(rt; are_loaded(&rt, alloc, &mut depot, names.as_slice(), 64));
+    assert!(rt; are_loaded(&rt, alloc, &mut depot, &names, 1));
+    assert!(rt; are_loaded(&rt, alloc, &mut depot, &names, 2));
+    assert!(rt; are_loaded(&rt, alloc, &mut depot, &names, 64));
     assert!(rt; are_loaded(&rt, alloc, &mut depot, &names[..3], 64));
     assert!(rt; are_loaded(&rt, alloc, &mut depot, &[], 64));
     assert_eq!(rt; depot.faults(), 0);
@@ -242,28 +215,13 @@ fn workers_load_in_order(rt: HostRuntime) -> Result<(), Fail> {
 
     // Of files that are not there the first in the list is told, whichever worker is there first.
     fs::remove_file(&rt, names[150].as_str())?;
-    assert_eq!(rt;
-        failed_place(&rt, &rt, alloc, names.as_slice(), 1),
-        Some(150)
-    );
-    assert_eq!(rt;
-        failed_place(&rt, &rt, alloc, names.as_slice(), 64),
-        Some(150)
-    );
+    assert_eq!(rt; failed_place(&rt, &rt, alloc, &names, 1), Some(150));
+    assert_eq!(rt; failed_place(&rt, &rt, alloc, &names, 64), Some(150));
     fs::remove_file(&rt, names[90].as_str())?;
     fs::remove_file(&rt, names[30].as_str())?;
-    assert_eq!(rt;
-        failed_place(&rt, &rt, alloc, names.as_slice(), 1),
-        Some(30)
-    );
-    assert_eq!(rt;
-        failed_place(&rt, &rt, alloc, names.as_slice(), 2),
-        Some(30)
-    );
-    assert_eq!(rt;
-        failed_place(&rt, &rt, alloc, names.as_slice(), 64),
-        Some(30)
-    );
+    assert_eq!(rt; failed_place(&rt, &rt, alloc, &names, 1), Some(30));
+    assert_eq!(rt; failed_place(&rt, &rt, alloc, &names, 2), Some(30));
+    assert_eq!(rt; failed_place(&rt, &rt, alloc, &names, 64), Some(30));
     fs::remove_dir_all(&rt, folder.as_str())?;
     Ok(())
 }
@@ -291,18 +249,18 @@ fn is_replaced(rt: &HostRuntime, alloc: Global, program: &str, linked: &str) -> 
 fn a_file_that_is_there_makes_way(rt: HostRuntime) -> Result<(), Fail> {
     let alloc = rt.alloc();
     let folder = made_folder(&rt, alloc, "replaced")?;
-    let program = joined(alloc, folder.as_str(), "program")?;
-    let linked = joined(alloc, folder.as_str(), "linked")?;
-    assert!(rt; is_replaced(&rt, alloc, program.as_str(), linked.as_str())?);
+    let program = joined(alloc, &folder, "program")?;
+    let linked = joined(alloc, &folder, "linked")?;
+    assert!(rt; is_replaced(&rt, alloc, &program, &linked)?);
     // The permissions are a new file's, for a plain one that takes the place of an executable, too.
-    let executable = mode_of(&rt, program.as_str());
+    let executable = mode_of(&rt, &program);
     let mut depot = RealDepot::new(&rt, alloc);
-    assert!(rt; is_written(&mut depot, program.as_str(), FileKind::Plain, b""));
-    let plain = mode_of(&rt, program.as_str());
+    assert!(rt; is_written(&mut depot, &program, FileKind::Plain, b""));
+    let plain = mode_of(&rt, &program);
     assert_eq!(rt; plain & 0o7733, 0o600);
     assert_eq!(rt; executable, plain | ((plain & 0o444) >> 2));
     // Nothing else is left.
-    assert_eq!(rt; names_in(&rt, folder.as_str())?, 2);
+    assert_eq!(rt; names_in(&rt, &folder)?, 2);
     fs::remove_dir_all(&rt, folder.as_str())?;
     Ok(())
 }
@@ -334,11 +292,11 @@ fn is_target_made(rt: &HostRuntime, alloc: Global, link: &str, target: &str) -> 
 fn links_and_devices_are_written_in_place(rt: HostRuntime) -> Result<(), Fail> {
     let alloc = rt.alloc();
     let folder = made_folder(&rt, alloc, "in_place")?;
-    let target = joined(alloc, folder.as_str(), "target")?;
-    let link = joined(alloc, folder.as_str(), "link")?;
-    assert!(rt; is_link_kept(&rt, alloc, link.as_str(), target.as_str())?);
-    assert!(rt; is_target_made(&rt, alloc, link.as_str(), target.as_str())?);
-    assert_eq!(rt; names_in(&rt, folder.as_str())?, 2);
+    let target = joined(alloc, &folder, "target")?;
+    let link = joined(alloc, &folder, "link")?;
+    assert!(rt; is_link_kept(&rt, alloc, &link, &target)?);
+    assert!(rt; is_target_made(&rt, alloc, &link, &target)?);
+    assert_eq!(rt; names_in(&rt, &folder)?, 2);
     fs::remove_dir_all(&rt, folder.as_str())?;
     let mut depot = RealDepot::new(&rt, alloc);
     assert!(rt; is_written(&mut depot, "/dev/null", FileKind::Executable, b"nothing"));
@@ -356,21 +314,21 @@ fn is_refused(depot: &mut RealDepot<'_>, name: &str) -> bool {
 fn a_begin_that_fails_leaves_what_was_there(rt: HostRuntime) -> Result<(), Fail> {
     let alloc = rt.alloc();
     let folder = made_folder(&rt, alloc, "failed")?;
-    let program = joined(alloc, folder.as_str(), "program")?;
-    stands(&rt, program.as_str(), b"the old program", 0o666)?;
+    let program = joined(alloc, &folder, "program")?;
+    stands(&rt, &program, b"the old program", 0o666)?;
     let mut depot = RealDepot::new(&rt, alloc);
 
     // The file can be reached by this path, but there is none to a name beside it, which is longer.
-    let mut long = String::from_str(alloc, folder.as_str())?;
+    let mut long = String::from_str(alloc, &folder)?;
     for _ in long.len()..4086 {
         long.push('/')?;
     }
     long.push_str("program")?;
-    assert!(rt; holds(&rt, long.as_str(), b"the old program"));
-    assert!(rt; is_refused(&mut depot, long.as_str()));
-    assert!(rt; holds(&rt, program.as_str(), b"the old program"));
-    assert_eq!(rt; mode_of(&rt, program.as_str()), 0o666);
-    assert_eq!(rt; names_in(&rt, folder.as_str())?, 1);
+    assert!(rt; holds(&rt, &long, b"the old program"));
+    assert!(rt; is_refused(&mut depot, &long));
+    assert!(rt; holds(&rt, &program, b"the old program"));
+    assert_eq!(rt; mode_of(&rt, &program), 0o666);
+    assert_eq!(rt; names_in(&rt, &folder)?, 1);
     assert_eq!(rt; depot.faults(), 1);
     fs::remove_dir_all(&rt, folder.as_str())?;
     Ok(())
@@ -380,15 +338,15 @@ fn a_begin_that_fails_leaves_what_was_there(rt: HostRuntime) -> Result<(), Fail>
 fn a_file_stays_if_its_folder_takes_no_other(rt: HostRuntime) -> Result<(), Fail> {
     let alloc = rt.alloc();
     let folder = made_folder(&rt, alloc, "closed")?;
-    let program = joined(alloc, folder.as_str(), "program")?;
-    let other = joined(alloc, folder.as_str(), "other")?;
-    stands(&rt, program.as_str(), b"the old program", 0o666)?;
+    let program = joined(alloc, &folder, "program")?;
+    let other = joined(alloc, &folder, "other")?;
+    stands(&rt, &program, b"the old program", 0o666)?;
     fs::set_permissions(&rt, folder.as_str(), Permissions::from_mode(0o555))?;
     let mut depot = RealDepot::new(&rt, alloc);
     // Root may make files anywhere.
     if File::create_new(&rt, other.as_str()).is_err() {
-        assert!(rt; is_refused(&mut depot, program.as_str()));
-        assert!(rt; holds(&rt, program.as_str(), b"the old program"));
+        assert!(rt; is_refused(&mut depot, &program));
+        assert!(rt; holds(&rt, &program, b"the old program"));
     }
     fs::set_permissions(&rt, folder.as_str(), Permissions::from_mode(0o700))?;
     fs::remove_dir_all(&rt, folder.as_str())?;
@@ -408,15 +366,15 @@ fn write_in_turns(first: &mut RealDepot<'_>, second: &mut RealDepot<'_>, name: &
 fn of_two_at_once_one_is_left_whole(rt: HostRuntime) -> Result<(), Fail> {
     let alloc = rt.alloc();
     let folder = made_folder(&rt, alloc, "two")?;
-    let program = joined(alloc, folder.as_str(), "program")?;
+    let program = joined(alloc, &folder, "program")?;
     let mut first = RealDepot::new(&rt, alloc);
     let mut second = RealDepot::new(&rt, alloc);
-    assert!(rt; write_in_turns(&mut first, &mut second, program.as_str()));
-    assert!(rt; holds(&rt, program.as_str(), b"the second"));
+    assert!(rt; write_in_turns(&mut first, &mut second, &program));
+    assert!(rt; holds(&rt, &program, b"the second"));
     // The same where a file stands there first.
-    assert!(rt; write_in_turns(&mut second, &mut first, program.as_str()));
-    assert!(rt; holds(&rt, program.as_str(), b"the second"));
-    assert_eq!(rt; names_in(&rt, folder.as_str())?, 1);
+    assert!(rt; write_in_turns(&mut second, &mut first, &program));
+    assert!(rt; holds(&rt, &program, b"the second"));
+    assert_eq!(rt; names_in(&rt, &folder)?, 1);
     fs::remove_dir_all(&rt, folder.as_str())?;
     Ok(())
 }

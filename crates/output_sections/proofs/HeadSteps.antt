@@ -52,6 +52,20 @@ noted_same class f number item name own here own_is stays =
     ∙ ap (λ o. if bytes_eq o name then Some (with_item (f name) number item) else f name) own_is
     ∙ ap (λ b. if b && bytes_eq (output_name item.name) name then Some (with_item (f name) number item) else f name) (sym here)
 
+-- one of an output section that nothing was known of leaves what is known of all others
+new_by : (b : Bool) (f : List ℕ → Option Head) (own name : List ℕ) (value head : Head) → bytes_eq own name ≡ b → f own ≡ None → f name ≡ Some head
+    → cond b (Some value) (f name) ≡ Some head
+new_by true f own name value head e none was =
+    let there : own ≡ name = (bytes_eq-Decides own name).0 e in
+    let both : None ≡ Some head = sym none ∙ ap f there ∙ was in
+    let no : ⊥ = cc in
+    absurd no
+new_by false f own name value head e none was = was
+
+pub new_stays : (f g : List ℕ → Option Head) (own name : List ℕ) (value head : Head) → f own ≡ None → g name ≡ update bytes_eq f own (Some value) name → f name ≡ Some head
+    → g name ≡ Some head
+new_stays f g own name value head none is was = is ∙ new_by (bytes_eq own name) f own name value head refl none was
+
 -- what is then known of its own
 pub noted_own : (f g : List ℕ → Option Head) (own : List ℕ) (value : Head) → g own ≡ update bytes_eq f own (Some value) own → Some value ≡ g own
 noted_own f g own value is = sym (is ∙ ap (λ b. cond b (Some value) (f own)) ((bytes_eq-Decides own own).1 refl))
@@ -63,7 +77,7 @@ passed class head number item name other =
     ap (λ b. if b && bytes_eq (output_name item.name) name then Some (with_item head number item) else head) (sym other)
 
 -- one more row
-own_same : (class : Class) (f g : List ℕ → Head) (number : ℕ) (item : Item) → f (output_name item.name) ≡ g (output_name item.name)
+pub own_same : (class : Class) (f g : List ℕ → Head) (number : ℕ) (item : Item) → f (output_name item.name) ≡ g (output_name item.name)
     → own_row class f number item ≡ own_row class g number item
 unfolding own_row
 own_same class f g number item e = ap (λ h. if is_of class item then row_in class h number item ∷ [] else []) e

@@ -8,3 +8,5 @@ pub mod RowSteps
 pub mod Sized
 pub mod SizedItems
 pub mod Walked
+pub mod Presence
+pub mod Settling

@@ -1,5 +1,5 @@
 -- The output sections of a class in a map by their names.
-use Rattle.std.specs.Prelude.{◌≡◌, ℕ, ◌++◌, Option, None, unwrap_or, List, []}
+use Rattle.std.specs.Prelude.{◌≡◌, ℕ, ◌++◌, Option, Some, None, unwrap_or, List, []}
 use Rattle.std.specs.Borrow.{Bor}
 use Rattle.std.specs.BTreeMap.{BTreeMap, get_by}
 use Rattle.std.specs.Cmp.Lexicographic.{slice_cmp}
@@ -31,6 +31,10 @@ IsHeads class items heads = (name : List ℕ) → seen heads name ≡ head_from 
 -- and after one more
 abbrev pub IsNoted : Class → (number : ℕ) → Item → (old new : ByName) → Type 0
 IsNoted class number item old new = (name : List ℕ) → seen new name ≡ head_after class name (seen old name) number item
+
+-- what was known of each output section is known still
+abbrev pub Stays : (old new : ByName) → Type 0
+Stays old new = (name : List ℕ) (head : Head) → seen old name ≡ Some head → seen new name ≡ Some head
 
 -- the rows of a class with one more item
 abbrev pub IsPushed : Class → (number : ℕ) → Item → ByName → (old new : List Row) → Type 0

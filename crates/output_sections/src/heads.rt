@@ -1,12 +1,12 @@
 //! The output sections of a class: of each the number of its first item, and the type of the item that stands first in it, which may be the
 //! last one of all.
 
-ghost use Rattle.std.specs.Prelude.{◌≡◌, ℕ, ◌<◌, ◌^◌, length, IfOk, OnOk, Some, true};
+ghost use Rattle.std.specs.Prelude.{◌≡◌, ℕ, IfOk, OnOk, None, Some, true};
 ghost use Rattle.lk_tables.specs.Classes.{is_in};
 ghost use Rattle.lk_tables.specs.OutputNames.{output_name, priority_of};
-ghost use Rattle.output_sections.specs.Heads.{IsHeads, IsIn, IsLast, IsNone, IsNoted};
+ghost use Rattle.output_sections.specs.Heads.{IsIn, IsLast, IsNone, Stays};
 ghost use Rattle.output_sections.specs.Items.{Item as Part};
-ghost use Rattle.output_sections.specs.ItemViews.{item_view, items_view};
+ghost use Rattle.output_sections.specs.ItemViews.{item_view};
 ghost use Rattle.output_sections.specs.Order.{with_item};
 
 use crate::items::Item;
@@ -46,25 +46,8 @@ pub struct Last<'a> {
     pub rank: u32,
 }
 
-/// The output sections of a class, once all items are noted.
-pub fn heads_of<'a>(
-    alloc: Global,
-    class: Class,
-    items: &[Item<'a>],
-) -> Result<ClassHeads<'a>, AllocError>
-    requires few { length items.now < 2 ^ 32 }
-    ensures heads { IfOk result (λ known. IsHeads class (items_view items.now) known.heads) }
-    ensures held { IfOk result (λ known. IsLast class known.heads known.last) }
-{
-    let mut known = no_head(alloc, class);
-    for (i, item) in items.iter().enumerate() {
-        note_if_in(&mut known, class, i as u32, item)?;
-    }
-    Ok(known)
-}
-
 /// Before the first item of a class.
-fn no_head<'a>(alloc: Global, class: Class) -> ClassHeads<'a>
+pub fn no_head<'a>(alloc: Global, class: Class) -> ClassHeads<'a>
     ensures { IsNone class result }
 {
     ClassHeads {
@@ -77,45 +60,30 @@ fn no_head<'a>(alloc: Global, class: Class) -> ClassHeads<'a>
     }
 }
 
-/// One more item, if it is of the class.
-fn note_if_in<'a>(
-    known: &mut ClassHeads<'a>,
-    class: Class,
-    number: u32,
-    item: &Item<'a>,
-) -> Result<(), AllocError>
-    requires { IsLast class known.old.heads known.old.last }
-    ensures noted { OnOk result (IsNoted class number (item_view item.now) known.old.heads known.new.heads) }
-    ensures held { OnOk result (IsLast class known.new.heads known.new.last) }
-{
-    if !is_in(class, item.sh_type, item.flags) {
-        return Ok(());
-    }
-    note_item(known, class, number, item, priority_of(item.name))
-}
-
-/// One more item of a class, in its output section, which the next item finds as the last one.
-fn note_item<'a>(
+/// One more item of a class, in its output section, which the next item finds as the last one. Answers whether what was known before stays.
+pub fn note_item<'a>(
     known: &mut ClassHeads<'a>,
     class: Class,
     number: u32,
     item: &Item<'a>,
     priority: u32,
-) -> Result<(), AllocError>
+) -> Result<bool, AllocError>
     requires held { IsLast class known.old.heads known.old.last }
     requires here { is_in class item.now.sh_type item.now.flags ≡ true }
     requires priority { priority ≡ priority_of item.now.name.now }
-    ensures { OnOk result (IsIn class number (item_view item.now) known.old known.new) }
+    ensures noted { OnOk result (IsIn class number (item_view item.now) known.old known.new) }
+    ensures settled { IfOk result (λ settled. settled ≡ true → Stays known.old.heads known.new.heads) }
 {
     known.last = turn_to(&known.heads, known.last, class, output_name(item.name));
     if stays(known.last.head, priority) {
-        return Ok(());
+        return Ok(true);
     }
+    let fresh = is_unknown(known.last.head);
     let head = with_item(known.last.head, number, item);
     known.heads.insert(known.last.name, head)?;
     known.last.head = Some(head);
     known.last.rank = output_rank(class, head.sh_type, known.last.name);
-    Ok(())
+    Ok(fresh)
 }
 
 /// The output section of a name, which mostly is that of the item before.
@@ -143,6 +111,16 @@ pub fn turn_to<'a>(
             head: None,
             rank: output_rank(class, SHT_PROGBITS, name),
         },
+    }
+}
+
+/// Whether nothing is known of an output section.
+fn is_unknown(head: Option<Head>) -> bool
+    ensures { result ≡ true → head ≡ None }
+{
+    match head {
+        Some(_) => false,
+        None => true,
     }
 }
 

@@ -12,8 +12,10 @@ ghost use Rattle.lk_tables.specs.TablesView.{files_of};
 ghost use Rattle.output_sections.specs.Items.{AreLeaders, HaveFirsts, IsSized, items};
 ghost use Rattle.output_sections.specs.ItemViews.{items_view};
 ghost use Rattle.output_sections.specs.Order.{IsKnown, IsOrderPart, class_at, lists_view, members_in, orders_between, orders_of, rows_in};
+ghost use Rattle.output_sections.specs.Present.{ArePresent};
 
 use crate::items::{Item, items_of};
+use crate::present::{Present, is_present, present_in};
 use crate::rows::{Row, class_no, class_rows};
 use flat_rows::Rows;
 use link_sections::{Got, Pools};
@@ -93,7 +95,8 @@ fn rows_of<R: Threads + Sync, G: Gate>(
     ensures { IfOk result (λ rows. rows ≡ orders_of (items_view items.now)) }
 {
     let pieces = pieces_of(alloc, items.len(), workers)?;
-    let lists = all_lists(rt, alloc, items, pieces.as_slice(), gate)?;
+    let present = present_in(items);
+    let lists = all_lists(rt, alloc, items, &present, pieces.as_slice(), gate)?;
     let rows = join_lists(alloc, lists)?;
     Ok(rows)
 }
@@ -125,10 +128,12 @@ fn all_lists<R: Threads + Sync, G: Gate>(
     rt: &R,
     alloc: Global,
     items: &[Item],
+    present: &Present,
     pieces: &[Range<usize>],
     gate: &G,
 ) -> Result<Vec<Vec<Row>>, AllocError>
     requires few { length items.now < 2 ^ 32 }
+    requires present { ArePresent items.now present.now }
     requires tiles { Tiles 0 6 pieces.now }
     requires most { length pieces.now ≤ 64 }
     ensures { IfOk result (λ lists. lists_view lists.items ≡ orders_between (items_view items.now) 0 6) }
@@ -142,8 +147,9 @@ fn all_lists<R: Threads + Sync, G: Gate>(
             requires ordered { piece.start ≤ piece.end }
             requires within { piece.end ≤ 6 }
             requires few { length items.now < 2 ^ 32 }
+            requires present { ArePresent items.now present.now }
             ensures { IsOrderPart (items_view items.entry.now) piece result }
-        { Ok(lists_of(alloc, items, piece)?) },
+        { Ok(lists_of(alloc, items, present, piece)?) },
     );
     match found {
         Ok(lists) => Ok(lists),
@@ -152,15 +158,22 @@ fn all_lists<R: Threads + Sync, G: Gate>(
 }
 
 /// Those of a piece of the classes.
-fn lists_of(alloc: Global, items: &[Item], piece: Range<usize>) -> Result<Vec<Vec<Row>>, AllocError>
+fn lists_of(
+    alloc: Global,
+    items: &[Item],
+    present: &Present,
+    piece: Range<usize>,
+) -> Result<Vec<Vec<Row>>, AllocError>
     requires ordered { piece.start ≤ piece.end }
     requires within { piece.end ≤ 6 }
     requires few { length items.now < 2 ^ 32 }
+    requires present { ArePresent items.now present.now }
     ensures { IfOk result (λ lists. lists_view lists.items ≡ orders_between (items_view items.now) piece.start piece.end) }
 {
     let mut lists = Vec::with_capacity(alloc, piece.end - piece.start)?;
     for place in piece.start..piece.end {
-        let list = class_rows(alloc, class_at(place as u32), items)?;
+        let class = class_at(place as u32);
+        let list = class_rows(alloc, class, items, is_present(present, class))?;
         lists.push(list)?;
     }
     Ok(lists)

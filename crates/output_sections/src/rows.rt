@@ -3,14 +3,13 @@
 ghost use Rattle.std.specs.Prelude.{◌≡◌, ℕ, ◌<◌, ◌++◌, ◌∷◌, ◌^◌, [], length, true, unwrap_or, IfOk, OnOk};
 ghost use Rattle.std.specs.List.{list_any};
 ghost use Rattle.std.specs.List.Sorted.{IsNonDecreasingBy};
-ghost use Rattle.lk_tables.specs.Classes.{is_in};
 ghost use Rattle.lk_base.specs.Order.{stable_order};
-ghost use Rattle.output_sections.specs.declared.items.Item.{Item as HeldItem};
-ghost use Rattle.output_sections.specs.Heads.{IsHeads, IsLast, head_in, last_row};
+ghost use Rattle.output_sections.specs.Heads.{IsHeads, IsLast, IsNoted, IsPushed, Stays, head_in, last_row};
 ghost use Rattle.output_sections.specs.ItemViews.{item_view, items_view};
+ghost use Rattle.output_sections.specs.Present.{is_item_of};
 ghost use Rattle.output_sections.specs.Order.{class_no, key_of, no_head, order_of, own_row, rows_of};
 
-use crate::heads::{Head, Last, heads_of, turn_to};
+use crate::heads::{ClassHeads, Head, Last, no_head, note_item, turn_to};
 use crate::items::Item;
 use link_sections::Content;
 use lk_tables::{Class, is_in, output_name, priority_of};
@@ -54,32 +53,25 @@ pub fn class_no(class: Class) -> usize
     }
 }
 
-/// The members of the output sections of a class in their order.
+/// The members of the output sections of a class in their order; `wanted` says whether it has any.
 pub fn class_rows<'a>(
     alloc: Global,
     class: Class,
     items: &[Item<'a>],
+    wanted: bool,
 ) -> Result<Vec<Row>, AllocError>
     requires few { length items.now < 2 ^ 32 }
+    requires wanted { wanted ≡ list_any (is_item_of class) items.now }
     ensures { IfOk result (λ rows. rows.items ≡ order_of class (items_view items.now)) }
 {
-    if !has_any(class, items) {
+    if !wanted {
         return Ok(Vec::new(alloc));
     }
-    let known = heads_of(alloc, class, items)?;
     let mut rows = Vec::with_capacity(alloc, count_in(class, items))?;
-    push_all(&mut rows, &known.heads, known.last, class, items)?;
+    let noted = note_all(alloc, &mut rows, class, items)?;
+    settle(&mut rows, &noted, class, items)?;
     sort_rows(&mut rows)?;
     Ok(rows)
-}
-
-/// Whether an item is of a class: most links have no item of some.
-fn has_any(class: Class, items: &[Item]) -> bool
-    ensures { result ≡ list_any (λ (item : HeldItem). is_in class item.sh_type item.flags) items.now }
-{
-    items
-        .iter()
-        .any(|item| is_in(class, item.sh_type, item.flags))
 }
 
 /// How many items are of a class: so much room is made.
@@ -88,6 +80,79 @@ fn count_in(class: Class, items: &[Item]) -> usize {
         .iter()
         .filter(|item| is_in(class, item.sh_type, item.flags))
         .count()
+}
+
+/// What a walk over all items found of a class.
+#[derive(Drop)]
+pub struct Noted<'a> {
+    /// What is known of its output sections.
+    pub known: ClassHeads<'a>,
+    /// Whether what was known of one has stayed, from its first item on, so that the rows that were listed meanwhile are those of the class.
+    pub settled: bool,
+}
+
+/// Notes the output sections of a class and lists its items, each by what is known of its output section so far.
+fn note_all<'a>(
+    alloc: Global,
+    rows: &mut Vec<Row>,
+    class: Class,
+    items: &[Item<'a>],
+) -> Result<Noted<'a>, AllocError>
+    requires few { length items.now < 2 ^ 32 }
+    requires none { rows.old.items ≡ [] }
+    ensures heads { IfOk result (λ noted. IsHeads class (items_view items.now) noted.known.heads) }
+    ensures held { IfOk result (λ noted. IsLast class noted.known.heads noted.known.last) }
+    ensures rows { IfOk result (λ noted. noted.settled ≡ true → rows.new.items ≡ rows_of class (items_view items.now)) }
+{
+    let mut known = no_head(alloc, class);
+    let mut settled = true;
+    for (i, item) in items.iter().enumerate() {
+        settled = note_row(rows, &mut known, settled, class, i as u32, item)?;
+    }
+    Ok(Noted { known, settled })
+}
+
+/// One more item, if it is of the class.
+fn note_row<'a>(
+    rows: &mut Vec<Row>,
+    known: &mut ClassHeads<'a>,
+    settled: bool,
+    class: Class,
+    number: u32,
+    item: &Item<'a>,
+) -> Result<bool, AllocError>
+    requires { IsLast class known.old.heads known.old.last }
+    ensures noted { OnOk result (IsNoted class number (item_view item.now) known.old.heads known.new.heads) }
+    ensures held { OnOk result (IsLast class known.new.heads known.new.last) }
+    ensures pushed { OnOk result (IsPushed class number (item_view item.now) known.new.heads rows.old.items rows.new.items) }
+    ensures settled { IfOk result (λ still. still ≡ true → (settled ≡ true) × Stays known.old.heads known.new.heads) }
+{
+    if !is_in(class, item.sh_type, item.flags) {
+        return Ok(settled);
+    }
+    let stayed = note_item(known, class, number, item, priority_of(item.name))?;
+    push_row(rows, &known.last, number, item)?;
+    Ok(settled & stayed)
+}
+
+/// Lists the items of a class once more, where what was known of an output section has changed.
+fn settle<'a>(
+    rows: &mut Vec<Row>,
+    noted: &Noted<'a>,
+    class: Class,
+    items: &[Item<'a>],
+) -> Result<(), AllocError>
+    requires few { length items.now < 2 ^ 32 }
+    requires heads { IsHeads class (items_view items.now) noted.now.known.heads }
+    requires held { IsLast class noted.now.known.heads noted.now.known.last }
+    requires rows { noted.now.settled ≡ true → rows.old.items ≡ rows_of class (items_view items.now) }
+    ensures { OnOk result (rows.new.items ≡ rows_of class (items_view items.now)) }
+{
+    if noted.settled {
+        return Ok(());
+    }
+    rows.clear();
+    push_all(rows, &noted.known.heads, noted.known.last, class, items)
 }
 
 /// The items of a class in the order of the command, once all are noted.

@@ -1,5 +1,7 @@
 -- Whether a number is among some in order, by the first that is not less; the offsets at which the linker may relax.
-use Rattle.std.proofs.Common.{◌≡◌, ℕ, zero, suc, ◌<◌, ◌≤◌, ◌==◌, ◌&&◌, ◌||◌, Bool, true, false, cond, List, [], ◌∷◌, length, map, get_or, refl, sym, ap, ◌∙◌, subst, arith, inl, inr}
+use Rattle.std.proofs.Common.{◌≡◌, ℕ, zero, suc, ◌+◌, ◌<◌, ◌≤◌, ◌==◌, ◌&&◌, ◌||◌, Bool, true, false, cond, List, [], ◌∷◌, ◌++◌, length, map, drop, get_or, refl, sym, ap, ◌∙◌, subst, arith, inl, inr, append_assoc}
+use Rattle.std.specs.Prelude.{if◌then◌else◌}
+use Rattle.std.proofs.Math.Seq.{drop-cons}
 use Rattle.std.specs.List.{filter, list_any}
 use Rattle.std.specs.List.Sorted.{IsNonDecreasing, IsNonDecreasingBy}
 use Rattle.std.proofs.lemmas.Bool.{cases_lt, eqb-false, ne_eqb}
@@ -86,3 +88,21 @@ relocs_sorted tables n lt =
       | inl low ↦ inside.ordered k [] low
       | inr past ↦ subst P (sym (get_or_past file.object.relocs k [] past)) (λ i j d le less. absurd (omega arith))
     ]
+
+-- the offsets that a walk over relocations adds, one on
+pub hints_next : (rs : List Reloc) (i : ℕ) (old new whole : List ℕ) → i < length rs →
+    new ≡ old ++ (if (get_or rs i no_reloc).kind == R_RISCV_RELAX then (get_or rs i no_reloc).offset ∷ [] else []) →
+    old ++ hint_offsets (drop i rs) ≡ whole → new ++ hint_offsets (drop (i + 1) rs) ≡ whole
+hints_next rs i old new whole lt is held =
+    let r : Reloc = get_or rs i no_reloc in
+    let one : suc i ≡ i + 1 = omega arith in
+    let own : List ℕ = if r.kind == R_RISCV_RELAX then r.offset ∷ [] else [] in
+    let here : hint_offsets (drop i rs) ≡ own ++ hint_offsets (drop (i + 1) rs) =
+    ap hint_offsets (drop-cons rs i no_reloc lt) ∙ first_hint (r.kind == R_RISCV_RELAX) r (drop (suc i) rs) ∙ ap (λ k. own ++ hint_offsets (drop k rs)) one in
+    ap (λ l. l ++ hint_offsets (drop (i + 1) rs)) is ∙ append_assoc old own (hint_offsets (drop (i + 1) rs)) ∙ ap (λ l. old ++ l) (sym here) ∙ held
+  where
+    first_hint : (b : Bool) (r : Reloc) (rest : List Reloc) →
+        map (λ (q : Reloc). q.offset) (cond b (r ∷ filter (λ (q : Reloc). q.kind == R_RISCV_RELAX) rest) (filter (λ (q : Reloc). q.kind == R_RISCV_RELAX) rest))
+        ≡ (if b then r.offset ∷ [] else []) ++ hint_offsets rest
+    first_hint true r rest = refl
+    first_hint false r rest = refl

@@ -100,7 +100,7 @@ unfolding allows
 eight_allows f x = refl
 
 -- a small size is doubled: no lawful size lies between
-abbrev IsOne : ℕ → Type 0
+abbrev pub IsOne : ℕ → Type 0
 IsOne s = (s ≡ 2) ⊎ ((s ≡ 4) ⊎ (s ≡ 8))
 
 raised_low : (s t : ℕ) → IsOne s → IsOne t → s < t → 2 * s ≤ t
@@ -148,11 +148,11 @@ module _ (jumps : List Jump) (are : (k : ℕ) → k < length jumps → IsJump (l
   length_raised z = length-map-range_with_len (raised_size jumps z) 0 (length jumps)
 
   -- a size that does not allow its bytes is not eight
-  small_if : (z : List ℕ) (k : ℕ) → is_allowed jumps z k ≡ false → size_at z k ≡ 8 → ⊥
+  pub small_if : (z : List ℕ) (k : ℕ) → is_allowed jumps z k ≡ false → size_at z k ≡ 8 → ⊥
   small_if z k differs eight =
       false≢true (sym differs ∙ ap (λ s. allows s (jump_at jumps k).forwards (jump_bytes z (jump_at jumps k))) eight ∙ eight_allows (jump_at jumps k).forwards (jump_bytes z (jump_at jumps k)))
 
-  lawful_step : (z : List ℕ) (k : ℕ) (b : Bool) → AreLawful jumps z → k < length jumps → is_allowed jumps z k ≡ b → IsLawful jumps k (if b then size_at z k else 2 * size_at z k)
+  pub lawful_step : (z : List ℕ) (k : ℕ) (b : Bool) → AreLawful jumps z → k < length jumps → is_allowed jumps z k ≡ b → IsLawful jumps k (if b then size_at z k else 2 * size_at z k)
   lawful_step z k true is lt e = is.each k lt
   lawful_step z k false is lt e =
       let own = is.each k lt in
@@ -175,7 +175,7 @@ module _ (jumps : List Jump) (are : (k : ℕ) → k < length jumps → IsJump (l
     ];
   }
 
-  below_step : (z y : List ℕ) (k : ℕ) (b : Bool) → AreLawful jumps z → AreBelow jumps z → AreSafe jumps y → k < length jumps → is_allowed jumps z k ≡ b →
+  pub below_step : (z y : List ℕ) (k : ℕ) (b : Bool) → AreLawful jumps z → AreBelow jumps z → AreSafe jumps y → k < length jumps → is_allowed jumps z k ≡ b →
       (if b then size_at z k else 2 * size_at z k) ≤ size_at y k
   below_step z y k true is below safe lt e = below y safe k lt
   below_step z y k false is below safe lt e = elim (cases_lt (size_at z k) (size_at y k)) [

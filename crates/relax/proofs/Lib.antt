@@ -1,3 +1,6 @@
+pub mod BandParts
+pub mod BandSteps
+pub mod CutParts
 pub mod CutSteps
 pub mod Fitting
 mod Hints

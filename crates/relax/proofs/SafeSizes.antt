@@ -40,7 +40,7 @@ module _ (ms : List Row) (rows : List (List Call)) (sound : AreSoundRows ms rows
   within : (k : ℕ) → k < length (all_calls rows) → IsWithin (length ms) (call_no rows k)
   within k lt = calls_within ms rows sound k no_one lt
 
-  jump_is : (k : ℕ) → k < length (all_calls rows) → jump_at jumps k ≡ jump_of ms rows (call_no rows k)
+  pub jump_is : (k : ℕ) → k < length (all_calls rows) → jump_at jumps k ≡ jump_of ms rows (call_no rows k)
   unfolding jumps_in
   jump_is k lt = get_or-map (jump_of ms rows) (all_calls rows) k no_one no_jump lt
 

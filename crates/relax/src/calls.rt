@@ -1,9 +1,10 @@
 //! The calls that may be relaxed.
 
-ghost use Rattle.std.specs.Prelude.{◌≡◌, ◌==◌, ◌+◌, ◌<◌, ◌^◌, ◌++◌, length, map, slice_index, true, All, IfOk, OnOk, if◌then◌else◌};
+ghost use Rattle.std.specs.Prelude.{◌≡◌, ◌==◌, ◌+◌, ◌<◌, ◌^◌, ◌++◌, ◌∷◌, [], length, map, slice_index, true, All, IfOk, OnOk, if◌then◌else◌};
 ghost use Rattle.std.proofs.Props.{props};
 ghost use Rattle.std.specs.List.{list_any, range_with_len};
 ghost use Rattle.std.specs.List.Sorted.{IsNonDecreasing};
+ghost use Rattle.lk_base.specs.declared.abi.TheConstants.{R_RISCV_RELAX};
 ghost use Rattle.lk_tables.specs.BindingView.{binding_view};
 ghost use Rattle.lk_tables.specs.Files.{section_total};
 ghost use Rattle.lk_tables.specs.FileView.{file_view};
@@ -113,15 +114,25 @@ fn has_hint(hints: &[u64], offset: u64) -> bool
     }
 }
 
-/// The offsets at which the linker may relax.
-fn hints_of(alloc: Global, relocs: &[Reloc]) -> Result<Vec<u64>, AllocError>
-    ensures { IfOk result (λ hints. hints.items ≡ spec.hint_offsets relocs.now) }
+/// Lists the offsets at which the linker may relax, in the place of what stood in the list.
+fn note_hints(hints: &mut Vec<u64>, relocs: &[Reloc]) -> Result<(), AllocError>
+    ensures { OnOk result (hints.new.items ≡ spec.hint_offsets relocs.now) }
 {
-    relocs
-        .iter()
-        .filter(|reloc| reloc.kind == R_RISCV_RELAX)
-        .map(|reloc| reloc.offset)
-        .collect(alloc)
+    hints.clear();
+    for reloc in relocs {
+        push_hint(hints, reloc)?;
+    }
+    Ok(())
+}
+
+/// Adds the offset of a relocation, if the linker may relax there.
+fn push_hint(hints: &mut Vec<u64>, reloc: &Reloc) -> Result<(), AllocError>
+    ensures { OnOk result (hints.new.items ≡ hints.old.items ++ (if reloc.now.kind == R_RISCV_RELAX then reloc.now.offset ∷ [] else [])) }
+{
+    if reloc.kind == R_RISCV_RELAX {
+        hints.push(reloc.offset)?;
+    }
+    Ok(())
 }
 
 /// A byte of a file; 0 past its end.
@@ -373,19 +384,20 @@ fn least_in(code: &Code, at: u128) -> u64
     least_of(code.file, at)
 }
 
-/// The calls of a section, in order of offset.
+/// Lists the calls of a section, in order of offset, in the place of what stood in the list. The other list is room for offsets.
 #[tactic(auto, unfolding(crate::specs::CallSizes::calls_in))]
 fn calls_in(
-    alloc: Global,
+    calls: &mut Vec<Call>,
+    hints: &mut Vec<u64>,
     scene: &Scene,
     from: usize,
     section: SecNo,
-) -> Result<Vec<Call>, AllocError>
+) -> Result<(), AllocError>
     requires section { section < section_total (files_of scene.now.tables.now) }
     requires from { from < length scene.now.members.now }
-    ensures { IfOk result (λ calls. calls.items ≡ spec.calls_in (files_of scene.now.tables.now) (binding_view scene.now.binding.now) (merged_views scene.now.pools.now) scene.now.leaders.now scene.now.members.now from section) }
+    ensures { OnOk result (calls.new.items ≡ spec.calls_in (files_of scene.now.tables.now) (binding_view scene.now.binding.now) (merged_views scene.now.pools.now) scene.now.leaders.now scene.now.members.now from section) }
 {
-    let mut calls = Vec::new(alloc);
+    calls.clear();
     let place = scene.tables.place_of(section);
     let file = scene.tables.file(place.file);
     let code = Code {
@@ -396,29 +408,33 @@ fn calls_in(
         relocs: file.relocs(place.index as usize),
         start: file.section(place.index as usize).offset,
     };
-    let hints = hints_of(alloc, code.relocs)?;
+    note_hints(hints, code.relocs)?;
     for k in 0..code.relocs.len() {
-        push_call(&mut calls, scene, &code, hints.as_slice(), from, k)?;
+        push_call(calls, scene, &code, hints.as_slice(), from, k)?;
     }
-    Ok(calls)
+    Ok(())
 }
 
-/// The calls of a member, if it is a section and calls are relaxed.
+/// Lists the calls of a member, if it is a section and calls are relaxed, in the place of what stood in the list. The other list is room for
+/// offsets.
 #[tactic(auto, unfolding(crate::specs::CallSizes::calls_of))]
 pub fn calls_of(
-    alloc: Global,
+    calls: &mut Vec<Call>,
+    hints: &mut Vec<u64>,
     scene: &Scene,
     on: bool,
     from: usize,
-) -> Result<Vec<Call>, AllocError>
+) -> Result<(), AllocError>
     requires { from < length scene.now.members.now }
-    ensures { IfOk result (λ calls. calls.items ≡ spec.calls_of (files_of scene.now.tables.now) (binding_view scene.now.binding.now) (merged_views scene.now.pools.now) scene.now.leaders.now scene.now.members.now on from) }
+    ensures { OnOk result (calls.new.items ≡ spec.calls_of (files_of scene.now.tables.now) (binding_view scene.now.binding.now) (merged_views scene.now.pools.now) scene.now.leaders.now scene.now.members.now on from) }
 {
+    calls.clear();
     let Content::Section(section) = scene.members[from].content else {
-        return Ok(Vec::new(alloc));
+        return Ok(());
     };
     if !on {
-        return Ok(Vec::new(alloc));
+        return Ok(());
     }
-    calls_in(alloc, scene, from, section)
+    calls_in(calls, hints, scene, from, section)?;
+    Ok(())
 }

@@ -109,7 +109,7 @@ pub fn count_of(rows: &Rows<Call>) -> usize
 
 /// A call as a jump.
 #[tactic(auto, unfolding(crate::specs::Points::jump_of))]
-fn jump_of(members: &[Row], rows: &Rows<Call>, marks: &[Mark], call: &Call) -> Jump
+pub fn jump_of(members: &[Row], rows: &Rows<Call>, marks: &[Mark], call: &Call) -> Jump
     requires few { length members.now < 2 ^ 33 }
     requires sound { spec.AreSoundRows members.now rows.now }
     requires marks { marks.now ≡ map (spec.mark_at members.now rows.now) (range_with_len 0 (length members.now)) }

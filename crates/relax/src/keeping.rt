@@ -1,6 +1,6 @@
 //! The bytes that sections keep before anything has a place.
 
-ghost use Rattle.std.specs.Prelude.{◌≡◌, ◌<◌, ◌≤◌, ◌^◌, length, map, All, IfOk};
+ghost use Rattle.std.specs.Prelude.{◌≡◌, ◌<◌, ◌≤◌, ◌^◌, length, map, flat_map, All, IfOk};
 ghost use Rattle.std.specs.List.{range_with_len};
 ghost use Rattle.lk_tables.specs.BindingView.{binding_view};
 ghost use Rattle.lk_tables.specs.Files.{section_total};
@@ -12,25 +12,33 @@ ghost use Rattle.output_sections.specs.Order.{IsKnown, members_in};
 ghost use Rattle.link_sections.specs.SizesView.{sizes_of};
 ghost use Rattle.relax.specs.CallSizes as spec;
 ghost use Rattle.relax.specs.Points.{AreSoundRows, mark_at};
+ghost use Rattle.relax.specs.CutRows.{AreCutRows};
 ghost use Rattle.relax.specs.Placing.{IsOneSize, added};
+ghost use Rattle.work_split.specs.Pieces.{Tiles};
 ghost use Rattle.relax.specs.Scenes.{cuts_in, rows_in};
 ghost use Rattle.relax.specs.Sizes.{FitSections};
 
+use crate::bands::call_sizes;
 use crate::calls::{Call, Scene, place_of, places_of};
 use crate::cutting::push_cut;
-use crate::jumps::{Mark, count_of, jumps_of, marks_of};
+use crate::jumps::{Mark, count_of, marks_of};
 use crate::listing::call_rows;
-use crate::solving::{least_sizes, size_at};
+use crate::parts::{join_rows, one_part};
+use crate::solving::size_at;
 use crate::unrelaxed::{may_relax, unrelaxed_sizes};
 use flat_rows::Rows;
 use link_sections::{Cut, Pools, Sizes};
-use lk_base::SecNo;
 use lk_base::relocations::moves_bytes;
+use lk_base::{LinkStop, SecNo};
 use lk_tables::{Binding, Reloc, Tables};
 use output_sections::{OutputSections, Row};
 use std::alloc::{AllocError, Global};
+use std::ops::Range;
 use std::thread::Threads;
-use work_split::Gate;
+use work_split::{Gate, over_shares, pieces};
+
+/// Fewer sections are not worth a thread.
+const LEAST: usize = 4_096;
 
 /// By section number, where each section loses bytes, in order of offset: each alignment with all its bytes, since no place is known yet, and
 /// each call that may be shortened, with the four bytes of `jal` or the two of `c.j`. A call of eight bytes is none of them. With `on` a call
@@ -93,21 +101,41 @@ fn sizes_in<R: Threads + Sync, G: Gate>(
 {
     let calls = call_rows(rt, alloc, scene, on, workers, gate)?;
     let marks = marks_of(alloc, scene.members, &calls)?;
-    let jumps = jumps_of(alloc, scene.members, &calls, marks.as_slice())?;
-    let sizes = least_sizes(alloc, jumps.as_slice())?;
-    let rows = cut_rows(alloc, scene, &calls, marks.as_slice(), sizes.as_slice())?;
+    let sizes = call_sizes(
+        rt,
+        alloc,
+        scene.members,
+        &calls,
+        marks.as_slice(),
+        workers,
+        gate,
+    )?;
+    let rows = cut_rows(
+        rt,
+        alloc,
+        scene,
+        &calls,
+        marks.as_slice(),
+        sizes.as_slice(),
+        workers,
+        gate,
+    )?;
     Ok(Sizes::of(rows))
 }
 
-/// The cuts of all sections.
-#[tactic(auto, unfolding(crate::specs::CallSizes::all_cuts))]
-fn cut_rows(
+/// The cuts of all sections. The workers each list those of a run of sections.
+fn cut_rows<R: Threads + Sync, G: Gate>(
+    rt: &R,
     alloc: Global,
     scene: &Scene,
     calls: &Rows<Call>,
     marks: &[Mark],
     sizes: &[u64],
+    workers: u32,
+    gate: &G,
 ) -> Result<Rows<Cut>, AllocError>
+    requires some { 1 ≤ workers }
+    requires most { workers ≤ 64 }
     requires sound { AreSoundRows scene.now.members.now calls.now }
     requires marks { marks.now ≡ map (mark_at scene.now.members.now calls.now) (range_with_len 0 (length scene.now.members.now)) }
     requires sizes { All IsOneSize sizes.now }
@@ -115,13 +143,97 @@ fn cut_rows(
     ensures views { IfOk result (λ rows. map cut_views rows ≡ spec.all_cuts (files_of scene.now.tables.now) scene.now.members.now calls.now sizes.now) }
     ensures sound { IfOk result (λ rows. All AreCuts rows) }
 {
+    let pieces = pieces_of(alloc, scene.tables.section_count(), workers)?;
+    let parts = all_parts(
+        rt,
+        alloc,
+        scene,
+        calls,
+        marks,
+        sizes,
+        pieces.as_slice(),
+        gate,
+    )?;
+    let rows = join_rows(alloc, parts)?;
+    Ok(rows)
+}
+
+/// So many sections cut into pieces of about the same length: one for each worker, or fewer where pieces would be shorter than [`LEAST`].
+fn pieces_of(alloc: Global, sections: usize, workers: u32) -> Result<Vec<Range<usize>>, AllocError>
+    requires some { 1 ≤ workers }
+    requires most { workers ≤ 64 }
+    ensures tiles { IfOk result (λ pieces. Tiles 0 sections pieces.items) }
+    ensures most { IfOk result (λ pieces. length pieces.items ≤ 64) }
+{
+    let wanted = (sections / LEAST).min(workers as usize).max(1);
+    pieces(alloc, sections, wanted as u32)
+}
+
+/// The cuts of all sections, in parts: each worker makes one, of a piece of the sections.
+fn all_parts<R: Threads + Sync, G: Gate>(
+    rt: &R,
+    alloc: Global,
+    scene: &Scene,
+    calls: &Rows<Call>,
+    marks: &[Mark],
+    sizes: &[u64],
+    pieces: &[Range<usize>],
+    gate: &G,
+) -> Result<Vec<Rows<Cut>>, AllocError>
+    requires sound { AreSoundRows scene.now.members.now calls.now }
+    requires marks { marks.now ≡ map (mark_at scene.now.members.now calls.now) (range_with_len 0 (length scene.now.members.now)) }
+    requires sizes { All IsOneSize sizes.now }
+    requires count { length sizes.now ≡ length (spec.all_calls calls.now) }
+    requires tiles { Tiles 0 (section_total (files_of scene.now.tables.now)) pieces.now }
+    requires most { length pieces.now ≤ 64 }
+    ensures { IfOk result (λ parts. AreCutRows (files_of scene.now.tables.now) scene.now.members.now calls.now sizes.now 0 (section_total (files_of scene.now.tables.now)) (flat_map (λ part. part) parts.items)) }
+{
+    let found = over_shares(
+        rt,
+        alloc,
+        gate,
+        pieces,
+        |piece: Range<usize>| -> Result<Vec<Rows<Cut>>, LinkStop>
+            requires sound { AreSoundRows scene.now.members.now calls.now }
+            requires marks { marks.now ≡ map (mark_at scene.now.members.now calls.now) (range_with_len 0 (length scene.now.members.now)) }
+            requires sizes { All IsOneSize sizes.now }
+            requires count { length sizes.now ≡ length (spec.all_calls calls.now) }
+            requires ordered { piece.start ≤ piece.end }
+            requires within { piece.end ≤ section_total (files_of scene.now.tables.now) }
+            ensures { IfOk result (λ parts. AreCutRows (files_of scene.entry.now.tables.now) scene.entry.now.members.now calls.entry.now sizes.entry.now piece.start piece.end (flat_map (λ part. part) parts.items)) }
+        { Ok(part_of(alloc, scene, calls, marks, sizes, piece)?) },
+    );
+    match found {
+        Ok(parts) => Ok(parts),
+        Err(_) => Err(AllocError),
+    }
+}
+
+/// The cuts of a run of sections, as one part.
+fn part_of(
+    alloc: Global,
+    scene: &Scene,
+    calls: &Rows<Call>,
+    marks: &[Mark],
+    sizes: &[u64],
+    piece: Range<usize>,
+) -> Result<Vec<Rows<Cut>>, AllocError>
+    requires sound { AreSoundRows scene.now.members.now calls.now }
+    requires marks { marks.now ≡ map (mark_at scene.now.members.now calls.now) (range_with_len 0 (length scene.now.members.now)) }
+    requires sizes { All IsOneSize sizes.now }
+    requires count { length sizes.now ≡ length (spec.all_calls calls.now) }
+    requires ordered { piece.start ≤ piece.end }
+    requires within { piece.end ≤ section_total (files_of scene.now.tables.now) }
+    ensures { IfOk result (λ parts. AreCutRows (files_of scene.now.tables.now) scene.now.members.now calls.now sizes.now piece.start piece.end (flat_map (λ part. part) parts.items)) }
+{
     scene.tables.is_few();
     let mut rows = Rows::empty(alloc)?;
-    for section in 0..scene.tables.section_count() as u32 {
-        let cuts = section_cuts(alloc, scene, calls, marks, sizes, section)?;
+    for section in piece.start..piece.end {
+        let cuts = section_cuts(alloc, scene, calls, marks, sizes, section as SecNo)?;
         rows.push(cuts.as_slice())?;
     }
-    Ok(rows)
+    let parts = one_part(alloc, rows)?;
+    Ok(parts)
 }
 
 /// The cuts of a section.

@@ -89,8 +89,10 @@ fn part_of(
     ensures { IfOk result (λ parts. flat_map (λ part. part) parts.items ≡ calls_between scene.now on piece.start piece.end) }
 {
     let mut rows = Rows::empty(alloc)?;
+    let mut calls = Vec::new(alloc);
+    let mut hints = Vec::new(alloc);
     for from in piece.start..piece.end {
-        let calls = calls_of(alloc, scene, on, from)?;
+        calls_of(&mut calls, &mut hints, scene, on, from)?;
         rows.push(calls.as_slice())?;
     }
     let parts = one_part(alloc, rows)?;

@@ -1,9 +1,12 @@
 pub mod ActingKinds
 pub mod AddedUp
+pub mod BetweenCuts
 pub mod BytesAfter
 pub mod CallCuts
+pub mod ClearBlocks
 pub mod CutViews
 pub mod FoundSteps
+pub mod HintValues
 pub mod JoinedChecks
 pub mod LaidCuts
 pub mod LaidFacts

@@ -17,7 +17,7 @@ use crate::numbered::{first_numbers, pieces_of, section_of};
 use crate::operands::{number_width, operand};
 use crate::plain::plain_from;
 use crate::sites::{Site, relocs_at, site_of};
-use crate::values::value_of;
+use crate::values::{is_hint, value_of};
 use link_sections::{View, leads};
 use lk_base::kinds::{NO_PARTNER, ODD, RANGE};
 use lk_base::relocations::is_uleb;
@@ -147,6 +147,9 @@ pub fn check_reloc(
     ensures { IsFirst (spec.reloc_defects (files_in view.now) (binding_in view.now) (leaders_in view.now) (laid_in view.now) site.section (slice_index_or relocs.now (k - 1) no_reloc) (slice_index_or relocs.now k no_reloc)) result }
 {
     let reloc = &relocs[k];
+    if is_hint(reloc.kind) {
+        return None;
+    }
     let Ok(value) = value_of(view, site, reloc, plain, operand(view, site, relocs, k, 0)) else {
         return Some(reloc_defect(NO_PARTNER, site.place, reloc, 0));
     };

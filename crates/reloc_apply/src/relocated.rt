@@ -1,7 +1,7 @@
 //! All members of the layout that meet a block of the executable, written: sections with their relocations done, pools of merged pieces,
 //! and the global offset table.
 
-ghost use Rattle.std.specs.Prelude.{◌≡◌, ℕ, ◌+◌, ◌-◌, ◌^◌, ◌<◌, ◌≤◌, true, min, length, OnErr, OnOk, slice_index_or, if◌then◌else◌, Some, None};
+ghost use Rattle.std.specs.Prelude.{◌≡◌, ℕ, ◌+◌, ◌-◌, ◌^◌, ◌<◌, ◌≤◌, [], true, min, length, IsOk, OnErr, OnOk, slice_index_or, if◌then◌else◌, Some, None};
 ghost use Rattle.lk_base.specs.Firsts.{IsFirst, Passes};
 ghost use Rattle.lk_base.specs.declared.abi.TheConstants.{IMAGE_BASE};
 ghost use Rattle.lk_tables.specs.Files.{section_total};
@@ -27,12 +27,13 @@ use lk_base::{Defect, SecNo};
 /// Writes what the members of the layout have in a block of the executable that starts at the file offset `from`: sections with their
 /// relocations done, pools of merged pieces, and the global offset table. The relocations that touch the block are tested before the first
 /// byte is written: the first defect of one, in order of file, section and offset, is the answer, and the block is then as it was. Takes no
-/// memory.
+/// memory. It is sure to write where all relocations can be done.
 pub fn apply(block: &mut [u8], from: u64, view: &View) -> Result<(), Defect>
     requires { from + length block.old < 2 ^ 63 }
     ensures goes { Passes result (spec.touching_defects (files_in view.now) (binding_in view.now) (leaders_in view.now) (laid_in view.now) from (length block.old)) }
     ensures bytes { OnOk result (ShowsFrom from block.old block.new (spec.relocated_pieces (files_in view.now) (binding_in view.now) (leaders_in view.now) (laid_in view.now))) }
     ensures kept { OnErr result (block.new ≡ block.old) }
+    ensures sure { spec.relocation_defects (files_in view.now) (binding_in view.now) (leaders_in view.now) (laid_in view.now) ≡ [] → IsOk result }
 {
     if let Some(defect) = first_defect(view, from, block.len() as u64) {
         return Err(defect);

@@ -23,8 +23,8 @@ use crate::operands::{operand, width_in};
 use crate::plain::plain_from;
 use crate::sites::{Site, relocs_at, site_of};
 use crate::sources::{Source, source_of};
-use crate::staying::fill_staying;
-use crate::values::{offset_of, value_of};
+use crate::staying::{copy_between, copy_part, fill_staying};
+use crate::values::{is_hint, offset_of, value_of};
 use byteorder::{ByteOrder, LittleEndian};
 use link_sections::{Cut, View};
 use lk_base::SecNo;
@@ -266,6 +266,9 @@ fn step(
     let reloc = &source.relocs[k];
     let offset = offset_of(view, source.site.section, reloc);
     slide(window, at, source.raw, source.cuts, offset);
+    if is_hint(reloc.kind) {
+        return offset;
+    }
     let width = width_in(view, source, reloc);
     let held = held_in(window, width);
     let number = operand(view, source.site, source.relocs, k, held);
@@ -341,16 +344,11 @@ fn fresh(window: &mut [u8], raw: &[u8], cuts: &[Cut], at: u64)
         copy_part(window, raw, at as usize);
         return;
     }
+    if copy_between(window, at, raw, cuts) {
+        return;
+    }
     window.fill(0);
     fill_staying(window, at, 0, raw, cuts);
-}
-
-/// Fills a window with bytes from an offset on, which are all there.
-fn copy_part(window: &mut [u8], bytes: &[u8], at: usize)
-    requires { at + length window.old ≤ length bytes.now }
-    ensures { Shows bytes.now at window.new }
-{
-    window.copy_from_slice(&bytes[at..at + window.len()]);
 }
 
 /// Moves a window on from an offset to another; from the end of what it held on no relocation is done yet.
@@ -364,6 +362,9 @@ fn slide(window: &mut [u8], from: u64, raw: &[u8], cuts: &[Cut], to: u64)
     ensures { (state : List ℕ) → Shows state from window.old → IsFresh (staying (cut_views cuts.now) 0 raw.now) state (from + 10) → Shows state to window.new }
 {
     let step = to - from;
+    if step == 0 {
+        return;
+    }
     if step >= 10 {
         fresh(window, raw, cuts, to);
         return;

@@ -1,9 +1,10 @@
 //! The bytes of a section that stay, written into a block of a file.
 
-ghost use Rattle.std.specs.Prelude.{◌≡◌, ℕ, ◌+◌, ◌-◌, ◌<◌, ◌≤◌, ◌^◌, All, length, slice_index, slice_index_or, take, drop, min};
+ghost use Rattle.std.specs.Prelude.{◌≡◌, ℕ, ◌+◌, ◌-◌, ◌<◌, ◌≤◌, ◌^◌, true, All, length, slice_index, slice_index_or, take, drop, min};
 ghost use Rattle.link_sections.specs.CutsView.{AreCuts, cut_view, cut_views};
 ghost use Rattle.rv_code.specs.Places.{number_of};
 ghost use Rattle.reloc_apply.specs.Image.{over, piece};
+ghost use Rattle.reloc_apply.specs.Sites.{Shows};
 ghost use Rattle.reloc_apply.specs.Staying as spec;
 
 use crate::image::{Piece, fill_piece};
@@ -34,6 +35,52 @@ pub fn fill_staying(block: &mut [u8], from: u64, at: u64, raw: &[u8], cuts: &[Cu
         k += 1;
     }
     fill_part(block, from, at + new, raw, old, raw.len() as u64);
+}
+
+/// Copies the bytes that stay from an offset on into a window, if it lies between two cuts, or before the first, or after the last: then its
+/// bytes stand side by side in the section. Answers whether that is so.
+pub fn copy_between(window: &mut [u8], at: u64, raw: &[u8], cuts: &[Cut]) -> bool
+    requires cuts { AreCuts cuts.now }
+    requires within { All (λ c. c.at + c.whole ≤ length raw.now) (cut_views cuts.now) }
+    requires short { length raw.now < 2 ^ 33 }
+    requires low { at < 2 ^ 34 }
+    requires few { length window.old ≤ 10 }
+    ensures shows { result ≡ true → Shows (spec.staying (cut_views cuts.now) 0 raw.now) at window.new }
+    ensures same { length window.new ≡ length window.old }
+{
+    let k = cuts.partition_point(|cut| cut.new_at <= at);
+    let (old, new) = ends_before(cuts, k);
+    if at < new {
+        return false;
+    }
+    let start = old + (at - new);
+    let end = start + window.len() as u64;
+    if !ends_by(raw, cuts, k, end) {
+        return false;
+    }
+    copy_part(window, raw, start as usize);
+    true
+}
+
+/// Whether bytes that end at an offset of a section end by the start of a cut, or past the last one by the end of the section.
+fn ends_by(raw: &[u8], cuts: &[Cut], k: usize, end: u64) -> bool
+    requires cuts { AreCuts cuts.now }
+    requires within { All (λ c. c.at + c.whole ≤ length raw.now) (cut_views cuts.now) }
+    ensures cut { result ≡ true → k < length cuts.now → end ≤ (slice_index_or (cut_views cuts.now) k spec.no_cut).at }
+    ensures whole { result ≡ true → end ≤ length raw.now }
+{
+    match cuts.get(k) {
+        Some(cut) => end <= cut.at,
+        None => end <= raw.len() as u64,
+    }
+}
+
+/// Fills a window with bytes from an offset on, which are all there.
+pub fn copy_part(window: &mut [u8], bytes: &[u8], at: usize)
+    requires { at + length window.old ≤ length bytes.now }
+    ensures { Shows bytes.now at window.new }
+{
+    window.copy_from_slice(&bytes[at..at + window.len()]);
 }
 
 /// A cut that starts at or before a new offset, after which the next one does not; the first if there is none.

@@ -3,6 +3,7 @@
 ghost use Rattle.std.specs.Prelude.{◌≡◌, ℕ, ◌+◌, ◌*◌, ◌^◌, ◌<◌, ◌≤◌, length, ◌==◌, ◌&&◌, not, true, false, Some, ◌≤ℤ◌, ◌+ℤ◌, ◌-ℤ◌, pos, negsuc, IfOk, IfSome, MatchResult, is_some, find, filter, slice_index_or};
 ghost use Rattle.std.specs.List.Sorted.{IsNonDecreasingBy};
 ghost use Rattle.lk_base.specs.RelocKinds.{HasValue, is_lower, is_upper};
+ghost use Rattle.lk_base.specs.declared.abi.TheConstants.{R_RISCV_RELAX};
 ghost use Rattle.lk_tables.specs.Files.{file_at, is_section_symbol, symbol_at};
 ghost use Rattle.lk_tables.specs.Sites.{relocs_of};
 ghost use Rattle.link_sections.specs.Addresses as addresses;
@@ -14,6 +15,7 @@ use crate::sites::Site;
 use crate::uppers::uppers_of;
 use link_sections::{Target, View, key_of, use_of};
 use lk_base::SecNo;
+use lk_base::abi::R_RISCV_RELAX;
 use lk_base::relocations::{Calculation, is_lower, kind_of};
 use lk_tables::{Reloc, is_section_symbol, target_in};
 use symbol_addresses::{offset_in, piece_address, section_address, start_of, symbol_address};
@@ -74,6 +76,13 @@ fn direct_value(view: &View, site: Site, reloc: &Reloc, plain: bool, held: i128)
         Calculation::Decrease => Some(decreased(held, sum_of(view, site, reloc, plain))),
         _ => None,
     }
+}
+
+/// Whether a relocation only says that what stands at its place may be relaxed: it puts no value into a place.
+pub fn is_hint(kind: u32) -> bool
+    ensures { result ≡ (kind == R_RISCV_RELAX) }
+{
+    kind == R_RISCV_RELAX
 }
 
 /// What V is less S + A.

@@ -3,21 +3,9 @@
 mod encodings;
 
 use crate::{cj, fits, fits_uleb, jal, nops, patch, patch_uleb_bits};
-use encodings::{
-    ADDRESS, BRANCH, BYTE, CALL, DISTANCE, DOUBLEWORD, HALF, JUMP, LOW, LOW_OF_FLOAT_STORE,
-    LOW_OF_LOAD, LOW_OF_STORE, OTHER_BRANCH, OTHER_JUMP, OTHER_SHORT_BRANCH, OTHER_SIX,
-    SHORT_BRANCH, SHORT_JUMP, SIX, TAIL_CALL, UPPER, UPPER_HERE, WORD,
-};
+use encodings::*;
 use lk_base::Misfit;
-use lk_base::abi::{
-    R_RISCV_32, R_RISCV_32_PCREL, R_RISCV_64, R_RISCV_ADD8, R_RISCV_ADD16, R_RISCV_ADD32,
-    R_RISCV_ADD64, R_RISCV_BRANCH, R_RISCV_CALL, R_RISCV_CALL_PLT, R_RISCV_GOT_HI20, R_RISCV_HI20,
-    R_RISCV_JAL, R_RISCV_LO12_I, R_RISCV_LO12_S, R_RISCV_PCREL_HI20, R_RISCV_PCREL_LO12_I,
-    R_RISCV_PCREL_LO12_S, R_RISCV_PLT32, R_RISCV_RVC_BRANCH, R_RISCV_RVC_JUMP, R_RISCV_SET6,
-    R_RISCV_SET8, R_RISCV_SET16, R_RISCV_SET32, R_RISCV_SUB6, R_RISCV_SUB8, R_RISCV_SUB16,
-    R_RISCV_SUB32, R_RISCV_SUB64, R_RISCV_TLS_GD_HI20, R_RISCV_TLS_GOT_HI20, R_RISCV_TPREL_HI20,
-    R_RISCV_TPREL_LO12_I, R_RISCV_TPREL_LO12_S,
-};
+use lk_base::abi::*;
 use lk_base::relocations::{fills_field, kind_of};
 
 /// A value, and a place that holds it.
@@ -139,12 +127,8 @@ fn the_bytes_of_the_assembler(rt: HostRuntime) {
         for kind in field.kinds {
             let mut old = None;
             for row in field.rows {
-                assert_eq!(rt;
-                    is_met(*kind, old.unwrap_or(row.place), *row),
-                    true,
-                    "kind {kind}, value {}",
-                    row.v
-                );
+                let met = is_met(*kind, old.unwrap_or(row.place), *row);
+                assert_eq!(rt; met, true, "kind {kind}, value {}", row.v);
                 old = Some(row.place);
             }
         }
@@ -163,18 +147,12 @@ fn values_that_fit(rt: HostRuntime) {
                 assert_eq!(rt; misfit(*kind, *v), None, "kind {kind}, value {v}");
             }
             for v in reach.odd {
-                assert_eq!(rt;
-                    misfit(*kind, *v),
-                    Some(Misfit::Odd),
-                    "kind {kind}, value {v}"
-                );
+                let found = misfit(*kind, *v);
+                assert_eq!(rt; found, Some(Misfit::Odd), "kind {kind}, value {v}");
             }
             for v in reach.out {
-                assert_eq!(rt;
-                    misfit(*kind, *v),
-                    Some(Misfit::Range),
-                    "kind {kind}, value {v}"
-                );
+                let found = misfit(*kind, *v);
+                assert_eq!(rt; found, Some(Misfit::Range), "kind {kind}, value {v}");
             }
         }
     }

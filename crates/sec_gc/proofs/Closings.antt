@@ -1,5 +1,5 @@
 -- What closed marks are.
-use Rattle.std.proofs.Common.{◌≡◌, ℕ, zero, suc, ◌+◌, ◌<◌, ◌≤◌, ◌==◌, Bool, true, false, List, [], ◌∷◌, ◌++◌, length, map, max, take, get_or, All, Contains, refl, sym, ap, ◌∙◌, subst, ⊎_elim, arith}
+use Rattle.std.proofs.Common.{◌≡◌, ℕ, zero, suc, ◌+◌, ◌<◌, ◌≤◌, ◌==◌, Bool, true, false, List, [], ◌∷◌, ◌++◌, length, map, take, get_or, All, Contains, sym, ap, ◌∙◌, subst, ⊎_elim, arith}
 use Rattle.std.proofs.lemmas.List.{length-map, length-take-le, get_or-map, get_or-take, get_or_past, map_more}
 use Rattle.std.proofs.lemmas.List.Elements.{All-contains}
 use Rattle.std.proofs.lemmas.Bool.{both_ways, cases_lt, cases_Bool, eq-eqb, eqb-true}
@@ -8,8 +8,8 @@ use lib.ListN.{get_elem?}
 use Rattle.atomic_table.specs.Table.{State}
 use Rattle.lk_tables.specs.Reach.{mark}
 use Rattle.sec_gc.specs.declared.rule.View.{View}
-use Rattle.sec_gc.specs.Marks.{MarksView, SeatView, IsClosing, IsWithin, times, word_of}
-use Rattle.sec_gc.specs.Rule.{is_live, wins_of, Fits, Kept}
+use Rattle.sec_gc.specs.Marks.{MarksView, SeatView, IsClosing, times, word_of}
+use Rattle.sec_gc.specs.Rule.{is_live, wins_of, Kept}
 use Rattle.seat_views.proofs.Totals.{one_of_total}
 
 -- the marks of the first words

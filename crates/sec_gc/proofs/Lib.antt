@@ -1,6 +1,5 @@
 pub mod Closings
 pub mod Keeps
-mod Listed
 mod Reached
 pub mod Reaching
 mod Rooted

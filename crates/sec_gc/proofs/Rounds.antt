@@ -1,15 +1,15 @@
 -- What rounds that close marks come to.
-use Rattle.std.proofs.Common.{◌≡◌, ◌≢◌, ℕ, zero, suc, ◌+◌, ◌<◌, ◌≤◌, ◌||◌, Bool, true, false, List, [], ◌∷◌, ◌++◌, length, get_or, All, Contains, refl, sym, ap, ◌∙◌, subst, ⊎_elim, arith}
+use Rattle.std.proofs.Common.{◌≡◌, ◌≢◌, ℕ, zero, suc, ◌+◌, ◌<◌, ◌≤◌, ◌||◌, Bool, true, false, List, [], ◌∷◌, ◌++◌, length, get_or, All, Contains, refl, sym, ◌∙◌, subst, ⊎_elim, arith}
 use Rattle.std.proofs.lemmas.List.{get_or_append_left, get_or_default, get_or_past, get_or_push, length_push}
-use Rattle.std.proofs.lemmas.List.Elements.{All-contains, All-push, All-weaker, Contains-append_left, Contains-append_right, Contains-get_or, Contains-push}
-use Rattle.std.proofs.lemmas.Bool.{both_ways, cases_Bool, cases_eq, cases_lt}
+use Rattle.std.proofs.lemmas.List.Elements.{All-contains, All-push, All-weaker, Contains-append_left, Contains-append_right, Contains-push}
+use Rattle.std.proofs.lemmas.Bool.{both_ways, cases_eq, cases_lt}
 use Rattle.std.specs.declared.ops.Range.{Range}
-use Rattle.lk_tables.specs.Reach.{mark, ends_at, IsClosed, IsReach}
+use Rattle.lk_tables.specs.Reach.{mark, ends_at, IsReach}
 use Rattle.sec_gc.specs.declared.closing.Done.{Done}
-use Rattle.sec_gc.specs.Closing.{AreFound, AreOn, HasEnds, HaveEnds, HaveSeen, KeepsSeen, Missing, Rests}
-use Rattle.sec_gc.specs.Marks.{MarksView, SeatView, SitsAt, IsWithin, after_look, after_split, after_swap, joined, newcomer, section_at, seen_at, word_of}
+use Rattle.sec_gc.specs.Closing.{AreFound, AreOn, HasEnds, HaveEnds, HaveSeen, KeepsSeen, Rests}
+use Rattle.sec_gc.specs.Marks.{MarksView, SeatView, SitsAt, IsWithin, after_look, after_split, after_swap, joined, section_at, seen_at, word_of}
 use Rattle.sec_gc.specs.Workers.{AreDone, HasMore}
-use Rattle.sec_gc.proofs.Searching.{unmarked}
+use Rattle.sec_gc.specs.Visits.{unmarked}
 use Rattle.work_split.specs.Pieces.{Tiles}
 use Rattle.work_split.specs.Tasks.{IsAt}
 use Rattle.work_split.proofs.Tiling.{tiles_cover}

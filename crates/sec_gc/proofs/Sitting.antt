@@ -1,6 +1,5 @@
 -- What the words that steps find are to callers.
-use Rattle.std.proofs.Common.{◌≡◌, ℕ, zero, suc, ◌≤◌, ◌<◌, ◌==◌, Bool, true, false, not, List, length, Contains, refl, sym, ap, ◌∙◌, subst, arith}
-use Rattle.std.proofs.lemmas.Bool.{eq-eqb, eqb-true}
+use Rattle.std.proofs.Common.{◌≡◌, ℕ, zero, suc, ◌≤◌, ◌==◌, not, refl, sym, ap, ◌∙◌, subst, arith}
 use Rattle.sec_gc.specs.Marks.{MarksView, SeatView, SitsAt, IsWithin, after_look, after_split, after_swap, joined, newcomer, word_of}
 
 -- a word is 0 or 1

@@ -1,5 +1,5 @@
 -- Rounds that close marks: what a look at all sections gives, and what is left once the ends of all that is marked were looked up.
-use Rattle.std.specs.Prelude.{◌≡◌, ℕ, ◌<◌, ◌≤◌, Bool, true, false, List, length, slice_index_or, Contains}
+use Rattle.std.specs.Prelude.{◌≡◌, ℕ, ◌<◌, ◌≤◌, Bool, true, false, List, length, Contains}
 use Rattle.lk_tables.specs.Reach.{mark, ends_at}
 use Rattle.sec_gc.specs.Marks.{MarksView, IsWithin, section_at}
 

@@ -1,7 +1,7 @@
-//! Marks from a list of sections that grows while it is followed. What these calls leave out, for a refused push or a number that is no
-//! task, the closing rounds do.
+//! Marks of roots, and of what sections of a list lead to, which is added to it. What these calls leave out, for a refused push or a number
+//! that is no task, the closing rounds do.
 
-ghost use Rattle.std.specs.Prelude.{◌≡◌, ◌<◌, ◌≤◌, true, Contains, length};
+ghost use Rattle.std.specs.Prelude.{◌≡◌, ◌<◌, true, Contains, length};
 ghost use Rattle.link_sections.specs.Edges.{ends_of};
 ghost use Rattle.lk_tables.specs.Reach.{ends_at};
 ghost use Rattle.sec_gc.specs.Closing.{KeepsSeen};
@@ -11,20 +11,20 @@ use crate::marks::{MarkSeat, Marks};
 use link_sections::Edges;
 use lk_base::SecNo;
 
-/// Marks the roots, and lists those that had no mark.
-pub fn mark_roots(marks: &Marks, seat: &mut MarkSeat, roots: &[SecNo], list: &mut Vec<SecNo>)
+/// Marks the roots.
+pub fn mark_roots(marks: &Marks, seat: &mut MarkSeat, roots: &[SecNo])
     requires seat { SitsAt marks.now seat.old }
     requires roots { roots.now ≡ marks.now.roots }
     ensures seat { SitsAt marks.now seat.new }
     ensures rooted { KeepsSeen roots.now seat.new.seen }
 {
     for k in 0..roots.len() {
-        mark_root(marks, seat, roots, k, list);
+        mark_root(marks, seat, roots, k);
     }
 }
 
-/// Marks a root, and lists it if it had no mark.
-fn mark_root(marks: &Marks, seat: &mut MarkSeat, roots: &[SecNo], k: usize, list: &mut Vec<SecNo>)
+/// Marks a root.
+fn mark_root(marks: &Marks, seat: &mut MarkSeat, roots: &[SecNo], k: usize)
     requires seat { SitsAt marks.now seat.old }
     requires roots { roots.now ≡ marks.now.roots }
     requires place { k < length roots.now }
@@ -32,37 +32,7 @@ fn mark_root(marks: &Marks, seat: &mut MarkSeat, roots: &[SecNo], k: usize, list
     ensures keeps { KeepsSeen seat.old.seen seat.new.seen }
     ensures known { Contains seat.new.seen (section_at roots.now k) }
 {
-    if marks.root(seat, roots, k) {
-        let _ = list.push(roots[k]);
-    }
-}
-
-/// Follows the sections of a list, to which what they lead to is added, from its start to its end, or while no more wait than a limit. The
-/// answer is the place of the first that still waits.
-pub fn follow(
-    marks: &Marks,
-    seat: &mut MarkSeat,
-    edges: &Edges,
-    list: &mut Vec<SecNo>,
-    limit: usize,
-) -> usize
-    requires seat { SitsAt marks.now seat.old }
-    requires edges { ends_of edges.now ≡ marks.now.ends }
-    ensures seat { SitsAt marks.now seat.new }
-    ensures keeps { KeepsSeen seat.old.seen seat.new.seen }
-    ensures place { result ≤ length list.new.items }
-{
-    for place in 0..edges.count() {
-        if list.len() <= place {
-            return list.len();
-        }
-        if limit < list.len() - place {
-            return place;
-        }
-        let from = list[place];
-        expand(marks, seat, edges, from, list);
-    }
-    list.len()
+    marks.root(seat, roots, k);
 }
 
 /// Marks what a section leads to, and lists what had no mark; if the number is not that of a marked section, nothing.

@@ -1,16 +1,19 @@
--- The items stand in order of their sections' numbers, and are no more than these.
-use Rattle.std.proofs.Common.{◌≡◌, ℕ, ◌+◌, ◌≤◌, Bool, true, false, if◌then◌else◌, List, [], ◌∷◌, ◌++◌, length, map, flat_map, refl, sym, ap, ◌∙◌, subst, arith}
+-- The sections that may be folded, and the items of these, stand in order of number.
+use Rattle.std.proofs.Common.{◌≡◌, ℕ, ◌+◌, ◌<◌, ◌≤◌, Bool, true, false, if◌then◌else◌, List, [], ◌∷◌, ◌++◌, All, cond, length, map, flat_map, get_or, take, refl, sym, ap, ◌∙◌, subst, arith}
 use Rattle.std.specs.Prelude.{filter, Option}
 use Rattle.std.specs.List.{range_with_len}
 use Rattle.std.specs.List.Sorted.{IsStrictlyIncreasing}
-use Rattle.std.proofs.lemmas.List.{length-map}
+use Rattle.std.proofs.lemmas.List.{length-map, map-append, take_all, take_more}
+use Rattle.std.proofs.lemmas.List.Elements.{filter-append}
 use Rattle.std.proofs.lemmas.List.FromFn.{get_or-range_with_len, length-range_with_len}
 use Rattle.std.proofs.lemmas.List.Kept.{IsStrictlyIncreasing-filter}
+use Rattle.lk_base.proofs.Loops.{range_more}
 use Rattle.lk_tables.specs.Binding.{Bindings}
 use Rattle.lk_tables.specs.Files.{File, section_total}
 use Rattle.link_sections.specs.FoldItems.{FoldItem, section_of, sections_of}
 use Rattle.link_sections.specs.PoolViews.{Merged}
-use Rattle.sec_graph.specs.Foldable.{is_foldable, item_if, item_in, item_of, items}
+use Rattle.sec_graph.specs.Foldable.{foldable, is_foldable, item_if, item_in, item_of, items}
+use Rattle.sec_graph.proofs.ListParts.{each_passed}
 
 range_rises : (n : ℕ) → IsStrictlyIncreasing (range_with_len 0 n)
 range_rises n = λ k lt.
@@ -30,7 +33,42 @@ one_section : (b : Bool) (i : FoldItem) (n : ℕ) (rest : List FoldItem) (list :
 one_section true i n rest list e f = ap (λ k. k ∷ map section_of rest) e ∙ ap (λ l. n ∷ l) f
 one_section false i n rest list e f = f
 
+pub passing_more : (test : ℕ → Bool) (n : ℕ) → filter test (range_with_len 0 (n + 1)) ≡ filter test (range_with_len 0 n) ++ cond (test n) (n ∷ []) []
+passing_more test n = ap (filter test) (range_more n) ∙ filter-append test (range_with_len 0 n) (n ∷ [])
+
+-- something of each element of a list, one after the other
+pub mapped_at : {X Y : Type 0} (f : X → Y) (xs : List X) (i : ℕ) (d : X) (old new : List Y) → i < length xs →
+    old ≡ map f (take i xs) → new ≡ old ++ f (get_or xs i d) ∷ [] → new ≡ map f (take (i + 1) xs)
+mapped_at f xs i d old new lt held push =
+    push ∙ ap (λ l. l ++ f (get_or xs i d) ∷ []) held ∙ sym (map-append f (take i xs) (get_or xs i d ∷ [])) ∙ ap (map f) (sym (take_more xs i d lt))
+
+pub mapped_all : {X Y : Type 0} (f : X → Y) (xs : List X) (i : ℕ) (list : List Y) → length xs ≤ i → list ≡ map f (take i xs) → list ≡ map f xs
+mapped_all f xs i list le held = held ∙ ap (map f) (take_all i xs le)
+
+module _ (files : List File) (b : Bindings) (kept barred : List Bool) where
+  pub foldable_rise : IsStrictlyIncreasing (foldable files b kept barred)
+  unfolding foldable
+  foldable_rise = IsStrictlyIncreasing-filter (is_foldable files b kept barred) (range_with_len 0 (section_total files)) (range_rises (section_total files))
+
+  pub foldable_within : All (λ n. n < section_total files) (foldable files b kept barred)
+  unfolding foldable
+  foldable_within = each_passed (λ n. n < section_total files) (is_foldable files b kept barred) 0 (section_total files) (λ n lt is. omega (arith, lt))
+
+one_item : {X Y : Type 0} (f : X → Y) (b : Bool) (x : X) (ys : List Y) (xs : List X) → ys ≡ map f xs → (if b then f x ∷ [] else []) ++ ys ≡ map f (if b then x ∷ xs else xs)
+one_item f true x ys xs e = ap (λ l. f x ∷ l) e
+one_item f false x ys xs e = e
+
 module _ (files : List File) (b : Bindings) (merged : List (Option Merged)) (kept barred : List Bool) where
+  each_item : (ns : List ℕ) → flat_map (item_if files b merged kept barred) ns ≡ map (item_of files b merged) (filter (is_foldable files b kept barred) ns)
+  each_item [] = refl
+  each_item (n ∷ ns) =
+      one_item (item_of files b merged) (is_foldable files b kept barred n) n (flat_map (item_if files b merged kept barred) ns) (filter (is_foldable files b kept barred) ns) (each_item ns)
+
+  -- the items are those of these sections
+  pub items_are : items files b merged kept barred ≡ map (item_of files b merged) (foldable files b kept barred)
+  unfolding items foldable
+  items_are = each_item (range_with_len 0 (section_total files))
+
   own_section : (n : ℕ) → section_of (item_of files b merged n) ≡ n
   unfolding item_in
   own_section n = refl

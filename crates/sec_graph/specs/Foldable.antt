@@ -1,6 +1,6 @@
 -- Which sections may be folded, and what decides with which others (System V gABI, "Sections": what a section's header says of it).
-use Rattle.std.specs.Prelude.{ℕ, ◌+◌, ◌-◌, ℤ, pos, ◌&&◌, ◌||◌, ◌==◌, not, bit_and, Bool, false, slice_index_or, Option, Some, None, if◌then◌else◌, List, [], ◌∷◌, ◌++◌, length, map, flat_map, take, drop, codes}
-use Rattle.std.specs.List.{range_with_len}
+use Rattle.std.specs.Prelude.{ℕ, ◌+◌, ◌-◌, ℤ, pos, ◌&&◌, ◌||◌, ◌==◌, not, bit_and, Bool, false, slice_index_or, Option, Some, None, if◌then◌else◌, List, [], ◌∷◌, ◌++◌, length, map, flat_map, take, drop, codes, slice_index}
+use Rattle.std.specs.List.{filter, range_with_len}
 use Rattle.std.specs.Option.{option_map_or}
 use Rattle.std.specs.Str.{bytes_eq}
 use Rattle.lk_base.specs.RelocKinds.{names_a_symbol}
@@ -91,6 +91,14 @@ module _ (files : List File) (b : Bindings) where
   unfoldable pub is_foldable : (kept barred : List Bool) → (section : ℕ) → Bool
   is_foldable kept barred section = is_kept kept section && (not (is_barred barred section) && is_foldable_input (input_of files b (place_of files section).file (place_of files section).index))
 
+  -- the sections that may be folded, in order of number
+  unfoldable pub foldable : (kept barred : List Bool) → List ℕ
+  foldable kept barred = filter (is_foldable kept barred) (range_with_len 0 (section_total files))
+
+-- the bytes of a section
+abbrev pub contents_at : List File → (section : ℕ) → List ℕ
+contents_at files section = contents (file_at files (place_of files section).file) (place_of files section).index
+
 module _ (files : List File) (b : Bindings) (merged : List (Option Merged)) where
   -- relocation r of file f; RELAX and ALIGN name no symbol
   unfoldable pub fold_target : (f : ℕ) → Reloc → Option Target
@@ -145,6 +153,10 @@ module _ (files : List File) (b : Bindings) (merged : List (Option Merged)) wher
 
   abbrev pub item_of : (section : ℕ) → FoldItem
   item_of section = item_in section (place_of files section).file (place_of files section).index
+
+  -- the section at a place of a list
+  abbrev pub item_there : (sections : List ℕ) → (place : ℕ) → FoldItem
+  item_there sections place = item_of (slice_index sections place)
 
   -- a section, if it may be folded
   abbrev pub item_if : (kept barred : List Bool) → (section : ℕ) → List FoldItem

@@ -1,6 +1,6 @@
 //! The sections that may be folded.
 
-ghost use Rattle.std.specs.Prelude.{◌≡◌, ◌<◌, ◌^◌, ◌++◌, length, map, IfOk, OnOk};
+ghost use Rattle.std.specs.Prelude.{◌≡◌, ◌<◌, ◌^◌, ◌∷◌, ◌++◌, [], All, if◌then◌else◌, length, map, IfOk, OnOk};
 ghost use Rattle.std.specs.List.Sorted.{IsStrictlyIncreasing};
 ghost use Rattle.lk_tables.specs.BindingView.{binding_view};
 ghost use Rattle.lk_tables.specs.Files.{file_at, relocs_at, section_total};
@@ -60,6 +60,94 @@ pub fn items<'a>(
     Ok(list)
 }
 
+/// The numbers of the sections that may be folded, in order: those of `items`. The only error is out of memory.
+pub fn foldable(
+    alloc: Global,
+    tables: &Tables,
+    binding: &Binding,
+    kept: &[bool],
+    barred: &[bool],
+) -> Result<Vec<SecNo>, AllocError>
+    ensures sections { IfOk result (λ list. list.items ≡ spec.foldable (files_of tables.now) (binding_view binding.now) kept.now barred.now) }
+    ensures within { IfOk result (λ list. All (λ n. n < section_total (files_of tables.now)) list.items) }
+    ensures order { IfOk result (λ list. IsStrictlyIncreasing list.items) }
+{
+    tables.is_few();
+    let mut list = Vec::with_capacity(alloc, tables.section_count())?;
+    for section in 0..tables.section_count() {
+        push_foldable(&mut list, tables, binding, kept, barred, section as u32)?;
+    }
+    Ok(list)
+}
+
+/// Adds the number of a section, if that may be folded.
+fn push_foldable(
+    list: &mut Vec<SecNo>,
+    tables: &Tables,
+    binding: &Binding,
+    kept: &[bool],
+    barred: &[bool],
+    section: SecNo,
+) -> Result<(), AllocError>
+    requires { section < section_total (files_of tables.now) }
+    ensures { OnOk result (list.new.items ≡ list.old.items ++ (if spec.is_foldable (files_of tables.now) (binding_view binding.now) kept.now barred.now section then section ∷ [] else [])) }
+{
+    if is_foldable(tables, binding, kept, barred, section) {
+        list.push(section)?;
+    }
+    Ok(())
+}
+
+/// The contents of sections, lent. The only error is out of memory.
+pub fn contents_of<'a>(
+    alloc: Global,
+    tables: &Tables<'a>,
+    sections: &[SecNo],
+) -> Result<Vec<&'a [u8]>, AllocError>
+    requires { All (λ n. n < section_total (files_of tables.now)) sections.now }
+    ensures { IfOk result (λ list. map (λ (text : _). text.now) list.items ≡ map (spec.contents_at (files_of tables.now)) sections.now) }
+{
+    let mut list = Vec::with_capacity(alloc, sections.len())?;
+    for i in 0..sections.len() {
+        list.push(section_contents(tables, sections[i]))?;
+    }
+    Ok(list)
+}
+
+/// The bytes of the section of a number.
+fn section_contents<'a>(tables: &Tables<'a>, section: SecNo) -> &'a [u8]
+    requires { section < section_total (files_of tables.now) }
+    ensures { result.now ≡ spec.contents_at (files_of tables.now) section }
+{
+    let place = tables.place_of(section);
+    contents(tables.file(place.file), place.index)
+}
+
+/// What decides of some sections with which others each is folded, by their places among sections that may be, in order of the places. The
+/// only error is out of memory.
+pub fn items_at<'a>(
+    alloc: Global,
+    tables: &Tables<'a>,
+    binding: &Binding,
+    pools: &Pools,
+    frames: &Frames,
+    sections: &[SecNo],
+    places: &[u32],
+) -> Result<Vec<FoldItem<'a>>, AllocError>
+    requires frames { AreFramesOf (files_of tables.now) (binding_view binding.now) frames.now }
+    requires sections { All (λ n. n < section_total (files_of tables.now)) sections.now }
+    requires places { All (λ k. k < length sections.now) places.now }
+    ensures { IfOk result (λ list. item_views list.items ≡ map (spec.item_there (files_of tables.now) (binding_view binding.now) (merged_views pools.now) sections.now) places.now) }
+{
+    let mut list = Vec::with_capacity(alloc, places.len())?;
+    for i in 0..places.len() {
+        let section = sections[places[i] as usize];
+        let item = section_item(alloc, tables, binding, pools, frames, section)?;
+        list.push(item)?;
+    }
+    Ok(list)
+}
+
 /// Adds a section, if it may be folded.
 fn push_item<'a>(
     list: &mut Vec<FoldItem<'a>>,
@@ -79,8 +167,26 @@ fn push_item<'a>(
     if !is_foldable(tables, binding, kept, barred, section) {
         return Ok(());
     }
+    let item = section_item(alloc, tables, binding, pools, frames, section)?;
+    list.push(item)?;
+    Ok(())
+}
+
+/// The section of a number.
+fn section_item<'a>(
+    alloc: Global,
+    tables: &Tables<'a>,
+    binding: &Binding,
+    pools: &Pools,
+    frames: &Frames,
+    section: SecNo,
+) -> Result<FoldItem<'a>, AllocError>
+    requires section { section < section_total (files_of tables.now) }
+    requires frames { AreFramesOf (files_of tables.now) (binding_view binding.now) frames.now }
+    ensures { IfOk result (λ item. item_view item ≡ spec.item_of (files_of tables.now) (binding_view binding.now) (merged_views pools.now) section) }
+{
     let place = tables.place_of(section);
-    let item = item_in(
+    item_in(
         alloc,
         tables,
         binding,
@@ -89,9 +195,7 @@ fn push_item<'a>(
         section,
         place.file,
         place.index,
-    )?;
-    list.push(item)?;
-    Ok(())
+    )
 }
 
 /// Whether a section may be folded.

@@ -10,7 +10,7 @@
 //! start or end symbols refer, `frame_relocs` reads unwind records and `frame_ends` lists the sections that they name, `ends` joins these with
 //! what relocations name, `graph` does so for all files, `walks` has the members of a group lead to one another in one step, and `undefined_symbols` finds what a kept section refers to though nothing defines it;
 //! `needed_frames` says which unwind records count as well, and `prevailing` what names stand for without a look into other files.
-//! `fold_lists` lists what may be folded, with what its relocations refer to, `fold_frames` the unwind records of each, and `taken` finds the
+//! `fold_lists` lists which sections may be folded, and of all or of some of them what their relocations refer to, `fold_frames` the unwind records of each, and `taken` finds the
 //! sections whose address is taken.
 #![tactic(auto)]
 
@@ -30,7 +30,7 @@ mod taken;
 mod undefined_symbols;
 mod walks;
 
-pub use fold_lists::items;
+pub use fold_lists::{contents_of, foldable, items, items_at};
 pub use graph::edges;
 pub use taken::{address_taken, mark_sections};
 pub use undefined_symbols::undefined;

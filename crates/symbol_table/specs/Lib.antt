@@ -3,5 +3,6 @@ pub mod NamedViews
 pub mod Noted
 pub mod Outputs
 pub mod Repeats
+pub mod Seen
 pub mod SymbolTable
 pub mod SymbolViews

@@ -1,6 +1,6 @@
 //! The entry of one symbol of a file.
 
-ghost use Rattle.std.specs.Prelude.{◌≡◌, ◌-◌, ◌<◌, length};
+ghost use Rattle.std.specs.Prelude.{◌≡◌, ◌⊎◌, ℕ, ◌-◌, ◌<◌, length, slice_index_or, None, Some};
 ghost use Rattle.lk_tables.specs.Files.{file_at, symbol_at};
 ghost use Rattle.lk_tables.specs.declared.bounds.Bound.TheVariants.{InSection, Linker};
 ghost use Rattle.link_sections.specs.InputViews.{input_view};
@@ -8,6 +8,8 @@ ghost use Rattle.link_sections.specs.Leaders as leaders;
 ghost use Rattle.link_sections.specs.Views.{binding_in, files_in, laid_in, leaders_in};
 ghost use Rattle.symbol_table.specs.Noted.{AreNoted, noted};
 ghost use Rattle.symbol_table.specs.Outputs.{place_in};
+ghost use Rattle.symbol_table.specs.Seen.{AreSeen};
+ghost use Rattle.symbol_table.specs.declared.symbols.TablePlace.{TablePlace as TablePlaceOf};
 ghost use Rattle.symbol_table.specs.SymbolTable as spec;
 ghost use Rattle.symbol_table.specs.SymbolViews.{symbol_view, views_if};
 
@@ -21,18 +23,22 @@ use lk_tables::{
 };
 use symbol_addresses::{leader_of, offset_in, symbol_address};
 
-/// The entry of a symbol of a file, if it has one.
+/// The entry of a symbol of a file, if it has one. What is noted of the file's sections is where they stand, as far as symbols in them were
+/// found.
 #[tactic(auto, unfolding(crate::specs::SymbolTable::entry_of, crate::specs::SymbolTable::entry_by))]
 pub fn entry_of<'t, 'a>(
     view: &View<'t, 'a>,
     outputs: &Outputs,
+    seen: &mut Vec<Option<TablePlace>>,
     file: FileNo,
     symbol: SymNo,
 ) -> Option<TableSymbol<'a>>
     requires noted { AreNoted 1 (laid_in view.now).outputs (noted outputs.now.known) }
     requires file { file < length (files_in view.now) }
     requires symbol { symbol < length (file_at (files_in view.now) file).head.symbols }
-    ensures { views_if result ≡ spec.entry_of (files_in view.now) (binding_in view.now) view.now.kept.now (leaders_in view.now) (laid_in view.now) file symbol }
+    requires seen { AreSeen (files_in view.now) (binding_in view.now) (laid_in view.now) file seen.old.items }
+    ensures entry { views_if result ≡ spec.entry_of (files_in view.now) (binding_in view.now) view.now.kept.now (leaders_in view.now) (laid_in view.now) file symbol }
+    ensures seen { AreSeen (files_in view.now) (binding_in view.now) (laid_in view.now) file seen.new.items }
 {
     let own = view.tables.file(file).symbol(symbol as usize);
     if !is_visible(&own) {
@@ -40,7 +46,7 @@ pub fn entry_of<'t, 'a>(
     }
     match view.binding.bound(view.tables, file, symbol) {
         Bound::InSection { section, offset } => in_section(
-            view, outputs, file, symbol, section, offset,
+            view, outputs, seen, file, symbol, section, offset,
         ),
         Bound::Number(_) => absolute(view, file, symbol),
         Bound::Linker(number) => of_linker(view, file, symbol, number),
@@ -53,6 +59,7 @@ pub fn entry_of<'t, 'a>(
 fn in_section<'t, 'a>(
     view: &View<'t, 'a>,
     outputs: &Outputs,
+    seen: &mut Vec<Option<TablePlace>>,
     file: FileNo,
     symbol: SymNo,
     section: SecNo,
@@ -61,7 +68,9 @@ fn in_section<'t, 'a>(
     requires noted { AreNoted 1 (laid_in view.now).outputs (noted outputs.now.known) }
     requires file { file < length (files_in view.now) }
     requires symbol { symbol < length (file_at (files_in view.now) file).head.symbols }
-    ensures { views_if result ≡ spec.entry_by (files_in view.now) (binding_in view.now) view.now.kept.now (leaders_in view.now) (laid_in view.now) (InSection section offset) file symbol }
+    requires seen { AreSeen (files_in view.now) (binding_in view.now) (laid_in view.now) file seen.old.items }
+    ensures entry { views_if result ≡ spec.entry_by (files_in view.now) (binding_in view.now) view.now.kept.now (leaders_in view.now) (laid_in view.now) (InSection section offset) file symbol }
+    ensures seen { AreSeen (files_in view.now) (binding_in view.now) (laid_in view.now) file seen.new.items }
 {
     if !is_taken(view, file, symbol) {
         return None;
@@ -69,7 +78,7 @@ fn in_section<'t, 'a>(
     if !is_kept(view.kept, section) {
         return None;
     }
-    Some(kept_symbol(view, outputs, file, symbol, section, offset))
+    Some(kept_symbol(view, outputs, seen, file, symbol, section, offset))
 }
 
 /// The entry of a symbol in a section, or in the room that it gets.
@@ -77,6 +86,7 @@ fn in_section<'t, 'a>(
 fn kept_symbol<'t, 'a>(
     view: &View<'t, 'a>,
     outputs: &Outputs,
+    seen: &mut Vec<Option<TablePlace>>,
     file: FileNo,
     symbol: SymNo,
     section: SecNo,
@@ -84,12 +94,61 @@ fn kept_symbol<'t, 'a>(
 ) -> TableSymbol<'a>
     requires noted { AreNoted 1 (laid_in view.now).outputs (noted outputs.now.known) }
     requires file { file < length (files_in view.now) }
-    ensures { symbol_view result ≡ spec.own_symbol (files_in view.now) (binding_in view.now) view.now.kept.now (leaders_in view.now) (laid_in view.now) file symbol (spec.size_in (files_in view.now) (binding_in view.now) view.now.kept.now (leaders_in view.now) (laid_in view.now) file section offset (symbol_at (file_at (files_in view.now) file) symbol)) (place_in (laid_in view.now) (spec.section_in (files_in view.now) (binding_in view.now) file section)) }
+    requires seen { AreSeen (files_in view.now) (binding_in view.now) (laid_in view.now) file seen.old.items }
+    ensures seen { AreSeen (files_in view.now) (binding_in view.now) (laid_in view.now) file seen.new.items }
+    ensures entry { symbol_view result ≡ spec.own_symbol (files_in view.now) (binding_in view.now) view.now.kept.now (leaders_in view.now) (laid_in view.now) file symbol (spec.size_in (files_in view.now) (binding_in view.now) view.now.kept.now (leaders_in view.now) (laid_in view.now) file section offset (symbol_at (file_at (files_in view.now) file) symbol)) (place_in (laid_in view.now) (spec.section_in (files_in view.now) (binding_in view.now) file section)) }
 {
     let input = section_in(view, file, section);
     let size = size_in(view, file, symbol, section, offset, input.size);
-    let place = outputs.place_of(view.layout, &input);
+    let place = place_noted(view, outputs, seen, file, section, &input);
     own_symbol(view, file, symbol, size, place)
+}
+
+/// Where a section of a file stands. It is found by its name once, and then noted by the section's index, since many symbols may stand in a
+/// section of a long name.
+#[tactic(auto, unfolding(link_sections::specs::LaidOut::with_contents))]
+fn place_noted(
+    view: &View,
+    outputs: &Outputs,
+    seen: &mut Vec<Option<TablePlace>>,
+    file: FileNo,
+    section: SecNo,
+    input: &InputSection,
+) -> TablePlace
+    requires noted { AreNoted 1 (laid_in view.now).outputs (noted outputs.now.known) }
+    requires file { file < length (files_in view.now) }
+    requires input { input_view input.now ≡ spec.section_in (files_in view.now) (binding_in view.now) file section }
+    requires seen { AreSeen (files_in view.now) (binding_in view.now) (laid_in view.now) file seen.old.items }
+    ensures seen { AreSeen (files_in view.now) (binding_in view.now) (laid_in view.now) file seen.new.items }
+    ensures place { result ≡ place_in (laid_in view.now) (spec.section_in (files_in view.now) (binding_in view.now) file section) }
+{
+    let index = (section as usize).saturating_sub(view.tables.section_no(file as usize, 0));
+    if let Some(place) = seen_at(seen, index) {
+        return place;
+    }
+    let place = outputs.place_of(view.layout, input);
+    note_place(seen, index, place);
+    place
+}
+
+/// What is noted of the section of an index.
+fn seen_at(seen: &Vec<Option<TablePlace>>, index: usize) -> Option<TablePlace>
+    ensures { result ≡ slice_index_or seen.now.items index None }
+{
+    match seen.get(index) {
+        Some(place) => *place,
+        None => None,
+    }
+}
+
+/// Notes where the section of an index stands, if there is room for it.
+fn note_place(seen: &mut Vec<Option<TablePlace>>, index: usize, place: TablePlace)
+    ensures { (i : ℕ) (p : TablePlaceOf) → slice_index_or seen.new.items i None ≡ Some p → (slice_index_or seen.old.items i None ≡ Some p) ⊎ ((i ≡ index) × (p ≡ place)) }
+{
+    if index >= seen.len() {
+        return;
+    }
+    seen[index] = Some(place);
 }
 
 /// That of a symbol that stands for one of the linker's. The start of `.eh_frame` has no name, so a symbol that stands for it has an entry of

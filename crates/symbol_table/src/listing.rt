@@ -18,7 +18,7 @@ use crate::sorting::in_order;
 use crate::symbols::TableSymbol;
 use link_sections::View;
 use lk_base::{FileNo, LinkStop};
-use lk_tables::Tables;
+use lk_tables::{Tables, section_count};
 use std::alloc::{AllocError, Global};
 use std::ops::Range;
 use std::thread::Threads;
@@ -105,7 +105,7 @@ fn entries_of<'t, 'a>(
     view.tables.is_few();
     let mut list = Vec::new(alloc);
     for file in piece.start..piece.end {
-        push_file(&mut list, view, outputs, file as u32)?;
+        push_file(alloc, &mut list, view, outputs, file as u32)?;
     }
     Ok(list)
 }
@@ -113,6 +113,7 @@ fn entries_of<'t, 'a>(
 /// Those of one file, if it takes part.
 #[tactic(auto, unfolding(crate::specs::SymbolTable::entries_in))]
 fn push_file<'t, 'a>(
+    alloc: Global,
     list: &mut Vec<Named<'a>>,
     view: &View<'t, 'a>,
     outputs: &Outputs,
@@ -125,11 +126,12 @@ fn push_file<'t, 'a>(
     if !view.tables.file(file).is_live() {
         return Ok(());
     }
-    push_symbols(list, view, outputs, file)
+    push_symbols(alloc, list, view, outputs, file)
 }
 
 /// Those of the symbols of a file.
 fn push_symbols<'t, 'a>(
+    alloc: Global,
     list: &mut Vec<Named<'a>>,
     view: &View<'t, 'a>,
     outputs: &Outputs,
@@ -140,8 +142,13 @@ fn push_symbols<'t, 'a>(
     ensures { OnOk result (named_views list.new.items ≡ named_views list.old.items ++ flat_map (spec.entry_of (files_in view.now) (binding_in view.now) view.now.kept.now (leaders_in view.now) (laid_in view.now) file) (range_with_len 0 (length (file_at (files_in view.now) file).head.symbols))) }
 {
     view.tables.is_few();
+    let mut seen = Vec::new(alloc);
+    seen.resize(section_count(view.tables.file(file)), None)?;
     for symbol in 0..view.tables.file(file).symbols().len() {
-        push_if(list, entry_of(view, outputs, file, symbol as u32))?;
+        push_if(
+            list,
+            entry_of(view, outputs, &mut seen, file, symbol as u32),
+        )?;
     }
     Ok(())
 }

@@ -3,7 +3,9 @@
 
 mod altered;
 mod archives;
+mod by_blocks;
 mod collected;
+mod far_calls;
 mod faults;
 mod generated;
 mod groups;

@@ -1,14 +1,16 @@
 //! Worked examples over `run`, each with its words and what it has to leave. All the inputs are at hand in each, and each runs with several
-//! numbers of workers.
+//! numbers of workers. `piped` has those of `run_piped`, and `held_load` a load that waits for one of its parsers.
 
 mod aligned;
 mod folded;
+mod held_load;
 mod kinds;
 mod linker_symbols;
 mod maps;
 mod merged;
 mod orders;
 mod pairs;
+mod piped;
 mod symbols;
 mod thread_data;
 mod unwound;

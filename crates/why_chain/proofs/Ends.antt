@@ -1,7 +1,9 @@
 -- The first end of a pair, and where a relocation leads, as code finds them.
-use Rattle.std.proofs.Common.{◌≡◌, ℕ, ◌+◌, ◌-◌, ◌<◌, ◌≤◌, not, Bool, true, false, Option, Some, None, List, get_or, find, option_map, ap, ◌∙◌, arith}
-use Rattle.std.specs.List.{range_with_len}
+use Rattle.std.proofs.Common.{◌≡◌, ℕ, ◌+◌, ◌-◌, ◌<◌, ◌≤◌, eqb, not, cond, Bool, true, false, Option, Some, None, List, [], ◌∷◌, ◌++◌, length, take, get_or, find, option_map, ap, ◌∙◌, subst, arith}
+use Rattle.std.specs.List.{list_any, range_with_len}
+use Rattle.std.specs.Prelude.{IfNone, OnSome}
 use Rattle.std.proofs.lemmas.Bool.{cond-false, cond-true}
+use Rattle.std.proofs.lemmas.List.{length-take, take-append-le}
 use Rattle.std.proofs.lemmas.List.FromFn.{get_or-range_with_len, length-range_with_len}
 use Rattle.lk_base.proofs.Loops.{range_at}
 use Rattle.lk_tables.proofs.Finding.{find_nothing, first_number}
@@ -11,7 +13,7 @@ use Rattle.why_chain.specs.declared.chains.ApartEnd.TheVariants as ends
 use Rattle.why_chain.specs.declared.pairs.Met.{Met}
 use Rattle.why_chain.specs.declared.pairs.Pair.{Pair}
 use Rattle.why_chain.specs.Aparts.{are_alike, can_match, first_end, first_target, next_pair, no_match, reloc_count, target_of}
-use Rattle.why_chain.specs.Meetings.{met_all, met_one, new_pair}
+use Rattle.why_chain.specs.Meetings.{code_of, codes_of, met_all, met_by, met_one, new_pair}
 
 no_number : (p : ℕ → Bool) (n : ℕ) → ((k : ℕ) → k < n → p k ≡ false) → find p (range_with_len 0 n) ≡ None
 no_number p n fails = find_nothing p (range_with_len 0 n) 0 (λ i less.
@@ -53,3 +55,21 @@ met_on n place new k count queue less = ap (λ ks. met_all n place new ks queue)
 
 pub met_end : (n place : ℕ) (new : ℕ → Option Pair) (k count : ℕ) (queue : List Met) → count ≤ k → met_all n place new (range_with_len k (count - k)) queue ≡ queue
 met_end n place new k count queue past = let none : count - k ≡ 0 = omega arith in ap (λ m. met_all n place new (range_with_len k m) queue) none
+
+-- what stands in the queue at first stays at its front
+front_by : (old queue : List Met) (m : Met) (b : Bool) → take (length old) queue ≡ old → take (length old) (cond b queue (queue ++ m ∷ [])) ≡ old
+front_by old queue m true e = e
+front_by old queue m false e =
+    let some : length old ≤ length queue = omega (arith, length-take (length old) queue, ap length e) in
+    take-append-le (length old) queue (m ∷ []) some ∙ e
+
+pub front_one : (n place k : ℕ) (old queue : List Met) (o : Option Pair) → take (length old) queue ≡ old → take (length old) (met_one n place k queue o) ≡ old
+front_one n place k old queue None e = e
+front_one n place k old queue (Some p) e = front_by old queue (met_by place k p) (list_any (eqb (code_of n p)) (codes_of n queue)) e
+
+-- what is said where there is something, or nothing, once it is known which
+pub on_some : {T : Type 0} (P : Type 0) (o : Option T) (x : T) → o ≡ Some x → OnSome o P → P
+on_some {T} P o x is holds = let Q : Option T → Type 0 = λ y. OnSome y P in subst Q is holds
+
+pub if_none : {T : Type 0} (P : Type 0) (o : Option T) → o ≡ None → IfNone o P → P
+if_none {T} P o is holds = let Q : Option T → Type 0 = λ y. IfNone y P in subst Q is holds

@@ -1,20 +1,21 @@
 -- Where no pair that is met has an end, the pairs are a congruence.
-use Rattle.std.proofs.Common.{◌≡◌, ℕ, ◌<◌, ◌≤◌, true, false, Option, Some, None, is_some, List, length, map, Contains, refl, sym, ap, ◌∙◌, subst, inl, inr, arith}
+use Rattle.std.proofs.Common.{◌≡◌, ℕ, ◌<◌, ◌≤◌, true, false, Option, Some, None, is_some, List, length, get_or, map, Contains, refl, sym, ap, ◌∙◌, subst, inl, inr, arith}
 use Rattle.std.specs.List.Sorted.{IsStrictlyIncreasing}
-use Rattle.std.proofs.lemmas.Bool.{cases_Bool, not-false, or_cases, true≢false}
+use Rattle.std.proofs.lemmas.Bool.{cases_Bool, false_from_ne_true, not-false, or_cases, true≢false}
 use Rattle.std.proofs.lemmas.List.{get_or_default}
 use Rattle.link_sections.specs.declared.targets.Target.TheVariants.{Section}
 use Rattle.link_sections.specs.FoldItems.{FoldItem, sections_of}
-use Rattle.icf_part.specs.Folding.{AreFolded, Fits, IsCongruence, Matches, StandsFor, item_at, key_of, Pair as ItemPair, pair as item_pair}
+use Rattle.icf_part.specs.Folding.{AreFolded, Fits, IsCongruence, Matches, StandsFor, classes, item_at, key_of, Pair as ItemPair, pair as item_pair}
 use Rattle.icf_part.specs.Leaders.{same_target}
 use Rattle.icf_part.proofs.Deciding.{key_Decides, target_Decides}
-use Rattle.icf_part.proofs.Paired.{from_map, in_map}
+use Rattle.icf_part.proofs.Paired.{classes_have, from_map, in_map}
 use Rattle.why_chain.specs.declared.pairs.Met.{Met}
 use Rattle.why_chain.specs.declared.pairs.Pair.{Pair}
-use Rattle.why_chain.specs.Aparts.{Chain, can_match, is_apart, next_pair, target_of, two_items}
+use Rattle.why_chain.specs.Aparts.{Chain, all_chains, apart_chain, can_match, is_apart, next_pair, target_of, two_items}
 use Rattle.why_chain.specs.Meetings.{no_met}
 use Rattle.why_chain.proofs.Apartness.{no_congruence}
 use Rattle.why_chain.proofs.FirstChains.{new_there, no_first}
+use Rattle.why_chain.proofs.Firsts.{find_none}
 use Rattle.why_chain.proofs.Meets.{met_at, pair_at}
 use Rattle.why_chain.proofs.Pairing.{items_tell, never_same, place_item}
 use Rattle.why_chain.proofs.Parting.{IsApartAt}
@@ -112,3 +113,16 @@ module _ (items : List FoldItem) (a b : ℕ) (queue : List Met) (place : ℕ) (h
 pub apart_or_folded : (items : List FoldItem) (a b : ℕ) (c : Chain) → IsStrictlyIncreasing (sections_of items) → is_apart items (two_items a b) c ≡ true → StandsFor items a b → ⊥
 apart_or_folded items a b c order e (inl same) = true≢false (sym e ∙ never_same items c.last c.vias (two_items a b) same)
 apart_or_folded items a b c order e (inr folded) = no_congruence items order folded.pairs folded.congruence c.last c.vias (two_items a b) e (inl folded.listed)
+
+-- so no chain shows it of two that stand for one another
+pub none_apart : (items : List FoldItem) (a b : ℕ) → IsStrictlyIncreasing (sections_of items) → StandsFor items a b → apart_chain items a b ≡ None
+unfolding apart_chain
+none_apart items a b order stands =
+    find_none (is_apart items (two_items a b)) (all_chains items) (λ (c : Chain). false_from_ne_true (is_apart items (two_items a b) c) (λ e.
+    apart_or_folded items a b c order e stands))
+
+-- nor of two that have one leader, where those of one leader are a congruence
+pub one_leader : (items : List FoldItem) (leaders : List ℕ) (a b : ℕ) → IsStrictlyIncreasing (sections_of items) → IsCongruence items (classes leaders)
+    → a < length leaders → b < length leaders → get_or leaders a 0 ≡ get_or leaders b 0 → apart_chain items a b ≡ None
+one_leader items leaders a b order congruence la lb same =
+    none_apart items a b order (inr (record { pairs = classes leaders; congruence = congruence; listed = classes_have leaders a b la lb same }))

@@ -1,5 +1,5 @@
 -- Chains as lists that lead from a pair, the first end of a pair, and the first chain of all.
-use Rattle.std.proofs.Common.{◌≡◌, ◌⊎◌, ℕ, zero, suc, ◌+◌, ◌*◌, ◌<◌, ◌≤◌, ◌&&◌, not, ltb, Bool, true, false, cond, Option, Some, None, is_some, List, [], ◌∷◌, ◌++◌, length, map, flat_map, find, get_or, option_map, option_and_then, All, refl, sym, ap, ◌∙◌, subst, inl, inr, lt-ltb, ltb-true, le-ltb, arith}
+use Rattle.std.proofs.Common.{◌≡◌, ◌⊎◌, ℕ, zero, suc, ◌+◌, ◌*◌, ◌<◌, ◌≤◌, ◌&&◌, not, ltb, Bool, true, false, cond, Option, Some, None, IfSome, is_some, List, [], ◌∷◌, ◌++◌, length, map, flat_map, find, get_or, option_map, option_and_then, All, refl, sym, ap, ◌∙◌, subst, inl, inr, lt-ltb, ltb-true, le-ltb, arith}
 use mathlib.Core.Path.{fun_ext}
 use Rattle.std.specs.List.{range_with_len}
 use Rattle.std.specs.Option.{option_or}
@@ -22,7 +22,7 @@ use Rattle.why_chain.specs.Meetings.{new_pair}
 use Rattle.why_chain.specs.ShortLists.{ComesBefore, NotAfter, short_lists}
 use Rattle.why_chain.proofs.Firsts.{find_mapped, find_none, first_short}
 use Rattle.why_chain.proofs.Orders.{comes_append, comes_behind, comes_or_same, no_longer}
-use Rattle.why_chain.proofs.Pairing.{equal_lead, leads_tell, never_same, next_there}
+use Rattle.why_chain.proofs.Pairing.{equal_lead, leads_tell, never_same, next_inside, next_there}
 use Rattle.why_chain.proofs.Searching.{after}
 
 -- what `find` tells over numbers
@@ -225,6 +225,12 @@ module _ (items : List FoldItem) where
   pub new_tells : (p q : Pair) (k : ℕ) → new_pair items p k ≡ Some q → next_pair items p k ≡ Some q
   unfolding new_pair
   new_tells p q k e = not_none (same_target (target_of items p.one k) (target_of items p.two k)) (next_pair items p k) q e
+
+  pub new_within : (p : Pair) (k n : ℕ) → length items ≡ n → (o : Option Pair) → o ≡ new_pair items p k → IfSome o (λ q. (q.one < n) × (q.two < n))
+  new_within p k n wide None e = tt
+  new_within p k n wide (Some q) e =
+      let inside = next_inside items p q k (new_tells p q k (sym e)) in
+      (omega (arith, inside.0, wide), omega (arith, inside.1, wide))
 
   pub new_there : (p q : Pair) (k : ℕ) → same_target (target_of items p.one k) (target_of items p.two k) ≡ false → next_pair items p k ≡ Some q → new_pair items p k ≡ Some q
   unfolding new_pair

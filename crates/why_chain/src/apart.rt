@@ -1,6 +1,6 @@
 //! Why two items are not folded.
 
-ghost use Rattle.std.specs.Prelude.{◌≡◌, ◌<◌, ◌↔◌, false, length, is_some, option_map, slice_index_or, IfOk, IfSome};
+ghost use Rattle.std.specs.Prelude.{◌≡◌, ◌<◌, ◌*◌, ◌↔◌, false, length, is_some, option_map, slice_index_or, IfOk, IfSome};
 ghost use Rattle.std.specs.List.Sorted.{IsStrictlyIncreasing};
 ghost use Rattle.link_sections.specs.FoldItems.{item_views, sections_of};
 ghost use Rattle.icf_part.specs.Folding.{StandsFor};
@@ -8,7 +8,7 @@ ghost use Rattle.why_chain.specs.Aparts.{IsLeastApart, apart_chain, chain_view};
 ghost use Rattle.why_chain.specs.Meetings.{no_met, pair_met};
 
 use crate::chains::ApartChain;
-use crate::meetings::{first_end, meet, meet_all};
+use crate::meetings::{meet, meet_or_end};
 use crate::pairs::{Met, Pair};
 use crate::paths::vias_to;
 use indexmap::IndexSet;
@@ -22,6 +22,9 @@ const ITEM_END: usize = 1 << 31;
 /// of both of the pair before, whose last pair differs. Of all such lists with the fewest pairs it is the first, by the
 /// numbers of the relocations. `None` exactly where the two are folded, or are one. Items are given in order of their sections' numbers. The only error is out of memory, which 2^31 items or more are answered
 /// with.
+///
+/// Two cycles of p and of q items that are folded meet p * q pairs where p and q have no common factor. Who knows which items are folded
+/// asks it only of others; who does not can ask [`why_apart_within`] first.
 pub fn why_apart(
     alloc: Global,
     items: &[FoldItem],
@@ -34,6 +37,29 @@ pub fn why_apart(
     ensures chain { IfOk result (λ chain. option_map chain_view chain ≡ apart_chain (item_views items.now) a b) }
     ensures least { IfOk result (λ chain. IfSome chain (λ c. IsLeastApart (item_views items.now) a b (chain_view c))) }
     ensures given { IfOk result (λ chain. (is_some chain ≡ false) ↔ StandsFor (item_views items.now) a b) }
+{
+    let found = why_apart_within(alloc, items, a, b, usize::MAX)?;
+    let Some(chain) = found else {
+        return Err(AllocError);
+    };
+    Ok(chain)
+}
+
+/// The same, unless more than `most` pairs would be compared for it, which are all different: then `None`.
+pub fn why_apart_within(
+    alloc: Global,
+    items: &[FoldItem],
+    a: usize,
+    b: usize,
+    most: usize,
+) -> Result<Option<Option<ApartChain>>, AllocError>
+    requires order { IsStrictlyIncreasing (sections_of (item_views items.now)) }
+    requires one { a < length items.now }
+    requires two { b < length items.now }
+    ensures chain { IfOk result (λ found. IfSome found (λ chain. option_map chain_view chain ≡ apart_chain (item_views items.now) a b)) }
+    ensures least { IfOk result (λ found. IfSome found (λ chain. IfSome chain (λ c. IsLeastApart (item_views items.now) a b (chain_view c)))) }
+    ensures given { IfOk result (λ found. IfSome found (λ chain. (is_some chain ≡ false) ↔ StandsFor (item_views items.now) a b)) }
+    ensures many { IfOk result (λ found. is_some found ≡ false → most < length items.now * length items.now) }
 {
     if items.len() >= ITEM_END {
         return Err(AllocError);
@@ -50,15 +76,18 @@ pub fn why_apart(
     )?;
     let mut place: usize = 0;
     while place < queue.len() {
-        let pair = pair_at(queue.as_slice(), place);
-        if let Some(last) = first_end(items, pair) {
-            let vias = vias_to(alloc, queue.as_slice(), place)?;
-            return Ok(Some(ApartChain { vias, last }));
+        if place == most {
+            return Ok(None);
         }
-        meet_all(items, pair, place, &mut queue, &mut known)?;
+        let pair = pair_at(queue.as_slice(), place);
+        let end = meet_or_end(items, pair, place, &mut queue, &mut known)?;
+        if let Some(last) = end {
+            let vias = vias_to(alloc, queue.as_slice(), place)?;
+            return Ok(Some(Some(ApartChain { vias, last })));
+        }
         place += 1;
     }
-    Ok(None)
+    Ok(Some(None))
 }
 
 /// The pair at a place of a queue.

@@ -12,7 +12,8 @@
 //! (`paths`). For two sections the entries are pairs of items; a pair is met through one relocation of both of the pair before, in order of
 //! these (`meetings`), and each is numbered by one word, under which a table knows it. Relocations with equal targets are passed over,
 //! since no section differs from itself. The search ends at the first pair whose keys differ or of which the targets of one relocation
-//! can't match (`alike`, `targets`); where it ends without one, the pairs that were met are a congruence. `check_live` and `check_apart`
+//! can't match (`alike`, `targets`); where it ends without one, the pairs that were met are a congruence. `why_apart_within` gives up after so
+//! many pairs. `check_live` and `check_apart`
 //! test a given list, of any length, without memory (`checks`).
 #![tactic(auto)]
 
@@ -27,7 +28,7 @@ mod paths;
 mod targets;
 mod visits;
 
-pub use apart::why_apart;
+pub use apart::{why_apart, why_apart_within};
 pub use chains::{ApartChain, ApartEnd, LiveChain};
 pub use checks::{check_apart, check_live};
 pub use live::why_live;

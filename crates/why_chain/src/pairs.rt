@@ -1,6 +1,6 @@
 //! Pairs of items, and where their relocations lead.
 
-ghost use Rattle.std.specs.Prelude.{◌≡◌, ◌<◌, ◌==◌, ◌&&◌, Some, length, IfSome};
+ghost use Rattle.std.specs.Prelude.{◌≡◌, ◌<◌, ◌==◌, ◌&&◌, Some, is_some, length, IfSome};
 ghost use Rattle.std.specs.List.Sorted.{IsStrictlyIncreasing};
 ghost use Rattle.std.specs.Ordering.{int_eq};
 ghost use Rattle.link_sections.specs.declared.targets.Target.TheVariants as targets;
@@ -141,20 +141,25 @@ pub fn next_pair(items: &[FoldItem], pair: Pair, k: usize) -> Option<Pair>
     )
 }
 
-/// The same, but nothing where both targets are equal: no equal targets ever lead to a difference.
+/// Whether the targets of a relocation of both items of a pair can match, and if so, the pair to which they lead; none where they are equal: no
+/// equal targets ever lead to a difference.
 #[tactic(auto, unfolding(crate::specs::Meetings::new_pair))]
-pub fn new_pair(items: &[FoldItem], pair: Pair, k: usize) -> Option<Pair>
+pub fn lead_on(items: &[FoldItem], pair: Pair, k: usize) -> Option<Option<Pair>>
     requires order { IsStrictlyIncreasing (sections_of (item_views items.now)) }
     requires one { pair.one < length items.now }
     requires two { pair.two < length items.now }
-    ensures { result ≡ new_pair (item_views items.now) pair k }
+    ensures can { is_some result ≡ spec.can_match (item_views items.now) pair k }
+    ensures next { IfSome result (λ next. next ≡ new_pair (item_views items.now) pair k) }
 {
     let one = target_of(&items[pair.one], k);
     let two = target_of(&items[pair.two], k);
     if same_target(one, two) {
-        return None;
+        return Some(None);
     }
-    items_of(items, one, two)
+    let Some(next) = items_of(items, one, two) else {
+        return None;
+    };
+    Some(Some(next))
 }
 
 /// Whether the targets of a relocation of both items of a pair are equal, or lead to a pair.

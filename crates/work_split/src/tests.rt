@@ -31,14 +31,10 @@ const TWO: [Range<usize>; 2] = [0..1, 1..2];
 #[test]
 fn cuts(rt: HostRuntime) -> Result<(), Fail> {
     assert_eq!(rt; pieces(rt.alloc(), 0, 4)?.len(), 0);
-    assert_eq!(rt;
-        pieces(rt.alloc(), 3, 64)?.as_slice(),
-        [0..1, 1..2, 2..3].as_slice()
-    );
-    assert_eq!(rt;
-        pieces(rt.alloc(), 10, 4)?.as_slice(),
-        [0..2, 2..4, 4..7, 7..10].as_slice()
-    );
+    let small = pieces(rt.alloc(), 3, 64)?;
+    assert_eq!(rt; small.as_slice(), [0..1, 1..2, 2..3].as_slice());
+    let four = pieces(rt.alloc(), 10, 4)?;
+    assert_eq!(rt; four.as_slice(), [0..2, 2..4, 4..7, 7..10].as_slice());
     assert_eq!(rt; pieces(rt.alloc(), 10, 1)?.as_slice(), [0..10].as_slice());
     Ok(())
 }
@@ -46,19 +42,12 @@ fn cuts(rt: HostRuntime) -> Result<(), Fail> {
 #[test]
 fn cuts_by_weight(rt: HostRuntime) -> Result<(), Fail> {
     assert_eq!(rt; pieces_by_weight(rt.alloc(), &[], 4)?.len(), 0);
-    assert_eq!(rt;
-        pieces_by_weight(rt.alloc(), &[100, 1, 1, 1, 1, 1, 1], 4)?.as_slice(),
-        [0..1, 1..3, 3..5, 5..7].as_slice()
-    );
-    assert_eq!(rt;
-        pieces_by_weight(rt.alloc(), &[1, 1, 1, 9, 0, 0], 2)?.as_slice(),
-        [0..4, 4..6].as_slice()
-    );
-    let heavy = [u64::MAX, u64::MAX, u64::MAX, u64::MAX];
-    assert_eq!(rt;
-        pieces_by_weight(rt.alloc(), &heavy, 2)?.as_slice(),
-        [0..2, 2..4].as_slice()
-    );
+    let first = pieces_by_weight(rt.alloc(), &[100, 1, 1, 1, 1, 1, 1], 4)?;
+    assert_eq!(rt; first.as_slice(), [0..1, 1..3, 3..5, 5..7].as_slice());
+    let last = pieces_by_weight(rt.alloc(), &[1, 1, 1, 9, 0, 0], 2)?;
+    assert_eq!(rt; last.as_slice(), [0..4, 4..6].as_slice());
+    let heavy = pieces_by_weight(rt.alloc(), &[u64::MAX; 4], 2)?;
+    assert_eq!(rt; heavy.as_slice(), [0..2, 2..4].as_slice());
     Ok(())
 }
 
@@ -173,11 +162,8 @@ fn each_worker_passes_two_steps(rt: HostRuntime) -> Result<(), Fail> {
         given,
         |worker, _, _| gate.seen_by(worker),
     )?;
-    assert_eq!(rt;
-        within.as_slice(),
-        [1, 1].as_slice(),
-        "the first step alone comes before the task"
-    );
+    // The first step alone comes before the task.
+    assert_eq!(rt; within.as_slice(), [1, 1].as_slice());
     assert_eq!(rt; gate.seen_by(0), 12);
     assert_eq!(rt; gate.seen_by(1), 12);
     assert!(rt; !gate.others.load(Ordering::SeqCst));

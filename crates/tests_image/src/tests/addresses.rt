@@ -35,31 +35,18 @@ const ROWS: [Row; 7] = [
     Row(b".sdata", Class::RwNobits, 0x20140, 0x20180),
 ];
 
-const BOUNDS: Bounds = Bounds {
-    has_rx: true,
-    has_rw: true,
-    has_tls: false,
-    has_tls_bits: false,
-    has_frames: false,
-    headers: 4,
-    headers_end: 0x10120,
-    frame_header: 0x10000,
-    frame_header_end: 0x10000,
-    frames: 0x10000,
-    frames_end: 0x10000,
-    r_end: 0x10210,
-    rx_start: 0x11000,
-    rx_end: 0x11040,
-    rw_start: 0x20000,
-    tls_start: 0,
-    tls_bits_end: 0x20000,
-    tls_end: 0x20000,
-    tls_align: 1,
-    bits_end: 0x20140,
-    nobits_end: 0x20180,
-    file_end: 0x20140,
-    image_end: 0x20180,
-};
+macro_rules! bounds {
+    ($($field:ident: $value:expr);+ $(;)?) => {
+        Bounds { $($field: $value),+ }
+    };
+}
+
+const BOUNDS: Bounds = bounds!(
+    has_rx: true; has_rw: true; has_tls: false; has_tls_bits: false; has_frames: false; headers: 4; headers_end: 0x10120; frame_header: 0x10000;
+    frame_header_end: 0x10000; frames: 0x10000; frames_end: 0x10000; r_end: 0x10210; rx_start: 0x11000; rx_end: 0x11040; rw_start: 0x20000;
+    tls_start: 0; tls_bits_end: 0x20000; tls_end: 0x20000; tls_align: 1; bits_end: 0x20140; nobits_end: 0x20180; file_end: 0x20140;
+    image_end: 0x20180;
+);
 
 /// Adds an output section.
 fn push_row(places: &mut Vec<OutputPlace<'static>>, row: &Row) -> Result<(), AllocError>
@@ -169,27 +156,12 @@ const SECTIONS: &[Section] = &[
 ];
 
 /// The symbols that the linker defines, each with its address, in order of their numbers.
-const NAMES: &[(&[u8], u64)] = &[
-    (b"__ehdr_start", 0x10000),
-    (b"__rela_iplt_start", 0x10000),
-    (b"__rela_iplt_end", 0x10000),
-    (b"_etext", 0x11040),
-    (b"etext", 0x11040),
-    (b"_edata", 0x12060),
-    (b"edata", 0x12060),
-    (b"__bss_start", 0x12060),
-    (b"_end", 0x120a0),
-    (b"end", 0x120a0),
-    (b"_GLOBAL_OFFSET_TABLE_", 0x12018),
-    (b"__global_pointer$", 0x12820),
-    (b"__preinit_array_start", 0x10000),
-    (b"__preinit_array_end", 0x10000),
-    (b"__init_array_start", 0x12000),
-    (b"__init_array_end", 0x12018),
-    (b"__fini_array_start", 0x10130),
-    (b"__fini_array_end", 0x10138),
-    (b"__start_part", 0x10138),
-    (b"__stop_part", 0x12020),
+const NAMES: &[(&[u8], u64)] = table![
+    (b"__ehdr_start", 0x10000); (b"__rela_iplt_start", 0x10000); (b"__rela_iplt_end", 0x10000); (b"_etext", 0x11040); (b"etext", 0x11040);
+    (b"_edata", 0x12060); (b"edata", 0x12060); (b"__bss_start", 0x12060); (b"_end", 0x120a0); (b"end", 0x120a0); (b"_GLOBAL_OFFSET_TABLE_", 0x12018);
+    (b"__global_pointer$", 0x12820); (b"__preinit_array_start", 0x10000); (b"__preinit_array_end", 0x10000); (b"__init_array_start", 0x12000);
+    (b"__init_array_end", 0x12018); (b"__fini_array_start", 0x10130); (b"__fini_array_end", 0x10138); (b"__start_part", 0x10138);
+    (b"__stop_part", 0x12020);
 ];
 
 /// What asks for all of them, after the start.

@@ -1,21 +1,24 @@
-//! An executable is the same by blocks of any length, written in any order, as by one block.
+//! An executable is the same by blocks of any length, written in any order, as by one block; and a block is refused for a relocation that
+//! touches it alone.
 
 ghost use Rattle.std.specs.Prelude.{◌≡◌, ◌≤◌};
-ghost use Rattle.elf_out.specs.TablesView.{tables_if, tables_in};
+ghost use Rattle.elf_out.specs.Prepared.{IsPreparedFor};
 
-use super::examples::{Example, OF_THREE_BLOCKS, SMALL};
+use super::examples::{Example, OF_THREE_BLOCKS, SMALL, WITH_DEFECTS};
 use super::links::{Asked, PLAIN, inputs_of, run_passes};
 use super::shortened::SHORTENED;
 use elf_bytes::{Image, image_of};
-use elf_out::{SymbolTables, block, file_length, headers};
+use elf_out::{Prepared, block, fill_window, headers};
 use link_driver::Options;
 use link_sections::View;
-use lk_base::LinkStop;
+use lk_base::kinds::{NO_PARTNER, ODD, RANGE};
+use lk_base::{Defect, LinkStop};
 use lk_tables::FrameBytes;
 use reloc_apply::{apply, write_block};
 use std::alloc::{AllocError, Global};
 use std::test::Fail;
 use std::thread::Threads;
+use work_split::OpenGate;
 
 /// How many bytes the sections of an executable have in the file, and the lengths of blocks, from the first one on and below the second one.
 #[derive(Clone, Copy)]
@@ -153,26 +156,41 @@ fn sections_agree(
     Ok(common_are(exe, &whole, &other, lengths.written))
 }
 
+/// The executable as one window.
+pub fn whole_of<R: Threads + Sync>(
+    rt: &R,
+    alloc: Global,
+    view: &View,
+    frames: &FrameBytes,
+    prepared: &Prepared,
+) -> Result<Vec<u8>, AllocError>
+    requires { IsPreparedFor view.now prepared.now }
+{
+    let mut exe = vec![in alloc; 0u8; prepared.file_length() as usize]?;
+    fill_window(rt, &mut exe, view, frames, prepared, 0, &OpenGate);
+    Ok(exe)
+}
+
 /// Whether a block of the file, or its first bytes, at most so many, are those of the executable.
 fn block_agrees(
     alloc: Global,
     view: &View,
     frames: &FrameBytes,
-    tables: &Option<SymbolTables>,
+    prepared: &Prepared,
     exe: &[u8],
     k: u64,
     most: u64,
 ) -> Result<bool, LinkStop>
-    requires { tables_if tables.now ≡ tables_in view.now }
+    requires { IsPreparedFor view.now prepared.now }
 {
-    let end = file_length(view, tables)?;
+    let end = prepared.file_length();
     if k > end / 65536 {
         return Ok(false);
     }
     let from = 65536 * k;
     let size = most.min(end - from);
     let mut out = vec![in alloc; 0xa5u8; size as usize]?;
-    block(alloc, view, frames, tables, k, &mut out)?;
+    block(view, frames, prepared, k, &mut out)?;
     Ok(exe.iter().skip(from as usize).take(size as usize).eq(&out))
 }
 
@@ -184,14 +202,14 @@ fn block_agrees_by_each(
     alloc: Global,
     view: &View,
     frames: &FrameBytes,
-    tables: &Option<SymbolTables>,
+    prepared: &Prepared,
     exe: &[u8],
     k: u64,
 ) -> Result<bool, LinkStop>
-    requires { tables_if tables.now ≡ tables_in view.now }
+    requires { IsPreparedFor view.now prepared.now }
 {
     for most in LENGTHS {
-        if !block_agrees(alloc, view, frames, tables, exe, k, most)? {
+        if !block_agrees(alloc, view, frames, prepared, exe, k, most)? {
             return Ok(false);
         }
     }
@@ -203,15 +221,15 @@ fn file_agrees(
     alloc: Global,
     view: &View,
     frames: &FrameBytes,
-    tables: &Option<SymbolTables>,
+    prepared: &Prepared,
     exe: &[u8],
 ) -> Result<bool, LinkStop>
-    requires { tables_if tables.now ≡ tables_in view.now }
+    requires { IsPreparedFor view.now prepared.now }
 {
-    let start = headers(alloc, view, tables)?;
-    let length = file_length(view, tables)?;
+    let start = headers(alloc, view, &prepared.tables)?;
+    let length = prepared.file_length();
     for k in 0..=length / 65536 {
-        if !block_agrees_by_each(alloc, view, frames, tables, exe, k)? {
+        if !block_agrees_by_each(alloc, view, frames, prepared, exe, k)? {
             return Ok(false);
         }
     }
@@ -223,16 +241,64 @@ pub fn blocks_agree(
     alloc: Global,
     view: &View,
     frames: &FrameBytes,
-    tables: &Option<SymbolTables>,
+    prepared: &Prepared,
     exe: &[u8],
     lengths: Option<Lengths>,
 ) -> Result<bool, LinkStop>
-    requires { tables_if tables.now ≡ tables_in view.now }
+    requires { IsPreparedFor view.now prepared.now }
 {
     let Some(lengths) = lengths else {
         return Ok(true);
     };
-    Ok(file_agrees(alloc, view, frames, tables, exe)? && sections_agree(alloc, view, exe, lengths)?)
+    Ok(
+        file_agrees(alloc, view, frames, prepared, exe)?
+            && sections_agree(alloc, view, exe, lengths)?,
+    )
+}
+
+/// The first bytes of a block, at most so many, and the defect for which they are refused, if there is one.
+#[derive(Clone, Copy)]
+pub struct Slice {
+    pub k: u64,
+    pub most: u64,
+    pub defect: Option<Defect>,
+}
+
+/// Whether the first bytes of a block are those of the executable, or refused for their defect.
+fn slice_agrees(
+    alloc: Global,
+    view: &View,
+    frames: &FrameBytes,
+    prepared: &Prepared,
+    exe: &[u8],
+    slice: Slice,
+) -> Result<bool, AllocError>
+    requires { IsPreparedFor view.now prepared.now }
+{
+    match block_agrees(alloc, view, frames, prepared, exe, slice.k, slice.most) {
+        Ok(agrees) => Ok(agrees && slice.defect.is_none()),
+        Err(LinkStop::Defect(defect)) => Ok(slice.defect == Some(defect)),
+        Err(LinkStop::Memory) => Err(AllocError),
+    }
+}
+
+/// Whether each slice is that of the executable, or refused for its defect.
+pub fn slices_agree(
+    alloc: Global,
+    view: &View,
+    frames: &FrameBytes,
+    prepared: &Prepared,
+    exe: &[u8],
+    slices: &[Slice],
+) -> Result<bool, AllocError>
+    requires { IsPreparedFor view.now prepared.now }
+{
+    for slice in slices {
+        if !slice_agrees(alloc, view, frames, prepared, exe, *slice)? {
+            return Ok(false);
+        }
+    }
+    Ok(true)
 }
 
 /// Whether an executable is the one that was worked out by hand, where one was.
@@ -282,5 +348,53 @@ fn blocks_of_shortened_code_agree(rt: HostRuntime) -> Result<(), Fail> {
 fn blocks_of_a_long_file_agree(rt: HostRuntime) -> Result<(), Fail> {
     let agrees = example_agrees(&rt, rt.alloc(), &OF_THREE_BLOCKS);
     assert!(rt; agrees == Ok(true), "{agrees:?}");
+    Ok(())
+}
+
+macro_rules! defect {
+    (; $($field:ident: $value:expr),+) => {
+        Defect { $($field: $value),+ }
+    };
+    ($base:expr => $($field:ident: $value:expr),+) => {
+        Defect { $($field: $value,)+ ..$base }
+    };
+}
+
+/// A number of 64 bits for a field of 32, at offset 4 of the data, which stand at 65,536 of the file.
+const TOO_WIDE: Defect =
+    defect!(; kind: RANGE, file: 0, section: 2, place: 4, symbol: 5, other: 0xfedc_ba98_7654_3210);
+/// Another, over the end of the second block.
+const OVER_THE_END: Defect = defect!(TOO_WIDE => place: 0xfffe);
+/// A jump in the fourth block back to offset 3.
+const ODD_JUMP: Defect =
+    defect!(TOO_WIDE => kind: ODD, place: 0x2_0008, symbol: 4, other: 0xffff_ffff_fffd_fffb);
+/// A lower part in the fifth block.
+const LOWER_ALONE: Defect =
+    defect!(TOO_WIDE => kind: NO_PARTNER, place: 0x3_0004, symbol: 4, other: 0);
+
+macro_rules! slices {
+    ($($k:literal, $most:literal => $defect:expr);+ $(;)?) => {
+        [$(Slice { k: $k, most: $most, defect: $defect }),+]
+    };
+}
+
+/// Slices of a link of which four relocations can't be done.
+const SLICES: [Slice; 11] = slices![
+    0, 65536 => None; 1, 4 => None; 1, 5 => Some(TOO_WIDE); 1, 65536 => Some(TOO_WIDE); 2, 0 => None; 2, 1 => Some(OVER_THE_END);
+    2, 65536 => Some(OVER_THE_END); 3, 8 => None; 3, 9 => Some(ODD_JUMP); 4, 4 => None; 4, 65536 => Some(LOWER_ALONE);
+];
+
+/// Where nothing was tested before, a block is refused for the first relocation that touches it and can't be done, and for no other.
+#[test]
+fn blocks_are_refused_for_what_touches_them(rt: HostRuntime) -> Result<(), Fail> {
+    let inputs = inputs_of(rt.alloc(), &WITH_DEFECTS)?;
+    let asked = Asked {
+        slices: &SLICES,
+        ..PLAIN
+    };
+    let made = run_passes(&rt, rt.alloc(), &inputs, &asked)?;
+    assert!(rt; made.written.agrees);
+    let tested = run_passes(&rt, rt.alloc(), &inputs, &PLAIN);
+    assert!(rt; tested.err() == Some(LinkStop::Defect(TOO_WIDE)));
     Ok(())
 }

@@ -23,6 +23,12 @@ struct Call {
     target: u64,
 }
 
+macro_rules! call {
+    ($at:expr => $target:expr) => {
+        Call { at: $at, target: $target }
+    };
+}
+
 /// A section: its calls, all by these bytes, and how many bytes it has.
 #[derive(Clone, Copy)]
 struct Code<'a> {
@@ -146,13 +152,7 @@ fn sizes<R: Threads + Sync>(
 #[test]
 fn calls_at_the_ends_of_their_reach(rt: HostRuntime) -> Result<(), Fail> {
     for (end, size) in [(1_048_588u64, 4), (1_048_590, 8)] {
-        let calls = [
-            Call { at: 8, target: end },
-            Call {
-                at: end.wrapping_sub(8),
-                target: 0,
-            },
-        ];
+        let calls = [call!(8 => end), call!(end.wrapping_sub(8) => 0)];
         let code = Code {
             calls: &calls,
             way: CALL,
@@ -195,15 +195,9 @@ fn chain(alloc: Global, count: u64, forwards: bool) -> Result<Vec<Call>, AllocEr
     for k in 0..count {
         let place = k.wrapping_mul(8);
         calls.push(if forwards {
-            Call {
-                at: place,
-                target: place.wrapping_add(1_048_582),
-            }
+            call!(place => place.wrapping_add(1_048_582))
         } else {
-            Call {
-                at: place.wrapping_add(1_048_580),
-                target: place,
-            }
+            call!(place.wrapping_add(1_048_580) => place)
         })?;
     }
     Ok(calls)

@@ -3,8 +3,13 @@
 use super::blocks::Lengths;
 use elf_bytes::{Image, Object, Section, Symbol, object, reloc, section, symbol};
 
-/// Kinds of relocations: a whole address, a call of two instructions, a distance in two parts, and one as a number of seven bits a byte.
+/// Kinds of relocations: an address of 32 bits, a whole one, a jump, a call of two instructions, a distance in two parts, and one as a number of
+/// seven bits a byte.
+const WORD: u64 = 1;
+
 pub const WHOLE: u64 = 2;
+
+const JUMP: u64 = 17;
 
 const CALL: u64 = 19;
 
@@ -39,16 +44,12 @@ const NO_BITS: Section = section!(b".bss", 8, 3, 64; b""; size: 100);
 
 /// Where the load stands whose label the second part names.
 const LOADED: Symbol = symbol!(b".L0", 0, 0, 1, 10, 0);
-
 /// Where the code starts.
 const BEGIN: Symbol = symbol!(b"_start", 1, 0, 1, 0, 0);
-
 /// What another file has.
 const FAR: Symbol = symbol!(b"far", 1, 0, 0, 0, 0);
-
 /// What stands at an odd place in the second section.
 const ODD: Symbol = symbol!(b"odd", 1, 0, 2, 3, 0);
-
 /// A number of 64 bits.
 const LARGE: Symbol = symbol!(b"large", 1, 0, 0xfff1, 0xfedc_ba98_7654_3210, 0);
 
@@ -69,6 +70,17 @@ const LONG: Object = object!(1; [
     NO_BITS,
 ]; [LOADED, BEGIN, FAR, ODD]);
 
+/// Its data stand at 65,536 of the file, with four relocations that can't be done: at offset 4 a number that 32 bits don't hold, and another over the
+/// end of the second block; in the fourth block a jump to an odd place, and in the fifth a lower part whose label has no upper part.
+const DEFECTIVE: Object = object!(1; [
+    TEXT,
+    section!(DATA => align: 65536, zeros: 0x3_0010, relocs: &[reloc!(4, WORD, 5, 0), reloc!(0xfffe, WORD, 5, 0), reloc!(0x2_0008, JUMP, 4, 0), reloc!(0x3_0004, LOWER, 4, 0)]),
+    NO_BITS,
+]; [LOADED, BEGIN, FAR, ODD, LARGE]);
+
+/// The objects of a link of which four relocations can't be done.
+pub const WITH_DEFECTS: [Object; 2] = [DEFECTIVE, SECOND];
+
 /// A link: its objects, by which lengths of blocks its executable is written once more, and the executable where it was worked out by hand.
 #[derive(Clone, Copy)]
 pub struct Example<'a> {
@@ -78,23 +90,8 @@ pub struct Example<'a> {
 }
 
 /// A small executable by all short blocks.
-pub const SMALL: Example = Example {
-    objects: &[FIRST, SECOND],
-    lengths: Lengths {
-        written: 20 + 29 + 13 + 4 + 18 + 3,
-        from: 1,
-        to: 65,
-    },
-    image: None,
-};
+pub const SMALL: Example = example!(&[FIRST, SECOND]; 20 + 29 + 13 + 4 + 18 + 3, 1, 65; None);
 
 /// One of more than two blocks of the writer.
-pub const OF_THREE_BLOCKS: Example = Example {
-    objects: &[LONG, SECOND],
-    lengths: Lengths {
-        written: 20 + 65532 + 29 + 4 + 18 + 3,
-        from: 4095,
-        to: 4098,
-    },
-    image: None,
-};
+pub const OF_THREE_BLOCKS: Example =
+    example!(&[LONG, SECOND]; 20 + 65532 + 29 + 4 + 18 + 3, 4095, 4098; None);

@@ -1,6 +1,6 @@
 //! The same sections are kept by one worker, by two and by 64.
 
-ghost use Rattle.std.specs.Prelude.{◌≡◌, ◌+◌, ◌<◌, ◌∷◌, [], All, length, IfOk, OnOk};
+ghost use Rattle.std.specs.Prelude.{◌≡◌, ◌+◌, ◌<◌, ◌≤◌, ◌∷◌, [], All, length, IfOk, OnOk};
 ghost use Rattle.link_sections.specs.Edges.{ends_of};
 
 use flat_rows::Rows;
@@ -82,33 +82,11 @@ fn a_star_of_many_edges(rt: HostRuntime) -> Result<(), Fail> {
     let alloc = rt.alloc();
     let many = vec![in alloc; 2u32; 3000]?;
     let edges = five(alloc, &many, &many, &[3], &[], &[0])?;
-    assert!(rt;
-        keeps(
-            &rt,
-            alloc,
-            &[1, 0],
-            &edges,
-            &[true, true, true, true, false]
-        )?
-    );
-    assert!(rt;
-        keeps(
-            &rt,
-            alloc,
-            &[3],
-            &edges,
-            &[false, false, false, true, false]
-        )?
-    );
-    assert!(rt;
-        keeps(
-            &rt,
-            alloc,
-            &[],
-            &edges,
-            &[false, false, false, false, false]
-        )?
-    );
+    let first_four = [true, true, true, true, false];
+    let fourth = [false, false, false, true, false];
+    assert!(rt; keeps(&rt, alloc, &[1, 0], &edges, &first_four)?);
+    assert!(rt; keeps(&rt, alloc, &[3], &edges, &fourth)?);
+    assert!(rt; keeps(&rt, alloc, &[], &edges, &[false; 5])?);
     Ok(())
 }
 
@@ -185,7 +163,7 @@ fn end_of(shape: Shape, section: u64, edge: u64) -> SecNo
     }
 }
 
-/// The edges of a graph.
+/// The edges of a graph: each section leads to two, to each by eight edges, so that several workers share what waits.
 fn graph(alloc: Global, shape: Shape) -> Result<Edges, AllocError>
     ensures { IfOk result (λ edges. length (ends_of edges) ≡ SECTIONS) }
 {
@@ -193,7 +171,11 @@ fn graph(alloc: Global, shape: Shape) -> Result<Edges, AllocError>
     for section in 0..SECTIONS {
         let first = end_of(shape, u64::from(section), 1);
         let second = end_of(shape, u64::from(section), 2);
-        push_row(&mut rows, &[first, second], SECTIONS)?;
+        let row = [
+            first, second, first, second, first, second, first, second, first, second, first,
+            second, first, second, first, second,
+        ];
+        push_row(&mut rows, &row, SECTIONS)?;
     }
     Ok(Edges::from_rows(rows))
 }
@@ -209,7 +191,7 @@ fn all_sections(alloc: Global) -> Result<Vec<SecNo>, AllocError>
     Ok(list)
 }
 
-/// The edges of a star: the first section leads to all, and each other to the first.
+/// The edges of a star: the first section leads to all, and each other to the first, by sixteen edges.
 fn star(alloc: Global) -> Result<Edges, AllocError>
     ensures { IfOk result (λ edges. length (ends_of edges) ≡ SECTIONS) }
 {
@@ -217,7 +199,11 @@ fn star(alloc: Global) -> Result<Edges, AllocError>
     let all = all_sections(alloc)?;
     push_row(&mut rows, &all, SECTIONS)?;
     for section in 1..SECTIONS {
-        push_row(&mut rows, &[0], SECTIONS)?;
+        push_row(
+            &mut rows,
+            &[0, 0, 0, 0, 0, 0, 0, 0, 0, 0, 0, 0, 0, 0, 0, 0],
+            SECTIONS,
+        )?;
     }
     Ok(Edges::from_rows(rows))
 }
@@ -291,30 +277,25 @@ fn graphs_of_many_sections(rt: HostRuntime) -> Result<(), Fail> {
     assert!(rt; is_reached(&rt, alloc, &graph(alloc, Shape::Chain)?, whole)?);
     assert!(rt; is_reached(&rt, alloc, &graph(alloc, Shape::Tree)?, whole)?);
     assert!(rt; is_reached(&rt, alloc, &star(alloc)?, whole)?);
-    assert!(rt;
-        is_reached(
-            &rt,
-            alloc,
-            &graph(alloc, Shape::Random)?,
-            13511875414010981575
-        )?
-    );
+    let random = graph(alloc, Shape::Random)?;
+    assert!(rt; is_reached(&rt, alloc, &random, 13511875414010981575)?);
     Ok(())
 }
 
-/// Counts the steps of two workers, one count for each.
+/// Counts the steps of three workers, one count for each.
 #[derive(Drop)]
 struct Steps {
     first: AtomicU64,
     second: AtomicU64,
+    third: AtomicU64,
 }
 
 impl Gate for Steps {
     fn at(&self, worker: u32, _step: u32) {
-        let count = if worker == 0 {
-            &self.first
-        } else {
-            &self.second
+        let count = match worker {
+            0 => &self.first,
+            1 => &self.second,
+            _ => &self.third,
         };
         count.store(
             count.load(Ordering::SeqCst).wrapping_add(1),
@@ -323,31 +304,38 @@ impl Gate for Steps {
     }
 }
 
-/// How many steps each of two workers makes.
+/// How many steps each of so many workers makes, three at most.
 fn steps_of<R: Threads + Sync>(
     rt: &R,
     alloc: Global,
     edges: &Edges,
-) -> Result<(u64, u64), AllocError>
-    requires { length (ends_of edges.now) ≡ SECTIONS }
+    workers: u32,
+) -> Result<(u64, u64, u64), AllocError>
+    requires some { 1 ≤ workers }
+    requires most { workers ≤ 64 }
+    requires sections { length (ends_of edges.now) ≡ SECTIONS }
 {
     let steps = Steps {
         first: AtomicU64::new(0),
         second: AtomicU64::new(0),
+        third: AtomicU64::new(0),
     };
-    let _ = keep(rt, alloc, &[0], edges, 2, &steps)?;
+    let _ = keep(rt, alloc, &[0], edges, workers, &steps)?;
     Ok((
         steps.first.load(Ordering::SeqCst),
         steps.second.load(Ordering::SeqCst),
+        steps.third.load(Ordering::SeqCst),
     ))
 }
 
-// A chain is followed by the calling worker, and the two share the round that closes the marks, before and after which they pass the gate.
-// They share what a star leads to as well.
+// A chain is followed by the calling worker alone, which passes no gate, and so is what a star leads to if there are two workers. Three
+// share it, and then the round that closes the marks, before and after each of which they pass it.
 #[test]
-fn two_workers_share_what_many_wait_for(rt: HostRuntime) -> Result<(), Fail> {
+fn three_workers_share_what_many_wait_for(rt: HostRuntime) -> Result<(), Fail> {
     let alloc = rt.alloc();
-    assert!(rt; steps_of(&rt, alloc, &graph(alloc, Shape::Chain)?)? == (2, 2));
-    assert!(rt; steps_of(&rt, alloc, &star(alloc)?)? == (4, 4));
+    let star = star(alloc)?;
+    assert!(rt; steps_of(&rt, alloc, &graph(alloc, Shape::Chain)?, 3)? == (0, 0, 0));
+    assert!(rt; steps_of(&rt, alloc, &star, 2)? == (0, 0, 0));
+    assert!(rt; steps_of(&rt, alloc, &star, 3)? == (4, 4, 4));
     Ok(())
 }

@@ -4,7 +4,7 @@ ghost use Rattle.lk_base.specs.Limits.{IsWithinStandard};
 
 use super::links::{PLAIN, inputs_of, run_passes, run_within};
 use super::objects::{CODE, LABEL, START, object_with};
-use elf_bytes::{Object, Reloc, Section, object, reloc, section, symbol};
+use elf_bytes::{Object, Section, object, reloc, section, symbol};
 use link_sections::{Content, Layout, Member, OutputPlace};
 use lk_base::abi::SHT_NOBITS;
 use lk_base::kinds::{NOPS_SHORT, TOO_BIG};
@@ -16,12 +16,7 @@ use std::thread::Threads;
 
 macro_rules! place {
     ($name:expr, $class:expr, $start:expr; $end:expr) => {
-        OutputPlace {
-            name: $name,
-            class: $class,
-            start: $start,
-            end: $end,
-        }
+        OutputPlace { name: $name, class: $class, start: $start, end: $end }
     };
 }
 
@@ -43,6 +38,13 @@ fn section(name: &'static [u8], sort: u64, flags: u64, size: u64, align: u64) ->
     }
 }
 
+/// Sections: name, type, flags, size and alignment of each.
+macro_rules! sections {
+    ($($name:literal, $sort:literal, $flags:literal, $size:literal, $align:literal);+ $(;)?) => {
+        [$(section($name, $sort, $flags, $size, $align)),+]
+    };
+}
+
 /// An output section as it is to be.
 #[derive(Drop)]
 struct Expected {
@@ -54,22 +56,18 @@ struct Expected {
     align: u64,
 }
 
-fn output(
-    name: &'static [u8],
-    sh_type: u32,
-    flags: u64,
-    address: u64,
-    size: u64,
-    align: u64,
-) -> Expected {
-    Expected {
-        name,
-        sh_type,
-        flags,
-        address,
-        size,
-        align,
-    }
+/// Output sections: name, type, flags, address, size and alignment of each.
+macro_rules! outputs {
+    ($($name:literal, $sh_type:literal, $flags:literal, $address:literal, $size:literal, $align:literal);+ $(;)?) => {
+        [$(Expected {
+            name: $name,
+            sh_type: $sh_type,
+            flags: $flags,
+            address: $address,
+            size: $size,
+            align: $align,
+        }),+]
+    };
 }
 
 /// The sections' starts are given from number 1 on.
@@ -136,10 +134,10 @@ fn count_within<R: Threads + Sync>(
 
 #[test]
 fn text_alone_is_laid_out(rt: HostRuntime) -> Result<(), Fail> {
-    let sections = [section(b".text", 1, 6, 8, 4)];
+    let sections = sections![b".text", 1, 6, 8, 4];
     let inputs = inputs_of(rt.alloc(), &[object_with(&sections)])?;
     let made = run_passes(&rt, rt.alloc(), &inputs, &PLAIN)?;
-    let rows = [output(b".text", 1, 6, 0x11000, 8, 4)];
+    let rows = outputs![b".text", 1, 6, 0x11000, 8, 4];
     check(&rt, &made.layout, &[0x11000], &rows, 3, 0x11008);
     assert_eq!(rt; made.layout.got, 0x12000);
     Ok(())
@@ -149,23 +147,15 @@ fn text_alone_is_laid_out(rt: HostRuntime) -> Result<(), Fail> {
 /// nor does the empty table.
 #[test]
 fn sections_of_each_class_are_laid_out(rt: HostRuntime) -> Result<(), Fail> {
-    let sections = [
-        section(b".tbss", 8, 0x403, 32, 0x4000),
-        section(b".bss", 8, 3, 16, 16),
-        section(b".data", 1, 3, 8, 4),
-        section(b".tdata", 1, 0x403, 4, 4),
-        section(b".text", 1, 6, 4, 4),
-        section(b".rodata", 1, 2, 5, 8),
+    let sections = sections![
+        b".tbss", 8, 0x403, 32, 0x4000; b".bss", 8, 3, 16, 16; b".data", 1, 3, 8, 4; b".tdata", 1, 0x403, 4, 4;
+        b".text", 1, 6, 4, 4; b".rodata", 1, 2, 5, 8;
     ];
     let inputs = inputs_of(rt.alloc(), &[object_with(&sections)])?;
     let made = run_passes(&rt, rt.alloc(), &inputs, &PLAIN)?;
-    let rows = [
-        output(b".rodata", 1, 2, 0x10158, 5, 8),
-        output(b".text", 1, 6, 0x11000, 4, 4),
-        output(b".tdata", 1, 0x403, 0x14000, 4, 4),
-        output(b".tbss", 8, 0x403, 0x18000, 32, 0x4000),
-        output(b".data", 1, 3, 0x14004, 8, 4),
-        output(b".bss", 8, 3, 0x14010, 16, 16),
+    let rows = outputs![
+        b".rodata", 1, 2, 0x10158, 5, 8; b".text", 1, 6, 0x11000, 4, 4; b".tdata", 1, 0x403, 0x14000, 4, 4;
+        b".tbss", 8, 0x403, 0x18000, 32, 0x4000; b".data", 1, 3, 0x14004, 8, 4; b".bss", 8, 3, 0x14010, 16, 16;
     ];
     let starts = [0x18000, 0x14010, 0x14004, 0x14000, 0x11000, 0x10158];
     let layout = &made.layout;
@@ -183,18 +173,12 @@ fn sections_of_each_class_are_laid_out(rt: HostRuntime) -> Result<(), Fail> {
 
 #[test]
 fn priorities_and_the_linkers_table(rt: HostRuntime) -> Result<(), Fail> {
-    let sections = [
-        section(b".got", 1, 3, 4, 4),
-        section(b".init_array", 1, 3, 8, 8),
-        section(b".init_array.00005", 1, 3, 8, 8),
-        section(b".init_array.3", 1, 3, 8, 8),
+    let sections = sections![
+        b".got", 1, 3, 4, 4; b".init_array", 1, 3, 8, 8; b".init_array.00005", 1, 3, 8, 8; b".init_array.3", 1, 3, 8, 8;
     ];
     let inputs = inputs_of(rt.alloc(), &[object_with(&sections)])?;
     let made = run_passes(&rt, rt.alloc(), &inputs, &PLAIN)?;
-    let rows = [
-        output(b".init_array", 1, 3, 0x11000, 24, 8),
-        output(b".got", 1, 3, 0x11018, 8, 8),
-    ];
+    let rows = outputs![b".init_array", 1, 3, 0x11000, 24, 8; b".got", 1, 3, 0x11018, 8, 8];
     let starts = [0x11018, 0x11010, 0x11008, 0x11000];
     check(&rt, &made.layout, &starts, &rows, 3, 0x11020);
     assert_eq!(rt; made.layout.got, 0x11020);
@@ -230,10 +214,8 @@ fn a_pool_a_table_and_a_short_call(rt: HostRuntime) -> Result<(), Fail> {
     let inputs = inputs_of(rt.alloc(), &[WITH_ALL])?;
     let made = run_passes(&rt, rt.alloc(), &inputs, &PLAIN)?;
     let layout = &made.layout;
-    let rows = [
-        output(b".rodata", 1, 2, 0x10120, 5, 1),
-        output(b".text", 1, 6, 0x11000, 24, 8),
-        output(b".got", 1, 3, 0x12000, 16, 8),
+    let rows = outputs![
+        b".rodata", 1, 2, 0x10120, 5, 1; b".text", 1, 6, 0x11000, 24, 8; b".got", 1, 3, 0x12000, 16, 8;
     ];
     // Strings have the place of their pool.
     let starts = [0x11000, 0x11010, 0, 0x12020];
@@ -254,10 +236,7 @@ fn a_pool_a_table_and_a_short_call(rt: HostRuntime) -> Result<(), Fail> {
 
 #[test]
 fn an_image_past_its_limit_is_refused(rt: HostRuntime) -> Result<(), Fail> {
-    let sections = [
-        section(b".bss", 8, 3, 0x8000_0000, 8),
-        section(b".text", 1, 6, 4, 4),
-    ];
+    let sections = sections![b".bss", 8, 3, 0x8000_0000, 8; b".text", 1, 6, 4, 4];
     let found = count_within(&rt, rt.alloc(), &sections, 65_000, 0x8000_0000);
     let defect = Defect::linkwide(TOO_BIG, 2147491840, 0);
     assert_eq!(rt; found, Err(LinkStop::Defect(defect)));
@@ -266,10 +245,7 @@ fn an_image_past_its_limit_is_refused(rt: HostRuntime) -> Result<(), Fail> {
 
 #[test]
 fn output_sections_past_their_limit_are_refused(rt: HostRuntime) -> Result<(), Fail> {
-    let sections = [
-        section(b".text", 1, 6, 4, 4),
-        section(b".rodata", 1, 2, 5, 8),
-    ];
+    let sections = sections![b".text", 1, 6, 4, 4; b".rodata", 1, 2, 5, 8];
     let found = count_within(&rt, rt.alloc(), &sections, 2, 0x8000_0000);
     assert_eq!(rt; found, Ok(2));
     // The count comes first, even if the image is too large as well.
@@ -291,10 +267,8 @@ const UNWOUND: Object = object!(1; [
 fn unwind_records_stand_last_in_what_is_read(rt: HostRuntime) -> Result<(), Fail> {
     let inputs = inputs_of(rt.alloc(), &[UNWOUND])?;
     let made = run_within(&rt, rt.alloc(), &limits_of(3, 0x8000_0000), &inputs, &PLAIN)?;
-    let rows = [
-        output(b".eh_frame_hdr", 1, 2, 0x10120, 20, 4),
-        output(b".eh_frame", 1, 2, 0x10138, 44, 8),
-        output(b".text", 1, 6, 0x11000, 4, 4),
+    let rows = outputs![
+        b".eh_frame_hdr", 1, 2, 0x10120, 20, 4; b".eh_frame", 1, 2, 0x10138, 44, 8; b".text", 1, 6, 0x11000, 4, 4;
     ];
     check(&rt, &made.layout, &[0x11000, 0], &rows, 4, 0x11004);
     assert_eq!(rt; made.layout.members.len(), 1);
@@ -333,15 +307,7 @@ fn alignments_lose_the_nops_that_they_do_not_need(rt: HostRuntime) -> Result<(),
     let sizes = sizes_of(&rt, rt.alloc(), &[BEFORE, ALIGNED])?;
     assert!(rt; sizes.as_slice() == [6, 8].as_slice());
     // Four bytes are not enough where six are needed.
-    let less = Section {
-        relocs: &[Reloc {
-            offset: 2,
-            kind: 43,
-            symbol: 0,
-            addend: 4,
-        }],
-        ..ALIGNED
-    };
+    let less = section!(ALIGNED => relocs: &[reloc!(2, 43, 0, 4)]);
     let short = Defect {
         kind: NOPS_SHORT,
         file: 0,
@@ -358,13 +324,9 @@ fn alignments_lose_the_nops_that_they_do_not_need(rt: HostRuntime) -> Result<(),
 /// Notes stand first if the member that stands first in their output section is one.
 #[test]
 fn notes_stand_first_in_the_layout(rt: HostRuntime) -> Result<(), Fail> {
-    let sections = [
-        section(b".rodata.a", 1, 2, 4, 4),
-        section(b".init_array", 7, 2, 4, 4),
-        section(b"own", 1, 2, 4, 4),
-        section(b".note.a", 7, 2, 4, 4),
-        section(b".init_array.5", 1, 2, 4, 4),
-        section(b".rodata.b", 7, 2, 4, 4),
+    let sections = sections![
+        b".rodata.a", 1, 2, 4, 4; b".init_array", 7, 2, 4, 4; b"own", 1, 2, 4, 4; b".note.a", 7, 2, 4, 4;
+        b".init_array.5", 1, 2, 4, 4; b".rodata.b", 7, 2, 4, 4;
     ];
     let inputs = inputs_of(rt.alloc(), &[object_with(&sections)])?;
     let made = run_passes(&rt, rt.alloc(), &inputs, &PLAIN)?;
@@ -375,13 +337,9 @@ fn notes_stand_first_in_the_layout(rt: HostRuntime) -> Result<(), Fail> {
 /// Thread-local sections are of no other class, and stand in the order of the command.
 #[test]
 fn thread_local_sections_stand_by_themselves(rt: HostRuntime) -> Result<(), Fail> {
-    let sections = [
-        section(b".tdata.b", 1, 0x403, 4, 4),
-        section(b"own", 1, 0x402, 4, 4),
-        section(b".tbss", 8, 0x403, 4, 4),
-        section(b".tdata", 1, 0x406, 4, 4),
-        section(b".data", 1, 3, 4, 4),
-        section(b".got", 1, 3, 4, 4),
+    let sections = sections![
+        b".tdata.b", 1, 0x403, 4, 4; b"own", 1, 0x402, 4, 4; b".tbss", 8, 0x403, 4, 4; b".tdata", 1, 0x406, 4, 4;
+        b".data", 1, 3, 4, 4; b".got", 1, 3, 4, 4;
     ];
     let inputs = inputs_of(rt.alloc(), &[object_with(&sections)])?;
     let made = run_passes(&rt, rt.alloc(), &inputs, &PLAIN)?;

@@ -1,8 +1,9 @@
 //! Links of objects, pass after pass.
 
-ghost use Rattle.std.specs.Prelude.{◌≡◌, ◌≤◌};
+ghost use Rattle.std.specs.Prelude.{◌≡◌, ◌≤◌, IfOk};
 ghost use Rattle.eh_frame.specs.FrameLaws.{ArePlain};
 ghost use Rattle.eh_frame.specs.Plan.{plan_of};
+ghost use Rattle.elf_out.specs.Prepared.{IsPreparedFor};
 ghost use Rattle.layout.specs.Layout.{frame_sizes};
 ghost use Rattle.layout.specs.Spots.{HasFrames};
 ghost use Rattle.link_driver.specs.Tables.{MayStay};
@@ -20,9 +21,9 @@ ghost use Rattle.lk_tables.specs.TablesView.{files_of};
 ghost use Rattle.output_sections.specs.Items.{AreLeaders};
 ghost use Rattle.sec_graph.specs.FrameRelocs.{AreFramesOf};
 
-use super::blocks::{Lengths, blocks_agree};
+use super::blocks::{Lengths, Slice, blocks_agree, slices_agree, whole_of};
 use elf_bytes::{Object, object_of};
-use elf_out::{SymbolTables, symtab, write_executable};
+use elf_out::{Prepared, SymbolTables, prepare, prepare_unchecked};
 use got_tls::entries;
 use link_driver::{
     Inputs, Options, bind_names, find_frames, find_kept, find_leaders, find_plan, find_sources,
@@ -41,12 +42,14 @@ use symbol_addresses::find_addresses;
 use symbol_table::table_symbols;
 use work_split::OpenGate;
 
-/// What is asked of a link: its entry, what it does, and the lengths of the blocks by which its executable is written once more, if it is.
+/// What is asked of a link: its entry, what it does, the lengths of the blocks by which its executable is written once more, if it is, and slices
+/// of blocks that are looked at, where relocations are not tested before.
 #[derive(Clone, Copy)]
 pub struct Asked<'a> {
     pub entry: &'a str,
     pub options: Options,
     pub lengths: Option<Lengths>,
+    pub slices: &'a [Slice],
 }
 
 /// Calls are shortened.
@@ -61,6 +64,7 @@ pub const PLAIN: Asked = Asked {
         generated: None,
     },
     lengths: None,
+    slices: &[],
 };
 
 /// What the passes after the layout give.
@@ -73,7 +77,7 @@ pub struct Written {
     /// The values of the symbols in order, by one worker and by two.
     pub by_one: Vec<u64>,
     pub by_two: Vec<u64>,
-    /// Whether the executable is the same by blocks.
+    /// Whether the executable is the same by blocks, and slices of blocks are what they have to be.
     pub agrees: bool,
 }
 
@@ -121,6 +125,22 @@ fn values_by<R: Threads + Sync>(
     Ok(values)
 }
 
+/// What is made of a file before its first block. Where slices are looked at no relocation is tested before.
+fn prepared_for<R: Threads + Sync>(
+    rt: &R,
+    alloc: Global,
+    view: &View,
+    asked: &Asked,
+) -> Result<Prepared, LinkStop>
+    ensures { IfOk result (IsPreparedFor view.now) }
+{
+    if asked.slices.is_empty() {
+        return prepare(rt, alloc, view, 2, &OpenGate);
+    }
+    let prepared = prepare_unchecked(rt, alloc, view, 2, &OpenGate)?;
+    Ok(prepared)
+}
+
 /// What the passes after the layout give.
 fn answers_of<R: Threads + Sync>(
     rt: &R,
@@ -166,20 +186,21 @@ fn answers_of<R: Threads + Sync>(
         strip: asked.options.strip,
     };
     let frames = write_frames(rt, alloc, &view, plan, 2, &OpenGate)?;
-    let exe = write_executable(rt, alloc, &view, &frames, 2, &OpenGate)?;
-    let tables = symtab(rt, alloc, &view, 2, &OpenGate)?;
-    let agrees = blocks_agree(alloc, &view, &frames, &tables, &exe, asked.lengths)?;
+    let prepared = prepared_for(rt, alloc, &view, asked)?;
+    let exe = whole_of(rt, alloc, &view, &frames, &prepared)?;
+    let by_lengths = blocks_agree(alloc, &view, &frames, &prepared, &exe, asked.lengths)?;
+    let by_slices = slices_agree(alloc, &view, &frames, &prepared, &exe, asked.slices)?;
     let map = map_text(rt, alloc, &view, 2, &OpenGate)?;
     let by_one = values_by(rt, alloc, &view, 1)?;
     let by_two = values_by(rt, alloc, &view, 2)?;
     Ok(Written {
         addresses,
         exe,
-        tables,
+        tables: prepared.tables,
         map,
         by_one,
         by_two,
-        agrees,
+        agrees: by_lengths && by_slices,
     })
 }
 

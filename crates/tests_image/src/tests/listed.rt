@@ -32,11 +32,7 @@ struct Listing<'a> {
 
 macro_rules! listing {
     ($objects:expr, $asked:expr; $told:expr) => {
-        Listing {
-            objects: $objects,
-            asked: $asked,
-            told: $told,
-        }
+        Listing { objects: $objects, asked: $asked, told: $told }
     };
 }
 

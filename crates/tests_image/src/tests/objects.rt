@@ -7,7 +7,6 @@ pub const CODE: Section = section!(b".text", 1, 6, 4; b"");
 
 /// Where the program starts: a number.
 pub const START: Symbol = symbol!(b"_start", 1, 0, 0xfff1, 0x11000, 0);
-
 /// A local symbol at the start of the first section.
 pub const LABEL: Symbol = symbol!(b".L0", 0, 0, 1, 0, 0);
 

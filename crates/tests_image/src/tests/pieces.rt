@@ -16,7 +16,6 @@ use work_split::OpenGate;
 const STRINGS: Section = section!(b".rodata.str", 1, 0x32, 8; b"abc\0\0\0\0\0xyz\0"; entsize: 1);
 
 const CONSTANTS: Section = section!(STRINGS => flags: 0x12, entsize: 4);
-
 /// Strings of characters of two bytes.
 const WIDE: Section = section!(b".rodata.str", 1, 0x32, 8; b"a\0\0\0\0b\0\0c\0\0\0"; entsize: 2);
 
@@ -70,14 +69,8 @@ fn pieces_of_sections(rt: HostRuntime) -> Result<(), Fail> {
 #[test]
 fn pieces_of_a_pool(rt: HostRuntime) -> Result<(), Fail> {
     let sections = [
-        Section {
-            bytes: b"abc\0\0\0",
-            ..STRINGS
-        },
-        Section {
-            bytes: b"xyz\0",
-            ..STRINGS
-        },
+        section!(STRINGS => bytes: b"abc\0\0\0"),
+        section!(STRINGS => bytes: b"xyz\0"),
     ];
     let inputs = inputs_of(rt.alloc(), &[object_with(&sections)])?;
     let made = run_passes(&rt, rt.alloc(), &inputs, &PLAIN)?;

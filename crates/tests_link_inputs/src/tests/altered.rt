@@ -30,24 +30,12 @@ fn archive(alloc: Global) -> Result<Vec<u8>, AllocError> {
     Ok(bytes)
 }
 
-/// One of both.
-#[derive(Clone, Copy)]
-enum Sample {
-    Object,
-    Archive,
-}
-
-fn name_of(sample: Sample) -> &'static str {
-    match sample {
-        Sample::Object => "gen0.o",
-        Sample::Archive => "lib.a",
-    }
-}
-
-fn bytes_of(alloc: Global, sample: Sample) -> Result<Vec<u8>, AllocError> {
-    match sample {
-        Sample::Object => object(alloc),
-        Sample::Archive => archive(alloc),
+/// The one of both that has this name.
+fn bytes_of(alloc: Global, name: &str) -> Result<Vec<u8>, AllocError> {
+    if name == "lib.a" {
+        archive(alloc)
+    } else {
+        object(alloc)
     }
 }
 
@@ -105,32 +93,27 @@ fn is_answer(
 /// Lengths from the first to the last at which a file is cut, and what each link ends with.
 #[derive(Clone, Copy)]
 struct Cut<'a> {
-    sample: Sample,
+    name: &'a str,
     first: usize,
     last: usize,
     answer: Answer<'a>,
 }
 
 macro_rules! cut {
-    ($sample:expr, $first:expr, $last:expr; $answer:expr) => {
-        Cut {
-            sample: $sample,
-            first: $first,
-            last: $last,
-            answer: $answer,
-        }
+    ($name:expr, $first:expr, $last:expr; $answer:expr) => {
+        Cut { name: $name, first: $first, last: $last, answer: $answer }
     };
 }
 
 const CUTS: &[Cut] = &[
-    cut!(Sample::Object, 0, 3; Answer::Line("rvld: F01 NotObject file=gen0.o section=0 place=0 name= other=0\n")),
-    cut!(Sample::Object, 4, 63; Answer::LengthAs("rvld: F02 BadHeader file=gen0.o section=0 place=", " name= other=0\n")),
-    cut!(Sample::Object, 64, 1151; Answer::Line("rvld: F03 Outside file=gen0.o section=0 place=40 name= other=0\n")),
-    cut!(Sample::Object, 1152, 1152; Answer::Linked),
-    cut!(Sample::Archive, 0, 7; Answer::Line("rvld: F01 NotObject file=lib.a section=0 place=0 name= other=0\n")),
-    cut!(Sample::Archive, 8, 8; Answer::Line("rvld: F21 NoEntry file=- section=0 place=0 name=_start other=0\n")),
-    cut!(Sample::Archive, 9, 1219; Answer::Line("rvld: F06 BadArchive file=lib.a section=0 place=8 name= other=0\n")),
-    cut!(Sample::Archive, 1220, 1220; Answer::Line("rvld: F21 NoEntry file=- section=0 place=0 name=_start other=0\n")),
+    cut!("gen0.o", 0, 3; Answer::Line("rvld: F01 NotObject file=gen0.o section=0 place=0 name= other=0\n")),
+    cut!("gen0.o", 4, 63; Answer::LengthAs("rvld: F02 BadHeader file=gen0.o section=0 place=", " name= other=0\n")),
+    cut!("gen0.o", 64, 1151; Answer::Line("rvld: F03 Outside file=gen0.o section=0 place=40 name= other=0\n")),
+    cut!("gen0.o", 1152, 1152; Answer::Linked),
+    cut!("lib.a", 0, 7; Answer::Line("rvld: F01 NotObject file=lib.a section=0 place=0 name= other=0\n")),
+    cut!("lib.a", 8, 8; Answer::Line("rvld: F21 NoEntry file=- section=0 place=0 name=_start other=0\n")),
+    cut!("lib.a", 9, 1219; Answer::Line("rvld: F06 BadArchive file=lib.a section=0 place=8 name= other=0\n")),
+    cut!("lib.a", 1220, 1220; Answer::Line("rvld: F21 NoEntry file=- section=0 place=0 name=_start other=0\n")),
 ];
 
 /// Whether a file that is cut to this length ends as it should.
@@ -141,10 +124,10 @@ fn is_cut_to<R: Threads + Sync>(
     length: usize,
 ) -> Result<bool, AllocError> {
     for workers in WORKERS {
-        let mut bytes = bytes_of(alloc, cut.sample)?;
+        let mut bytes = bytes_of(alloc, cut.name)?;
         bytes.truncate(length);
         let whole = bytes.len() == length;
-        let left = link_alone(rt, alloc, name_of(cut.sample), bytes, workers)?;
+        let left = link_alone(rt, alloc, cut.name, bytes, workers)?;
         if !whole || !is_answer(alloc, &left, &cut.answer, length)? {
             return Ok(false);
         }
@@ -173,21 +156,12 @@ struct Altered<'a> {
 
 macro_rules! altered {
     ($first:expr, $last:expr, $value:expr; $answer:expr) => {
-        Altered {
-            first: $first,
-            last: $last,
-            value: $value,
-            answer: $answer,
-        }
+        Altered { first: $first, last: $last, value: $value, answer: $answer }
     };
 }
 
-/// A byte of a header.
-const OF_MACHINE: Altered =
-    altered!(18, 18, 62; Answer::Line("rvld: F02 BadHeader file=gen0.o section=0 place=18 name= other=0\n"));
-
 const HEADERS: &[Altered] = &[
-    OF_MACHINE,
+    altered!(18, 18, 62; Answer::Line("rvld: F02 BadHeader file=gen0.o section=0 place=18 name= other=0\n")),
     altered!(60, 61, 0; Answer::Line("rvld: F04 BadSection file=gen0.o section=0 place=60 name= other=0\n")),
     altered!(62, 62, 11; Answer::Line("rvld: F04 BadSection file=gen0.o section=0 place=62 name= other=0\n")),
     altered!(512, 515, 255; Answer::Line("rvld: F10 BadName file=gen0.o section=1 place=512 name= other=0\n")),

@@ -1,18 +1,10 @@
 //! The commands with archives. Each has its own archives at hand, beside all inputs that are objects.
 
-use elf_bytes::{Image, image, object, symbol};
-use link_examples::images::{
-    ASKED, ASKED_BEFORE, ASKED_BREAK, ASKED_COMMON, ASKED_TWICE, FIRST, NAMES, WEAK_CALL,
-};
-use link_examples::libraries::{
-    BSD_FIRST, BSD_LAST, CALLER_ALONE, CHAIN, CHAIN_BEGIN, CHAIN_END, COMMON_FIRST, CUT_DATA,
-    CUT_HEADER, CUT_MEMBER, DOUBLE_FIRST, DOUBLE_LAST, EMPTY, FIRST_BREAKS, FIRST_RETURNS, INDEXED,
-    LONG_CUT_MEMBER, Library, NO_END, NO_MEMBERS_BYTES, NO_SIZE, NO_SLASH, NO_TABLE, OFFER_OF_WEAK,
-    ONE_MEMBER, PACKED_FIRST, PACKED_LAST, SEVEN_MEMBERS, START_ALONE, STRONG_ALONE, WEAK_FIRST,
-    WITH_TEXT,
-};
+use elf_bytes::{Image, object, symbol};
+use link_examples::images::*;
+use link_examples::libraries::*;
 use link_examples::objects::RETURN;
-use link_examples::{Link, Refusal, library, link, member, refusal};
+use link_examples::{Link, Refusal, code, library, link, member, refusal};
 
 /// Forms of archives, and an archive before the object that asks.
 pub const READ: &[Link] = &[
@@ -44,12 +36,7 @@ pub const CHOSEN: &[Link] = &[
 ];
 
 /// A jump to the function behind it, and the member that only the command asks for.
-const ASKED_BY_NAME: Image =
-    image!(ASKED => contents: &[(0x1000, b"\xef\0\x40\0\x67\x80\0\0\x67\x80\0\0"), (0x100c, NAMES)]);
-
-/// The same, the member first.
-const BY_NAME_BEFORE: Image =
-    image!(ASKED_BEFORE => contents: &[(0x1000, b"\x67\x80\0\0\xef\0\x40\0\x67\x80\0\0"), (0x100c, NAMES)]);
+const ASKED_BY_NAME: Image = code!(12 => 0x1020; b"\xef\0\x40\0\x67\x80\0\0\x67\x80\0\0");
 
 /// `n` as a number, beside code.
 const NUMBER: Library =
@@ -59,30 +46,26 @@ const NUMBER: Library =
 const LOCAL: Library =
     library!("lib.a"; member!(b"local.o", object!([RETURN]; [symbol!(b"n", 0, 2, 1, 0, 4)])));
 
-/// A jump to the function behind it, the member that another one pulls, and that one, which only the command asks for.
-const CHAIN_BY_NAME: Image = image!(ASKED_TWICE => contents: &[
-    (0x1000, b"\xef\0\x40\0\x67\x80\0\0\x67\x80\0\0\xef\xf0\xdf\xff\x67\x80\0\0"), (0x1014, NAMES),
-]);
-
 /// Members that the command asks for: the first that offers the name, weak or not, and what that one pulls. Of one that offers a number there
 /// is nothing to keep.
 pub const BY_NAME: &[Link] = &[
     link!("-s", "--undefined", "n", "a.o", "lib.a" => ASKED_BY_NAME; libraries: &[ONE_MEMBER]),
-    link!("-s", "--undefined=x,nowhere,n", "lib.a", "a.o", "--gc-sections" => BY_NAME_BEFORE; libraries: &[ONE_MEMBER]),
+    // The same, the member first.
+    link!("-s", "--undefined=x,nowhere,n", "lib.a", "a.o", "--gc-sections" =>
+        code!(12 => 0x1020; b"\x67\x80\0\0\xef\0\x40\0\x67\x80\0\0"; entry: 0x11004); libraries: &[ONE_MEMBER]),
     link!("-s", "--undefined", "n", "a.o", "lib.a" => ASKED_BY_NAME; libraries: &[WEAK_FIRST]),
-    link!("-s", "--undefined", "n", "a.o", "lib.a" => CHAIN_BY_NAME; libraries: &[CHAIN]),
+    // A jump to the function behind it, the member that another one pulls, and that one, which only the command asks for.
+    link!("-s", "--undefined", "n", "a.o", "lib.a" =>
+        code!(20 => 0x1028; b"\xef\0\x40\0\x67\x80\0\0\x67\x80\0\0\xef\xf0\xdf\xff\x67\x80\0\0"); libraries: &[CHAIN]),
     link!("-s", "--undefined", "n", "a.o", "lib.a" => ASKED_BY_NAME; libraries: &[NUMBER]),
     link!("-s", "--gc-sections", "--undefined", "n", "a.o", "lib.a" => FIRST; libraries: &[NUMBER]),
 ];
 
-/// A jump to the function behind it, and an `ebreak` of another file.
-const FIRST_AND_BREAK: Image =
-    image!(ASKED => contents: &[(0x1000, b"\xef\0\x40\0\x67\x80\0\0\x73\0\x10\0"), (0x100c, NAMES)]);
-
 /// Names that the command asks for in vain: an object offers them, weak or COMMON, or a member has them for itself. The room of the COMMON
 /// symbol stays.
 pub const BY_NAME_IN_VAIN: &[Link] = &[
-    link!("-s", "--undefined", "n", "a.o", "n.o", "lib.a" => FIRST_AND_BREAK; libraries: &[ONE_MEMBER]),
+    // A jump to the function behind it, and an `ebreak` of another file.
+    link!("-s", "--undefined", "n", "a.o", "n.o", "lib.a" => code!(12 => 0x1020; b"\xef\0\x40\0\x67\x80\0\0\x73\0\x10\0"); libraries: &[ONE_MEMBER]),
     link!("-s", "--gc-sections", "--undefined", "x", "a.o", "c8.o", "lib.a" => ASKED_COMMON; libraries: &[STRONG_ALONE]),
     link!("-s", "--undefined", "n", "a.o", "lib.a" => FIRST; libraries: &[LOCAL]),
 ];

@@ -1,9 +1,6 @@
 //! What `--gc-sections` keeps and drops.
 
-use link_examples::images::{
-    ALL_ORDERED, ARRAYS_ALONE, ASKED_WORD, FIRST, FRAMED, KEPT_FOUR, KEPT_NOTE, KEPT_ORDER,
-    KEPT_RING, KEPT_TOGETHER, ORDERED, RETURN_ALONE, RETURN_AND_BREAK, RING_ALONE,
-};
+use link_examples::images::*;
 use link_examples::{Link, Refusal, Store, link, refusal};
 
 /// What is kept for itself.

@@ -5,8 +5,8 @@ use super::generated::{TWO_ALONE, TWO_EXPLAINED, TWO_MAPPED};
 use elf_bytes::image_of;
 use link_driver::OpenGate;
 use link_examples::lines::FIRST_LINES;
-use link_examples::{Call, FIRST_LINK, Link, Outside, SOUND, Stream, WORKERS, link, text_of};
-use link_runs::{Left, each, run_with};
+use link_examples::{FIRST_LINK, Link, Outside, SOUND, Stream, WORKERS, call, link, text_of};
+use link_runs::{Left, each_by_any, run_with};
 use lk_depot::{FileKind, MemDepot};
 use std::alloc::{AllocError, Global};
 use std::test::Fail;
@@ -14,10 +14,7 @@ use std::thread::Threads;
 
 macro_rules! outside {
     ($base:expr => $($field:ident: $value:expr),+) => {
-        Outside {
-            $($field: $value,)+
-            ..$base
-        }
+        Outside { $($field: $value,)+ ..$base }
     };
 }
 
@@ -36,25 +33,18 @@ struct Fault<'a> {
 }
 
 macro_rules! fault {
+    (; $($field:ident: $value:expr),+) => {
+        Fault { $($field: $value),+ }
+    };
     ($base:expr => $($field:ident: $value:expr),+) => {
-        Fault {
-            $($field: $value,)+
-            ..$base
-        }
+        Fault { $($field: $value,)+ ..$base }
     };
 }
 
 /// An executable of five appends.
-const UNREAD: Fault = Fault {
-    link: FIRST_LINK,
-    outside: outside!(SOUND => fails: &[0]),
-    status: 3,
-    told: "rvld: cannot read a.o\n",
-    calls: 1,
-    executable: None,
-    map: None,
-    said: 0,
-};
+const UNREAD: Fault =
+    fault!(; link: FIRST_LINK, outside: outside!(SOUND => fails: &[0]), status: 3, told: "rvld: cannot read a.o\n",
+    calls: 1, executable: None, map: None, said: 0);
 
 const FILES: &[Fault] = &[
     UNREAD,
@@ -172,13 +162,8 @@ fn is_cut<R: Threads + Sync>(
     fault: &Fault,
     workers: &[&str],
 ) -> Result<bool, AllocError> {
-    let call = Call {
-        words: fault.link.words,
-        workers,
-        store: fault.link.store,
-        libraries: fault.link.libraries,
-        outside: &fault.outside,
-    };
+    let link = &fault.link;
+    let call = call!(link.words, workers, link.store, link.libraries; &fault.outside);
     let left = run_with(rt, alloc, &OwnStores, &call, &OpenGate)?;
     Ok(
         left.status == fault.status
@@ -188,41 +173,27 @@ fn is_cut<R: Threads + Sync>(
     )
 }
 
-/// Whether it does with each number of workers.
-fn is_cut_by_any<R: Threads + Sync>(
-    rt: &R,
-    alloc: Global,
-    fault: &Fault,
-) -> Result<bool, AllocError> {
-    for workers in WORKERS {
-        if !is_cut(rt, alloc, fault, workers)? {
-            return Ok(false);
-        }
-    }
-    Ok(true)
-}
-
 #[test]
 fn each_fault_leaves_a_front_of_the_executable(rt: HostRuntime) -> Result<(), Fail> {
-    each!(rt; fault in FILES => is_cut_by_any(&rt, rt.alloc(), fault)?)
+    each_by_any!(rt; fault, workers in FILES => is_cut(&rt, rt.alloc(), fault, workers)?)
 }
 
 #[test]
 fn each_fault_of_the_map_leaves_the_executable(rt: HostRuntime) -> Result<(), Fail> {
-    each!(rt; fault in WITH_MAP => is_cut_by_any(&rt, rt.alloc(), fault)?)
+    each_by_any!(rt; fault, workers in WITH_MAP => is_cut(&rt, rt.alloc(), fault, workers)?)
 }
 
 #[test]
 fn each_fault_of_the_report_leaves_both_files(rt: HostRuntime) -> Result<(), Fail> {
-    each!(rt; fault in REPORTS => is_cut_by_any(&rt, rt.alloc(), fault)?)
+    each_by_any!(rt; fault, workers in REPORTS => is_cut(&rt, rt.alloc(), fault, workers)?)
 }
 
 #[test]
 fn a_fault_of_what_is_explained_leaves_the_executable(rt: HostRuntime) -> Result<(), Fail> {
-    each!(rt; fault in EXPLAINED => is_cut_by_any(&rt, rt.alloc(), fault)?)
+    each_by_any!(rt; fault, workers in EXPLAINED => is_cut(&rt, rt.alloc(), fault, workers)?)
 }
 
 #[test]
 fn a_line_that_is_not_told_changes_no_status(rt: HostRuntime) -> Result<(), Fail> {
-    each!(rt; fault in LINES => is_cut_by_any(&rt, rt.alloc(), fault)?)
+    each_by_any!(rt; fault, workers in LINES => is_cut(&rt, rt.alloc(), fault, workers)?)
 }

@@ -1,9 +1,6 @@
 //! Which copy of a COMDAT group stays, and what a link lacks without the others.
 
-use link_examples::images::{
-    ASKED, ASKED_BREAK, BOTH_ASKED, BOTH_BEFORE, BOTH_COPIES, RETURN_ALONE, RETURN_AND_BREAK,
-    WEAK_WORD,
-};
+use link_examples::images::*;
 use link_examples::{Link, Refusal, Store, link, refusal};
 
 /// The first copy of a group stays.

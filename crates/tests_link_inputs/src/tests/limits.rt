@@ -9,28 +9,29 @@ use link_driver::{Inputs, Linked, OpenGate, link};
 use link_examples::images::{COMMON_OF_8, FIRST, FOUR_ALONE, TWO_FILES};
 use link_examples::libraries::{Library, ONE_MEMBER};
 use link_examples::{Store, WORKERS, files_of, words_of};
-use link_runs::each;
+use link_runs::each_by_any;
 use lk_base::kinds::{LIMIT, TOO_BIG};
 use lk_base::{Defect, Limits, LinkStop, NO_FILE};
+use lk_depot::{Depot, FileKind, MemDepot};
 use std::alloc::{AllocError, Global};
 use std::test::Fail;
 use std::thread::Threads;
 
 macro_rules! defect {
+    (; $($field:ident: $value:expr),+) => {
+        Defect { $($field: $value),+ }
+    };
     ($base:expr => $($field:ident: $value:expr),+) => {
-        Defect {
-            $($field: $value,)+
-            ..$base
-        }
+        Defect { $($field: $value,)+ ..$base }
     };
 }
 
 macro_rules! limits {
+    (; $($field:ident: $value:expr),+) => {
+        Limits { $($field: $value),+ }
+    };
     ($base:expr => $($field:ident: $value:expr),+) => {
-        Limits {
-            $($field: $value,)+
-            ..$base
-        }
+        Limits { $($field: $value,)+ ..$base }
     };
 }
 
@@ -46,43 +47,24 @@ struct Bounded<'a> {
 }
 
 macro_rules! bounded {
+    (; $($field:ident: $value:expr),+) => {
+        Bounded { $($field: $value),+ }
+    };
     ($base:expr => $($field:ident: $value:expr),+) => {
-        Bounded {
-            $($field: $value,)+
-            ..$base
-        }
+        Bounded { $($field: $value,)+ ..$base }
     };
 }
 
 /// A number past a limit that is no file's own.
-const PASSED: Defect = Defect {
-    kind: LIMIT,
-    file: NO_FILE,
-    section: 0,
-    place: 0,
-    symbol: 0,
-    other: 0,
-};
+const PASSED: Defect =
+    defect!(; kind: LIMIT, file: NO_FILE, section: 0, place: 0, symbol: 0, other: 0);
 
 /// What two objects, of 576 and 456 bytes, with 3 and 2 symbols and 6 and 5 section headers, just keep.
-const OF_OBJECTS: Limits = Limits {
-    file: 576,
-    files: 2,
-    symbols: 5,
-    sections: 11,
-    pieces: 0,
-    outputs: 1,
-    image: 0x100d,
-};
+const OF_OBJECTS: Limits =
+    limits!(; file: 576, files: 2, symbols: 5, sections: 11, pieces: 0, outputs: 1, image: 0x100d);
 
-const TWO_OBJECTS: Bounded = Bounded {
-    words: &["rvld", "-s", "a.o", "h.o"],
-    store: Store::Objects,
-    libraries: &[],
-    limits: OF_OBJECTS,
-    defect: None,
-    image: TWO_FILES,
-};
+const TWO_OBJECTS: Bounded =
+    bounded!(; words: &["rvld", "-s", "a.o", "h.o"], store: Store::Objects, libraries: &[], limits: OF_OBJECTS, defect: None, image: TWO_FILES);
 
 /// Each limit, kept and passed by one.
 const OBJECTS: &[Bounded] = &[
@@ -122,15 +104,8 @@ const COUNTED: &[Bounded] = &[
 ];
 
 /// What an object with four constants just keeps.
-const OF_PIECES: Limits = Limits {
-    file: 1000,
-    files: 2,
-    symbols: 5,
-    sections: 12,
-    pieces: 4,
-    outputs: 2,
-    image: 0x1005,
-};
+const OF_PIECES: Limits =
+    limits!(; file: 1000, files: 2, symbols: 5, sections: 12, pieces: 4, outputs: 2, image: 0x1005);
 
 const WITH_PIECES: Bounded =
     bounded!(TWO_OBJECTS => words: &["rvld", "-s", "four.o"], limits: OF_PIECES, image: FOUR_ALONE);
@@ -184,18 +159,39 @@ fn inputs_of(
     Ok(Inputs { files: inputs })
 }
 
+/// Whether a link writes these bytes, as many as it says, and writes them again.
+fn writes<R: Threads + Sync>(
+    rt: &R,
+    alloc: Global,
+    linked: Linked,
+    bytes: &[u8],
+) -> Result<bool, AllocError> {
+    let mut linked = linked;
+    let mut depot = MemDepot::new(alloc, Vec::new(alloc), Vec::new(alloc), 65536, 200_000)?;
+    for name in ["one", "two"] {
+        if depot.begin(name, FileKind::Executable).is_err()
+            || linked.write_exe(rt, &mut depot, name, &OpenGate).is_err()
+            || depot.bytes(name) != Some(bytes)
+        {
+            return Ok(false);
+        }
+    }
+    Ok(linked.exe_len() == bytes.len() as u64)
+}
+
 /// Whether a link gave the defect that an example has, or its executable.
-fn is_given(
+fn is_given<R: Threads + Sync>(
+    rt: &R,
     alloc: Global,
     bounded: &Bounded,
-    answer: &Result<Linked, LinkStop>,
+    answer: Result<Linked, LinkStop>,
 ) -> Result<bool, AllocError> {
     match answer {
         Ok(linked) => {
             let image = image_of(alloc, &bounded.image)?;
-            Ok(bounded.defect.is_none() && linked.exe.as_slice() == image.as_slice())
+            Ok(bounded.defect.is_none() && writes(rt, alloc, linked, &image)?)
         }
-        Err(LinkStop::Defect(defect)) => Ok(bounded.defect == Some(*defect)),
+        Err(LinkStop::Defect(defect)) => Ok(bounded.defect == Some(defect)),
         Err(LinkStop::Memory) => Ok(false),
     }
 }
@@ -215,34 +211,20 @@ fn is_bounded<R: Threads + Sync>(
     let inputs = inputs_of(alloc, command.inputs.names(), files.as_slice())?;
     let limits = within_standard(&bounded.limits);
     let answer = link(rt, alloc, &command, &inputs, &limits, &OpenGate);
-    is_given(alloc, bounded, &answer)
-}
-
-/// Whether it does with each number of workers.
-fn is_bounded_by_any<R: Threads + Sync>(
-    rt: &R,
-    alloc: Global,
-    bounded: &Bounded,
-) -> Result<bool, AllocError> {
-    for workers in WORKERS {
-        if !is_bounded(rt, alloc, bounded, workers)? {
-            return Ok(false);
-        }
-    }
-    Ok(true)
+    is_given(rt, alloc, bounded, answer)
 }
 
 #[test]
 fn each_limit_is_kept_up_to_its_number(rt: HostRuntime) -> Result<(), Fail> {
-    each!(rt; bounded in OBJECTS => is_bounded_by_any(&rt, rt.alloc(), bounded)?)
+    each_by_any!(rt; bounded, workers in OBJECTS => is_bounded(&rt, rt.alloc(), bounded, workers)?)
 }
 
 #[test]
 fn common_symbols_and_members_count(rt: HostRuntime) -> Result<(), Fail> {
-    each!(rt; bounded in COUNTED => is_bounded_by_any(&rt, rt.alloc(), bounded)?)
+    each_by_any!(rt; bounded, workers in COUNTED => is_bounded(&rt, rt.alloc(), bounded, workers)?)
 }
 
 #[test]
 fn each_piece_counts(rt: HostRuntime) -> Result<(), Fail> {
-    each!(rt; bounded in PIECES => is_bounded_by_any(&rt, rt.alloc(), bounded)?)
+    each_by_any!(rt; bounded, workers in PIECES => is_bounded(&rt, rt.alloc(), bounded, workers)?)
 }

@@ -41,7 +41,6 @@ const MANY: usize = 70_000;
 
 /// A section of two bytes.
 const SMALL: Section = section!(b".text", 1, 6, 2; b"\x01\0");
-
 /// The last section: a jump to symbol 2.
 const LAST: Section = section!(b".text", 1, 6, 2; b"\xef\0\0\0"; relocs: &[reloc!(0, 17, 2, 0)]);
 
@@ -51,20 +50,27 @@ const BEYOND: &[Symbol] = &[
     symbol!(b"f", 1, 2, ELSEWHERE + 0xfff1, 0, 4),
 ];
 
+/// An object of these sections and symbols.
+fn object_with(
+    alloc: Global,
+    sections: &[Section],
+    symbols: &[Symbol],
+) -> Result<Vec<u8>, AllocError> {
+    let object = Object {
+        flags: 0,
+        sections,
+        symbols,
+    };
+    object_of(alloc, &object)
+}
+
 /// An object of 70,000 sections of its own.
 fn many(alloc: Global) -> Result<Vec<u8>, AllocError> {
     let mut sections = vec![in alloc; SMALL; MANY]?;
     if let Some(last) = sections.get_mut(MANY - 1) {
         *last = LAST;
     }
-    object_of(
-        alloc,
-        &Object {
-            flags: 0,
-            sections: sections.as_slice(),
-            symbols: BEYOND,
-        },
-    )
+    object_with(alloc, sections.as_slice(), BEYOND)
 }
 
 #[test]
@@ -76,17 +82,14 @@ fn sections_past_sixteen_bits_are_linked(rt: HostRuntime) -> Result<(), Fail> {
         let bytes = left.depot.bytes("a.out").unwrap_or(b"".as_slice());
         // Section 1 stands at 0x11000, the last at 0x332de: the jump goes 8,958 bytes back.
         assert_eq!(rt; bytes.get(24..28), Some(b"\xde\x32\x03\0".as_slice()));
-        assert_eq!(rt;
-            bytes.get(0x232de..0x232e2),
-            Some(b"\xef\xd0\x3f\xd0".as_slice())
-        );
+        let jump = bytes.get(0x232de..0x232e2);
+        assert_eq!(rt; jump, Some(b"\xef\xd0\x3f\xd0".as_slice()));
     }
     Ok(())
 }
 
 /// A small section in a COMDAT group.
 const IN_GROUP: Section = section!(SMALL => flags: 0x206);
-
 /// A COMDAT group of section 69,999; its signature is the name of symbol 3.
 const HIGH_GROUP: Section = section!(GROUP => bytes: b"\x01\0\0\0\x6f\x11\x01\0", info: 3);
 
@@ -109,14 +112,7 @@ fn many_with_group(alloc: Global) -> Result<Vec<u8>, AllocError> {
     if let Some(last) = sections.get_mut(MANY - 1) {
         *last = LAST;
     }
-    object_of(
-        alloc,
-        &Object {
-            flags: 0,
-            sections: sections.as_slice(),
-            symbols: OF_GROUP,
-        },
-    )
+    object_with(alloc, sections.as_slice(), OF_GROUP)
 }
 
 /// The first copy of the group.
@@ -144,10 +140,8 @@ fn groups_name_sections_past_sixteen_bits(rt: HostRuntime) -> Result<(), Fail> {
     let bytes = left.depot.bytes("a.out").unwrap_or(b"".as_slice());
     // The first copy stands at 0x11000, section 2 behind it, and the last at 0x332dc, without section 69,999: the jump goes 8,956 bytes back.
     assert_eq!(rt; bytes.get(24..28), Some(b"\xdc\x32\x03\0".as_slice()));
-    assert_eq!(rt;
-        bytes.get(0x232dc..0x232e0),
-        Some(b"\xef\xd0\x5f\xd0".as_slice())
-    );
+    let jump = bytes.get(0x232dc..0x232e0);
+    assert_eq!(rt; jump, Some(b"\xef\xd0\x5f\xd0".as_slice()));
     Ok(())
 }
 
@@ -157,23 +151,11 @@ fn of_sections(alloc: Global, own: usize) -> Result<Vec<u8>, AllocError> {
     if let Some(last) = sections.last_mut() {
         *last = LAST;
     }
-    object_of(
-        alloc,
-        &Object {
-            flags: 0,
-            sections: sections.as_slice(),
-            symbols: &[
-                Symbol {
-                    section: own as u64,
-                    ..START
-                },
-                Symbol {
-                    name: b"f",
-                    ..START
-                },
-            ],
-        },
-    )
+    let symbols = [
+        symbol!(START => section: own as u64),
+        symbol!(START => name: b"f"),
+    ];
+    object_with(alloc, sections.as_slice(), &symbols)
 }
 
 /// How many sections an object has of its own, five fewer than in all, and what stands in `e_shnum` and `e_shstrndx`.

@@ -1,9 +1,7 @@
 //! Commands, archives, groups, what is collected and what is refused.
 
 use super::{OwnStores, archives, collected, generated, groups, wrong_groups};
-use link_examples::images::{
-    COMMON_OF_8, COMMON_OF_16, HALVES, THREE_FILES, TWO_FILES, WEAK_CALL, WIDE_COMMON,
-};
+use link_examples::images::*;
 use link_examples::{FIRST_LINK, Link, NO_WORDS, Refusal, link, refusal};
 use link_runs::{each_is_refused, each_links, is_refused};
 use std::test::Fail;

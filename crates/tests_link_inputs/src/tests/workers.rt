@@ -82,17 +82,18 @@ type Shared<'a> = (Link<'a>, u64);
 
 /// The passes of the first link are heads, bodies, the list of offers, the claims for names, the ranks of offers, the names that nothing
 /// offers, and the test of relocations; since it has no archive, no member is claimed, and it has too few symbols for their addresses to be
-/// shared out. Those of the second are the symbols that stand for sections' names, the edges between sections and the
-/// blocks of the executable too. Those of the third are those of the first, and the lists of symbols for the symbol table and for the map.
+/// shared out. Those of the second are the symbols that stand for sections' names and the edges between sections too: its executable has two
+/// blocks, but too few relocations for two workers to make them. Those of the third are those of the first, and the list of symbols for the
+/// map: that for the symbol table is made beside the test of relocations, and passes no gate.
 const SHARED: &[Shared] = &[
     (link!("-s", "a.o", "h.o" => TWO_FILES), 7),
     (
         link!("-s", "--gc-sections", "m.o", "one.o", "two.o", "wide.o" => TWO_BLOCKS; store: Store::Groups),
-        10,
+        9,
     ),
     (
         link!("--Map", "m", "a.o", "h.o" => TWO_FILES_LISTED; lines: TWO_FILES_LINES),
-        9,
+        8,
     ),
 ];
 
@@ -126,10 +127,11 @@ fn workers_in_either_order(rt: HostRuntime) -> Result<(), Fail> {
 /// leave to one, and in how many passes they do.
 type Large<'a> = (&'a [&'a str], u64);
 
-/// Beside what small links share, both list the calls that may be shortened, and find addresses.
-const RELAXED: Large = (&["rvld", "-s", "--self-input", "2048"], 11);
+/// Beside what small links share, both list the calls that may be shortened, find addresses, and make the blocks of the executable; and what
+/// sections lose by calls is found by two.
+const RELAXED: Large = (&["rvld", "-s", "--self-input", "2048"], 12);
 
-/// The same with alignments in place of the calls.
+/// The same with alignments alone.
 const UNRELAXED: Large = (&["rvld", "-s", "--no-relax", "--self-input", "2048"], 11);
 
 /// Whether two links gave the same executable and report.

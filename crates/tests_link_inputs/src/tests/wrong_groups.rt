@@ -1,55 +1,37 @@
 //! Groups that are wrong. The group is section 2 of each file.
 
-use elf_bytes::{Object, SectionLink, object, section};
+use elf_bytes::{SectionLink, object, section};
 use link_examples::groups::{GROUP, N_BREAKS, N_IN_3};
 use link_examples::objects::{A, Input, RETURN, START};
 use link_examples::{Files, Refusal, Store, inputs, objects_of, push_objects, refusal};
 use std::alloc::{AllocError, Global};
 
-/// Entries of 8 bytes.
-const ENTRIES_OF_8: Object =
-    object!([RETURN, section!(GROUP => entsize: 8), N_BREAKS]; [N_IN_3, START]);
-
-/// No flag word.
-const EMPTY: Object = object!([RETURN, section!(GROUP => bytes: b""), N_BREAKS]; [N_IN_3, START]);
-
-/// Six bytes.
-const ODD_SIZE: Object =
-    object!([RETURN, section!(GROUP => bytes: b"\x01\0\0\0\x03\0"), N_BREAKS]; [N_IN_3, START]);
-
-/// A flag word of 2.
-const FLAG_2: Object =
-    object!([RETURN, section!(GROUP => bytes: b"\x02\0\0\0\x03\0\0\0"), N_BREAKS]; [N_IN_3, START]);
-
-/// Linked with the names of the symbols in place of the symbol table.
-const NO_SYMTAB: Object =
-    object!([RETURN, section!(GROUP => link: SectionLink::Number(5)), N_BREAKS]; [N_IN_3, START]);
-
-/// The signature is symbol 3, of which there are two.
-const NO_SYMBOL: Object = object!([RETURN, section!(GROUP => info: 3), N_BREAKS]; [N_IN_3, START]);
-
-/// A member 0.
-const MEMBER_0: Object =
-    object!([RETURN, section!(GROUP => bytes: b"\x01\0\0\0\x03\0\0\0\0\0\0\0"), N_BREAKS]; [N_IN_3, START]);
-
-/// A member past the last section.
-const MEMBER_PAST: Object =
-    object!([RETURN, section!(GROUP => bytes: b"\x01\0\0\0\x07\0\0\0"), N_BREAKS]; [N_IN_3, START]);
-
-/// The group itself as a member.
-const MEMBER_ITSELF: Object =
-    object!([RETURN, section!(GROUP => bytes: b"\x01\0\0\0\x02\0\0\0"), N_BREAKS]; [N_IN_3, START]);
-
-/// A member that the group before it has.
-const MEMBER_TAKEN: Object =
-    object!([RETURN, GROUP, N_BREAKS, section!(GROUP => bytes: b"\0\0\0\0\x01\0\0\0\x03\0\0\0")]; [N_IN_3, START]);
-
 const FIRST_INPUTS: &[Input] = inputs!(
-    "entsize.o" => ENTRIES_OF_8, "nothing.o" => EMPTY, "uneven.o" => ODD_SIZE, "flag.o" => FLAG_2, "link.o" => NO_SYMTAB, "symbol.o" => NO_SYMBOL,
-    "null.o" => MEMBER_0, "past.o" => MEMBER_PAST, "itself.o" => MEMBER_ITSELF,
+    // Entries of 8 bytes.
+    "entsize.o" => object!([RETURN, section!(GROUP => entsize: 8), N_BREAKS]; [N_IN_3, START]),
+    // No flag word.
+    "nothing.o" => object!([RETURN, section!(GROUP => bytes: b""), N_BREAKS]; [N_IN_3, START]),
+    // Six bytes.
+    "uneven.o" => object!([RETURN, section!(GROUP => bytes: b"\x01\0\0\0\x03\0"), N_BREAKS]; [N_IN_3, START]),
+    // A flag word of 2.
+    "flag.o" => object!([RETURN, section!(GROUP => bytes: b"\x02\0\0\0\x03\0\0\0"), N_BREAKS]; [N_IN_3, START]),
+    // Linked with the names of the symbols in place of the symbol table.
+    "link.o" => object!([RETURN, section!(GROUP => link: SectionLink::Number(5)), N_BREAKS]; [N_IN_3, START]),
+    // The signature is symbol 3, of which there are two.
+    "symbol.o" => object!([RETURN, section!(GROUP => info: 3), N_BREAKS]; [N_IN_3, START]),
+    // A member 0.
+    "null.o" => object!([RETURN, section!(GROUP => bytes: b"\x01\0\0\0\x03\0\0\0\0\0\0\0"), N_BREAKS]; [N_IN_3, START]),
+    // A member past the last section.
+    "past.o" => object!([RETURN, section!(GROUP => bytes: b"\x01\0\0\0\x07\0\0\0"), N_BREAKS]; [N_IN_3, START]),
+    // The group itself as a member.
+    "itself.o" => object!([RETURN, section!(GROUP => bytes: b"\x01\0\0\0\x02\0\0\0"), N_BREAKS]; [N_IN_3, START]),
 );
 
-const OTHER_INPUTS: &[Input] = inputs!("taken.o" => MEMBER_TAKEN, "start.o" => A);
+const OTHER_INPUTS: &[Input] = inputs!(
+    // A member that the group before it has.
+    "taken.o" => object!([RETURN, GROUP, N_BREAKS, section!(GROUP => bytes: b"\0\0\0\0\x01\0\0\0\x03\0\0\0")]; [N_IN_3, START]),
+    "start.o" => A,
+);
 
 /// The files that are at hand.
 pub fn files(alloc: Global) -> Result<Files, AllocError> {

@@ -1,11 +1,13 @@
 //! Bytes that keep an alignment (RISC-V ELF psABI, R_RISCV_ALIGN): how many stay, what moves with them, and where they do not suffice;
 //! and a call that goes nowhere, which keeps its eight bytes.
 
-use elf_bytes::{Image, Object, Reloc, Section, image, object, reloc, section, symbol};
+use elf_bytes::{Object, Reloc, Section, data, image, object, reloc, section, symbol, text};
 use link_examples::images::{FIRST, NAMES, READ, READ_OF_FOUR, STACK, WEAK_CALL};
 use link_examples::libraries::{Library, OFFER_OF_WEAK};
 use link_examples::objects::{Input, RETURN, START, WEAKLY};
-use link_examples::{Files, Link, Refusal, Store, inputs, link, objects_of, push_objects, refusal};
+use link_examples::{
+    Files, Link, Refusal, Store, code, inputs, link, objects_of, push_objects, refusal,
+};
 use std::alloc::{AllocError, Global};
 
 /// Six bytes at the beginning, for a multiple of 8.
@@ -15,71 +17,47 @@ const TO_8: Reloc = reloc!(0, 43, 0, 6);
 const ALL_STAY: Object =
     object!([section!(b".text", 1, 6, 8; b"\x01\0\xff\xff\xff\xff\xff\xff\x67\x80\0\0"; relocs: &[reloc!(2, 43, 0, 6)])]; [START]);
 
-/// Six that may go, and a `ret`.
-const NONE_STAY: Object =
-    object!(ALL_STAY => sections: &[section!(b".text", 1, 6, 8; b"\xff\xff\xff\xff\xff\xff\x67\x80\0\0"; relocs: &[TO_8])]);
-
-const RETURNS: Object = object!([RETURN]; [START]);
-
-/// The same with an `ebreak`, in a section that may stand at a multiple of 4.
-const SOME_STAY: Object =
-    object!([section!(b".text", 1, 6, 4; b"\xff\xff\xff\xff\xff\xff\x73\0\x10\0"; relocs: &[TO_8])]; []);
-
-/// `f` after six bytes, `g` after six more, which jumps to `f`; and words of both, of places in the section and behind it, and of
-/// their distance.
-const MOVED: Object = object!([
-    section!(b".text", 1, 6, 8; b"\xff\xff\xff\xff\xff\xff\x67\x80\0\0\xff\xff\xff\xff\xff\xff\xef\0\0\0\x73\0\x10\0";
-        relocs: &[TO_8, reloc!(10, 43, 0, 6), reloc!(16, 17, 2, 0)]),
-    section!(b".data", 1, 3, 8;
-        b"\0\0\0\0\0\0\0\0\0\0\0\0\0\0\0\0\0\0\0\0\0\0\0\0\0\0\0\0\0\0\0\0\0\0\0\0\0\0\0\0\0\0\0\0\0\0\0\0\0\0\0\0\0\0\0\0\0\0\0\0\0\0\0\0";
-        relocs: &[
-            reloc!(0, 2, 2, 0), reloc!(8, 2, 3, 0), reloc!(16, 2, 1, 16), reloc!(24, 2, 1, 24), reloc!(32, 2, 1, 12), reloc!(40, 2, 1, 15),
-            reloc!(48, 2, 1, 30), reloc!(56, 35, 3, 0), reloc!(56, 39, 2, 0),
-        ]),
-]; [symbol!(b"", 0, 3, 1, 0, 4), symbol!(b"f", 1, 2, 1, 6, 4), symbol!(b"g", 1, 2, 1, 16, 4), START]);
-
-/// A call of `w`, which may be shortened.
-const CALLED: Object =
-    object!([section!(b".text", 1, 6, 4; b"\x97\0\0\0\xe7\x80\0\0"; relocs: &[reloc!(0, 19, 1, 0), reloc!(0, 51, 0, 0)])]; [WEAKLY, START]);
-
-/// Four bytes where six are needed.
-const SHORT: Object =
-    object!(ALL_STAY => sections: &[section!(b".text", 1, 6, 8; b"\x01\0\xff\xff\xff\xff\x67\x80\0\0"; relocs: &[reloc!(2, 43, 0, 4)])]);
-
-/// Six bytes where five are needed.
-const UNEVEN: Object =
-    object!(ALL_STAY => sections: &[section!(b".text", 1, 6, 8; b"\x01\0\x01\xff\xff\xff\xff\xff\xff"; relocs: &[reloc!(3, 43, 0, 6)])]);
-
-/// Both, in no order.
-const BOTH: Object = object!(ALL_STAY => sections: &[
-    section!(RETURN => name: b".text.z"),
-    section!(b".text", 1, 6, 8; b"\x01\0\x01\xff\xff\xff\xff\xff\xff\xff\xff"; relocs: &[reloc!(9, 43, 0, 2), reloc!(3, 43, 0, 6)]),
-]);
-
 /// Eight bytes.
 const EIGHT: Section = section!(b".text", 1, 6, 8; b"\xff\xff\xff\xff\xff\xff\xff\xff");
-
-const ODD_NUMBER: Object =
-    object!(ALL_STAY => sections: &[section!(EIGHT => relocs: &[reloc!(0, 43, 0, 5)])]);
-
-const LESS_THAN_NONE: Object =
-    object!(ALL_STAY => sections: &[section!(EIGHT => relocs: &[reloc!(0, 43, 0, -2)])]);
-
-const BEHIND: Object =
-    object!(ALL_STAY => sections: &[section!(EIGHT => relocs: &[reloc!(4, 43, 0, 6)])]);
-
-/// A jump within the bytes.
-const WITHIN: Object =
-    object!(ALL_STAY => sections: &[section!(EIGHT => relocs: &[TO_8, reloc!(4, 17, 1, 0)])]);
 
 const LIBRARIES: &[Library] = &[OFFER_OF_WEAK];
 
 const INPUTS: &[Input] = inputs!(
-    "all.o" => ALL_STAY, "none.o" => NONE_STAY, "returns.o" => RETURNS, "some.o" => SOME_STAY, "moved.o" => MOVED, "called.o" => CALLED,
+    "all.o" => ALL_STAY,
+    // Six that may go, and a `ret`.
+    "none.o" => object!(ALL_STAY => sections: &[section!(b".text", 1, 6, 8; b"\xff\xff\xff\xff\xff\xff\x67\x80\0\0"; relocs: &[TO_8])]),
+    "returns.o" => object!([RETURN]; [START]),
+    // The same with an `ebreak`, in a section that may stand at a multiple of 4.
+    "some.o" => object!([text!(b"\xff\xff\xff\xff\xff\xff\x73\0\x10\0"; TO_8)]; []),
+    // `f` after six bytes, `g` after six more, which jumps to `f`; and words of both, of places in the section and behind it, and of
+    // their distance.
+    "moved.o" => object!([
+        section!(b".text", 1, 6, 8; b"\xff\xff\xff\xff\xff\xff\x67\x80\0\0\xff\xff\xff\xff\xff\xff\xef\0\0\0\x73\0\x10\0";
+            relocs: &[TO_8, reloc!(10, 43, 0, 6), reloc!(16, 17, 2, 0)]),
+        data!(
+            b"\0\0\0\0\0\0\0\0\0\0\0\0\0\0\0\0\0\0\0\0\0\0\0\0\0\0\0\0\0\0\0\0\0\0\0\0\0\0\0\0\0\0\0\0\0\0\0\0\0\0\0\0\0\0\0\0\0\0\0\0\0\0\0\0";
+                reloc!(0, 2, 2, 0), reloc!(8, 2, 3, 0), reloc!(16, 2, 1, 16), reloc!(24, 2, 1, 24), reloc!(32, 2, 1, 12), reloc!(40, 2, 1, 15),
+                reloc!(48, 2, 1, 30), reloc!(56, 35, 3, 0), reloc!(56, 39, 2, 0)),
+    ]; [symbol!(b"", 0, 3, 1, 0, 4), symbol!(b"f", 1, 2, 1, 6, 4), symbol!(b"g", 1, 2, 1, 16, 4), START]),
+    // A call of `w`, which may be shortened.
+    "called.o" => object!([text!(b"\x97\0\0\0\xe7\x80\0\0"; reloc!(0, 19, 1, 0), reloc!(0, 51, 0, 0))]; [WEAKLY, START]),
 );
 
 const WRONG_INPUTS: &[Input] = inputs!(
-    "short.o" => SHORT, "uneven.o" => UNEVEN, "both.o" => BOTH, "odd.o" => ODD_NUMBER, "less.o" => LESS_THAN_NONE, "behind.o" => BEHIND, "within.o" => WITHIN,
+    // Four bytes where six are needed.
+    "short.o" => object!(ALL_STAY => sections: &[section!(b".text", 1, 6, 8; b"\x01\0\xff\xff\xff\xff\x67\x80\0\0"; relocs: &[reloc!(2, 43, 0, 4)])]),
+    // Six bytes where five are needed.
+    "uneven.o" => object!(ALL_STAY => sections: &[section!(b".text", 1, 6, 8; b"\x01\0\x01\xff\xff\xff\xff\xff\xff"; relocs: &[reloc!(3, 43, 0, 6)])]),
+    // Both, in no order.
+    "both.o" => object!(ALL_STAY => sections: &[
+        section!(RETURN => name: b".text.z"),
+        section!(b".text", 1, 6, 8; b"\x01\0\x01\xff\xff\xff\xff\xff\xff\xff\xff"; relocs: &[reloc!(9, 43, 0, 2), reloc!(3, 43, 0, 6)]),
+    ]),
+    "odd.o" => object!(ALL_STAY => sections: &[section!(EIGHT => relocs: &[reloc!(0, 43, 0, 5)])]),
+    "less.o" => object!(ALL_STAY => sections: &[section!(EIGHT => relocs: &[reloc!(0, 43, 0, -2)])]),
+    "behind.o" => object!(ALL_STAY => sections: &[section!(EIGHT => relocs: &[reloc!(4, 43, 0, 6)])]),
+    // A jump within the bytes.
+    "within.o" => object!(ALL_STAY => sections: &[section!(EIGHT => relocs: &[TO_8, reloc!(4, 17, 1, 0)])]),
 );
 
 /// The files that are at hand.
@@ -89,36 +67,26 @@ pub fn files(alloc: Global) -> Result<Files, AllocError> {
     Ok(files)
 }
 
-const ALL_STAY_IMAGE: Image = image!(FIRST =>
-    segments: &[READ, [1, 5, 0x1000, 0x11000, 12, 12, 4096], STACK],
-    contents: &[(0x1000, b"\x01\0\x13\0\0\0\x01\0\x67\x80\0\0"), (0x100c, NAMES)],
-    sections: &[[1, 1, 6, 0x11000, 0x1000, 12, 8], [7, 3, 0, 0, 0x100c, 17, 1]]);
-
-const NONE_STAY_IMAGE: Image = image!(FIRST => table: 0x1018,
-    segments: &[READ, [1, 5, 0x1000, 0x11000, 4, 4, 4096], STACK],
-    contents: &[(0x1000, b"\x67\x80\0\0"), (0x1004, NAMES)],
-    sections: &[[1, 1, 6, 0x11000, 0x1000, 4, 8], [7, 3, 0, 0, 0x1004, 17, 1]]);
-
-/// Four of six.
-const SOME_STAY_IMAGE: Image = image!(ALL_STAY_IMAGE =>
-    contents: &[(0x1000, b"\x67\x80\0\0\x13\0\0\0\x73\0\x10\0"), (0x100c, NAMES)],
-    sections: &[[1, 1, 6, 0x11000, 0x1000, 12, 4], [7, 3, 0, 0, 0x100c, 17, 1]]);
-
-const MOVED_IMAGE: Image = image!(FIRST => table: 0x2058,
-    segments: &[READ_OF_FOUR, [1, 5, 0x1000, 0x11000, 16, 16, 4096], [1, 6, 0x2000, 0x12000, 64, 64, 4096], STACK],
-    contents: &[
-        (0x1000, b"\x67\x80\0\0\x13\0\0\0\xef\xf0\x9f\xff\x73\0\x10\0"),
-        (0x2000, b"\0\x10\x01\0\0\0\0\0\x08\x10\x01\0\0\0\0\0\x08\x10\x01\0\0\0\0\0\x10\x10\x01\0\0\0\0\0"),
-        (0x2020, b"\x06\x10\x01\0\0\0\0\0\x08\x10\x01\0\0\0\0\0\x16\x10\x01\0\0\0\0\0\x08\0\0\0\0\0\0\0"), (0x2040, b"\0.text\0.data\0.shstrtab\0"),
-    ],
-    sections: &[[1, 1, 6, 0x11000, 0x1000, 16, 8], [7, 1, 3, 0x12000, 0x2000, 64, 8], [13, 3, 0, 0, 0x2040, 23, 1]]);
-
 /// What stays, and what moves.
 pub const STAYING: &[Link] = &[
-    link!("-s", "all.o" => ALL_STAY_IMAGE; store: Store::Aligned),
-    link!("-s", "none.o" => NONE_STAY_IMAGE; store: Store::Aligned),
-    link!("-s", "returns.o", "some.o" => SOME_STAY_IMAGE; store: Store::Aligned),
-    link!("-s", "moved.o" => MOVED_IMAGE; store: Store::Aligned),
+    link!("-s", "all.o" => image!(FIRST =>
+        segments: &[READ, [1, 5, 0x1000, 0x11000, 12, 12, 4096], STACK],
+        contents: &[(0x1000, b"\x01\0\x13\0\0\0\x01\0\x67\x80\0\0"), (0x100c, NAMES)],
+        sections: &[[1, 1, 6, 0x11000, 0x1000, 12, 8], [7, 3, 0, 0, 0x100c, 17, 1]]); store: Store::Aligned),
+    link!("-s", "none.o" => image!(FIRST => table: 0x1018,
+        segments: &[READ, [1, 5, 0x1000, 0x11000, 4, 4, 4096], STACK],
+        contents: &[(0x1000, b"\x67\x80\0\0"), (0x1004, NAMES)],
+        sections: &[[1, 1, 6, 0x11000, 0x1000, 4, 8], [7, 3, 0, 0, 0x1004, 17, 1]]); store: Store::Aligned),
+    // Four of six.
+    link!("-s", "returns.o", "some.o" => code!(12 => 0x1020; b"\x67\x80\0\0\x13\0\0\0\x73\0\x10\0"); store: Store::Aligned),
+    link!("-s", "moved.o" => image!(FIRST => table: 0x2058,
+        segments: &[READ_OF_FOUR, [1, 5, 0x1000, 0x11000, 16, 16, 4096], [1, 6, 0x2000, 0x12000, 64, 64, 4096], STACK],
+        contents: &[
+            (0x1000, b"\x67\x80\0\0\x13\0\0\0\xef\xf0\x9f\xff\x73\0\x10\0"),
+            (0x2000, b"\0\x10\x01\0\0\0\0\0\x08\x10\x01\0\0\0\0\0\x08\x10\x01\0\0\0\0\0\x10\x10\x01\0\0\0\0\0"),
+            (0x2020, b"\x06\x10\x01\0\0\0\0\0\x08\x10\x01\0\0\0\0\0\x16\x10\x01\0\0\0\0\0\x08\0\0\0\0\0\0\0"), (0x2040, b"\0.text\0.data\0.shstrtab\0"),
+        ],
+        sections: &[[1, 1, 6, 0x11000, 0x1000, 16, 8], [7, 1, 3, 0x12000, 0x2000, 64, 8], [13, 3, 0, 0, 0x2040, 23, 1]]); store: Store::Aligned),
     link!("-s", "called.o", "lib.a" => WEAK_CALL; store: Store::Aligned, libraries: LIBRARIES),
 ];
 

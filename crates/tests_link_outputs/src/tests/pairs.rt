@@ -2,194 +2,129 @@
 //! distances to functions: over a call that is shortened, of all lengths, after and before other values at the same place, over the end of
 //! a block of the writer, and refused.
 
-use elf_bytes::{Image, Object, Section, Symbol, image, object, reloc, section, symbol};
+use elf_bytes::{Image, Section, Symbol, image, object, reloc, section, symbol, text};
 use link_examples::images::{FIRST, READ, STACK};
 use link_examples::objects::{Input, RETURN, START};
 use link_examples::{Files, Link, Refusal, Store, inputs, link, push_objects, refusal};
 use std::alloc::{AllocError, Global};
 
+/// Bytes that are only read, at any place: the bytes, and their relocations.
+macro_rules! read_only {
+    ($bytes:expr $(; $($reloc:expr),+)?) => {
+        section!(b".rodata", 1, 2, 1; $bytes; relocs: &[$($($reloc),+)?])
+    };
+}
+
 /// A call of the function behind it, which may be shortened.
 const CALLED: Section =
-    section!(b".text", 1, 6, 4; b"\x97\0\0\0\xe7\x80\0\0\x67\x80\0\0"; relocs: &[reloc!(0, 19, 2, 0), reloc!(0, 51, 2, 0)]);
+    text!(b"\x97\0\0\0\xe7\x80\0\0\x67\x80\0\0"; reloc!(0, 19, 2, 0), reloc!(0, 51, 2, 0));
 
 /// The function behind the call.
 const F: Symbol = symbol!(b"f", 1, 2, 1, 8, 4);
-
 /// A number.
 const NUMBER: Symbol = symbol!(b"n", 1, 0, 0xfff1, 0, 0);
 
-/// From the function back to the beginning.
-const PAIR: Object =
-    object!([CALLED, section!(b".rodata", 1, 2, 1; b"\x80\0"; relocs: &[reloc!(0, 60, 2, 0), reloc!(0, 61, 1, 0)])]; [START, F]);
-
-/// From the beginning on to the function.
-const EXCHANGED: Object =
-    object!([CALLED, section!(b".rodata", 1, 2, 1; b"\x80\0"; relocs: &[reloc!(0, 60, 1, 0), reloc!(0, 61, 2, 0)])]; [START, F]);
-
-/// A number without an end.
-const UNENDED: Object =
-    object!([CALLED, section!(b".rodata", 1, 2, 1; b"\x80"; relocs: &[reloc!(0, 60, 2, 0), reloc!(0, 61, 1, 0)])]; [START, F]);
-
-/// The distance to the function.
-const FUNCTION: Object =
-    object!([CALLED, section!(b".rodata", 1, 2, 4; b"\0\0\0\0"; relocs: &[reloc!(0, 59, 2, 0)])]; [START, F]);
-
-/// Two bytes alone, after a byte and before a sum at the same place; ten bytes; the greatest number of one, of nine and of ten bytes; and
-/// two pairs at one place.
-const MANY: Object = object!([
-    CALLED,
-    section!(b".rodata", 1, 2, 1;
-        b"\x80\0\x80\0\x80\0\xff\xff\xff\xff\xff\xff\xff\xff\xff\x01\0\x80\x80\x80\x80\x80\x80\x80\x80\0\x80\x80\x80\x80\x80\x80\x80\x80\x80\0\x80\0";
-        relocs: &[
-            reloc!(0, 60, 2, 0), reloc!(0, 61, 1, 0), reloc!(2, 54, 3, 0), reloc!(2, 60, 2, 0), reloc!(2, 61, 1, 0), reloc!(4, 60, 2, 0), reloc!(4, 61, 1, 0),
-            reloc!(4, 33, 4, 0), reloc!(6, 60, 2, 0), reloc!(6, 61, 1, 0), reloc!(16, 60, 5, 0), reloc!(16, 61, 6, 0), reloc!(17, 60, 7, 0),
-            reloc!(17, 61, 6, 0), reloc!(26, 60, 8, 0), reloc!(26, 61, 6, 0), reloc!(36, 60, 2, 0), reloc!(36, 61, 1, 0), reloc!(36, 60, 5, 0),
-            reloc!(36, 61, 6, 0),
-        ]),
-]; [
-    START,
-    F,
-    symbol!(b"five", 1, 0, 0xfff1, 5, 0),
-    symbol!(b"one", 1, 0, 0xfff1, 1, 0),
-    symbol!(b"most", 1, 0, 0xfff1, 127, 0),
-    NUMBER,
-    symbol!(b"half", 1, 0, 0xfff1, 0x7fff_ffff_ffff_ffff, 0),
-    symbol!(b"all", 1, 0, 0xfff1, 0xffff_ffff_ffff_ffff, 0),
-]);
-
-/// One more than a byte has room for.
-const TOO_MANY: Object = object!([
-    CALLED,
-    section!(b".rodata", 1, 2, 1; b"\0"; relocs: &[reloc!(0, 60, 3, 0), reloc!(0, 61, 4, 0)]),
-]; [START, F, symbol!(b"n", 1, 0, 0xfff1, 128, 0), symbol!(b"nil", 1, 0, 0xfff1, 0, 0)]);
-
-/// One more than 64 bits have, in ten bytes.
-const BEYOND: Object = object!([
-    CALLED,
-    section!(b".rodata", 1, 2, 1; b"\x80\x80\x80\x80\x80\x80\x80\x80\x80\0"; relocs: &[reloc!(0, 60, 3, 1), reloc!(0, 61, 4, 0)]),
-]; [START, F, symbol!(b"n", 1, 0, 0xfff1, 0xffff_ffff_ffff_ffff, 0), symbol!(b"nil", 1, 0, 0xfff1, 0, 0)]);
-
-/// The first part of a pair alone.
-const ALONE: Object =
-    object!([CALLED, section!(b".rodata", 1, 2, 1; b"\x80\0"; relocs: &[reloc!(0, 60, 2, 0)])]; [START, F]);
-
-/// The second part of a pair alone.
-const SECOND: Object =
-    object!([CALLED, section!(b".rodata", 1, 2, 1; b"\x80\0"; relocs: &[reloc!(0, 61, 2, 0)])]; [START, F]);
-
-/// The two parts with a hint between them.
-const PARTED: Object = object!([
-    CALLED,
-    section!(b".rodata", 1, 2, 1; b"\x80\0"; relocs: &[reloc!(0, 60, 2, 0), reloc!(0, 51, 2, 0), reloc!(0, 61, 1, 0)]),
-]; [START, F]);
-
-/// A second part too many.
-const TWICE: Object = object!([
-    CALLED,
-    section!(b".rodata", 1, 2, 1; b"\x80\0"; relocs: &[reloc!(0, 60, 2, 0), reloc!(0, 61, 1, 0), reloc!(0, 61, 1, 0)]),
-]; [START, F]);
-
-/// The two parts at two places.
-const APART: Object =
-    object!([CALLED, section!(b".rodata", 1, 2, 1; b"\0\0"; relocs: &[reloc!(0, 60, 2, 0), reloc!(1, 61, 1, 0)])]; [START, F]);
-
-/// A number past the end of its section.
-const PAST: Object =
-    object!([CALLED, section!(b".rodata", 1, 2, 1; b"\x80\0"; relocs: &[reloc!(2, 60, 2, 0), reloc!(2, 61, 1, 0)])]; [START, F]);
-
-/// A number of eleven bytes.
-const LONG: Object = object!([
-    CALLED,
-    section!(b".rodata", 1, 2, 1; b"\x80\x80\x80\x80\x80\x80\x80\x80\x80\x80\0"; relocs: &[reloc!(0, 60, 2, 0), reloc!(0, 61, 1, 0)]),
-]; [START, F]);
-
-/// Ten bytes, of which the first five are the last of the first block of 65,536 bytes.
-const OVER_THE_END: Object = object!([
-    CALLED,
-    section!(b".rodata", 8, 2, 1; b""; size: 65299),
-    section!(b".rodata", 1, 2, 1; b"\x80\x80\x80\x80\x80\x80\x80\x80\x80\0"; relocs: &[reloc!(0, 60, 3, 0), reloc!(0, 61, 4, 0)]),
-]; [START, F, symbol!(b"large", 1, 0, 0xfff1, 0xfedc_ba98_7654_3210, 0), symbol!(b"nil", 1, 0, 0xfff1, 0, 0)]);
-
-/// Two pairs whose entries stand in no order but for those of one place.
-const UNSORTED: Object = object!([
-    CALLED,
-    section!(b".rodata", 1, 2, 1; b"\x80\0\x80\0"; relocs: &[reloc!(2, 60, 3, 0), reloc!(0, 60, 2, 0), reloc!(2, 61, 4, 0), reloc!(0, 61, 1, 0)]),
-]; [START, F, symbol!(b"five", 1, 0, 0xfff1, 5, 0), symbol!(b"nil", 1, 0, 0xfff1, 0, 0)]);
-
-/// A number of two bytes, and a call behind it.
-const BESIDE: Object = object!([
-    section!(b".text", 1, 6, 2; b"\x80\0\x97\0\0\0\xe7\x80\0\0\x67\x80\0\0"; relocs: &[reloc!(0, 60, 2, 0), reloc!(0, 61, 1, 0), reloc!(2, 19, 2, 0)]),
-]; [symbol!(b"_start", 1, 2, 1, 2, 8), symbol!(b"f", 1, 2, 1, 10, 4)]);
-
-/// Code of which only the distance of `b` from `a` is asked for.
-const KEEPS_BOTH: Object = object!([
-    section!(b".text", 1, 6, 4; b"\x67\x80\0\0"; relocs: &[reloc!(0, 0, 1, 0)]),
-    section!(b".rodata", 1, 2, 1; b"\0"; relocs: &[reloc!(0, 60, 4, 0), reloc!(0, 61, 3, 0)]),
-    section!(b".text.a", 1, 6, 4; b"\x73\0\x10\0"),
-    section!(b".text.b", 1, 6, 4; b"\x01\0\x01\0"),
-    section!(b".text.c", 1, 6, 4; b"\x13\0\0\0"),
-]; [symbol!(b".L0", 0, 0, 2, 0, 0), START, symbol!(b"a", 1, 2, 3, 0, 4), symbol!(b"b", 1, 2, 4, 0, 4)]);
-
-/// The distance of what nothing defines, and the distance from there.
-const TO_NOTHING: Object =
-    object!([RETURN, section!(b".rodata", 1, 2, 1; b"\0"; relocs: &[reloc!(0, 60, 2, 0), reloc!(0, 61, 1, 0)])]; [START, symbol!(b"k", 1, 0, 0, 0, 0)]);
-
-const FROM_NOTHING: Object =
-    object!([RETURN, section!(b".rodata", 1, 2, 1; b"\0"; relocs: &[reloc!(0, 60, 1, 0), reloc!(0, 61, 2, 0)])]; [START, symbol!(b"k", 1, 0, 0, 0, 0)]);
-
-/// A pair in a section without bytes.
-const NO_BITS: Object =
-    object!([CALLED, section!(b".bss", 8, 3, 1; b""; size: 2, relocs: &[reloc!(0, 60, 2, 0), reloc!(0, 61, 1, 0)])]; [START, F]);
-
-/// A first part alone, and a call that meets a pair.
-const CALL_MEETS: Object = object!([
-    section!(b".text", 1, 6, 4; b"\x67\x80\0\0\x97\0\0\0\xe7\x80\0\0";
-        relocs: &[reloc!(0, 60, 2, 0), reloc!(4, 18, 1, 0), reloc!(8, 60, 2, 0), reloc!(8, 61, 1, 0)]),
-]; [START, F]);
-
-/// The same with an alignment.
-const NOPS_MEET: Object = object!([
-    section!(b".text", 1, 6, 4; b"\x67\x80\0\0\x13\0\0\0\x67\x80\0\0";
-        relocs: &[reloc!(0, 60, 2, 0), reloc!(4, 43, 0, 4), reloc!(6, 60, 2, 0), reloc!(6, 61, 1, 0)]),
-]; [START, F]);
-
-/// A call that meets the last byte of a number of three.
-const CALL_MEETS_LATER: Object = object!([
-    section!(b".text", 1, 6, 4; b"\x80\x80\0\0\x97\0\0\0\xe7\x80\0\0"; relocs: &[reloc!(0, 60, 2, 0), reloc!(0, 61, 1, 0), reloc!(2, 18, 1, 0)]),
-]; [START, F]);
-
-/// First parts alone, the later one first.
-const UNSORTED_ALONE: Object =
-    object!([CALLED, section!(b".rodata", 1, 2, 1; b"\x80\0\x80\0"; relocs: &[reloc!(2, 60, 2, 0), reloc!(0, 60, 2, 0)])]; [START, F]);
-
-/// The second part before the first.
-const REVERSED: Object =
-    object!([CALLED, section!(b".rodata", 1, 2, 1; b"\x80\0"; relocs: &[reloc!(0, 61, 1, 0), reloc!(0, 60, 2, 0)])]; [START, F]);
-
 const INPUTS: &[Input] = inputs!(
-    "u.o" => PAIR, "exchanged.o" => EXCHANGED, "unended.o" => UNENDED, "plt32.o" => FUNCTION, "many.o" => MANY, "too-many.o" => TOO_MANY, "beyond.o" => BEYOND,
-    "alone.o" => ALONE, "second.o" => SECOND,
+    // From the function back to the beginning.
+    "u.o" => object!([CALLED, read_only!(b"\x80\0"; reloc!(0, 60, 2, 0), reloc!(0, 61, 1, 0))]; [START, F]),
+    // From the beginning on to the function.
+    "exchanged.o" => object!([CALLED, read_only!(b"\x80\0"; reloc!(0, 60, 1, 0), reloc!(0, 61, 2, 0))]; [START, F]),
+    // A number without an end.
+    "unended.o" => object!([CALLED, read_only!(b"\x80"; reloc!(0, 60, 2, 0), reloc!(0, 61, 1, 0))]; [START, F]),
+    // The distance to the function.
+    "plt32.o" => object!([CALLED, section!(b".rodata", 1, 2, 4; b"\0\0\0\0"; relocs: &[reloc!(0, 59, 2, 0)])]; [START, F]),
+    // Two bytes alone, after a byte and before a sum at the same place; ten bytes; the greatest number of one, of nine and of ten bytes; and
+    // two pairs at one place.
+    "many.o" => object!([
+        CALLED,
+        read_only!(
+            b"\x80\0\x80\0\x80\0\xff\xff\xff\xff\xff\xff\xff\xff\xff\x01\0\x80\x80\x80\x80\x80\x80\x80\x80\0\x80\x80\x80\x80\x80\x80\x80\x80\x80\0\x80\0";
+                reloc!(0, 60, 2, 0), reloc!(0, 61, 1, 0), reloc!(2, 54, 3, 0), reloc!(2, 60, 2, 0), reloc!(2, 61, 1, 0), reloc!(4, 60, 2, 0), reloc!(4, 61, 1, 0),
+                reloc!(4, 33, 4, 0), reloc!(6, 60, 2, 0), reloc!(6, 61, 1, 0), reloc!(16, 60, 5, 0), reloc!(16, 61, 6, 0), reloc!(17, 60, 7, 0),
+                reloc!(17, 61, 6, 0), reloc!(26, 60, 8, 0), reloc!(26, 61, 6, 0), reloc!(36, 60, 2, 0), reloc!(36, 61, 1, 0), reloc!(36, 60, 5, 0),
+                reloc!(36, 61, 6, 0)),
+    ]; [
+        START, F, symbol!(b"five", 1, 0, 0xfff1, 5, 0), symbol!(b"one", 1, 0, 0xfff1, 1, 0), symbol!(b"most", 1, 0, 0xfff1, 127, 0), NUMBER,
+        symbol!(b"half", 1, 0, 0xfff1, 0x7fff_ffff_ffff_ffff, 0), symbol!(b"all", 1, 0, 0xfff1, 0xffff_ffff_ffff_ffff, 0),
+    ]),
+    // One more than a byte has room for.
+    "too-many.o" => object!([
+        CALLED,
+        read_only!(b"\0"; reloc!(0, 60, 3, 0), reloc!(0, 61, 4, 0)),
+    ]; [START, F, symbol!(b"n", 1, 0, 0xfff1, 128, 0), symbol!(b"nil", 1, 0, 0xfff1, 0, 0)]),
+    // One more than 64 bits have, in ten bytes.
+    "beyond.o" => object!([
+        CALLED,
+        read_only!(b"\x80\x80\x80\x80\x80\x80\x80\x80\x80\0"; reloc!(0, 60, 3, 1), reloc!(0, 61, 4, 0)),
+    ]; [START, F, symbol!(b"n", 1, 0, 0xfff1, 0xffff_ffff_ffff_ffff, 0), symbol!(b"nil", 1, 0, 0xfff1, 0, 0)]),
+    // The first part of a pair alone.
+    "alone.o" => object!([CALLED, read_only!(b"\x80\0"; reloc!(0, 60, 2, 0))]; [START, F]),
+    // The second part of a pair alone.
+    "second.o" => object!([CALLED, read_only!(b"\x80\0"; reloc!(0, 61, 2, 0))]; [START, F]),
 );
 
 const PLACED_INPUTS: &[Input] = inputs!(
-    "parted.o" => PARTED, "twice.o" => TWICE, "apart.o" => APART, "past.o" => PAST, "long.o" => LONG, "over.o" => OVER_THE_END, "unsorted.o" => UNSORTED,
-    "beside.o" => BESIDE, "keeps.o" => KEEPS_BOTH,
+    // The two parts with a hint between them.
+    "parted.o" => object!([CALLED, read_only!(b"\x80\0"; reloc!(0, 60, 2, 0), reloc!(0, 51, 2, 0), reloc!(0, 61, 1, 0))]; [START, F]),
+    // A second part too many.
+    "twice.o" => object!([CALLED, read_only!(b"\x80\0"; reloc!(0, 60, 2, 0), reloc!(0, 61, 1, 0), reloc!(0, 61, 1, 0))]; [START, F]),
+    // The two parts at two places.
+    "apart.o" => object!([CALLED, read_only!(b"\0\0"; reloc!(0, 60, 2, 0), reloc!(1, 61, 1, 0))]; [START, F]),
+    // A number past the end of its section.
+    "past.o" => object!([CALLED, read_only!(b"\x80\0"; reloc!(2, 60, 2, 0), reloc!(2, 61, 1, 0))]; [START, F]),
+    // A number of eleven bytes.
+    "long.o" => object!([CALLED, read_only!(b"\x80\x80\x80\x80\x80\x80\x80\x80\x80\x80\0"; reloc!(0, 60, 2, 0), reloc!(0, 61, 1, 0))]; [START, F]),
+    // Ten bytes, of which the first five are the last of the first block of 65,536 bytes.
+    "over.o" => object!([
+        CALLED,
+        section!(b".rodata", 8, 2, 1; b""; size: 65299),
+        read_only!(b"\x80\x80\x80\x80\x80\x80\x80\x80\x80\0"; reloc!(0, 60, 3, 0), reloc!(0, 61, 4, 0)),
+    ]; [START, F, symbol!(b"large", 1, 0, 0xfff1, 0xfedc_ba98_7654_3210, 0), symbol!(b"nil", 1, 0, 0xfff1, 0, 0)]),
+    // Two pairs whose entries stand in no order but for those of one place.
+    "unsorted.o" => object!([
+        CALLED,
+        read_only!(b"\x80\0\x80\0"; reloc!(2, 60, 3, 0), reloc!(0, 60, 2, 0), reloc!(2, 61, 4, 0), reloc!(0, 61, 1, 0)),
+    ]; [START, F, symbol!(b"five", 1, 0, 0xfff1, 5, 0), symbol!(b"nil", 1, 0, 0xfff1, 0, 0)]),
+    // A number of two bytes, and a call behind it.
+    "beside.o" => object!([
+        section!(b".text", 1, 6, 2; b"\x80\0\x97\0\0\0\xe7\x80\0\0\x67\x80\0\0"; relocs: &[reloc!(0, 60, 2, 0), reloc!(0, 61, 1, 0), reloc!(2, 19, 2, 0)]),
+    ]; [symbol!(b"_start", 1, 2, 1, 2, 8), symbol!(b"f", 1, 2, 1, 10, 4)]),
+    // Code of which only the distance of `b` from `a` is asked for.
+    "keeps.o" => object!([
+        text!(b"\x67\x80\0\0"; reloc!(0, 0, 1, 0)), read_only!(b"\0"; reloc!(0, 60, 4, 0), reloc!(0, 61, 3, 0)),
+        section!(b".text.a", 1, 6, 4; b"\x73\0\x10\0"), section!(b".text.b", 1, 6, 4; b"\x01\0\x01\0"), section!(b".text.c", 1, 6, 4; b"\x13\0\0\0"),
+    ]; [symbol!(b".L0", 0, 0, 2, 0, 0), START, symbol!(b"a", 1, 2, 3, 0, 4), symbol!(b"b", 1, 2, 4, 0, 4)]),
 );
 
 const MET_INPUTS: &[Input] = inputs!(
-    "to.o" => TO_NOTHING, "from.o" => FROM_NOTHING, "bss.o" => NO_BITS, "met.o" => CALL_MEETS, "nops.o" => NOPS_MEET, "later.o" => CALL_MEETS_LATER,
-    "unsorted-alone.o" => UNSORTED_ALONE, "reversed.o" => REVERSED,
+    // The distance of what nothing defines, and the distance from there.
+    "to.o" => object!([RETURN, read_only!(b"\0"; reloc!(0, 60, 2, 0), reloc!(0, 61, 1, 0))]; [START, symbol!(b"k", 1, 0, 0, 0, 0)]),
+    "from.o" => object!([RETURN, read_only!(b"\0"; reloc!(0, 60, 1, 0), reloc!(0, 61, 2, 0))]; [START, symbol!(b"k", 1, 0, 0, 0, 0)]),
+    // A pair in a section without bytes.
+    "bss.o" => object!([CALLED, section!(b".bss", 8, 3, 1; b""; size: 2, relocs: &[reloc!(0, 60, 2, 0), reloc!(0, 61, 1, 0)])]; [START, F]),
+    // A first part alone, and a call that meets a pair.
+    "met.o" => object!([
+        text!(b"\x67\x80\0\0\x97\0\0\0\xe7\x80\0\0";
+            reloc!(0, 60, 2, 0), reloc!(4, 18, 1, 0), reloc!(8, 60, 2, 0), reloc!(8, 61, 1, 0)),
+    ]; [START, F]),
+    // The same with an alignment.
+    "nops.o" => object!([
+        text!(b"\x67\x80\0\0\x13\0\0\0\x67\x80\0\0";
+            reloc!(0, 60, 2, 0), reloc!(4, 43, 0, 4), reloc!(6, 60, 2, 0), reloc!(6, 61, 1, 0)),
+    ]; [START, F]),
+    // A call that meets the last byte of a number of three.
+    "later.o" => object!([text!(b"\x80\x80\0\0\x97\0\0\0\xe7\x80\0\0"; reloc!(0, 60, 2, 0), reloc!(0, 61, 1, 0), reloc!(2, 18, 1, 0))]; [START, F]),
+    // First parts alone, the later one first.
+    "unsorted-alone.o" => object!([CALLED, read_only!(b"\x80\0\x80\0"; reloc!(2, 60, 2, 0), reloc!(0, 60, 2, 0))]; [START, F]),
+    // The second part before the first.
+    "reversed.o" => object!([CALLED, read_only!(b"\x80\0"; reloc!(0, 61, 1, 0), reloc!(0, 60, 2, 0))]; [START, F]),
 );
 
 /// Adds the files that are at hand. Each list has a function of its own, since what a function holds is proved in one go.
 pub fn push_files(files: &mut Files, alloc: Global) -> Result<(), AllocError> {
-    push_pairs(files, alloc)?;
+    push_objects(files, alloc, INPUTS)?;
     push_placed(files, alloc)?;
     push_met(files, alloc)
-}
-
-fn push_pairs(files: &mut Files, alloc: Global) -> Result<(), AllocError> {
-    push_objects(files, alloc, INPUTS)
 }
 
 fn push_placed(files: &mut Files, alloc: Global) -> Result<(), AllocError> {
@@ -208,59 +143,45 @@ const SHORT: Image = image!(FIRST => table: 0x1028,
     contents: &[(0xe8, b"\x84\0"), (0x1000, b"\xef\0\x40\0\x67\x80\0\0"), (0x1008, NAMES)],
     sections: &[[1, 1, 2, 0x100e8, 0xe8, 2, 1], [9, 1, 6, 0x11000, 0x1000, 8, 4], [15, 3, 0, 0, 0x1008, 25, 1]]);
 
-/// And over one of eight.
-const WIDE: Image = image!(SHORT =>
-    segments: &[[1, 4, 0, 0x10000, 234, 234, 4096], [1, 5, 0x1000, 0x11000, 12, 12, 4096], STACK],
-    contents: &[(0xe8, b"\x88\0"), (0x1000, b"\x97\0\0\0\xe7\x80\x80\0\x67\x80\0\0"), (0x100c, NAMES)],
-    sections: &[[1, 1, 2, 0x100e8, 0xe8, 2, 1], [9, 1, 6, 0x11000, 0x1000, 12, 4], [15, 3, 0, 0, 0x100c, 25, 1]]);
-
-/// A distance to the function.
-const TO_FUNCTION: Image = image!(SHORT =>
-    segments: &[[1, 4, 0, 0x10000, 236, 236, 4096], [1, 5, 0x1000, 0x11000, 8, 8, 4096], STACK],
-    contents: &[(0xe8, b"\x1c\x0f\0\0"), (0x1000, b"\xef\0\x40\0\x67\x80\0\0"), (0x1008, NAMES)],
-    sections: &[[1, 1, 2, 0x100e8, 0xe8, 4, 4], [9, 1, 6, 0x11000, 0x1000, 8, 4], [15, 3, 0, 0, 0x1008, 25, 1]]);
-
-const MANY_NUMBERS: Image = image!(SHORT =>
-    segments: &[[1, 4, 0, 0x10000, 270, 270, 4096], [1, 5, 0x1000, 0x11000, 8, 8, 4096], STACK],
-    contents: &[
-        (0xe8, b"\x84\0\x04\0\x85\0\x84\x80\x80\x80\x80\x80\x80\x80\x80\0\x7f\xff\xff\xff\xff\xff\xff\xff\xff\x7f\xff\xff\xff\xff\xff\xff\xff\xff\xff\x01\xff\0"),
-        (0x1000, b"\xef\0\x40\0\x67\x80\0\0"), (0x1008, NAMES),
-    ],
-    sections: &[[1, 1, 2, 0x100e8, 0xe8, 38, 1], [9, 1, 6, 0x11000, 0x1000, 8, 4], [15, 3, 0, 0, 0x1008, 25, 1]]);
-
-/// A number in the last five bytes of the first block and the first five of the second.
-const IN_TWO_BLOCKS: Image = image!(SHORT => entry: 0x21000, table: 0x11028,
-    segments: &[[1, 4, 0, 0x10000, 0x10005, 0x10005, 4096], [1, 5, 0x11000, 0x21000, 8, 8, 4096], STACK],
-    contents: &[(0xfffb, b"\x90\xe4\xd0\xb2\x87\xd3\xae\xee\xfe\x01"), (0x11000, b"\xef\0\x40\0\x67\x80\0\0"), (0x11008, NAMES)],
-    sections: &[[1, 1, 2, 0x100e8, 0xe8, 0xff1d, 1], [9, 1, 6, 0x21000, 0x11000, 8, 4], [15, 3, 0, 0, 0x11008, 25, 1]]);
-
-/// Four, and five.
-const SORTED: Image = image!(SHORT =>
-    segments: &[[1, 4, 0, 0x10000, 236, 236, 4096], [1, 5, 0x1000, 0x11000, 8, 8, 4096], STACK],
-    contents: &[(0xe8, b"\x84\0\x85\0"), (0x1000, b"\xef\0\x40\0\x67\x80\0\0"), (0x1008, NAMES)],
-    sections: &[[1, 1, 2, 0x100e8, 0xe8, 4, 1], [9, 1, 6, 0x11000, 0x1000, 8, 4], [15, 3, 0, 0, 0x1008, 25, 1]]);
-
-/// Eight, which is the length of the call behind it.
-const NUMBER_AND_CALL: Image = image!(FIRST => entry: 0x11002,
-    segments: &[READ, [1, 5, 0x1000, 0x11000, 14, 14, 4096], STACK],
-    contents: &[(0x1000, b"\x88\0\x97\0\0\0\xe7\x80\x80\0\x67\x80\0\0"), (0x100e, b"\0.text\0.shstrtab\0")],
-    sections: &[[1, 1, 6, 0x11000, 0x1000, 14, 2], [7, 3, 0, 0, 0x100e, 17, 1]]);
-
-/// Four, and the code that is asked for.
-const KEPT_BY_A_PAIR: Image = image!(SHORT =>
-    segments: &[[1, 4, 0, 0x10000, 233, 233, 4096], [1, 5, 0x1000, 0x11000, 12, 12, 4096], STACK],
-    contents: &[(0xe8, b"\x04"), (0x1000, b"\x67\x80\0\0\x73\0\x10\0\x01\0\x01\0"), (0x100c, NAMES)],
-    sections: &[[1, 1, 2, 0x100e8, 0xe8, 1, 1], [9, 1, 6, 0x11000, 0x1000, 12, 4], [15, 3, 0, 0, 0x100c, 25, 1]]);
-
 pub const WRITTEN: &[Link] = &[
     link!("-s", "u.o" => SHORT; store: Store::Kinds),
-    link!("-s", "--no-relax", "u.o" => WIDE; store: Store::Kinds),
-    link!("-s", "plt32.o" => TO_FUNCTION; store: Store::Kinds),
-    link!("-s", "many.o" => MANY_NUMBERS; store: Store::Kinds),
-    link!("-s", "over.o" => IN_TWO_BLOCKS; store: Store::Kinds),
-    link!("-s", "unsorted.o" => SORTED; store: Store::Kinds),
-    link!("-s", "beside.o" => NUMBER_AND_CALL; store: Store::Kinds),
-    link!("-s", "--gc-sections", "keeps.o" => KEPT_BY_A_PAIR; store: Store::Kinds),
+    // And over one of eight.
+    link!("-s", "--no-relax", "u.o" => image!(SHORT =>
+        segments: &[[1, 4, 0, 0x10000, 234, 234, 4096], [1, 5, 0x1000, 0x11000, 12, 12, 4096], STACK],
+        contents: &[(0xe8, b"\x88\0"), (0x1000, b"\x97\0\0\0\xe7\x80\x80\0\x67\x80\0\0"), (0x100c, NAMES)],
+        sections: &[[1, 1, 2, 0x100e8, 0xe8, 2, 1], [9, 1, 6, 0x11000, 0x1000, 12, 4], [15, 3, 0, 0, 0x100c, 25, 1]]); store: Store::Kinds),
+    // A distance to the function.
+    link!("-s", "plt32.o" => image!(SHORT =>
+        segments: &[[1, 4, 0, 0x10000, 236, 236, 4096], [1, 5, 0x1000, 0x11000, 8, 8, 4096], STACK],
+        contents: &[(0xe8, b"\x1c\x0f\0\0"), (0x1000, b"\xef\0\x40\0\x67\x80\0\0"), (0x1008, NAMES)],
+        sections: &[[1, 1, 2, 0x100e8, 0xe8, 4, 4], [9, 1, 6, 0x11000, 0x1000, 8, 4], [15, 3, 0, 0, 0x1008, 25, 1]]); store: Store::Kinds),
+    link!("-s", "many.o" => image!(SHORT =>
+        segments: &[[1, 4, 0, 0x10000, 270, 270, 4096], [1, 5, 0x1000, 0x11000, 8, 8, 4096], STACK],
+        contents: &[
+            (0xe8, b"\x84\0\x04\0\x85\0\x84\x80\x80\x80\x80\x80\x80\x80\x80\0\x7f\xff\xff\xff\xff\xff\xff\xff\xff\x7f\xff\xff\xff\xff\xff\xff\xff\xff\xff\x01\xff\0"),
+            (0x1000, b"\xef\0\x40\0\x67\x80\0\0"), (0x1008, NAMES),
+        ],
+        sections: &[[1, 1, 2, 0x100e8, 0xe8, 38, 1], [9, 1, 6, 0x11000, 0x1000, 8, 4], [15, 3, 0, 0, 0x1008, 25, 1]]); store: Store::Kinds),
+    // A number in the last five bytes of the first block and the first five of the second.
+    link!("-s", "over.o" => image!(SHORT => entry: 0x21000, table: 0x11028,
+        segments: &[[1, 4, 0, 0x10000, 0x10005, 0x10005, 4096], [1, 5, 0x11000, 0x21000, 8, 8, 4096], STACK],
+        contents: &[(0xfffb, b"\x90\xe4\xd0\xb2\x87\xd3\xae\xee\xfe\x01"), (0x11000, b"\xef\0\x40\0\x67\x80\0\0"), (0x11008, NAMES)],
+        sections: &[[1, 1, 2, 0x100e8, 0xe8, 0xff1d, 1], [9, 1, 6, 0x21000, 0x11000, 8, 4], [15, 3, 0, 0, 0x11008, 25, 1]]); store: Store::Kinds),
+    // Four, and five.
+    link!("-s", "unsorted.o" => image!(SHORT =>
+        segments: &[[1, 4, 0, 0x10000, 236, 236, 4096], [1, 5, 0x1000, 0x11000, 8, 8, 4096], STACK],
+        contents: &[(0xe8, b"\x84\0\x85\0"), (0x1000, b"\xef\0\x40\0\x67\x80\0\0"), (0x1008, NAMES)],
+        sections: &[[1, 1, 2, 0x100e8, 0xe8, 4, 1], [9, 1, 6, 0x11000, 0x1000, 8, 4], [15, 3, 0, 0, 0x1008, 25, 1]]); store: Store::Kinds),
+    // Eight, which is the length of the call behind it.
+    link!("-s", "beside.o" => image!(FIRST => entry: 0x11002,
+        segments: &[READ, [1, 5, 0x1000, 0x11000, 14, 14, 4096], STACK],
+        contents: &[(0x1000, b"\x88\0\x97\0\0\0\xe7\x80\x80\0\x67\x80\0\0"), (0x100e, b"\0.text\0.shstrtab\0")],
+        sections: &[[1, 1, 6, 0x11000, 0x1000, 14, 2], [7, 3, 0, 0, 0x100e, 17, 1]]); store: Store::Kinds),
+    // Four, and the code that is asked for.
+    link!("-s", "--gc-sections", "keeps.o" => image!(SHORT =>
+        segments: &[[1, 4, 0, 0x10000, 233, 233, 4096], [1, 5, 0x1000, 0x11000, 12, 12, 4096], STACK],
+        contents: &[(0xe8, b"\x04"), (0x1000, b"\x67\x80\0\0\x73\0\x10\0\x01\0\x01\0"), (0x100c, NAMES)],
+        sections: &[[1, 1, 2, 0x100e8, 0xe8, 1, 1], [9, 1, 6, 0x11000, 0x1000, 12, 4], [15, 3, 0, 0, 0x100c, 25, 1]]); store: Store::Kinds),
 ];
 
 /// Numbers that do not fit.

@@ -8,81 +8,56 @@ use std::test::Fail;
 use sym_resolve::bind;
 use work_split::OpenGate;
 
-const PARTS: &[&[u8]] = &[
+const PARTS: &[&[u8]] = table![
     // The file header: 64 bits, relocatable, RISC-V with compressed instructions, seven section headers at 1064.
-    b"\x7fELF\x02\x01\x01\0\0\0\0\0\0\0\0\0\x01\0\xf3\0\x01\0\0\0\0\0\0\0\0\0\0\0\0\0\0\0\0\0\0\0(\x04\0\0\0\0\0\0\x01\0\0\0@\0\0\0\0\0@\0\x07\0\x06\0",
+    b"\x7fELF\x02\x01\x01\0\0\0\0\0\0\0\0\0\x01\0\xf3\0\x01\0\0\0\0\0\0\0\0\0\0\0\0\0\0\0\0\0\0\0(\x04\0\0\0\0\0\0\x01\0\0\0@\0\0\0\0\0@\0\x07\0\x06\0";
     // .text at 64: `ret` in four bytes, and four of padding.
-    b"g\x80\0\0\0\0\0\0",
+    b"g\x80\0\0\0\0\0\0";
     // .symtab at 72: symbol 0.
-    b"\0\0\0\0\0\0\0\0\0\0\0\0\0\0\0\0\0\0\0\0\0\0\0\0",
-    // 1: `end`, local, at 0 of section 1.
-    b"\x01\0\0\0\0\0\x01\0\0\0\0\0\0\0\0\0\0\0\0\0\0\0\0\0",
-    // 2: `__ehdr_start`, strong, undefined.
-    b"\x05\0\0\0\x10\0\0\0\0\0\0\0\0\0\0\0\0\0\0\0\0\0\0\0",
-    // 3: `__rela_iplt_start`, weak, undefined.
-    b"\x12\0\0\0 \0\0\0\0\0\0\0\0\0\0\0\0\0\0\0\0\0\0\0",
-    // 4: `__rela_iplt_end`, strong, undefined.
-    b"$\0\0\0\x10\0\0\0\0\0\0\0\0\0\0\0\0\0\0\0\0\0\0\0",
-    // 5: `_etext`, weak, undefined.
-    b"4\0\0\0 \0\0\0\0\0\0\0\0\0\0\0\0\0\0\0\0\0\0\0",
-    // 6: `etext`, strong, undefined.
-    b";\0\0\0\x10\0\0\0\0\0\0\0\0\0\0\0\0\0\0\0\0\0\0\0",
-    // 7: `_edata`, weak, undefined.
-    b"A\0\0\0 \0\0\0\0\0\0\0\0\0\0\0\0\0\0\0\0\0\0\0",
-    // 8: `edata`, strong, undefined.
-    b"H\0\0\0\x10\0\0\0\0\0\0\0\0\0\0\0\0\0\0\0\0\0\0\0",
-    // 9: `__bss_start`, weak, undefined.
-    b"N\0\0\0 \0\0\0\0\0\0\0\0\0\0\0\0\0\0\0\0\0\0\0",
-    // 10: `_end`, strong, undefined.
-    b"Z\0\0\0\x10\0\0\0\0\0\0\0\0\0\0\0\0\0\0\0\0\0\0\0",
-    // 11: `end`, weak, undefined.
-    b"_\0\0\0 \0\0\0\0\0\0\0\0\0\0\0\0\0\0\0\0\0\0\0",
-    // 12: `_GLOBAL_OFFSET_TABLE_`, strong, undefined.
-    b"c\0\0\0\x10\0\0\0\0\0\0\0\0\0\0\0\0\0\0\0\0\0\0\0",
-    // 13: `__global_pointer$`, weak, undefined.
-    b"y\0\0\0 \0\0\0\0\0\0\0\0\0\0\0\0\0\0\0\0\0\0\0",
-    // 14: `__preinit_array_start`, strong, undefined.
-    b"\x8b\0\0\0\x10\0\0\0\0\0\0\0\0\0\0\0\0\0\0\0\0\0\0\0",
-    // 15: `__preinit_array_end`, weak, undefined.
-    b"\xa1\0\0\0 \0\0\0\0\0\0\0\0\0\0\0\0\0\0\0\0\0\0\0",
-    // 16: `__init_array_start`, strong, undefined.
-    b"\xb5\0\0\0\x10\0\0\0\0\0\0\0\0\0\0\0\0\0\0\0\0\0\0\0",
-    // 17: `__init_array_end`, weak, undefined.
-    b"\xc8\0\0\0 \0\0\0\0\0\0\0\0\0\0\0\0\0\0\0\0\0\0\0",
-    // 18: `__fini_array_start`, strong, undefined.
-    b"\xd9\0\0\0\x10\0\0\0\0\0\0\0\0\0\0\0\0\0\0\0\0\0\0\0",
-    // 19: `__fini_array_end`, weak, undefined.
-    b"\xec\0\0\0 \0\0\0\0\0\0\0\0\0\0\0\0\0\0\0\0\0\0\0",
-    // 20: `__start_part`, strong, undefined.
-    b"\xfd\0\0\0\x10\0\0\0\0\0\0\0\0\0\0\0\0\0\0\0\0\0\0\0",
-    // 21: `__stop_part`, weak, undefined.
-    b"\x0a\x01\0\0 \0\0\0\0\0\0\0\0\0\0\0\0\0\0\0\0\0\0\0",
-    // 22: `__start_COMMON`, strong, undefined.
-    b"\x16\x01\0\0\x10\0\0\0\0\0\0\0\0\0\0\0\0\0\0\0\0\0\0\0",
-    // 23: `__stop_COMMON`, weak, undefined.
-    b"%\x01\0\0 \0\0\0\0\0\0\0\0\0\0\0\0\0\0\0\0\0\0\0",
-    // 24: `room`, COMMON, 8 bytes at a multiple of 8.
-    b"3\x01\0\0\x11\0\xf2\xff\x08\0\0\0\0\0\0\0\x08\0\0\0\0\0\0\0",
-    // 25: `__start_none`, weak, undefined.
-    b"8\x01\0\0 \0\0\0\0\0\0\0\0\0\0\0\0\0\0\0\0\0\0\0",
+    b"\0\0\0\0\0\0\0\0\0\0\0\0\0\0\0\0\0\0\0\0\0\0\0\0";
+    b"\x01\0\0\0\0\0\x01\0\0\0\0\0\0\0\0\0\0\0\0\0\0\0\0\0"; // 1: `end`, local, at 0 of section 1.
+    b"\x05\0\0\0\x10\0\0\0\0\0\0\0\0\0\0\0\0\0\0\0\0\0\0\0"; // 2: `__ehdr_start`, strong, undefined.
+    b"\x12\0\0\0 \0\0\0\0\0\0\0\0\0\0\0\0\0\0\0\0\0\0\0"; // 3: `__rela_iplt_start`, weak, undefined.
+    b"$\0\0\0\x10\0\0\0\0\0\0\0\0\0\0\0\0\0\0\0\0\0\0\0"; // 4: `__rela_iplt_end`, strong, undefined.
+    b"4\0\0\0 \0\0\0\0\0\0\0\0\0\0\0\0\0\0\0\0\0\0\0"; // 5: `_etext`, weak, undefined.
+    b";\0\0\0\x10\0\0\0\0\0\0\0\0\0\0\0\0\0\0\0\0\0\0\0"; // 6: `etext`, strong, undefined.
+    b"A\0\0\0 \0\0\0\0\0\0\0\0\0\0\0\0\0\0\0\0\0\0\0"; // 7: `_edata`, weak, undefined.
+    b"H\0\0\0\x10\0\0\0\0\0\0\0\0\0\0\0\0\0\0\0\0\0\0\0"; // 8: `edata`, strong, undefined.
+    b"N\0\0\0 \0\0\0\0\0\0\0\0\0\0\0\0\0\0\0\0\0\0\0"; // 9: `__bss_start`, weak, undefined.
+    b"Z\0\0\0\x10\0\0\0\0\0\0\0\0\0\0\0\0\0\0\0\0\0\0\0"; // 10: `_end`, strong, undefined.
+    b"_\0\0\0 \0\0\0\0\0\0\0\0\0\0\0\0\0\0\0\0\0\0\0"; // 11: `end`, weak, undefined.
+    b"c\0\0\0\x10\0\0\0\0\0\0\0\0\0\0\0\0\0\0\0\0\0\0\0"; // 12: `_GLOBAL_OFFSET_TABLE_`, strong, undefined.
+    b"y\0\0\0 \0\0\0\0\0\0\0\0\0\0\0\0\0\0\0\0\0\0\0"; // 13: `__global_pointer$`, weak, undefined.
+    b"\x8b\0\0\0\x10\0\0\0\0\0\0\0\0\0\0\0\0\0\0\0\0\0\0\0"; // 14: `__preinit_array_start`, strong, undefined.
+    b"\xa1\0\0\0 \0\0\0\0\0\0\0\0\0\0\0\0\0\0\0\0\0\0\0"; // 15: `__preinit_array_end`, weak, undefined.
+    b"\xb5\0\0\0\x10\0\0\0\0\0\0\0\0\0\0\0\0\0\0\0\0\0\0\0"; // 16: `__init_array_start`, strong, undefined.
+    b"\xc8\0\0\0 \0\0\0\0\0\0\0\0\0\0\0\0\0\0\0\0\0\0\0"; // 17: `__init_array_end`, weak, undefined.
+    b"\xd9\0\0\0\x10\0\0\0\0\0\0\0\0\0\0\0\0\0\0\0\0\0\0\0"; // 18: `__fini_array_start`, strong, undefined.
+    b"\xec\0\0\0 \0\0\0\0\0\0\0\0\0\0\0\0\0\0\0\0\0\0\0"; // 19: `__fini_array_end`, weak, undefined.
+    b"\xfd\0\0\0\x10\0\0\0\0\0\0\0\0\0\0\0\0\0\0\0\0\0\0\0"; // 20: `__start_part`, strong, undefined.
+    b"\x0a\x01\0\0 \0\0\0\0\0\0\0\0\0\0\0\0\0\0\0\0\0\0\0"; // 21: `__stop_part`, weak, undefined.
+    b"\x16\x01\0\0\x10\0\0\0\0\0\0\0\0\0\0\0\0\0\0\0\0\0\0\0"; // 22: `__start_COMMON`, strong, undefined.
+    b"%\x01\0\0 \0\0\0\0\0\0\0\0\0\0\0\0\0\0\0\0\0\0\0"; // 23: `__stop_COMMON`, weak, undefined.
+    b"3\x01\0\0\x11\0\xf2\xff\x08\0\0\0\0\0\0\0\x08\0\0\0\0\0\0\0"; // 24: `room`, COMMON, 8 bytes at a multiple of 8.
+    b"8\x01\0\0 \0\0\0\0\0\0\0\0\0\0\0\0\0\0\0\0\0\0\0"; // 25: `__start_none`, weak, undefined.
     // .strtab at 696.
-    b"\0end\0__ehdr_start\0__rela_iplt_start\0__rela_iplt_end\0_etext\0etext\0_edata\0edata\0__bss_start\0_end\0end\0_GLOBAL_OFFSET_TABLE_\0__global_pointer$\0__preinit_array_start\0__preinit_array_end\0__init_array_start\0__init_array_end\0__fini_array_start\0__fini_array_end\0__start_part\0__stop_part\0__start_COMMON\0__stop_COMMON\0room\0__start_none\0",
+    b"\0end\0__ehdr_start\0__rela_iplt_start\0__rela_iplt_end\0_etext\0etext\0_edata\0edata\0__bss_start\0_end\0end\0_GLOBAL_OFFSET_TABLE_\0__global_pointer$\0__preinit_array_start\0__preinit_array_end\0__init_array_start\0__init_array_end\0__fini_array_start\0__fini_array_end\0__start_part\0__stop_part\0__start_COMMON\0__stop_COMMON\0room\0__start_none\0";
     // .shstrtab at 1021, and padding.
-    b"\0.text\0part\0.symtab\0.strtab\0.shstrtab\0\0\0\0\0\0",
+    b"\0.text\0part\0.symtab\0.strtab\0.shstrtab\0\0\0\0\0\0";
     // The section table: section 0.
-    b"\0\0\0\0\0\0\0\0\0\0\0\0\0\0\0\0\0\0\0\0\0\0\0\0\0\0\0\0\0\0\0\0\0\0\0\0\0\0\0\0\0\0\0\0\0\0\0\0\0\0\0\0\0\0\0\0\0\0\0\0\0\0\0\0",
+    b"\0\0\0\0\0\0\0\0\0\0\0\0\0\0\0\0\0\0\0\0\0\0\0\0\0\0\0\0\0\0\0\0\0\0\0\0\0\0\0\0\0\0\0\0\0\0\0\0\0\0\0\0\0\0\0\0\0\0\0\0\0\0\0\0";
     // 1: .text.
-    b"\x01\0\0\0\x01\0\0\0\x06\0\0\0\0\0\0\0\0\0\0\0\0\0\0\0@\0\0\0\0\0\0\0\x04\0\0\0\0\0\0\0\0\0\0\0\0\0\0\0\x04\0\0\0\0\0\0\0\0\0\0\0\0\0\0\0",
+    b"\x01\0\0\0\x01\0\0\0\x06\0\0\0\0\0\0\0\0\0\0\0\0\0\0\0@\0\0\0\0\0\0\0\x04\0\0\0\0\0\0\0\0\0\0\0\0\0\0\0\x04\0\0\0\0\0\0\0\0\0\0\0\0\0\0\0";
     // 2: `part`, of no bytes.
-    b"\x07\0\0\0\x01\0\0\0\x03\0\0\0\0\0\0\0\0\0\0\0\0\0\0\0H\0\0\0\0\0\0\0\0\0\0\0\0\0\0\0\0\0\0\0\0\0\0\0\x01\0\0\0\0\0\0\0\0\0\0\0\0\0\0\0",
+    b"\x07\0\0\0\x01\0\0\0\x03\0\0\0\0\0\0\0\0\0\0\0\0\0\0\0H\0\0\0\0\0\0\0\0\0\0\0\0\0\0\0\0\0\0\0\0\0\0\0\x01\0\0\0\0\0\0\0\0\0\0\0\0\0\0\0";
     // 3: `part` again.
-    b"\x07\0\0\0\x01\0\0\0\x03\0\0\0\0\0\0\0\0\0\0\0\0\0\0\0H\0\0\0\0\0\0\0\0\0\0\0\0\0\0\0\0\0\0\0\0\0\0\0\x01\0\0\0\0\0\0\0\0\0\0\0\0\0\0\0",
+    b"\x07\0\0\0\x01\0\0\0\x03\0\0\0\0\0\0\0\0\0\0\0\0\0\0\0H\0\0\0\0\0\0\0\0\0\0\0\0\0\0\0\0\0\0\0\0\0\0\0\x01\0\0\0\0\0\0\0\0\0\0\0\0\0\0\0";
     // 4: .symtab.
-    b"\x0c\0\0\0\x02\0\0\0\0\0\0\0\0\0\0\0\0\0\0\0\0\0\0\0H\0\0\0\0\0\0\0p\x02\0\0\0\0\0\0\x05\0\0\0\x02\0\0\0\x08\0\0\0\0\0\0\0\x18\0\0\0\0\0\0\0",
+    b"\x0c\0\0\0\x02\0\0\0\0\0\0\0\0\0\0\0\0\0\0\0\0\0\0\0H\0\0\0\0\0\0\0p\x02\0\0\0\0\0\0\x05\0\0\0\x02\0\0\0\x08\0\0\0\0\0\0\0\x18\0\0\0\0\0\0\0";
     // 5: .strtab.
-    b"\x14\0\0\0\x03\0\0\0\0\0\0\0\0\0\0\0\0\0\0\0\0\0\0\0\xb8\x02\0\0\0\0\0\0E\x01\0\0\0\0\0\0\0\0\0\0\0\0\0\0\x01\0\0\0\0\0\0\0\0\0\0\0\0\0\0\0",
+    b"\x14\0\0\0\x03\0\0\0\0\0\0\0\0\0\0\0\0\0\0\0\0\0\0\0\xb8\x02\0\0\0\0\0\0E\x01\0\0\0\0\0\0\0\0\0\0\0\0\0\0\x01\0\0\0\0\0\0\0\0\0\0\0\0\0\0\0";
     // 6: .shstrtab.
-    b"\x1c\0\0\0\x03\0\0\0\0\0\0\0\0\0\0\0\0\0\0\0\0\0\0\0\xfd\x03\0\0\0\0\0\0&\0\0\0\0\0\0\0\0\0\0\0\0\0\0\0\x01\0\0\0\0\0\0\0\0\0\0\0\0\0\0\0",
+    b"\x1c\0\0\0\x03\0\0\0\0\0\0\0\0\0\0\0\0\0\0\0\0\0\0\0\xfd\x03\0\0\0\0\0\0&\0\0\0\0\0\0\0\0\0\0\0\0\0\0\0\x01\0\0\0\0\0\0\0\0\0\0\0\0\0\0\0";
 ];
 
 /// The object with a number in the place of the section of `_end`; 0 is none.
@@ -112,38 +87,14 @@ fn tables_of<'a>(alloc: Global, bytes: &'a [u8]) -> Result<Tables<'a>, ReadFault
 }
 
 /// What the linker's symbols of sections stand for here: sections 2 and 3 are named `part`, and 7 is the room of `room`.
-const BOUND: &[(SymNo, Bound)] = &[
-    (2, Bound::Linker(0)),
-    (3, Bound::Linker(1)),
-    (4, Bound::Linker(2)),
-    (5, Bound::Linker(3)),
-    (6, Bound::Linker(4)),
-    (7, Bound::Linker(5)),
-    (8, Bound::Linker(6)),
-    (9, Bound::Linker(7)),
-    (10, Bound::Linker(8)),
-    (11, Bound::Linker(9)),
-    (12, Bound::Linker(10)),
-    (13, Bound::Linker(11)),
-    (14, Bound::Linker(12)),
-    (15, Bound::Linker(13)),
-    (16, Bound::Linker(14)),
-    (17, Bound::Linker(15)),
-    (18, Bound::Linker(16)),
-    (19, Bound::Linker(17)),
+const BOUND: &[(SymNo, Bound)] = table![
+    (2, Bound::Linker(0)); (3, Bound::Linker(1)); (4, Bound::Linker(2)); (5, Bound::Linker(3)); (6, Bound::Linker(4)); (7, Bound::Linker(5));
+    (8, Bound::Linker(6)); (9, Bound::Linker(7)); (10, Bound::Linker(8)); (11, Bound::Linker(9)); (12, Bound::Linker(10)); (13, Bound::Linker(11));
+    (14, Bound::Linker(12)); (15, Bound::Linker(13)); (16, Bound::Linker(14)); (17, Bound::Linker(15)); (18, Bound::Linker(16));
+    (19, Bound::Linker(17));
     // 19 + 2 * 2, and one more; 19 + 2 * 7, and one more.
-    (20, Bound::Linker(23)),
-    (21, Bound::Linker(24)),
-    (22, Bound::Linker(33)),
-    (23, Bound::Linker(34)),
-    (
-        24,
-        Bound::InSection {
-            section: 7,
-            offset: 0,
-        },
-    ),
-    (25, Bound::Nobody),
+    (20, Bound::Linker(23)); (21, Bound::Linker(24)); (22, Bound::Linker(33)); (23, Bound::Linker(34));
+    (24, Bound::InSection { section: 7, offset: 0 }); (25, Bound::Nobody);
 ];
 
 /// The start of section 1.
@@ -187,15 +138,8 @@ fn the_first_section_that_may_stay_is_named(rt: HostRuntime) -> Result<(), Fail>
         ([false, false, true, false], Bound::Linker(25)),
         ([false, false, true, true], Bound::Nobody),
     ] {
-        let binding = bind(
-            &rt,
-            rt.alloc(),
-            &tables,
-            &discarded,
-            b"__start_COMMON",
-            1,
-            &OpenGate,
-        )?;
+        let entry = b"__start_COMMON".as_slice();
+        let binding = bind(&rt, rt.alloc(), &tables, &discarded, entry, 1, &OpenGate)?;
         assert_eq!(rt; binding.bound(&tables, 0, 20), start);
         assert_eq!(rt; binding.entry_bound(&tables), Bound::Linker(33));
     }

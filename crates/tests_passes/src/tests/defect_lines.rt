@@ -16,13 +16,7 @@ struct Row {
 
 macro_rules! row {
     ($file:expr, $name:expr, $other:expr, $defect:expr; $line:expr) => {
-        Row {
-            file: $file,
-            name: $name,
-            other: $other,
-            defect: $defect,
-            line: $line,
-        }
+        Row { file: $file, name: $name, other: $other, defect: $defect, line: $line }
     };
 }
 

@@ -17,21 +17,16 @@ struct Piece {
 }
 
 macro_rules! piece {
+    ($number:expr, $name:expr, $size:expr, $offset:expr; $bytes:expr) => {
+        Piece { number: $number, name: $name, size: $size, offset: $offset, bytes: $bytes }
+    };
     ($base:expr => $($field:ident: $value:expr),+) => {
-        Piece {
-            $($field: $value,)+
-            ..$base
-        }
+        Piece { $($field: $value,)+ ..$base }
     };
 }
 
-const FIRST: Piece = Piece {
-    number: 0,
-    name: "gen0.o",
-    size: 1152,
-    offset: 0,
-    bytes: b"\x7fELF\x02\x01\x01\0\0\0\0\0\0\0\0\0\x01\0\xf3\0\x01\0\0\0\0\0\0\0\0\0\0\0\0\0\0\0\0\0\0\0\xc0\x01\0\0\0\0\0\0\x05\0\0\0@\0\0\0\0\0@\0\x0b\0\x0a\0",
-};
+const FIRST: Piece =
+    piece!(0, "gen0.o", 1152, 0; b"\x7fELF\x02\x01\x01\0\0\0\0\0\0\0\0\0\x01\0\xf3\0\x01\0\0\0\0\0\0\0\0\0\0\0\0\0\0\0\0\0\0\0\xc0\x01\0\0\0\0\0\0\x05\0\0\0@\0\0\0\0\0@\0\x0b\0\x0a\0");
 
 const ONE: &[Piece] = &[
     FIRST,
@@ -53,55 +48,19 @@ const ONE: &[Piece] = &[
 const TWO: &[Piece] = &[
     // The second call's relocation is to the last symbol.
     piece!(FIRST => size: 1232, offset: 136, bytes: b"\x08\0\0\0\0\0\0\0\x13\0\0\0\x06\0\0\0"),
-    Piece {
-        number: 1,
-        name: "gen1.o",
-        size: 1120,
-        offset: 304,
-        bytes: b"\0f1\0g1\0d1\0\0",
-    },
+    piece!(1, "gen1.o", 1120, 304; b"\0f1\0g1\0d1\0\0"),
 ];
 
 const FIFTEEN: &[Piece] = &[
-    Piece {
-        number: 6,
-        name: "gen6.o",
-        size: 1288,
-        offset: 464,
-        bytes: b"\0f6\0g6\0d6\0f13\0f14\0",
-    },
+    piece!(6, "gen6.o", 1288, 464; b"\0f6\0g6\0d6\0f13\0f14\0"),
     // 12 mod 7 is 5.
-    Piece {
-        number: 12,
-        name: "gen12.o",
-        size: 1120,
-        offset: 128,
-        bytes: b"\x13\x05\x50\0\x67\x80\0\0",
-    },
+    piece!(12, "gen12.o", 1120, 128; b"\x13\x05\x50\0\x67\x80\0\0"),
 ];
 
 const FORTY: &[Piece] = &[
-    Piece {
-        number: 10,
-        name: "gen10.o",
-        size: 1288,
-        offset: 256,
-        bytes: b"s10\0",
-    },
-    Piece {
-        number: 19,
-        name: "gen19.o",
-        size: 1208,
-        offset: 384,
-        bytes: b"\0f19\0g19\0d19\0f39\0",
-    },
-    Piece {
-        number: 39,
-        name: "gen39.o",
-        size: 1120,
-        offset: 144,
-        bytes: b"s6\0",
-    },
+    piece!(10, "gen10.o", 1288, 256; b"s10\0"),
+    piece!(19, "gen19.o", 1208, 384; b"\0f19\0g19\0d19\0f39\0"),
+    piece!(39, "gen39.o", 1120, 144; b"s6\0"),
 ];
 
 fn has_piece(list: &[(String, Vec<u8>)], piece: &Piece) -> bool {

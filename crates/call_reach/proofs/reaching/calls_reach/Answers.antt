@@ -9,7 +9,7 @@ use Rattle.link_sections.specs.SizesView.{sizes_of}
 use Rattle.output_sections.specs.Order.{Orders, members_in}
 use Rattle.layout.specs.Layout.{frame_sizes}
 use Rattle.relax.specs.CallSizes.{IsLeastSafe, cuts_of}
-use Rattle.call_reach.proofs.Laid.{calls_reach}
+use Rattle.call_reach.proofs.Laid.{calls_reach, own_cuts_of}
 use Rattle.call_reach.proofs.reaching.calls_reach.Goals as goal
 
 pub returns : goal.returns
@@ -22,6 +22,10 @@ returns c =
     let S : Orders → Type 0 = λ o. IsLeastSafe files b merged leaders (members_in o) c.args.on in
     record {
       reach = calls_reach c.args.tables.now b c.args.pools.now (word_count (entries_of c.args.got.now)) leaders (entries_of c.args.got.now) c.args.limits.now
+          (sizes_of c.args.sizes.now) (frame_sizes c.args.frames.now) c.args.on (layout_view c.args.layout.now) c.is_few.ensures c.requires.bound c.requires.leaders c.requires.alike c.requires.pools
+          (c.requires.sizes ∙ ap (λ o. cuts_of files b merged leaders (members_in o) c.args.on) c.requires.order) (subst S c.requires.order c.requires.safe)
+          c.requires.layout c.requires.sound c.requires.aligned c.requires.room;
+      cuts = own_cuts_of c.args.tables.now b c.args.pools.now (word_count (entries_of c.args.got.now)) leaders (entries_of c.args.got.now) c.args.limits.now
           (sizes_of c.args.sizes.now) (frame_sizes c.args.frames.now) c.args.on (layout_view c.args.layout.now) c.is_few.ensures c.requires.bound c.requires.leaders c.requires.alike c.requires.pools
           (c.requires.sizes ∙ ap (λ o. cuts_of files b merged leaders (members_in o) c.args.on) c.requires.order) (subst S c.requires.order c.requires.safe)
           c.requires.layout c.requires.sound c.requires.aligned c.requires.room;

@@ -26,12 +26,12 @@ returns-in_default-second g c =
     c.in-Some.s (sym c.in-Some.is ∙ c.in_ok-first.ensures.section) (sym c.in_default-second.is ∙ c.in_ok-second.ensures.section)) c.name_line-in_default-second.ensures
 
 pub apart_lines-requires-clause-order : goal.apart_lines-requires-clause-order
-apart_lines-requires-clause-order g c =
+apart_lines-requires-clause-order g c = λ κs bound.
     let P : List LentItem → Type 0 = λ l. IsStrictlyIncreasing (sections_of (item_views l)) in
     subst P (sym c.as_slice.ensures.value) c.in_ok-items.ensures.order
 
 pub apart_lines-requires-clause-within : goal.apart_lines-requires-clause-within
-apart_lines-requires-clause-within g c =
+apart_lines-requires-clause-within g c = λ κs bound.
     let files = files_of c.args.tables.now in
     let b = binding_view c.args.binding.now in
     let merged = merged_views c.in_ok-pools.pools in

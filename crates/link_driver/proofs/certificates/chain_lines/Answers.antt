@@ -7,7 +7,7 @@ use Rattle.link_driver.proofs.Handing.{on_each}
 use Rattle.link_driver.proofs.certificates.chain_lines.Goals as goal
 
 pub returns : goal.returns
-returns c =
+returns g c =
     on_each c.chain_text.result (λ text is.
     is ∙ ap (lines_of_chain (names_of c.args.names.now) (files_of c.args.tables.now) (item_views c.args.items.now) c.args.one.now c.args.two.now c.args.pair)
-    c.in_ok-chain.ensures.chain) c.chain_text.ensures
+    c.in_ok-chain.ensures) c.chain_text.ensures

@@ -1,5 +1,5 @@
 use Rattle.std.proofs.lemmas.Result.{on_ok_weaker, on_err_weaker}
-use Rattle.link_driver.proofs.Writing.{whole_behind, cut_behind}
+use Rattle.link_driver.proofs.WrittenFiles.{whole_behind, cut_behind}
 use Rattle.link_driver.proofs.driving.write_file.Goals as goal
 
 pub returns-clause-files : goal.returns-clause-files

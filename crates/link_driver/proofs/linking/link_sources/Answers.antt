@@ -1,7 +1,10 @@
-use Rattle.std.proofs.Common.{◌≡◌, ◌∙◌, List, [], ◌∷◌, ◌++◌, true, refl, ap, ap₂, sym, subst, ℕ, IfOk}
+use Rattle.std.proofs.Common.{◌≡◌, ◌∙◌, List, [], ◌∷◌, ◌++◌, true, refl, ap, ap₂, sym, subst, ℕ, IfOk, Bool}
+use Rattle.std.specs.Global.{Vec}
 use Rattle.std.specs.Prelude.{Result, Ok, Err}
 use Rattle.std.proofs.lemmas.Bool.{or_left, or_right}
 use Rattle.comdat.specs.Discarded.{discarded}
+use Rattle.elf_out.specs.Executable.{own_tables}
+use Rattle.elf_out.specs.Prepared.{IsPrepared}
 use Rattle.file_live.specs.Live.{IsLive}
 use Rattle.link_command.specs.Command.{Asked, asks, lists_of}
 use Rattle.lk_base.specs.declared.defects.Defect.{Defect}
@@ -12,11 +15,13 @@ use Rattle.lk_base.specs.Limits.{IsWithinStandard}
 use Rattle.lk_tables.specs.BoundNames.{binding_defects}
 use Rattle.lk_tables.specs.BindingView.{binding_view}
 use Rattle.lk_tables.specs.TablesView.{files_of}
-use Rattle.link_driver.specs.declared.linking.Linked.{Linked}
+use Rattle.link_driver.specs.declared.writing.Settled.{Settled}
+use Rattle.link_driver.specs.Linked.{IsSettled, LinkedView, settled_view, with_why}
+use Rattle.link_driver.specs.Placing.{laid_by}
 use Rattle.link_driver.specs.Certificates.{asks_why, why_text}
 use Rattle.link_driver.specs.Contents.{input_contents, input_names, names_of, sources_of}
 use Rattle.link_driver.specs.Link.{Wishes, barred_of, bound_in, bound_names, defects_in, kept_in, kept_of, last_phases, linked_files, piece_defects, placing_defects, placing_phases, wishes_for, wishes_in, wishes_of}
-use Rattle.link_driver.specs.Phases.{HoldsAtStop, LinkStands, Makes, ShortenedCallsReach, Stops}
+use Rattle.link_driver.specs.Phases.{HoldsAtStop, HoldsPast, LinkStands, Links, Makes, ShortenedCallsReach, Stops}
 use Rattle.link_driver.specs.Sources.{Source, files_in, heads_in, live_in, shown_files}
 use Rattle.link_driver.specs.Tables.{IsCollected, wished}
 use Rattle.link_driver.specs.Defects.{opening_defects, reading_defects}
@@ -40,8 +45,8 @@ early limits within ss asked stop at before = record {
 abbrev Undefined : List (List ℕ) → Limits → List Source → List Defect
 Undefined undefined limits ss = first_phase (reading_defects limits ss ∷ opening_defects limits undefined ss ∷ [])
 
-pub returns-in-Err-clause-after : goal.returns-in-Err-clause-after
-returns-in-Err-clause-after g c =
+pub returns-in-Err : goal.returns-in-Err
+returns-in-Err g c =
     let limits = c.args.limits.now in
     let asked = asks c.args.command.now in
     let ss = sources_of c.args.sources.now in
@@ -54,11 +59,11 @@ returns-in-Err-clause-after g c =
 found : {X : Type 0} (ds : List Defect) (r s : Result X LinkStop) → r ≡ s → Goes r ds → Goes s ds
 found {X} ds r s is goes = let P : Result X LinkStop → Type 0 = λ x. Goes x ds in subst P is goes
 
-told_of : {X : Type 0} (P : X → Type 0) (r : Result X LinkStop) (x : X) → r ≡ Ok x → IfOk r P → P x
-told_of {X} P r x is holds = let Q : Result X LinkStop → Type 0 = λ s. IfOk s P in subst Q is holds
+told_of : {X E : Type 0} (P : X → Type 0) (r : Result X E) (x : X) → r ≡ Ok x → IfOk r P → P x
+told_of {X} {E} P r x is holds = let Q : Result X E → Type 0 = λ s. IfOk s P in subst Q is holds
 
-pub returns-in-Err-few-clause-after : goal.returns-in-Err-few-clause-after
-returns-in-Err-few-clause-after g c =
+pub returns-in-Err-few : goal.returns-in-Err-few
+returns-in-Err-few g c =
     let limits = c.args.limits.now in
     let asked = asks c.args.command.now in
     let ss = sources_of c.args.sources.now in
@@ -73,8 +78,8 @@ returns-in-Err-few-clause-after g c =
     (at_pieces limits asked ss read files are stop many)
     (early_pieces limits asked ss read files are stop many)
 
-pub returns-in-Err-bound-clause-after : goal.returns-in-Err-bound-clause-after
-returns-in-Err-bound-clause-after g c =
+pub returns-in-Err-bound : goal.returns-in-Err-bound
+returns-in-Err-bound g c =
     let limits = c.args.limits.now in
     let asked = asks c.args.command.now in
     let ss = sources_of c.args.sources.now in
@@ -98,14 +103,8 @@ find_kept-requires-clause-bound g c = λ κs within.
     binding_is c.as_str-entry.result.now files (binding_view c.in-Ok-bound.binding)
     (told_of (λ binding. binding_view binding ≡ bound_names files c.as_str-entry.result.now) c.bind_beside-few.result.1 c.in-Ok-bound.binding c.in-Ok-bound.is c.bind_beside-few.ensures.names)
 
-pub link_kept-requires-clause-bound : goal.link_kept-requires-clause-bound
-link_kept-requires-clause-bound g c = λ κs within.
-    let files = files_of c.in-Ok.both.0 in
-    binding_is c.as_str-entry.result.now files (binding_view c.in-Ok-bound.binding)
-    (told_of (λ binding. binding_view binding ≡ bound_names files c.as_str-entry.result.now) c.bind_beside-few.result.1 c.in-Ok-bound.binding c.in-Ok-bound.is c.bind_beside-few.ensures.names)
-
-pub why_text-requires-clause-bound : goal.why_text-requires-clause-bound
-why_text-requires-clause-bound g c = λ κs within.
+pub link_beside-made-requires-clause-bound : goal.link_beside-made-requires-clause-bound
+link_beside-made-requires-clause-bound g c = λ κs within.
     let files = files_of c.in-Ok.both.0 in
     binding_is c.as_str-entry.result.now files (binding_view c.in-Ok-bound.binding)
     (told_of (λ binding. binding_view binding ≡ bound_names files c.as_str-entry.result.now) c.bind_beside-few.result.1 c.in-Ok-bound.binding c.in-Ok-bound.is c.bind_beside-few.ensures.names)
@@ -116,8 +115,8 @@ find_barred-requires g c =
     binding_is c.as_str-entry.result.now files (binding_view c.in-Ok-bound.binding)
     (told_of (λ binding. binding_view binding ≡ bound_names files c.as_str-entry.result.now) c.bind_beside-few.result.1 c.in-Ok-bound.binding c.in-Ok-bound.is c.bind_beside-few.ensures.names)
 
-pub returns-in-Err-link_kept-clause-after : goal.returns-in-Err-link_kept-clause-after
-returns-in-Err-link_kept-clause-after g c =
+pub returns-in-Err-made : goal.returns-in-Err-made
+returns-in-Err-made g c =
     let limits = c.args.limits.now in
     let asked = asks c.args.command.now in
     let ss = sources_of c.args.sources.now in
@@ -131,7 +130,7 @@ returns-in-Err-link_kept-clause-after g c =
     let same = told_of (λ binding. binding_view binding ≡ bound_names files c.as_str-entry.result.now) c.bind_beside-few.result.1 c.in-Ok-bound.binding c.in-Ok-bound.is c.bind_beside-few.ensures.names in
     let b = binding_view c.in-Ok-bound.binding in
     let kept = c.as_slice-2.result.now in
-    let stop = c.in-Err-link_kept.stop in
+    let stop = c.in-Err-made.stop in
     let named = same ∙ ap (bound_names files) c.as_str-entry.ensures.value in
     let stays = c.as_slice-2.ensures.value ∙ c.in_ok-kept.ensures.kept ∙ ap (λ u. kept_of asked.gc u files b) asks_for in
     let barred = c.as_slice-3.ensures.value ∙ c.in_ok-barred.ensures ∙ ap (λ u. barred_of asked.icf u files b c.as_slice.result.now) (ap lists_of c.as_slice-unique.ensures.value)
@@ -140,21 +139,78 @@ returns-in-Err-link_kept-clause-after g c =
     let wished_is : wished c.options_of-options.result c.as_slice-3.result.now ≡ w =
     c.options_of-options.ensures c.as_slice-3.result.now ∙ ap (wishes_of asked) barred in
     let bound = ap (binding_defects files (discarded files)) (sym c.as_str-entry.ensures.value) ∙ goes in
-    let P : Wishes → Type 0 = λ v. StopsAt stop (first_phase (last_phases limits v files b kept)) in
-    let Q : Wishes → Type 0 = λ v. HoldsAtStop stop (first_phase (placing_phases limits v files b kept)) (ShortenedCallsReach v files b kept) in
+    let v = wished c.options_of-options.result c.as_slice-3.result.now in
+    let H : Result Settled LinkStop → Type 0 = λ r. HoldsPast r (first_phase (placing_phases limits v files b kept)) (ShortenedCallsReach v files b kept) in
+    let stops = found (first_phase (last_phases limits v files b kept)) c.link_beside-made.result.0 (Err stop) c.in-Err-made.is c.link_beside-made.ensures.goes in
+    let holds = subst H c.in-Err-made.is c.link_beside-made.ensures.reach in
+    let P : Wishes → Type 0 = λ u. StopsAt stop (first_phase (last_phases limits u files b kept)) in
+    let Q : Wishes → Type 0 = λ u. HoldsAtStop stop (first_phase (placing_phases limits u files b kept)) (ShortenedCallsReach u files b kept) in
     record {
       ends = least_stop limits c.requires.limits ss asked stop
           (at_last limits asked ss read files are few bound b named kept stays stop
-          (subst P wished_is c.in-Err-link_kept.ensures.goes));
+          (subst P wished_is stops));
       reach = past_on stop (first_phase (placing_phases limits w files b kept)) (placing_defects limits asked ss) (ShortenedCallsReach w files b kept)
           (ShortenedCallsReach (wishes_in asked ss) (linked_files asked ss) (bound_in asked ss) (kept_in asked ss))
           (λ none. sym (placing_left limits asked ss read files are few bound b named kept stays) ∙ none)
           (holds_in asked ss ShortenedCallsReach files b kept are named stays)
-          (subst Q wished_is c.in-Err-link_kept.ensures.reach);
+          (subst Q wished_is holds);
     }
 
-pub returns-clause-after : goal.returns-clause-after
-returns-clause-after g c =
+pub of-requires-clause-addresses : goal.of-requires-clause-addresses
+of-requires-clause-addresses g c =
+    let files = files_of c.in-Ok.both.0 in
+    let b = binding_view c.in-Ok-bound.binding in
+    let strip = c.options_of-options.result.strip in
+    let settled = c.in-Ok-made.settled in
+    let is : IsSettled files b c.as_slice-2.result.now strip settled =
+    told_of (IsSettled files b c.as_slice-2.result.now strip) c.link_beside-made.result.0 settled c.in-Ok-made.is c.link_beside-made.ensures.settled in
+    is.made.addresses
+
+pub of-requires-clause-prepared : goal.of-requires-clause-prepared
+of-requires-clause-prepared g c =
+    let files = files_of c.in-Ok.both.0 in
+    let b = binding_view c.in-Ok-bound.binding in
+    let strip = c.options_of-options.result.strip in
+    let settled = c.in-Ok-made.settled in
+    let is : IsSettled files b c.as_slice-2.result.now strip settled =
+    told_of (IsSettled files b c.as_slice-2.result.now strip) c.link_beside-made.result.0 settled c.in-Ok-made.is c.link_beside-made.ensures.settled in
+    let leaders = settled.placement.leaders.items in
+    let laid = laid_by files settled.placement in
+    let P : List Bool → Type 0 = λ k. IsPrepared files b leaders laid (own_tables files b k strip leaders laid) settled.written.prepared in
+    subst P c.as_slice-2.ensures.value is.made.prepared
+
+pub of-requires-clause-window : goal.of-requires-clause-window
+of-requires-clause-window g c =
+    let files = files_of c.in-Ok.both.0 in
+    let b = binding_view c.in-Ok-bound.binding in
+    let strip = c.options_of-options.result.strip in
+    let settled = c.in-Ok-made.settled in
+    let is : IsSettled files b c.as_slice-2.result.now strip settled =
+    told_of (IsSettled files b c.as_slice-2.result.now strip) c.link_beside-made.result.0 settled c.in-Ok-made.is c.link_beside-made.ensures.settled in
+    is.made.window
+
+pub of-requires-clause-listed : goal.of-requires-clause-listed
+of-requires-clause-listed g c =
+    let files = files_of c.in-Ok.both.0 in
+    let b = binding_view c.in-Ok-bound.binding in
+    let strip = c.options_of-options.result.strip in
+    let settled = c.in-Ok-made.settled in
+    let is : IsSettled files b c.as_slice-2.result.now strip settled =
+    told_of (IsSettled files b c.as_slice-2.result.now strip) c.link_beside-made.result.0 settled c.in-Ok-made.is c.link_beside-made.ensures.settled in
+    is.listed
+
+pub of-requires-clause-sound : goal.of-requires-clause-sound
+of-requires-clause-sound g c =
+    let files = files_of c.in-Ok.both.0 in
+    let b = binding_view c.in-Ok-bound.binding in
+    let strip = c.options_of-options.result.strip in
+    let settled = c.in-Ok-made.settled in
+    let is : IsSettled files b c.as_slice-2.result.now strip settled =
+    told_of (IsSettled files b c.as_slice-2.result.now strip) c.link_beside-made.result.0 settled c.in-Ok-made.is c.link_beside-made.ensures.settled in
+    is.sound
+
+pub returns : goal.returns
+returns g c =
     let limits = c.args.limits.now in
     let asked = asks c.args.command.now in
     let ss = sources_of c.args.sources.now in
@@ -177,45 +233,52 @@ returns-clause-after g c =
     let wished_is : wished c.options_of-options.result c.as_slice-3.result.now ≡ w =
     c.options_of-options.ensures c.as_slice-3.result.now ∙ ap (wishes_of asked) barred in
     let given = c.as_slice-4.result.now in
-    let linked = c.in-Ok-link_kept.linked in
-    let exe = linked.exe.items in
-    let P : Wishes → Type 0 = λ v. first_phase (last_phases limits v files b kept) ≡ [] in
-    let Q : Wishes → Type 0 = λ v. LinkStands v files b kept exe in
-    let R : Wishes → Type 0 = λ v. Makes v (names_of given) files b kept linked in
-    let S : Wishes → Type 0 = λ v. ShortenedCallsReach v files b kept in
+    let strip = c.options_of-options.result.strip in
+    let settled = c.in-Ok-made.settled in
+    let linked : LinkedView = settled_view files b kept strip settled in
+    let exe = linked.exe in
+    let v = wished c.options_of-options.result c.as_slice-3.result.now in
+    let made = c.link_beside-made.result.0 in
+    let none = found (first_phase (last_phases limits v files b kept)) made (Ok settled) c.in-Ok-made.is c.link_beside-made.ensures.goes in
+    let stands = told_of (λ s. LinkStands v files b kept (settled_view files b kept strip s).exe) made settled c.in-Ok-made.is c.link_beside-made.ensures.stands in
+    let written = told_of (λ s. Makes v (names_of given) files b kept (settled_view files b kept strip s)) made settled c.in-Ok-made.is c.link_beside-made.ensures.written in
+    let H : Result Settled LinkStop → Type 0 = λ x. HoldsPast x (first_phase (placing_phases limits v files b kept)) (ShortenedCallsReach v files b kept) in
+    let holds = subst H c.in-Ok-made.is c.link_beside-made.ensures.reach in
+    let P : Wishes → Type 0 = λ u. first_phase (last_phases limits u files b kept) ≡ [] in
+    let Q : Wishes → Type 0 = λ u. LinkStands u files b kept exe in
+    let R : Wishes → Type 0 = λ u. Makes u (names_of given) files b kept linked in
+    let S : Wishes → Type 0 = λ u. ShortenedCallsReach u files b kept in
     let L : List (List ℕ) → Type 0 = λ u. IsLive u (heads_in ss) (live_in u ss) in
     let C : List (List ℕ) → Type 0 = λ u. IsCollected u files b c.in_ok-kept.kept.items in
-    let wanted : Wishes → Type 0 = λ v. v.map ≡ true → names_of given ≡ shown in
+    let wanted : Wishes → Type 0 = λ u. u.map ≡ true → names_of given ≡ shown in
     let shows = c.wants_names.ensures in
     let alike = subst wanted wished_is (λ on. ap names_of c.as_slice-4.ensures.value
     ∙ c.in_ok-names.ensures (shows ∙ or_left c.options_of-options.result.map (asks_why asked) on)) in
-    let said : Linked = record { exe = linked.exe; map = linked.map; report = c.extend_from_slice.new.self } in
-    let why = c.in_ok-why.why.items in
-    let kept_again = c.as_slice-5.ensures.value ∙ sym c.as_slice-2.ensures.value in
-    let barred_again = c.as_slice-6.ensures.value ∙ sym c.as_slice-3.ensures.value ∙ barred in
-    let named_again : asks_why asked ≡ true → names_of c.as_slice-7.result.now ≡ shown = λ on. ap names_of c.as_slice-7.ensures.value ∙ c.in_ok-names.ensures (shows ∙ or_right c.options_of-options.result.map (asks_why asked) on) in
+    let text = c.as_slice-5.result.now in
+    let said : LinkedView = with_why text linked in
+    let said_is : c.in-Ok-of.linked ≡ said =
+    c.in-Ok-of.ensures ∙ ap (λ (k : List Bool). with_why text (settled_view files b k strip settled)) (sym c.as_slice-2.ensures.value) in
+    let Given : LinkedView → Type 0 = λ x. Links limits asked shown ss x in
+    let why = c.in-Ok-told.why.items in
+    let named_again : asks_why asked ≡ true → names_of given ≡ shown = λ on. ap names_of c.as_slice-4.ensures.value
+    ∙ c.in_ok-names.ensures (shows ∙ or_right c.options_of-options.result.map (asks_why asked) on) in
     let why_is : why ≡ why_text asked shown files b kept w.barred =
-    c.in_ok-why.ensures ∙ ap₂ (why_text asked (names_of c.as_slice-7.result.now) files b) kept_again barred_again
-    ∙ why_as asked (names_of c.as_slice-7.result.now) shown files b kept w.barred named_again in
-    record {
+    told_of (λ (l : Vec ℕ). l.items ≡ why_text asked (names_of given) files b kept c.as_slice-3.result.now) c.link_beside-made.result.1 c.in-Ok-told.why c.in-Ok-told.is c.link_beside-made.ensures.why
+    ∙ ap (why_text asked (names_of given) files b kept) barred ∙ why_as asked (names_of given) shown files b kept w.barred named_again in
+    subst Given (sym said_is) (record {
       sound = no_defects limits asked ss read files are few
           (ap (binding_defects files (discarded files)) (sym c.as_str-entry.ensures.value) ∙ goes)
-          b named kept stays (subst P wished_is c.in-Ok-link_kept.ensures.goes);
+          b named kept stays (subst P wished_is none);
       taking_part = subst L asks_for c.in-Ok.ensures.taking_part;
       bound = bound_are c.as_str-entry.result.now asked.entry files (linked_files asked ss) are c.as_str-entry.ensures.value
           (told_of (λ _. IsLawful files (discarded files) c.as_str-entry.result.now (bound_names files c.as_str-entry.result.now)) c.bind_beside-few.result.1 c.in-Ok-bound.binding c.in-Ok-bound.is c.bind_beside-few.ensures.least);
       collected = λ gc. holds_in asked ss (λ v fs n k. IsCollected asked.undefined fs n k) files b c.in_ok-kept.kept.items are named
           (c.in_ok-kept.ensures.kept ∙ ap (λ u. kept_of asked.gc u files b) asks_for) (subst C asks_for (c.in_ok-kept.ensures.collected gc));
-      stands = holds_in asked ss (λ v fs n k. LinkStands v fs n k exe) files b kept are named stays (subst Q wished_is c.in-Ok-link_kept.ensures.stands);
-      reach = holds_in asked ss ShortenedCallsReach files b kept are named stays (subst S wished_is c.in-Ok-link_kept.ensures.reach);
+      stands = holds_in asked ss (λ v fs n k. LinkStands v fs n k exe) files b kept are named stays (subst Q wished_is stands);
+      reach = holds_in asked ss ShortenedCallsReach files b kept are named stays (subst S wished_is holds);
       gives = gives_all asked shown ss linked said why
           (holds_in asked ss (λ v fs n k. Makes v shown fs n k linked) files b kept are named stays
-          (made_as w (names_of given) shown files b kept linked alike (subst R wished_is c.in-Ok-link_kept.ensures.written)))
-          refl refl (c.in_ok-extend_from_slice.ensures.items ∙ ap (λ l. linked.report.items ++ l) c.as_slice-8.ensures.value)
+          (made_as w (names_of given) shown files b kept linked alike (subst R wished_is written)))
+          refl refl (ap (λ l. linked.report ++ l) c.as_slice-5.ensures.value)
           (holds_in asked ss (λ v fs n k. why ≡ why_text asked shown fs n k v.barred) files b kept are named stays why_is);
-    }
-
--- the tables are those of the command's files
-pub returns-clause-tables : goal.returns-clause-tables
-returns-clause-tables g c =
-    c.in-Ok.ensures.tables ∙ ap (λ u. files_in u (sources_of c.args.sources.now)) (ap lists_of c.as_slice-undefined.ensures.value)
+    })

@@ -12,7 +12,7 @@ pub over_shares-found-requires-clause-accepts : goal.over_shares-found-requires-
 over_shares-found-requires-clause-accepts g c = λ κs within w p lt at.
     let own = tiles_within 0 6 c.args.pieces.now w p c.requires.tiles lt at in
     let some = own.some in
-    (omega (arith, some), (own.end_in, c.requires.few))
+    (omega (arith, some), (own.end_in, (c.requires.few, c.requires.present)))
 
 pub returns-in-Ok : goal.returns-in-Ok
 returns-in-Ok g c =

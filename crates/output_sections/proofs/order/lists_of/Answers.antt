@@ -5,6 +5,9 @@ use Rattle.output_sections.specs.Order.{lists_view, order_of, orders_between}
 use Rattle.output_sections.proofs.OrderParts.{first_part, part_more}
 use Rattle.output_sections.proofs.order.lists_of.Goals as goal
 
+pub class_rows-requires-clause-wanted : goal.class_rows-requires-clause-wanted
+class_rows-requires-clause-wanted c = c.is_present.ensures ∙ c.requires.present c.class_at-class.result
+
 pub loop-place-init : goal.loop-place-init
 loop-place-init c =
     let items = items_view c.args.items.now in
@@ -16,7 +19,7 @@ loop-place-preserved c =
     let low = c.loop-place.invariant.0 in (
       omega (arith, low),
       part_more items c.args.piece.start c.loop-place.place c.loop-place.lists.items c.push.new.self.items c.in_ok-list.list low c.loop-place.invariant.1 c.in_ok-push.ensures.items
-          (c.in_ok-list.ensures ∙ ap (λ (k : Class). order_of k items) c.class_at.ensures),
+          (c.in_ok-list.ensures ∙ ap (λ (k : Class). order_of k items) c.class_at-class.ensures),
     )
 
 pub returns : goal.returns

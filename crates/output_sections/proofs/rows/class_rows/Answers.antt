@@ -5,11 +5,11 @@ use Rattle.output_sections.specs.Order.{head_of, key_of}
 use Rattle.output_sections.proofs.RowSteps.{no_rows}
 use Rattle.output_sections.proofs.rows.class_rows.Goals as goal
 
-pub returns-then-not-has_any : goal.returns-then-not-has_any
+pub returns-then-not-wanted : goal.returns-then-not-wanted
 unfolding stable_order
-returns-then-not-has_any c =
-    let none = no_rows c.args.class (head_of c.args.class (items_view c.args.items.now)) 0 c.args.items.now (sym c.has_any.ensures ∙ c.if-not-has_any.true) in
+returns-then-not-wanted c =
+    let none = no_rows c.args.class (head_of c.args.class (items_view c.args.items.now)) 0 c.args.items.now (sym c.requires.wanted ∙ c.if-not-wanted.true) in
     c.new.ensures.items ∙ sym (ap (stable_order key_of) none)
 
 pub returns : goal.returns
-returns c = c.in_ok-sort_rows.ensures ∙ ap (stable_order key_of) c.in_ok-push_all.ensures
+returns c = c.in_ok-sort_rows.ensures ∙ ap (stable_order key_of) c.in_ok-settle.ensures

@@ -21,7 +21,7 @@ loop-from-preserved c =
     let give : ℕ → List Call = calls_of (files_of s.tables.now) (binding_view s.binding.now) (merged_views s.pools.now) s.leaders.now s.members.now c.args.on in (
       omega (arith, low),
       run_more give c.args.piece.start c.loop-from.from c.loop-from.rows c.push.new.self low c.loop-from.invariant.1
-          (c.in_ok-push.ensures.ok ∙ ap (λ l. c.loop-from.rows ++ l ∷ []) (c.as_slice.ensures.value ∙ c.in_ok-calls.ensures)),
+          (c.in_ok-push.ensures.ok ∙ ap (λ l. c.loop-from.rows ++ l ∷ []) (c.as_slice.ensures.value ∙ c.in_ok-calls_of.ensures)),
     )
 
 pub returns : goal.returns

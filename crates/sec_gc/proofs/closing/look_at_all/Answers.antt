@@ -1,5 +1,4 @@
-use Rattle.std.proofs.Common.{◌≡◌, ◌<◌, ℕ, length, rules, sym, ◌∙◌, subst, ap, arith}
-use Rattle.link_sections.specs.Edges.{ends_of}
+use Rattle.std.proofs.Common.{◌≡◌, ℕ, length, rules, ap, arith}
 use Rattle.sec_gc.proofs.Sitting.{sits_looked}
 use Rattle.sec_gc.proofs.Rounds.{found_looked, keeps_looked, keeps_more, looked_more, looked_none}
 use Rattle.sec_gc.proofs.closing.look_at_all.Goals as goal

@@ -1,7 +1,7 @@
-use Rattle.std.proofs.Common.{◌≡◌, ◌<◌, ◌+◌, true, ℕ, arith}
+use Rattle.std.proofs.Common.{◌≡◌, ◌+◌, true, ℕ, arith}
 use Rattle.link_sections.specs.Edges.{ends_of}
 use Rattle.lk_tables.specs.Reach.{ends_at, mark}
-use Rattle.sec_gc.specs.Closing.{AreOn, Rests}
+use Rattle.sec_gc.specs.Closing.{AreOn}
 use Rattle.sec_gc.specs.Marks.{section_at}
 use Rattle.sec_gc.proofs.Rounds.{keeps_more, on_more, rests_next, rests_none}
 use Rattle.sec_gc.proofs.closing.mark_ends.Goals as goal

@@ -1,4 +1,4 @@
-use Rattle.std.proofs.Common.{◌≡◌, List, ℕ, length, sym, subst}
+use Rattle.std.proofs.Common.{List, ℕ, length, sym, subst}
 use Rattle.std.specs.declared.ops.Range.{Range}
 use Rattle.sec_gc.specs.Closing.{KeepsSeen}
 use Rattle.sec_gc.proofs.Rounds.{all_rest, found_each}

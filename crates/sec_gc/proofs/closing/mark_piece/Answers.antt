@@ -1,4 +1,4 @@
-use Rattle.std.proofs.Common.{◌≡◌, ◌<◌, ◌≤◌, ◌+◌, true, ℕ, arith}
+use Rattle.std.proofs.Common.{◌≡◌, ◌+◌, true, ℕ, arith}
 use Rattle.link_sections.specs.Edges.{ends_of}
 use Rattle.lk_tables.specs.Reach.{mark}
 use Rattle.sec_gc.specs.Closing.{HasEnds, HaveEnds}

@@ -1,5 +1,4 @@
 use Rattle.std.proofs.Common.{List, sym, ◌≡◌, ◌<◌, length, subst, arith}
-use Rattle.std.specs.declared.ops.Range.{Range}
 use Rattle.sec_gc.specs.Closing.{AreFound}
 use Rattle.sec_gc.specs.Marks.{SeatView, SitsAt}
 use Rattle.work_split.proofs.Tiling.{tiles_within}

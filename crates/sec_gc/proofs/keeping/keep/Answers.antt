@@ -1,19 +1,38 @@
-use Rattle.std.proofs.Common.{IfOk, Contains, subst}
+use Rattle.std.proofs.Common.{◌<◌, ◌≤◌, ℕ, All, IfOk, List, length, sym, subst, arith}
 use Rattle.link_sections.specs.Edges.{ends_of}
 use Rattle.lk_tables.specs.Reach.{IsReach}
-use Rattle.sec_gc.proofs.Reached.{kept_is}
+use Rattle.sec_gc.specs.Visits.{progress}
+use Rattle.sec_gc.proofs.Reached.{kept_is, reach_from}
+use Rattle.sec_gc.proofs.Searching.{queue_within, searched_all, searched_is}
 use Rattle.sec_gc.proofs.keeping.keep.Goals as goal
 
-pub close_rounds-requires-clause-rooted : goal.close_rounds-requires-clause-rooted
-close_rounds-requires-clause-rooted g c κs within =
-    λ f has. c.follow_by_all.ensures.keeps f (c.follow-place.ensures.keeps f (c.mark_roots.ensures.rooted f (subst (λ l. Contains l f) c.in_ok-marks.ensures.roots has)))
+pub keep_shared-requires-clause-list : goal.keep_shared-requires-clause-list
+keep_shared-requires-clause-list g c κs within =
+    let ends = ends_of c.args.edges.now in
+    let found = c.in_ok-found.found in
+    let P : List ℕ → Type 0 = All (λ r. r < length ends) in
+    subst P (sym c.as_slice.ensures.value) (queue_within c.args.roots.now ends found.next (progress found.seen.items found.queue.items) c.in_ok-found.ensures)
+
+pub returns-then-len-found-clause-reach : goal.returns-then-len-found-clause-reach
+returns-then-len-found-clause-reach g c =
+    let found = c.in_ok-found.found in
+    let past : length found.queue.items ≤ found.next = omega (arith, c.if-len-found.true, c.len.ensures, found.queue.ok.0) in
+    searched_all c.args.roots.now (ends_of c.args.edges.now) found.next (progress found.seen.items found.queue.items) past c.in_ok-found.ensures
+
+pub returns-then-len-found-clause-kept : goal.returns-then-len-found-clause-kept
+returns-then-len-found-clause-kept g c =
+    let found = c.in_ok-found.found in
+    let past : length found.queue.items ≤ found.next = omega (arith, c.if-len-found.true, c.len.ensures, found.queue.ok.0) in
+    searched_is c.args.roots.now (ends_of c.args.edges.now) found.next (progress found.seen.items found.queue.items) past c.in_ok-found.ensures
 
 pub returns : goal.returns
 returns g c =
     let roots = c.args.roots.now in
-    let result = c.close_rounds.result in
-    let opened = c.in_ok-marks.ensures in
-    let reach = subst (λ e. IfOk result (λ seen. IsReach roots e seen.items)) opened.ends (subst (λ l. IfOk result (λ seen. IsReach l c.in_ok-marks.marks.ends seen.items)) opened.roots c.close_rounds.ensures) in record {
+    let ends = ends_of c.args.edges.now in
+    let found = c.in_ok-found.found in
+    let result = c.keep_shared.result in
+    let P : List ℕ → Type 0 = λ l. IfOk result (λ on. IsReach l ends on.items) in
+    let reach = reach_from roots ends result found.next (progress found.seen.items found.queue.items) c.in_ok-found.ensures (subst P c.as_slice.ensures.value c.keep_shared.ensures) in record {
       reach = reach;
-      kept = kept_is roots (ends_of c.args.edges.now) result c.requires.roots c.args.edges.now.within reach;
+      kept = kept_is roots ends result c.requires.roots c.args.edges.now.within reach;
     }

@@ -1,4 +1,4 @@
-use Rattle.std.proofs.Common.{arith, ℕ, Bool, List, [], ◌∷◌, ◌++◌, ◌==◌, map, take, sym, ap, ◌∙◌, rules}
+use Rattle.std.proofs.Common.{arith, ℕ, Bool, List, [], ◌∷◌, ◌++◌, ◌==◌, ap, ◌∙◌, rules}
 use Rattle.std.specs.Slots.{slots_items, slots_counts}
 use Rattle.sec_gc.proofs.Closings.{marks_more, read_at}
 use Rattle.sec_gc.proofs.marks.first_marks.Goals as goal

@@ -1,4 +1,4 @@
-use Rattle.std.proofs.Common.{◌≡◌, ◌++◌, ◌∷◌, [], true, false, ap, sym, ◌∙◌, subst, All, arith, List}
+use Rattle.std.proofs.Common.{◌≡◌, ◌++◌, true, false, ap, sym, ◌∙◌, subst, All, arith, List}
 use Rattle.std.specs.Vec.Iter.{into_iter_items}
 use Rattle.sec_gc.specs.declared.closing.Done.{Done}
 use Rattle.sec_gc.specs.Closing.{KeepsSeen}

@@ -1,4 +1,4 @@
-use Rattle.std.proofs.Common.{◌≡◌, List, rules, ap, ◌∙◌}
+use Rattle.std.proofs.Common.{◌≡◌, rules, ap, ◌∙◌}
 use Rattle.std.proofs.lemmas.List.Elements.{All-push, All-same}
 use Rattle.sec_gc.specs.Marks.{SeatView, SitsAt}
 use Rattle.sec_gc.proofs.Sitting.{sits_newcomer, sits_split}

@@ -1,4 +1,4 @@
-use Rattle.std.proofs.Common.{ℕ, Bool, List, length, map, refl, sym, ap, ◌∙◌, subst}
+use Rattle.std.proofs.Common.{Bool, List, refl, sym, subst}
 use Rattle.std.specs.Slots.{slots_items}
 use Rattle.link_sections.specs.Edges.{ends_of}
 use Rattle.sec_gc.specs.Marks.{MarksView, SeatView, IsClosing}

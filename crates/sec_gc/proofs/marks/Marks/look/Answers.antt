@@ -1,4 +1,3 @@
-use Rattle.std.proofs.Common.{◌≡◌}
 use Rattle.std.proofs.lemmas.Bool.{eq-eqb, eqb-true}
 use Rattle.sec_gc.proofs.Sitting.{looked_bit, within_at}
 use Rattle.sec_gc.proofs.marks.Marks.look.Goals as goal

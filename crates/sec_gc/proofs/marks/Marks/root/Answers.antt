@@ -1,4 +1,4 @@
-use Rattle.std.proofs.Common.{◌≡◌, ◌<◌, inl, length, List, Contains, sym, ap, ◌∙◌, subst}
+use Rattle.std.proofs.Common.{inl, Contains, sym, ◌∙◌, subst}
 use Rattle.std.proofs.lemmas.Bool.{eqb-true}
 use Rattle.std.proofs.lemmas.List.Elements.{Contains-get_or}
 use Rattle.sec_gc.specs.Marks.{section_at}

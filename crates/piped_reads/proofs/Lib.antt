@@ -1,0 +1,6 @@
+mod Gathering
+mod HeadSteps
+mod LoadSteps
+mod OfLoaded
+mod RuleSteps
+mod Taking

@@ -1,0 +1,5 @@
+use Rattle.piped_reads.proofs.RuleSteps.{takes}
+use Rattle.piped_reads.proofs.parsers.take_all.Goals as goal
+
+pub pop_as-requires-clause-rule : goal.pop_as-requires-clause-rule
+pop_as-requires-clause-rule g c = (takes _ _, λ items views held at. tt)
