@@ -17,7 +17,6 @@ import shutil
 import subprocess
 import sys
 import tempfile
-import textwrap
 
 AS, OBJDUMP = 'riscv64-linux-gnu-as', 'riscv64-linux-gnu-objdump'
 TABLE = os.path.join(os.path.dirname(os.path.realpath(__file__)), '..', 'crates', 'rv_code', 'src', 'tests', 'encodings.rt')
@@ -106,11 +105,14 @@ def made():
         for name, width, text, values in FORMS:
             values = list(dict.fromkeys(values))
             yield f'// {text}'
-            yield f'pub(super) const {name}: &[Encoding] = rows!['
-            rows = ', '.join(f'{v}\xa0=>\xa00x{int.from_bytes(code, "little"):0{2 * width}x}' for v, code in zip(values, encoded(width, text, values, folder)))
-            for line in textwrap.wrap(rows, 150, initial_indent='    ', subsequent_indent='    ', break_long_words=False, break_on_hyphens=False):
-                yield line.replace('\xa0', ' ')
-            yield '];'
+            line, most = f'pub(super) const {name}: &[Encoding] = rows![', 100   # `rt fmt` moves a longer first line
+            for v, code in zip(values, encoded(width, text, values, folder)):
+                row = f'{v} => 0x{int.from_bytes(code, "little"):0{2 * width}x}' + (',' if v != values[-1] else '];')
+                if len(line) + len(row) + 1 > most:
+                    yield line
+                    line, most = '   ', 150
+                line += row if line.endswith('[') else ' ' + row
+            yield line
 
 
 HEAD = '''//! Values V, and the bytes that GNU as makes of instructions and numbers with them: what `scripts/fields.py` prints.

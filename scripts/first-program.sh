@@ -4,9 +4,11 @@
 # from the proved one, which takes an hour on four processors where nothing was proved before. RVLD names a program that is there
 set -eu
 top=$(cd "$(dirname "${BASH_SOURCE[0]}")/.." && pwd)
-for tool in riscv64-unknown-elf-gcc qemu-riscv64 rt; do
-    command -v "$tool" >/dev/null || { echo "first-program: $tool is not there (Debian: gcc-riscv64-unknown-elf picolibc-riscv64-unknown-elf qemu-user; rt is the toolchain's)"; exit 1; }
-done
+# (all that is needed is looked for before an hour of proofs)
+lacks() { echo "first-program: $1 is not there (Debian: gcc-riscv64-unknown-elf picolibc-riscv64-unknown-elf qemu-user; rt is the toolchain's)"; exit 1; }
+for tool in riscv64-unknown-elf-gcc qemu-riscv64 rt; do command -v "$tool" >/dev/null || lacks "$tool"; done
+picolibc=/usr/lib/picolibc/riscv64-unknown-elf
+[ -f $picolibc/lib/libc.a ] || lacks picolibc
 work=$(mktemp -d)
 trap 'rm -rf "$work"' EXIT
 rvld=$(realpath -m "${RVLD:-$top/crates/rvld/out/rvld}")
@@ -19,6 +21,5 @@ elif [ ! -x "$rvld" ]; then
     [ -x "$rvld" ] || { echo "first-program: rvld was not built: rt run in crates/rvld says why"; exit 1; }
 fi
 cd "$work"
-riscv64-unknown-elf-gcc --specs=picolibc.specs -O2 -c "$top"/scripts/real/{start,syscalls,hello}.c
-RVLD=$rvld riscv64-unknown-elf-gcc -B "$top/scripts/drivers" -nostdlib -o hello start.o syscalls.o hello.o -L /usr/lib/picolibc/riscv64-unknown-elf/lib -lc -lgcc
+RVLD=$rvld riscv64-unknown-elf-gcc -B "$top/scripts/drivers" -O2 -nostdlib -isystem $picolibc/include -o hello "$top"/scripts/real/{start,syscalls,hello}.c -L $picolibc/lib -lc -lgcc
 qemu-riscv64 hello

@@ -63,7 +63,7 @@ def missing(section, options):
     for variable in re.findall(r'\$\{?(MUSL\w*)', text):
         if variable not in os.environ:
             return 'the variable ' + variable
-    if 'picolibc.specs' in text and subprocess.run(['riscv64-unknown-elf-gcc', '--specs=picolibc.specs', '-E', '-x', 'c', os.devnull],
+    if 'picolibc' in text and subprocess.run(['riscv64-unknown-elf-gcc', '--specs=picolibc.specs', '-E', '-x', 'c', os.devnull],
                                                    capture_output=True).returncode != 0:
         return 'picolibc'
     return None

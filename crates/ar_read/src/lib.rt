@@ -1,6 +1,6 @@
 //! Reads static archives (System V ar format with GNU long names), so that a link finds the objects in them: `members`
-//! gives the name and the data of each member, and `header_at` one header. Both answer what the bytes say, or the first
-//! broken check of the format. `is_archive` tells which files begin as archives do.
+//! gives the name and the data of each member, and `header_at` one header; both calls answer what the bytes say, or the first
+//! broken check of the format. `is_archive` says which files begin as archives do.
 //!
 //! `format` has the names of the format, `fields` reads the text of a header, `headers` one header, `names` what a name
 //! says, `entries` one header after the earlier ones, and `archive` them all.

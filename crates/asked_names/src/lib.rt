@@ -1,6 +1,6 @@
-//! The sections in which the names stand that a command gives.
+//! The sections in which names stand that a command gives.
 //!
-//! A command may give names that no relocation refers to: those that it asks for, and those whose sections are to be folded with no other.
+//! A command may give names that no relocation refers to: those that the command asks for, and those whose sections are to be folded with no other.
 //! What such a name is bound to is what the first symbol is bound to that has it, of a file that takes part.
 #![tactic(auto)]
 

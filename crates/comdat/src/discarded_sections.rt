@@ -9,6 +9,7 @@ ghost use Rattle.comdat.specs.Law.{KeepsFirst};
 use crate::groups::{ComdatGroup, comdats_of};
 use crate::marks::mark_beaten;
 use crate::signatures::signatures_of;
+use intern_race::Texts;
 use lk_tables::Tables;
 use name_numbers::number_texts;
 use std::alloc::{AllocError, Global};
@@ -43,8 +44,9 @@ pub fn discard<R: Threads + Sync, G: Gate>(
         return Ok(marks);
     }
     are_few(tables, &groups);
-    let signatures = signatures_of(alloc, groups.as_slice())?;
-    let numbers = number_texts(rt, alloc, signatures.as_slice(), workers)?;
+    let list = signatures_of(alloc, groups.as_slice())?;
+    let signatures = Texts::of(alloc, list);
+    let numbers = number_texts(rt, alloc, &signatures, workers, gate)?;
     mark_beaten(&mut marks, tables, groups.as_slice(), numbers.as_slice());
     Ok(marks)
 }

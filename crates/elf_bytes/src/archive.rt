@@ -17,14 +17,12 @@ pub enum Contents<'a> {
     Text(&'a [u8]),
 }
 
-/// A member.
 #[derive(Clone, Copy)]
 pub struct Member<'a> {
     pub name: &'a [u8],
     pub contents: Contents<'a>,
 }
 
-/// An archive.
 #[derive(Clone, Copy)]
 pub struct Archive<'a> {
     /// What it begins with.

@@ -32,8 +32,7 @@ pub struct Image<'a> {
     pub listed: Option<Listed<'a>>,
     /// The offset of the section headers.
     pub table: usize,
-    /// The section headers from number 1 on: the name's place, type, flags, address, offset, size and alignment. The last is
-    /// that of the names.
+    /// The section headers from number 1 on, that of the names last: the name's place, type, flags, address, offset, size and alignment.
     pub sections: &'a [[u64; 7]],
 }
 
@@ -58,10 +57,8 @@ fn push_header(out: &mut Vec<u8>, image: &Image) -> Result<(), AllocError> {
 fn push_segments(out: &mut Vec<u8>, segments: &[[u64; 7]]) -> Result<(), AllocError> {
     for segment in segments {
         let [sort, flags, offset, address, file, memory, align] = *segment;
-        let numbers = numbers![
-            4 => sort; 4 => flags; 8 => offset; 8 => address; 8 => address; 8 => file; 8 => memory;
-            8 => align;
-        ];
+        let numbers =
+            numbers![4 => sort; 4 => flags; 8 => offset; 8 => address; 8 => address; 8 => file; 8 => memory; 8 => align;];
         push_numbers(out, &numbers)?;
     }
     Ok(())
@@ -93,8 +90,7 @@ fn push_listed(out: &mut Vec<u8>, listed: &Listed) -> Result<(), AllocError> {
     out.extend_from_slice(listed.names)
 }
 
-/// What a header says of other sections: that of a symbol table names the next section, which has its names, and the first symbol that
-/// is not local, and has the size of an entry.
+/// The fields sh_link, sh_info and sh_entsize: those of a symbol table name the next section, which has its names, and its first global symbol.
 fn links_of(sort: u64, number: u64) -> [u64; 3] {
     if sort == SHT_SYMTAB {
         [number.wrapping_add(1), 1, SYM_SIZE]

@@ -1,6 +1,17 @@
 //! Objects and executables as rows: each macro writes the value of one struct, its usual fields by their order and the others by name. After
 //! `BASE =>` stand the fields in which a value differs from another. What stands behind a `;` keeps its lines, so a row stays on one.
 
+/// A struct of this name: all its fields, or those in which it differs from another.
+#[macro_export]
+macro_rules! record {
+    ($name:ident; $($field:ident: $value:expr),+) => {
+        $name { $($field: $value),+ }
+    };
+    ($name:ident, $base:expr => $($field:ident: $value:expr),+) => {
+        $name { $($field: $value,)+ ..$base }
+    };
+}
+
 /// A relocation: its offset, its type, the number of its symbol and its addend.
 #[macro_export]
 macro_rules! reloc {
@@ -27,15 +38,7 @@ macro_rules! symbol {
 #[macro_export]
 macro_rules! section {
     ($name:expr, $sort:expr, $flags:expr, $align:expr; $bytes:expr $(; $($field:ident: $value:expr),+)?) => {
-        $crate::Section {
-            name: $name,
-            sort: $sort,
-            flags: $flags,
-            align: $align,
-            bytes: $bytes,
-            $($($field: $value,)+)?
-            ..$crate::NO_SECTION
-        }
+        $crate::Section { name: $name, sort: $sort, flags: $flags, align: $align, bytes: $bytes, $($($field: $value,)+)? ..$crate::NO_SECTION }
     };
     ($base:expr => $($field:ident: $value:expr),+) => {
         $crate::Section { $($field: $value,)+ ..$base }

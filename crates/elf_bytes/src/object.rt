@@ -5,9 +5,9 @@ use crate::abi::{
     SHT_SYMTAB_SHNDX, STB_LOCAL, SYM_SIZE,
 };
 use crate::numbers::{pad, push_numbers, push_zeros};
+use crate::record;
 use std::alloc::{AllocError, Global};
 
-/// A relocation.
 #[derive(Clone, Copy)]
 pub struct Reloc {
     /// Offset in the section, in bytes.
@@ -26,7 +26,6 @@ pub enum SectionLink {
     Symtab,
 }
 
-/// A section.
 #[derive(Clone, Copy)]
 pub struct Section<'a> {
     pub name: &'a [u8],
@@ -47,24 +46,13 @@ pub struct Section<'a> {
 }
 
 /// No section: no name, no bytes, and zeros.
-pub const NO_SECTION: Section = Section {
-    name: b"",
-    sort: 0,
-    flags: 0,
-    align: 0,
-    size: 0,
-    zeros: 0,
-    bytes: b"",
-    relocs: &[],
-    link: SectionLink::Number(0),
-    info: 0,
-    entsize: 0,
-};
+pub const NO_SECTION: Section =
+    record!(Section; name: b"", sort: 0, flags: 0, align: 0, size: 0, zeros: 0, bytes: b"",
+    relocs: &[], link: SectionLink::Number(0), info: 0, entsize: 0);
 
 /// In a symbol's section: its number stands in the table of section indexes.
 pub const ELSEWHERE: u64 = 1 << 32;
 
-/// A symbol.
 #[derive(Clone, Copy)]
 pub struct Symbol<'a> {
     pub name: &'a [u8],
@@ -113,10 +101,8 @@ fn push_section(
     let offset = (parts.body.len() as u64).wrapping_add(64);
     push_zeros(&mut parts.body, zeros)?;
     parts.body.extend_from_slice(bytes)?;
-    let numbers = numbers![
-        4 => name; 4 => sort; 8 => flags; 8 => 0; 8 => offset; 8 => size; 4 => link; 4 => info; 8 => align;
-        8 => entsize;
-    ];
+    let numbers =
+        numbers![4 => name; 4 => sort; 8 => flags; 8 => 0; 8 => offset; 8 => size; 4 => link; 4 => info; 8 => align; 8 => entsize;];
     push_numbers(&mut parts.headers, &numbers)
 }
 
@@ -137,9 +123,8 @@ fn push_named(parts: &mut Parts, sections: &[Section], symtab: u64) -> Result<()
         let bits = (section.zeros as u64).wrapping_add(section.bytes.len() as u64);
         let size = section.size.max(bits);
         let link = link_number(section.link, symtab);
-        let fields = header![
-            name; section.sort; section.flags; size; link; section.info; section.align; section.entsize
-        ];
+        let fields =
+            header![name; section.sort; section.flags; size; link; section.info; section.align; section.entsize];
         push_section(parts, fields, section.zeros, section.bytes)?;
     }
     Ok(())
@@ -148,9 +133,8 @@ fn push_named(parts: &mut Parts, sections: &[Section], symtab: u64) -> Result<()
 fn entries_of(alloc: Global, relocs: &[Reloc]) -> Result<Vec<u8>, AllocError> {
     let mut out = Vec::new(alloc);
     for reloc in relocs {
-        let numbers = numbers![
-            8 => reloc.offset; 4 => reloc.kind; 4 => reloc.symbol; 8 => reloc.addend.cast_unsigned();
-        ];
+        let numbers =
+            numbers![8 => reloc.offset; 4 => reloc.kind; 4 => reloc.symbol; 8 => reloc.addend.cast_unsigned();];
         push_numbers(&mut out, &numbers)?;
     }
     Ok(out)

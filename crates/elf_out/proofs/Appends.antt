@@ -2,8 +2,8 @@
 use Rattle.std.proofs.Common.{◌≡◌, ℕ, ◌+◌, List, [], ◌∷◌, ◌++◌, Bool, true, false, flat_map, length, append_assoc, append-nil, ap, sym, ◌∙◌, arith}
 use Rattle.std.specs.Prelude.{if◌then◌else◌}
 use Rattle.std.proofs.lemmas.Grind.{flat_map-append}
-use Rattle.elf_out.specs.declared.header_bytes.ProgramHeader.{ProgramHeader}
-use Rattle.elf_out.specs.Headers.{program_header}
+use Rattle.elf_fields.specs.declared.headers.ProgramHeader.{ProgramHeader}
+use Rattle.elf_fields.specs.Headers.{program_header}
 
 pub each_appended : (a d : ProgramHeader) (xs ys zs ws : List ProgramHeader)
     → flat_map program_header (a ∷ xs ++ (ys ++ (zs ++ (ws ++ d ∷ []))))

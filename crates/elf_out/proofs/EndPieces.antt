@@ -3,34 +3,28 @@ use Rattle.std.proofs.Common.{◌≡◌, ℕ, ◌+◌, ◌-◌, ◌*◌, ◌≤�
 use Rattle.lk_base.specs.Arithmetic.{up}
 use Rattle.lk_base.specs.declared.abi.TheConstants.{IMAGE_BASE, SHDR_SIZE}
 use Rattle.link_sections.specs.LaidOut.{LaidOut, OutputSection}
-use Rattle.elf_out.specs.declared.header_bytes.SectionHeader.{SectionHeader}
+use Rattle.elf_fields.specs.declared.headers.SectionHeader.{SectionHeader}
+use Rattle.elf_fields.specs.Headers.{section_header}
+use Rattle.elf_fields.proofs.Lengths.{section_header_long}
 use Rattle.elf_out.specs.Executable.{after_tables, end_pieces, file_length, header_count, names_bytes, names_offset, symbols_offset, table_bytes, table_count, table_offset, table_pieces}
-use Rattle.elf_out.specs.Headers.{null_section, output_headers, output_names, output_section, section_header, section_headers, section_names, strings_section, symbols_section, table_headers, table_names}
+use Rattle.elf_out.specs.Headers.{null_section, output_headers, output_names, output_section, section_headers, section_names, strings_section, symbols_section, table_headers, table_names}
 use Rattle.elf_out.specs.Symbols.{SymbolTables}
 use Rattle.elf_out.proofs.OneByOne.{GoUp}
-use Rattle.elf_out.proofs.Starting.{and_long, long_long, word_long}
 use Rattle.reloc_apply.specs.Image.{Piece, piece}
 
 -- how many bytes the section headers have
-header_long : (h : SectionHeader) → length (section_header h) ≡ 64
-unfolding section_header
-header_long h =
-    and_long _ _ 4 60 (word_long _) (and_long _ _ 4 56 (word_long _) (and_long _ _ 8 48 (long_long _) (and_long _ _ 8 40 (long_long _)
-    (and_long _ _ 8 32 (long_long _) (and_long _ _ 8 24 (long_long _) (and_long _ _ 4 20 (word_long _) (and_long _ _ 4 16 (word_long _)
-    (and_long _ _ 8 8 (long_long _) (long_long _)))))))))
-
 outputs_long : (name : ℕ) (os : List OutputSection) → length (output_headers name os) ≡ 64 * length os
 outputs_long name [] = refl
 outputs_long name (o ∷ os) =
     let next : ℕ = name + length o.name + 1 in
-    omega (arith, length-append (section_header (output_section name o)) (output_headers next os), header_long (output_section name o), outputs_long next os)
+    omega (arith, length-append (section_header (output_section name o)) (output_headers next os), section_header_long (output_section name o), outputs_long next os)
 
 tables_long : (name at strings : ℕ) (tables : Option SymbolTables) → length (table_headers name at strings tables) ≡ 64 * table_count tables
 tables_long name at strings None = refl
 tables_long name at strings (Some t) =
     let first : SectionHeader = symbols_section name at (length t.symbols) strings in
     let second : SectionHeader = strings_section (name + 8) (at + length t.symbols) (length t.strings) in
-    omega (arith, length-append (section_header first) (section_header second), header_long first, header_long second)
+    omega (arith, length-append (section_header first) (section_header second), section_header_long first, section_header_long second)
 
 all_long : (outputs : List OutputSection) (tables : Option SymbolTables) (at offset : ℕ)
     → length (section_headers outputs tables at offset) ≡ 64 * (length outputs + table_count tables + 2)
@@ -47,10 +41,10 @@ all_long outputs tables at offset =
       length-append front (middle ++ (more ++ last)),
       length-append middle (more ++ last),
       length-append more last,
-      header_long null_section,
+      section_header_long null_section,
       outputs_long 1 outputs,
       tables_long name at (length outputs + 2) tables,
-      header_long own,
+      section_header_long own,
     )
 
 up_least : (x : ℕ) → x ≤ up x 8

@@ -1,25 +1,11 @@
--- The bytes of an entry of the symbol table, and of its names, one after the other.
-use Rattle.std.proofs.Common.{◌≡◌, ℕ, suc, ◌+◌, ◌%◌, ◌<◌, ◌^◌, List, [], ◌∷◌, ◌++◌, length, drop, get_or, append_assoc, length-append, ap, ◌∙◌, arith, subst}
+-- The entries of the symbol table, and its names, one after the other.
+use Rattle.std.proofs.Common.{◌≡◌, ℕ, suc, ◌+◌, ◌<◌, List, [], ◌∷◌, ◌++◌, length, drop, get_or, append_assoc, length-append, ap, ◌∙◌, arith, subst}
 use Rattle.std.proofs.Math.Seq.{drop-cons}
 use Rattle.symbol_table.specs.declared.symbols.TableSymbol.{TableSymbol as HeldSymbol}
 use Rattle.symbol_table.specs.SymbolTable.{TableSymbol}
 use Rattle.symbol_table.specs.SymbolViews.{symbol_view, symbol_views}
-use Rattle.elf_out.specs.Symbols.{half, index_of, info_of, long, symbol_entries, symbol_entry, symbol_names, word, zero_ended}
-
-pub entry_is : (name info index : ℕ) (t : TableSymbol) (old o1 o2 o3 o4 o5 o6 : List ℕ) → o1 ≡ old ++ word (name % 2 ^ 32) → o2 ≡ o1 ++ info ∷ [] → o3 ≡ o2 ++ 0 ∷ []
-    → o4 ≡ o3 ++ half index → o5 ≡ o4 ++ long t.value → o6 ≡ o5 ++ long t.size → info ≡ info_of t → index ≡ index_of t.section → o6 ≡ old ++ symbol_entry name t
-unfolding symbol_entry
-entry_is name info index t old o1 o2 o3 o4 o5 o6 e1 e2 e3 e4 e5 e6 ei ex =
-    let w : List ℕ = word (name % 2 ^ 32) in
-    let h : List ℕ = half index in
-    let v : List ℕ = long t.value in
-    let z : List ℕ = long t.size in
-    let both : o3 ≡ (old ++ w) ++ (info ∷ 0 ∷ []) = e3 ∙ ap (λ l. l ++ 0 ∷ []) (e2 ∙ ap (λ l. l ++ info ∷ []) e1) ∙ append_assoc (old ++ w) (info ∷ []) (0 ∷ []) in
-    e6 ∙ ap (λ l. l ++ z) (e5 ∙ ap (λ l. l ++ v) (e4 ∙ ap (λ l. l ++ h) both))
-    ∙ append_assoc (((old ++ w) ++ (info ∷ 0 ∷ [])) ++ h) v z ∙ append_assoc ((old ++ w) ++ (info ∷ 0 ∷ [])) h (v ++ z)
-    ∙ append_assoc (old ++ w) (info ∷ 0 ∷ []) (h ++ (v ++ z)) ∙ append_assoc old w ((info ∷ 0 ∷ []) ++ (h ++ (v ++ z)))
-    ∙ ap (λ n. old ++ (w ++ ((n ∷ 0 ∷ []) ++ (h ++ (v ++ z))))) ei
-    ∙ ap (λ n. old ++ (w ++ ((info_of t ∷ 0 ∷ []) ++ (half n ++ (v ++ z))))) ex
+use Rattle.elf_fields.specs.Symbols.{zero_ended}
+use Rattle.elf_out.specs.Symbols.{entry_bytes, symbol_entries, symbol_names}
 
 -- the symbols that are left, and what is made so far
 pub record Made (rest : List TableSymbol) (symbols strings all_symbols all_strings : List ℕ) : Type 0 where
@@ -27,15 +13,15 @@ pub record Made (rest : List TableSymbol) (symbols strings all_symbols all_strin
   pub strings_are : strings ++ symbol_names rest ≡ all_strings
 
 made_next : (t : TableSymbol) (ts : List TableSymbol) (symbols strings more_symbols more_strings all_symbols all_strings : List ℕ) →
-    more_symbols ≡ symbols ++ symbol_entry (length strings) t → more_strings ≡ strings ++ zero_ended t.name →
+    more_symbols ≡ symbols ++ entry_bytes (length strings) t → more_strings ≡ strings ++ zero_ended t.name →
     Made (t ∷ ts) symbols strings all_symbols all_strings → Made ts more_symbols more_strings all_symbols all_strings
 made_next t ts symbols strings more_symbols more_strings all_symbols all_strings e1 e2 held =
     let long : length more_strings ≡ length strings + length t.name + 1 =
     ap length e2 ∙ length-append strings (zero_ended t.name) ∙ omega (arith, length-append t.name (0 ∷ [])) in
     record {
       symbols_are = ap (λ l. l ++ symbol_entries (length more_strings) ts) e1
-          ∙ append_assoc symbols (symbol_entry (length strings) t) (symbol_entries (length more_strings) ts)
-          ∙ ap (λ n. symbols ++ (symbol_entry (length strings) t ++ symbol_entries n ts)) long ∙ held.symbols_are;
+          ∙ append_assoc symbols (entry_bytes (length strings) t) (symbol_entries (length more_strings) ts)
+          ∙ ap (λ n. symbols ++ (entry_bytes (length strings) t ++ symbol_entries n ts)) long ∙ held.symbols_are;
       strings_are = ap (λ l. l ++ symbol_names ts) e2 ∙ append_assoc strings (zero_ended t.name) (symbol_names ts) ∙ held.strings_are;
     }
 
@@ -45,7 +31,7 @@ rest_is xs i d lt =
     ap symbol_views (drop-cons xs i d lt) ∙ ap (λ k. symbol_view (get_or xs i d) ∷ symbol_views (drop k xs)) e
 
 pub made_step : (xs : List HeldSymbol) (i : ℕ) (d : HeldSymbol) (symbols strings more_symbols more_strings all_symbols all_strings : List ℕ) → i < length xs →
-    more_symbols ≡ symbols ++ symbol_entry (length strings) (symbol_view (get_or xs i d)) → more_strings ≡ strings ++ zero_ended (get_or xs i d).name.now →
+    more_symbols ≡ symbols ++ entry_bytes (length strings) (symbol_view (get_or xs i d)) → more_strings ≡ strings ++ zero_ended (get_or xs i d).name.now →
     Made (symbol_views (drop i xs)) symbols strings all_symbols all_strings → Made (symbol_views (drop (i + 1) xs)) more_symbols more_strings all_symbols all_strings
 made_step xs i d symbols strings more_symbols more_strings all_symbols all_strings lt e1 e2 held =
     let P : List TableSymbol → Type 0 = λ rest. Made rest symbols strings all_symbols all_strings in

@@ -3,9 +3,11 @@ use Rattle.std.proofs.Common.{◌≡◌, ℕ, Option, suc, ◌+◌, ◌<◌, ◌
 use Rattle.std.proofs.Math.Seq.{drop-cons}
 use Rattle.link_sections.specs.declared.layouts.Output.{Output}
 use Rattle.link_sections.specs.LaidOut.{OutputSection, output_view}
-use Rattle.elf_out.specs.declared.header_bytes.SectionHeader.{SectionHeader}
-use Rattle.elf_out.specs.Headers.{null_section, output_headers, output_names, output_section, own_name, section_header, section_headers, section_names, strings_section, table_headers, table_names}
-use Rattle.elf_out.specs.Symbols.{SymbolTables, zero_ended}
+use Rattle.elf_fields.specs.declared.headers.SectionHeader.{SectionHeader}
+use Rattle.elf_fields.specs.Headers.{section_header}
+use Rattle.elf_fields.specs.Symbols.{zero_ended}
+use Rattle.elf_out.specs.Headers.{null_section, output_headers, output_names, output_section, own_name, section_headers, section_names, strings_section, table_headers, table_names}
+use Rattle.elf_out.specs.Symbols.{SymbolTables}
 
 pub record Along (all rest : List OutputSection) (old now : List ℕ) (name : ℕ) : Type 0 where
   pub written : now ++ output_headers name rest ≡ old ++ output_headers 1 all

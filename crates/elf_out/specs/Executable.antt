@@ -10,7 +10,7 @@ use Rattle.link_sections.specs.Addresses.{entry_address}
 use Rattle.link_sections.specs.LaidOut.{LaidOut}
 use Rattle.elf_out.specs.Symbols.{SymbolTables, symbol_tables}
 use Rattle.symbol_table.specs.SymbolTable.{table_symbols}
-use Rattle.elf_out.specs.Headers.{file_header, program_headers, section_names, section_headers, segments, kept_flags}
+use Rattle.elf_out.specs.Headers.{executable_header, program_headers, section_names, section_headers, segments, kept_flags}
 use Rattle.reloc_apply.specs.Image.{Piece, piece, image}
 use Rattle.reloc_apply.specs.Relocated.{relocated_pieces}
 
@@ -85,7 +85,7 @@ module _ (files : List File) (b : Bindings) (leaders : List (Option ℕ)) (laid 
   -- with these tables at its end: the file header and the program headers
   unfoldable pub headers_with : List ℕ
   headers_with =
-      file_header (entry_address files b leaders laid) (table_offset laid tables) (kept_flags (live_flags files)) (length (segments laid.bounds))
+      executable_header (entry_address files b leaders laid) (table_offset laid tables) (kept_flags (live_flags files)) (length (segments laid.bounds))
       (header_count laid tables)
       ++ program_headers laid.bounds
 

@@ -1,74 +1,69 @@
 -- The headers of the executable (System V gABI, "ELF Header", "Program Header", "Section Header").
 use Rattle.std.specs.Prelude.{ℕ, ◌+◌, ◌-◌, ◌%◌, ◌^◌, Option, Some, None, if◌then◌else◌, List, [], ◌∷◌, ◌++◌, length, codes, flat_map, bit_and, bit_or}
 use Rattle.std.specs.List.{fold}
-use Rattle.lk_base.specs.declared.abi.TheConstants.{ELFCLASS64, ELFDATA2LSB, EV_CURRENT, ET_EXEC, EM_RISCV, EHDR_SIZE, PHDR_SIZE, SHDR_SIZE, IMAGE_BASE, PAGE, PT_LOAD, PT_TLS, PT_GNU_EH_FRAME, PT_GNU_STACK, PF_R, PF_W, PF_X, SHT_NULL, SHT_STRTAB, SHT_SYMTAB, SYM_SIZE, EF_RISCV_RVC, EF_RISCV_TSO, EF_RISCV_FLOAT_ABI}
-use Rattle.elf_out.specs.declared.header_bytes.ProgramHeader.{ProgramHeader}
-use Rattle.elf_out.specs.declared.header_bytes.SectionHeader.{SectionHeader}
+use Rattle.lk_base.specs.declared.abi.TheConstants.{ET_EXEC, EHDR_SIZE, PHDR_SIZE, IMAGE_BASE, PAGE, PT_LOAD, PT_TLS, PT_GNU_EH_FRAME, PT_GNU_STACK, PF_R, PF_W, PF_X, SHT_NULL, SHT_STRTAB, SHT_SYMTAB, SYM_SIZE, EF_RISCV_RVC, EF_RISCV_TSO, EF_RISCV_FLOAT_ABI}
+use Rattle.elf_fields.specs.declared.headers.ProgramHeader.{ProgramHeader}
+use Rattle.elf_fields.specs.declared.headers.SectionHeader.{SectionHeader}
+use Rattle.elf_fields.specs.Headers.{file_header, program_header, section_header}
+use Rattle.elf_fields.specs.Symbols.{zero_ended}
 use Rattle.link_sections.specs.declared.layouts.Bounds.{Bounds}
 use Rattle.link_sections.specs.LaidOut.{OutputSection}
-use Rattle.elf_out.specs.Symbols.{SymbolTables, half, long, word, zero_ended}
+use Rattle.elf_out.specs.Symbols.{SymbolTables}
 
--- 64 bits, little endian, version 1, and nine zeros
-unfoldable pub identification : List ℕ
-identification = 0x7f ∷ 0x45 ∷ 0x4c ∷ 0x46 ∷ ELFCLASS64 ∷ ELFDATA2LSB ∷ EV_CURRENT ∷ 0 ∷ 0 ∷ 0 ∷ 0 ∷ 0 ∷ 0 ∷ 0 ∷ 0 ∷ 0 ∷ []
-
--- an executable for RISC-V; its entry; program headers after this header, section headers at `table`; the flags; sizes and
--- counts, and the number of the section that has the names, the last one
-unfoldable pub file_header : (entry table flags segments sections : ℕ) → List ℕ
-file_header entry table flags segments sections =
-    identification ++ (half ET_EXEC ++ (half EM_RISCV ++ (word EV_CURRENT ++ (long entry ++ (long EHDR_SIZE ++ (long table
-    ++ (word flags ++ (half EHDR_SIZE ++ (half PHDR_SIZE ++ (half segments ++ (half SHDR_SIZE ++ (half sections
-    ++ half (sections - 1)))))))))))))
-
-unfoldable pub program_header : ProgramHeader → List ℕ
-program_header h =
-    word h.kind ++ (word h.flags ++ (long h.offset ++ (long h.address ++ (long h.address ++ (long h.file_size
-    ++ (long h.memory_size ++ long h.align))))))
-
-unfoldable pub section_header : SectionHeader → List ℕ
-section_header h =
-    word h.name ++ (word h.sh_type ++ (long h.flags ++ (long h.address ++ (long h.offset ++ (long h.size
-    ++ (word h.link ++ (word h.info ++ (long h.align ++ long h.entsize))))))))
+-- the file header of an executable: its entry; program headers after this header, section headers at `table`; the flags; how many headers
+-- of each kind there are, and the number of the section that has the names, the last one
+unfoldable pub executable_header : (entry table flags segments sections : ℕ) → List ℕ
+executable_header entry table flags segments sections = file_header (record {
+  e_type = ET_EXEC;
+  e_entry = entry;
+  e_phoff = EHDR_SIZE;
+  e_shoff = table;
+  e_flags = flags;
+  e_phentsize = PHDR_SIZE;
+  e_phnum = segments;
+  e_shnum = sections;
+  e_shstrndx = sections - 1;
+})
 
 -- a segment that is loaded, from one address to another, of which `bits` ends what the file has
 abbrev pub loaded : (flags start bits end : ℕ) → ProgramHeader
 loaded flags start bits end = record {
-  kind = PT_LOAD;
-  flags = flags;
-  offset = start - IMAGE_BASE;
-  address = start;
-  file_size = bits - start;
-  memory_size = end - start;
-  align = PAGE;
+  p_type = PT_LOAD;
+  p_flags = flags;
+  p_offset = start - IMAGE_BASE;
+  p_vaddr = start;
+  p_filesz = bits - start;
+  p_memsz = end - start;
+  p_align = PAGE;
 }
 
 -- the thread-local sections: those with bits first, which alone have bytes in the file
 abbrev pub tls_segment : Bounds → ProgramHeader
 tls_segment b = record {
-  kind = PT_TLS;
-  flags = PF_R;
-  offset = b.tls_start - IMAGE_BASE;
-  address = b.tls_start;
-  file_size = if b.has_tls_bits then b.tls_bits_end - b.tls_start else 0;
-  memory_size = b.tls_end - b.tls_start;
-  align = b.tls_align;
+  p_type = PT_TLS;
+  p_flags = PF_R;
+  p_offset = b.tls_start - IMAGE_BASE;
+  p_vaddr = b.tls_start;
+  p_filesz = if b.has_tls_bits then b.tls_bits_end - b.tls_start else 0;
+  p_memsz = b.tls_end - b.tls_start;
+  p_align = b.tls_align;
 }
 
 -- the table by which unwind records are found: `.eh_frame_hdr` (LSB Core, "Program Header")
 abbrev pub frame_segment : Bounds → ProgramHeader
 frame_segment b = record {
-  kind = PT_GNU_EH_FRAME;
-  flags = PF_R;
-  offset = b.frame_header - IMAGE_BASE;
-  address = b.frame_header;
-  file_size = b.frame_header_end - b.frame_header;
-  memory_size = b.frame_header_end - b.frame_header;
-  align = 4;
+  p_type = PT_GNU_EH_FRAME;
+  p_flags = PF_R;
+  p_offset = b.frame_header - IMAGE_BASE;
+  p_vaddr = b.frame_header;
+  p_filesz = b.frame_header_end - b.frame_header;
+  p_memsz = b.frame_header_end - b.frame_header;
+  p_align = 4;
 }
 
 -- the stack is read and written
 abbrev pub stack_segment : ProgramHeader
-stack_segment = record { kind = PT_GNU_STACK; flags = PF_R + PF_W; offset = 0; address = 0; file_size = 0; memory_size = 0; align = 16 }
+stack_segment = record { p_type = PT_GNU_STACK; p_flags = PF_R + PF_W; p_offset = 0; p_vaddr = 0; p_filesz = 0; p_memsz = 0; p_align = 16 }
 
 -- read only, with the headers; read and execute; read and write; the thread-local sections; the unwind records; the stack
 abbrev pub segments : Bounds → List ProgramHeader
@@ -83,51 +78,51 @@ program_headers b = flat_map program_header (segments b)
 
 -- no section
 abbrev pub null_section : SectionHeader
-null_section = record { name = 0; sh_type = SHT_NULL; flags = 0; address = 0; offset = 0; size = 0; link = 0; info = 0; align = 0; entsize = 0 }
+null_section = record { sh_name = 0; sh_type = SHT_NULL; sh_flags = 0; sh_addr = 0; sh_offset = 0; sh_size = 0; sh_link = 0; sh_info = 0; sh_addralign = 0; sh_entsize = 0 }
 
 -- an output section whose name starts at `name` of the string table
 abbrev pub output_section : (name : ℕ) → OutputSection → SectionHeader
 output_section name s = record {
-  name = name % 2 ^ 32;
+  sh_name = name % 2 ^ 32;
   sh_type = s.sh_type;
-  flags = s.flags;
-  address = s.address;
-  offset = s.address - IMAGE_BASE;
-  size = s.size;
-  link = 0;
-  info = 0;
-  align = s.align;
-  entsize = 0;
+  sh_flags = s.flags;
+  sh_addr = s.address;
+  sh_offset = s.address - IMAGE_BASE;
+  sh_size = s.size;
+  sh_link = 0;
+  sh_info = 0;
+  sh_addralign = s.align;
+  sh_entsize = 0;
 }
 
 -- a string table
 abbrev pub strings_section : (name offset size : ℕ) → SectionHeader
 strings_section name offset size = record {
-  name = name % 2 ^ 32;
+  sh_name = name % 2 ^ 32;
   sh_type = SHT_STRTAB;
-  flags = 0;
-  address = 0;
-  offset = offset;
-  size = size;
-  link = 0;
-  info = 0;
-  align = 1;
-  entsize = 0;
+  sh_flags = 0;
+  sh_addr = 0;
+  sh_offset = offset;
+  sh_size = size;
+  sh_link = 0;
+  sh_info = 0;
+  sh_addralign = 1;
+  sh_entsize = 0;
 }
 
 -- the symbol table, whose names are in the section of number `strings`; no symbol but the null one is local
 abbrev pub symbols_section : (name offset size strings : ℕ) → SectionHeader
 symbols_section name offset size strings = record {
-  name = name % 2 ^ 32;
+  sh_name = name % 2 ^ 32;
   sh_type = SHT_SYMTAB;
-  flags = 0;
-  address = 0;
-  offset = offset;
-  size = size;
-  link = strings % 2 ^ 32;
-  info = 1;
-  align = 8;
-  entsize = SYM_SIZE;
+  sh_flags = 0;
+  sh_addr = 0;
+  sh_offset = offset;
+  sh_size = size;
+  sh_link = strings % 2 ^ 32;
+  sh_info = 1;
+  sh_addralign = 8;
+  sh_entsize = SYM_SIZE;
 }
 
 -- the section name string table: a zero byte, the names of the output sections, those of the symbol table and of its names, and its own

@@ -1,24 +1,11 @@
 -- The symbol table of the executable, and the names of its symbols (System V gABI, "Symbol Table", "String Table").
 use Rattle.std.specs.Prelude.{ℕ, ◌+◌, ◌*◌, ◌%◌, ◌^◌, List, [], ◌∷◌, ◌++◌, length, flat_map, replicate}
-use Rattle.std.specs.Int.{to_le_bytes, w16, w32, w64}
 use Rattle.lk_base.specs.declared.abi.TheConstants.{SHN_ABS, SYM_SIZE}
+use Rattle.elf_fields.specs.declared.symbols.SymbolEntry.{SymbolEntry}
+use Rattle.elf_fields.specs.Symbols.{symbol_entry, zero_ended}
 use Rattle.symbol_table.specs.declared.symbols.TablePlace.{TablePlace}
 use Rattle.symbol_table.specs.declared.symbols.TablePlace.TheVariants.{Absolute, Output}
 use Rattle.symbol_table.specs.SymbolTable.{TableSymbol}
-
--- numbers of 2, 4 and 8 bytes
-unfoldable pub half : ℕ → List ℕ
-half n = to_le_bytes w16 n
-
-unfoldable pub word : ℕ → List ℕ
-word n = to_le_bytes w32 n
-
-unfoldable pub long : ℕ → List ℕ
-long n = to_le_bytes w64 n
-
--- a name as it stands in a string table
-abbrev pub zero_ended : List ℕ → List ℕ
-zero_ended name = name ++ 0 ∷ []
 
 -- the bytes of the symbol table, and of the names
 pub record SymbolTables : Type 0 where
@@ -35,13 +22,22 @@ index_of Absolute = SHN_ABS
 index_of (Output number) = number
 
 -- the entry of a symbol whose name starts at `name` of the names; its st_other is 0
-unfoldable pub symbol_entry : (name : ℕ) → TableSymbol → List ℕ
-symbol_entry name t =
-    word (name % 2 ^ 32) ++ (info_of t ∷ 0 ∷ [] ++ (half (index_of t.section) ++ (long t.value ++ long t.size)))
+abbrev pub entry_of : (name : ℕ) → TableSymbol → SymbolEntry
+entry_of name t = record {
+  st_name = name % 2 ^ 32;
+  st_info = info_of t;
+  st_other = 0;
+  st_shndx = index_of t.section;
+  st_value = t.value;
+  st_size = t.size;
+}
+
+unfoldable pub entry_bytes : (name : ℕ) → TableSymbol → List ℕ
+entry_bytes name t = symbol_entry (entry_of name t)
 
 abbrev pub symbol_entries : (name : ℕ) → List TableSymbol → List ℕ
 symbol_entries name [] = []
-symbol_entries name (t ∷ ts) = symbol_entry name t ++ symbol_entries (name + length t.name + 1) ts
+symbol_entries name (t ∷ ts) = entry_bytes name t ++ symbol_entries (name + length t.name + 1) ts
 
 abbrev pub symbol_names : List TableSymbol → List ℕ
 symbol_names ts = flat_map (λ (t : TableSymbol). zero_ended t.name) ts

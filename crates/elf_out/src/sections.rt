@@ -5,8 +5,9 @@ ghost use Rattle.elf_out.specs.Headers as spec;
 ghost use Rattle.elf_out.specs.TablesView.{tables_if};
 ghost use Rattle.link_sections.specs.LaidOut.{output_view};
 
-use crate::header_bytes::{SectionHeader, offset_of, push_name, push_section_header};
+use crate::header_bytes::offset_of;
 use crate::symbols::SymbolTables;
+use elf_fields::{SectionHeader, push_name, push_section_header};
 use link_sections::Output;
 use lk_base::abi::{SHT_NULL, SHT_STRTAB, SHT_SYMTAB, SYM_SIZE};
 use std::alloc::{AllocError, Global};
@@ -20,16 +21,16 @@ const SYMBOLS_NAME: &[u8] = b".symtab";
 const STRINGS_NAME: &[u8] = b".strtab";
 /// The first section header is that of no section.
 const NULL_SECTION: SectionHeader = SectionHeader {
-    name: 0,
+    sh_name: 0,
     sh_type: SHT_NULL,
-    flags: 0,
-    address: 0,
-    offset: 0,
-    size: 0,
-    link: 0,
-    info: 0,
-    align: 0,
-    entsize: 0,
+    sh_flags: 0,
+    sh_addr: 0,
+    sh_offset: 0,
+    sh_size: 0,
+    sh_link: 0,
+    sh_info: 0,
+    sh_addralign: 0,
+    sh_entsize: 0,
 };
 
 /// Adds the names of output sections.
@@ -115,16 +116,16 @@ fn output_section(name: u64, output: &Output) -> SectionHeader
     ensures { result ≡ spec.output_section name (output_view output.now) }
 {
     SectionHeader {
-        name: (name % 0x1_0000_0000) as u32,
+        sh_name: (name % 0x1_0000_0000) as u32,
         sh_type: output.sh_type,
-        flags: output.flags,
-        address: output.address,
-        offset: offset_of(output.address),
-        size: output.size,
-        link: 0,
-        info: 0,
-        align: output.align,
-        entsize: 0,
+        sh_flags: output.flags,
+        sh_addr: output.address,
+        sh_offset: offset_of(output.address),
+        sh_size: output.size,
+        sh_link: 0,
+        sh_info: 0,
+        sh_addralign: output.align,
+        sh_entsize: 0,
     }
 }
 
@@ -133,16 +134,16 @@ fn strings_section(name: u64, offset: u64, size: u64) -> SectionHeader
     ensures { result ≡ spec.strings_section name offset size }
 {
     SectionHeader {
-        name: (name % 0x1_0000_0000) as u32,
+        sh_name: (name % 0x1_0000_0000) as u32,
         sh_type: SHT_STRTAB,
-        flags: 0,
-        address: 0,
-        offset,
-        size,
-        link: 0,
-        info: 0,
-        align: 1,
-        entsize: 0,
+        sh_flags: 0,
+        sh_addr: 0,
+        sh_offset: offset,
+        sh_size: size,
+        sh_link: 0,
+        sh_info: 0,
+        sh_addralign: 1,
+        sh_entsize: 0,
     }
 }
 
@@ -151,16 +152,16 @@ fn symbols_section(name: u64, offset: u64, size: u64, strings: u64) -> SectionHe
     ensures { result ≡ spec.symbols_section name offset size strings }
 {
     SectionHeader {
-        name: (name % 0x1_0000_0000) as u32,
+        sh_name: (name % 0x1_0000_0000) as u32,
         sh_type: SHT_SYMTAB,
-        flags: 0,
-        address: 0,
-        offset,
-        size,
-        link: (strings % 0x1_0000_0000) as u32,
-        info: 1,
-        align: 8,
-        entsize: SYM_SIZE,
+        sh_flags: 0,
+        sh_addr: 0,
+        sh_offset: offset,
+        sh_size: size,
+        sh_link: (strings % 0x1_0000_0000) as u32,
+        sh_info: 1,
+        sh_addralign: 8,
+        sh_entsize: SYM_SIZE,
     }
 }
 

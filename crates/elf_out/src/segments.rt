@@ -1,16 +1,18 @@
 //! What stands at the start of the file: the file header, and the program headers of the segments.
 
 ghost use Rattle.std.specs.Prelude.{◌≡◌, ◌≤◌, ◌++◌, ◌∷◌, [], if◌then◌else◌, flat_map, length, IfOk, OnOk};
+ghost use Rattle.elf_fields.specs.Headers.{program_header};
 ghost use Rattle.link_sections.specs.Views.{binding_in, files_in, laid_in, leaders_in};
 ghost use Rattle.elf_out.specs.Executable as spec;
 ghost use Rattle.elf_out.specs.Prepared.{headers_in};
 ghost use Rattle.elf_out.specs.TablesView.{tables_if, tables_in};
-ghost use Rattle.elf_out.specs.Headers.{frame_segment, loaded, program_header, program_headers, segments, tls_segment};
+ghost use Rattle.elf_out.specs.Headers.{frame_segment, loaded, program_headers, segments, tls_segment};
 
 use crate::ends::{ends_of, table_count};
 use crate::flags::kept_flags;
-use crate::header_bytes::{ProgramHeader, offset_of, push_file_header, push_program_header};
+use crate::header_bytes::{offset_of, push_executable_header};
 use crate::symbols::SymbolTables;
+use elf_fields::{ProgramHeader, push_program_header};
 use link_sections::{Bounds, View};
 use lk_base::abi::{
     IMAGE_BASE, PAGE, PF_R, PF_W, PF_X, PT_GNU_EH_FRAME, PT_GNU_STACK, PT_LOAD, PT_TLS,
@@ -20,13 +22,13 @@ use symbol_addresses::entry_address;
 
 /// The stack is read and written.
 const STACK: ProgramHeader = ProgramHeader {
-    kind: PT_GNU_STACK,
-    flags: PF_R + PF_W,
-    offset: 0,
-    address: 0,
-    file_size: 0,
-    memory_size: 0,
-    align: 16,
+    p_type: PT_GNU_STACK,
+    p_flags: PF_R + PF_W,
+    p_offset: 0,
+    p_vaddr: 0,
+    p_filesz: 0,
+    p_memsz: 0,
+    p_align: 16,
 };
 
 /// A segment from one address to another, of which `bits` ends what the file has.
@@ -34,19 +36,19 @@ fn loaded(flags: u32, start: u64, bits: u64, end: u64) -> ProgramHeader
     ensures { result ≡ loaded flags start bits end }
 {
     ProgramHeader {
-        kind: PT_LOAD,
-        flags,
-        offset: offset_of(start),
-        address: start,
-        file_size: bits.saturating_sub(start),
-        memory_size: end.saturating_sub(start),
-        align: PAGE,
+        p_type: PT_LOAD,
+        p_flags: flags,
+        p_offset: offset_of(start),
+        p_vaddr: start,
+        p_filesz: bits.saturating_sub(start),
+        p_memsz: end.saturating_sub(start),
+        p_align: PAGE,
     }
 }
 
 /// The bytes of the file that each thread's storage starts with: none without a member that has bits.
 fn tls_file_size(bounds: &Bounds) -> u64
-    ensures { result ≡ (tls_segment bounds.now).file_size }
+    ensures { result ≡ (tls_segment bounds.now).p_filesz }
 {
     if !bounds.has_tls_bits {
         return 0;
@@ -59,13 +61,13 @@ fn thread_local(bounds: &Bounds) -> ProgramHeader
     ensures { result ≡ tls_segment bounds.now }
 {
     ProgramHeader {
-        kind: PT_TLS,
-        flags: PF_R,
-        offset: offset_of(bounds.tls_start),
-        address: bounds.tls_start,
-        file_size: tls_file_size(bounds),
-        memory_size: bounds.tls_end.saturating_sub(bounds.tls_start),
-        align: bounds.tls_align,
+        p_type: PT_TLS,
+        p_flags: PF_R,
+        p_offset: offset_of(bounds.tls_start),
+        p_vaddr: bounds.tls_start,
+        p_filesz: tls_file_size(bounds),
+        p_memsz: bounds.tls_end.saturating_sub(bounds.tls_start),
+        p_align: bounds.tls_align,
     }
 }
 
@@ -75,13 +77,13 @@ fn frame_table(bounds: &Bounds) -> ProgramHeader
 {
     let size = bounds.frame_header_end.saturating_sub(bounds.frame_header);
     ProgramHeader {
-        kind: PT_GNU_EH_FRAME,
-        flags: PF_R,
-        offset: offset_of(bounds.frame_header),
-        address: bounds.frame_header,
-        file_size: size,
-        memory_size: size,
-        align: 4,
+        p_type: PT_GNU_EH_FRAME,
+        p_flags: PF_R,
+        p_offset: offset_of(bounds.frame_header),
+        p_vaddr: bounds.frame_header,
+        p_filesz: size,
+        p_memsz: size,
+        p_align: 4,
     }
 }
 
@@ -160,7 +162,7 @@ pub fn headers_before(
 {
     let bounds = &view.layout.bounds;
     let mut out = Vec::new(alloc);
-    push_file_header(
+    push_executable_header(
         &mut out,
         entry_address(view),
         table,

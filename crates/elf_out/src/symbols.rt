@@ -5,7 +5,7 @@ ghost use Rattle.elf_out.specs.Symbols as spec;
 ghost use Rattle.elf_out.specs.TablesView.{tables_if, tables_in, tables_view};
 ghost use Rattle.symbol_table.specs.SymbolViews.{symbol_view, symbol_views};
 
-use crate::header_bytes::{push_half, push_long, push_name, push_word};
+use elf_fields::{SymbolEntry, push_name, push_symbol_entry};
 use link_sections::View;
 use lk_base::abi::{SHN_ABS, SYM_SIZE};
 use std::alloc::{AllocError, Global};
@@ -58,16 +58,25 @@ fn tables_of(alloc: Global, list: &[TableSymbol]) -> Result<SymbolTables, AllocE
     Ok(SymbolTables { symbols, strings })
 }
 
+/// The entry of a symbol whose name starts at `name` of the names.
+fn entry_of(name: u64, symbol: &TableSymbol) -> SymbolEntry
+    ensures { result ≡ spec.entry_of name (symbol_view symbol.now) }
+{
+    SymbolEntry {
+        st_name: (name % 0x1_0000_0000) as u32,
+        st_info: info_of(symbol),
+        st_other: 0,
+        st_shndx: index_of(symbol.section),
+        st_value: symbol.value,
+        st_size: symbol.size,
+    }
+}
+
 /// Adds the entry of a symbol whose name starts at `name` of the names.
 fn push_symbol(out: &mut Vec<u8>, name: u64, symbol: &TableSymbol) -> Result<(), AllocError>
-    ensures { OnOk result (out.new.items ≡ out.old.items ++ spec.symbol_entry name (symbol_view symbol.now)) }
+    ensures { OnOk result (out.new.items ≡ out.old.items ++ spec.entry_bytes name (symbol_view symbol.now)) }
 {
-    push_word(out, (name % 0x1_0000_0000) as u32)?;
-    out.push(info_of(symbol))?;
-    out.push(0)?;
-    push_half(out, index_of(symbol.section))?;
-    push_long(out, symbol.value)?;
-    push_long(out, symbol.size)?;
+    push_symbol_entry(out, &entry_of(name, symbol))?;
     Ok(())
 }
 

@@ -1,7 +1,7 @@
 //! Reads relocatable objects for 64-bit RISC-V (System V gABI, ELF-64; RISC-V ELF psABI): `read_head` gives what the
 //! file header, the section table and the symbol table say, `read_body` the section groups and the relocations of a file that
-//! takes part in the link. Each answers the first broken check of the format, in the order in which lk_tables lists them, or what
-//! the bytes say. `is_elf` tells which files begin as ELF files do.
+//! takes part in the link. Each call answers the first broken check of the format, in the order in which lk_tables lists them, or what
+//! the bytes say. `is_elf` says which files begin as ELF files do.
 //!
 //! The RELA section of a section that is not written is not read: its list is empty. A COMMON symbol's alignment and size are looked at
 //! with the body, as a section's are. Of two relocations whose bytes overlap the flaw is at the later in order of offset, the least such.

@@ -41,7 +41,7 @@ pub fn live<R: Threads + Sync, G: Gate>(
     if let Some(names) = heads.names() {
         return live_by(rt, alloc, files, undefined, names, workers, gate);
     }
-    let names = number_names(rt, alloc, files, workers)?;
+    let names = number_names(rt, alloc, files, workers, gate)?;
     live_by(rt, alloc, files, undefined, &names, workers, gate)
 }
 

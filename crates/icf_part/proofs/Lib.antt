@@ -9,6 +9,7 @@ pub mod PlacesWithin
 pub mod Rows
 pub mod RowSteps
 pub mod SectionPlaces
+pub mod TablePlaces
 pub mod Sublists
 pub mod NumberedRows
 pub mod Targets

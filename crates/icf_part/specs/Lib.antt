@@ -5,5 +5,6 @@ pub mod Edges
 pub mod Folding
 pub mod Leaders
 pub mod Numbered
+pub mod PlaceTables
 pub mod Runs
 pub mod Signatures

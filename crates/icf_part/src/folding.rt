@@ -15,10 +15,11 @@ ghost use Rattle.icf_part.specs.Signatures.{bytes_of};
 use crate::keys::all_keys;
 use crate::numbering::{number_contents, number_outputs, number_rows};
 use crate::parts::pieces_of;
+use crate::place_table::Places;
 use crate::places::{all_places, sections_of};
 use crate::refining::refine;
 use crate::rests::all_rests;
-use crate::sharing::{ITEM_END, chosen_numbers, shared_items, spread_leaders};
+use crate::sharing::{chosen_numbers, shared_items, spread_leaders};
 use crate::steps::Steps;
 use crate::walks::count_leaders;
 use link_sections::FoldItem;
@@ -30,7 +31,8 @@ use work_split::Gate;
 
 /// For each item the place of its leader: the least item that can stand for it. Items are given in order of their sections' numbers. The
 /// answer is the same whatever the number of workers; each makes what is compared of one piece of the items whose contents another has, and
-/// more than one number contents and rows by threads, eight or as many as there are processors. The only error is out of memory, which 2^31 items or more are answered with.
+/// places its piece of contents and of rows, if there are many, in the tables that number them. There are fewer than 2^31 items, as there are sections
+/// in a link. The only error is out of memory.
 pub fn fold<R: Threads + Sync, G: Gate, L: Ledger>(
     rt: &R,
     alloc: Global,
@@ -42,6 +44,7 @@ pub fn fold<R: Threads + Sync, G: Gate, L: Ledger>(
     requires some { 1 ≤ workers }
     requires most { workers ≤ 64 }
     requires order { IsStrictlyIncreasing (sections_of (item_views items.now)) }
+    requires few { length items.now < 2 ^ 31 }
     ensures value { IfOk result (λ l. l.items ≡ leaders_of (item_views items.now)) }
     ensures leaders { IfOk result (λ l. AreLeaders (item_views items.now) l.items) }
     ensures congruence { IfOk result (λ l. IsCongruence (item_views items.now) (classes l.items)) }
@@ -52,10 +55,7 @@ pub fn fold<R: Threads + Sync, G: Gate, L: Ledger>(
     ensures steps { IfOk result (λ l. steps.new + key_count (item_views items.now) ≡ steps.old + leader_count l.items) }
     ensures bound { IfOk result (λ l. steps.new ≤ steps.old + (length items.now - 1)) }
 {
-    if items.len() >= ITEM_END {
-        return Err(AllocError);
-    }
-    let bytes = number_contents(rt, alloc, items, workers)?;
+    let bytes = number_contents(rt, alloc, items, workers, gate)?;
     let chosen = shared_items(alloc, bytes.as_slice())?;
     fold_shared(
         rt,
@@ -137,17 +137,10 @@ fn fold_chosen<R: Threads + Sync, G: Gate, L: Ledger>(
     ensures steps { IfOk result (λ l. steps.new + key_count (views_at items.now chosen.now) ≡ steps.old + leader_count l.items) }
     ensures bound { IfOk result (λ l. steps.new ≤ steps.old + (length chosen.now - 1)) }
 {
-    let sections = sections_of(alloc, items, chosen)?;
+    let list = sections_of(alloc, items, chosen)?;
+    let sections = Places::of(alloc, list)?;
     let pieces = pieces_of(alloc, chosen.len(), workers)?;
-    let ends = all_places(
-        rt,
-        alloc,
-        items,
-        chosen,
-        sections.as_slice(),
-        pieces.as_slice(),
-        gate,
-    )?;
+    let ends = all_places(rt, alloc, items, chosen, &sections, pieces.as_slice(), gate)?;
     let keys = number_keys(
         rt,
         alloc,
@@ -163,13 +156,13 @@ fn fold_chosen<R: Threads + Sync, G: Gate, L: Ledger>(
         alloc,
         items,
         chosen,
-        sections.as_slice(),
+        &sections,
         keys.as_slice(),
         &ends,
         pieces.as_slice(),
         gate,
     )?;
-    let start = number_rows(rt, alloc, parts.as_slice(), workers)?;
+    let start = number_rows(rt, alloc, parts.as_slice(), workers, gate)?;
     let first = count_leaders(keys.as_slice());
     let next = count_leaders(start.as_slice());
     steps.add(next - first);
@@ -206,6 +199,6 @@ fn number_keys<R: Threads + Sync, G: Gate>(
         pieces,
         gate,
     )?;
-    let keys = number_rows(rt, alloc, parts.as_slice(), workers)?;
+    let keys = number_rows(rt, alloc, parts.as_slice(), workers, gate)?;
     Ok(keys)
 }

@@ -1,7 +1,7 @@
 //! Folding of equal code: which sections can stand for one another.
 //!
 //! `sharing` sets apart the items whose contents another has; of texts it does so before there are items, so that a link makes no others. Rows of bytes are made by workers, one run of the items each (fewer than
-//! 16,384 items are one run), and numbered by tables of their tags, as names are; fewer than 2,048 are sorted. `seeds` finds the classes
+//! 16,384 items are one run), and numbered by a table of texts, as names are (`name_numbers`). `seeds` finds the classes
 //! that wait at first, `turns` gives a class its turn, `splitting` splits the others by it, `refining` goes on until none waits, and
 //! `steps` counts how many classes became two. A label that some of its items leave keeps its list of members, which is cleared of them in
 //! its turn: a list is read in that way once for each time that it was made.
@@ -20,6 +20,7 @@ mod incoming;
 mod keys;
 mod numbering;
 mod parts;
+mod place_table;
 mod places;
 mod refining;
 mod relabel;

@@ -7,18 +7,20 @@ ghost use Rattle.icf_part.specs.Signatures.{bytes_of, output_of};
 ghost use Rattle.name_numbers.specs.Texts.{lent_texts, text_numbers};
 
 use flat_rows::Rows;
+use intern_race::Texts;
 use link_sections::FoldItem;
 use name_numbers::number_texts;
 use std::alloc::{AllocError, Global};
 use std::thread::Threads;
+use work_split::{Gate, OpenGate};
 
-/// The number of each row, of rows in parts. They are numbered by tables of tags that their bytes decide, and compared byte by byte; few,
-/// and all where tags collide, are sorted.
-pub fn number_rows<R: Threads + Sync>(
+/// The number of each row, of rows in parts, by a table of texts: several workers place many rows.
+pub fn number_rows<R: Threads + Sync, G: Gate>(
     rt: &R,
     alloc: Global,
     parts: &[Rows<u8>],
     workers: u32,
+    gate: &G,
 ) -> Result<Vec<u32>, AllocError>
     requires { length (flat_map (λ part. part) parts.now) < 2 ^ 31 }
     ensures { IfOk result (λ list. list.items ≡ text_numbers (flat_map (λ part. part) parts.now)) }
@@ -27,7 +29,7 @@ pub fn number_rows<R: Threads + Sync>(
     for part in parts {
         push_texts(&mut texts, part)?;
     }
-    number_texts(rt, alloc, texts.as_slice(), workers)
+    number_texts(rt, alloc, &Texts::of(alloc, texts), workers, gate)
 }
 
 /// Adds the rows of a part, lent.
@@ -42,17 +44,18 @@ fn push_texts<'a>(texts: &mut Vec<&'a [u8]>, rows: &'a Rows<u8>) -> Result<(), A
 }
 
 /// The number of each item's contents.
-pub fn number_contents<R: Threads + Sync>(
+pub fn number_contents<R: Threads + Sync, G: Gate>(
     rt: &R,
     alloc: Global,
     items: &[FoldItem],
     workers: u32,
+    gate: &G,
 ) -> Result<Vec<u32>, AllocError>
     requires { length items.now < 2 ^ 31 }
     ensures { IfOk result (λ list. list.items ≡ text_numbers (map bytes_of (item_views items.now))) }
 {
     let texts = contents_of(alloc, items)?;
-    number_texts(rt, alloc, texts.as_slice(), workers)
+    number_texts(rt, alloc, &Texts::of(alloc, texts), workers, gate)
 }
 
 /// The contents of items, lent.
@@ -78,7 +81,7 @@ pub fn number_outputs<R: Threads + Sync>(
     ensures { IfOk result (λ list. list.items ≡ text_numbers (map output_of (views_at items.now chosen.now))) }
 {
     let texts = outputs_of(alloc, items, chosen)?;
-    number_texts(rt, alloc, texts.as_slice(), 1)
+    number_texts(rt, alloc, &Texts::of(alloc, texts), 1, &OpenGate)
 }
 
 /// The names of their output sections, lent.

@@ -8,6 +8,7 @@ ghost use Rattle.icf_part.specs.Chosen.{views_at};
 ghost use Rattle.icf_part.specs.Signatures as spec;
 
 use crate::parts::{join_rows, one_part};
+use crate::place_table::Places;
 use flat_rows::Rows;
 use link_sections::{FoldItem, FoldReloc, Target};
 use lk_base::{LinkStop, SecNo};
@@ -33,18 +34,6 @@ pub fn sections_of(
     Ok(sections)
 }
 
-/// The place of a section among some in order of number.
-pub fn place_of(sections: &[SecNo], section: SecNo) -> Option<u32>
-    requires order { IsStrictlyIncreasing sections.now }
-    requires few { length sections.now < 2 ^ 31 }
-    ensures { result ≡ spec.place_of sections.now section }
-{
-    match sections.binary_search(&section) {
-        Ok(place) => Some(place as u32),
-        Err(_) => None,
-    }
-}
-
 /// By item that is compared, the places of those for which its relocations stand, in order of these. The workers find those of one piece
 /// of the items each.
 pub fn all_places<R: Threads + Sync, G: Gate>(
@@ -52,7 +41,7 @@ pub fn all_places<R: Threads + Sync, G: Gate>(
     alloc: Global,
     items: &[FoldItem],
     chosen: &[u32],
-    sections: &[SecNo],
+    sections: &Places,
     pieces: &[Range<usize>],
     gate: &G,
 ) -> Result<Rows<u32>, AllocError>
@@ -92,7 +81,7 @@ fn places_of(
     alloc: Global,
     items: &[FoldItem],
     chosen: &[u32],
-    sections: &[SecNo],
+    sections: &Places,
     piece: Range<usize>,
 ) -> Result<Vec<Rows<u32>>, AllocError>
     requires order { IsStrictlyIncreasing sections.now }
@@ -114,7 +103,7 @@ fn places_of(
 
 /// Puts those of one item into a list, whatever stands there.
 #[tactic(auto, unfolding(crate::specs::Signatures::places))]
-fn put_places(list: &mut Vec<u32>, item: &FoldItem, sections: &[SecNo]) -> Result<(), AllocError>
+fn put_places(list: &mut Vec<u32>, item: &FoldItem, sections: &Places) -> Result<(), AllocError>
     requires order { IsStrictlyIncreasing sections.now }
     requires few { length sections.now < 2 ^ 31 }
     ensures { OnOk result (list.new.items ≡ spec.places sections.now (item_view item.now)) }
@@ -127,7 +116,7 @@ fn put_places(list: &mut Vec<u32>, item: &FoldItem, sections: &[SecNo]) -> Resul
 }
 
 /// Adds the place of the item for which a relocation stands, if it stands for one.
-fn push_place(list: &mut Vec<u32>, reloc: &FoldReloc, sections: &[SecNo]) -> Result<(), AllocError>
+fn push_place(list: &mut Vec<u32>, reloc: &FoldReloc, sections: &Places) -> Result<(), AllocError>
     requires order { IsStrictlyIncreasing sections.now }
     requires few { length sections.now < 2 ^ 31 }
     ensures { OnOk result (list.new.items ≡ list.old.items ++ spec.reloc_places sections.now reloc.now) }
@@ -135,7 +124,7 @@ fn push_place(list: &mut Vec<u32>, reloc: &FoldReloc, sections: &[SecNo]) -> Res
     let Some(Target::Section { section, .. }) = reloc.target else {
         return Ok(());
     };
-    let Some(place) = place_of(sections, section) else {
+    let Some(place) = sections.place_of(section) else {
         return Ok(());
     };
     list.push(place)?;

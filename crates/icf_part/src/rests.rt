@@ -8,7 +8,7 @@ ghost use Rattle.icf_part.specs.Chosen.{views_at};
 ghost use Rattle.icf_part.specs.Signatures as spec;
 
 use crate::parts::one_part;
-use crate::places::place_of;
+use crate::place_table::Places;
 use crate::words::{push_row, signed_words};
 use flat_rows::Rows;
 use link_sections::{FoldItem, Target};
@@ -25,7 +25,7 @@ pub fn all_rests<R: Threads + Sync, G: Gate>(
     alloc: Global,
     items: &[FoldItem],
     chosen: &[u32],
-    sections: &[SecNo],
+    sections: &Places,
     keys: &[u32],
     ends: &Rows<u32>,
     pieces: &[Range<usize>],
@@ -67,7 +67,7 @@ fn rest_rows(
     alloc: Global,
     items: &[FoldItem],
     chosen: &[u32],
-    sections: &[SecNo],
+    sections: &Places,
     keys: &[u32],
     ends: &Rows<u32>,
     piece: Range<usize>,
@@ -103,7 +103,7 @@ fn rest_rows(
 fn put_rest(
     words: &mut Vec<u64>,
     item: &FoldItem,
-    sections: &[SecNo],
+    sections: &Places,
     key: u32,
     ends: &[u32],
 ) -> Result<(), AllocError>
@@ -123,7 +123,7 @@ fn put_rest(
 fn push_target(
     words: &mut Vec<u64>,
     target: Option<Target>,
-    sections: &[SecNo],
+    sections: &Places,
 ) -> Result<(), AllocError>
     requires order { IsStrictlyIncreasing sections.now }
     requires few { length sections.now < 2 ^ 31 }
@@ -144,7 +144,7 @@ fn push_target(
         ) => {
             words.extend_from_slice(&[5, offset])?;
             words.extend_from_slice(&signed_words(rest))?;
-            words.extend_from_slice(&place_words(place_of(sections, section), section))
+            words.extend_from_slice(&place_words(sections.place_of(section), section))
         }
         Some(
             Target::Piece {

@@ -8,29 +8,28 @@ ghost use Rattle.icf_part.specs.Chosen.{AreMarked, AreShared, AreSpread};
 ghost use Rattle.icf_part.specs.Chosen as spec;
 
 use crate::turns::push_if;
+use intern_race::Texts;
 use lk_base::SecNo;
 use name_numbers::number_texts;
 use std::alloc::{AllocError, Global};
 use std::thread::Threads;
-
-/// More items than a link can have sections.
-pub const ITEM_END: usize = 1 << 31;
+use work_split::Gate;
 
 /// Places of texts, in order, among them all of those that others equal. What stands for an item whose contents are none of them is itself, so
-/// nothing else of it is looked at. More than one worker numbers texts by threads, eight or as many as there are processors. The only error is
-/// out of memory, which 2^31 texts or more are answered with.
-pub fn shared_texts<R: Threads + Sync>(
+/// nothing else of it is looked at. Workers place many texts, a piece of them each, in the table that numbers them. There are fewer than 2^31 texts,
+/// as there are sections in a link. The only error is out of memory.
+pub fn shared_texts<'a, R: Threads + Sync, G: Gate>(
     rt: &R,
     alloc: Global,
-    texts: &[&[u8]],
+    texts: Vec<&'a [u8]>,
     workers: u32,
+    gate: &G,
 ) -> Result<Vec<u32>, AllocError>
-    ensures { IfOk result (λ list. AreShared (text_numbers (lent_texts texts.now)) list.items) }
+    requires { length texts.items < 2 ^ 31 }
+    ensures { IfOk result (λ list. AreShared (text_numbers (lent_texts texts.entry.items)) list.items) }
 {
-    if texts.len() >= ITEM_END {
-        return Err(AllocError);
-    }
-    let numbers = number_texts(rt, alloc, texts, workers)?;
+    let all = Texts::of(alloc, texts);
+    let numbers = number_texts(rt, alloc, &all, workers, gate)?;
     let list = shared_items(alloc, numbers.as_slice())?;
     Ok(list)
 }

@@ -16,7 +16,7 @@ use Rattle.intern_race.specs.declared.rule.View.{View}
 use Rattle.intern_race.specs.Interning.{AreApart, IsPassed, pair, placed_by, seen_by}
 use Rattle.intern_race.specs.Rule.{EachIsOwned, Fits, HasFilled, HasOffered, IsOwned, IsPlaced, IsWordOf, Kept, Seated, Stands, TellsApart, TellsLoad, TellsLower, TellsTry}
 use Rattle.intern_race.specs.Rule.{founder, is_live, share_of, view_after, view_after_split, view_joined, view_spent, view_split}
-use Rattle.intern_race.specs.Slots.{HasEqual, IsHeld, IsInPlace, IsOther, holder, least, none, no_number, slot_on}
+use Rattle.intern_race.specs.Slots.{HasEqual, IsHeld, IsInPlace, IsOther, holder, least, none, slot_on}
 use Rattle.intern_race.specs.Texts.{text_at}
 use Rattle.intern_race.proofs.Apart.{apart_now, in_place}
 use Rattle.intern_race.proofs.Grows.{GoesOn, fits_grows, grows_at, other_grows, place_grows, slots_grow}
@@ -52,7 +52,7 @@ owned_moves : (old new : List View) (k w : ℕ) → Moves old new → IsOwned ol
 owned_moves old new k w moves owned = record {
   filled = moves.filled k (holder w) owned.filled;
   offered = ⊎_elim
-      (λ (no : least w ≡ no_number). inl no)
+      (λ (own : least w ≡ holder w). inl own)
       (λ (has : SomeView is_live (HasOffered k (least w)) old). inr (moves.offered k (least w) has))
       owned.offered;
 }
@@ -145,21 +145,17 @@ looks slots texts s id v st k lt at live r shows places =
     }
 
 -- what a load finds of the texts that are placed there
-finds : (slots : ℕ) (texts : List (List ℕ)) (s : Table) (v : View) (k : ℕ) → length texts ≤ 2 ^ 31 → Kept slots texts s → Fits texts s.words v → IsWordOf v k (get_or s.words k 0)
-finds slots texts s v k few r f p has at =
+finds : (slots : ℕ) (texts : List (List ℕ)) (s : Table) (v : View) (k : ℕ) → Kept slots texts s → Fits texts s.words v → IsWordOf v k (get_or s.words k 0)
+finds slots texts s v k r f p has at =
     let is = f.placed p has in
     let x : ℕ = get_or s.words k 0 in
     let At : ℕ → Type 0 = λ j. (j < length s.words) × (get_or s.words j 0 ≢ none) × (text_at texts (holder (get_or s.words j 0)) ≡ text_at texts p.text) × (least (get_or s.words j 0) ≤ p.text) in
     let here = subst At at (is.within, is.filled, is.equal, is.most) in
-    let number = is.number in
     let most = here.3 in
     let Of : List (List ℕ) → Type 0 = λ ts. (least x < length ts) × (text_at ts (least x) ≡ text_at ts p.text) × (least x ≤ p.text) in
     subst Of (sym f.one_list) (⊎_elim
     (λ (empty : x ≡ none). absurd (here.1 empty))
-    (λ (held : IsHeld texts s.words k x). ⊎_elim
-    (λ (no : least x ≡ no_number). absurd (omega (arith, no, most, number, few)))
-    (λ (has : (least x < length texts) × (text_at texts (least x) ≡ text_at texts (holder x))). (has.0, has.1 ∙ here.2, most))
-    held.equal)
+    (λ (held : IsHeld texts s.words k x). let has = held.equal in (has.0, has.1 ∙ here.2, most))
     (r.held k here.0))
 
 no_places : (texts : List (List ℕ)) (ws : List ℕ) (p : Pair) → Contains [] p → IsPlaced texts ws p
@@ -185,7 +181,7 @@ load_keeps slots own id texts me k lt few live s r wide at small =
       subst Holding (sym (set-get_or s.words k 0)) kept,
       record {
         step = record { view = refl; slots = refl; apart = apart_after slots texts s s.words id me.0 st at live f.one_list kept };
-        finds = finds slots texts s me.0 k few r f;
+        finds = finds slots texts s me.0 k r f;
       },
     )
 
@@ -223,9 +219,9 @@ pub record IsWay (slots : ℕ) (texts : List (List ℕ)) (seen : List Pair) (tex
 
 -- an empty slot is filled with a word
 fills : (slots : ℕ) (texts : List (List ℕ)) (s : Table) (id : ℕ) (v : View) (k new x : ℕ) → k < slots → length texts ≤ 2 ^ 31 → get_elem? s.views id ≡ some v → v.live ≡ true → Kept slots texts s
-    → least new ≡ no_number → holder new < length texts → IsWay slots texts v.seen (text_at texts (holder new)) k → get_or s.words k 0 ≡ none → x ≡ none
+    → least new ≡ holder new → holder new < length texts → IsWay slots texts v.seen (text_at texts (holder new)) k → get_or s.words k 0 ≡ none → x ≡ none
     → IsStep texts s (set s.words k new) id v (Tried k (holder new) x) k
-fills slots texts s id v k new x lt few at live r unnumbered number seen_way empty is =
+fills slots texts s id v k new x lt few at live r own_number number seen_way empty is =
     let us : List ℕ = set s.words k new in
     let st : OwnStep = Tried k (holder new) x in
     let w : View = view_after v st in
@@ -261,8 +257,8 @@ fills slots texts s id v k new x lt few at live r unnumbered number seen_way emp
       long = length-set s.words k new;
       others = others;
       on = on;
-      held = subst Held (sym now) (inr (record { place = place; equal = inl unnumbered }));
-      owned = subst Owned (sym now) (inr (record { filled = own; offered = inl unnumbered }));
+      held = subst Held (sym now) (inr (record { place = place; equal = (omega (arith, own_number, number), ap (text_at texts) own_number) }));
+      owned = subst Owned (sym now) (inr (record { filled = own; offered = inl own_number }));
       shows = λ p has. ⊎_elim
           (λ (fresh : (x ≡ none) × (pair k (holder new) ≡ p)). subst (Stands us) fresh.1 at_k)
           (λ (old : (x ≢ none) × (pair k (holder x) ≡ p)). absurd (old.0 is))
@@ -272,9 +268,9 @@ fills slots texts s id v k new x lt few at live r unnumbered number seen_way emp
 
 -- a try fills an empty slot, or leaves it
 pub try_keeps : (slots own id : ℕ) (texts : List (List ℕ)) (me : Seated) (k new : ℕ) → k < slots → length texts ≤ 2 ^ 31 → me.0.live ≡ true
-    → least new ≡ no_number → holder new < length texts → IsWay slots texts me.0.seen (text_at texts (holder new)) k
+    → least new ≡ holder new → holder new < length texts → IsWay slots texts me.0.seen (text_at texts (holder new)) k
     → Allows (Kept slots texts) own id me k (λ n. either (n == none) new n) (TellsTry (step own k none new no_value) me)
-try_keeps slots own id texts me k new lt few live unnumbered number seen_way s r wide at small =
+try_keeps slots own id texts me k new lt few live own_number number seen_way s r wide at small =
     let x : ℕ = get_or s.words k 0 in
     let f = r.each id me.0 at live in
     let st : OwnStep = Tried k (holder new) x in
@@ -282,7 +278,7 @@ try_keeps slots own id texts me k new lt few live unnumbered number seen_way s r
     let long = r.wide in
     let Goes : ℕ → Type 0 = λ n. Kept slots texts (record { words = set s.words k n; homes = s.homes; views = set s.views id w }) in
     let hit : x ≡ none → Goes new = λ empty.
-    step_keeps slots texts s (set s.words k new) id me.0 st k at live r (fills slots texts s id me.0 k new x lt few at live r unnumbered number seen_way empty empty) in
+    step_keeps slots texts s (set s.words k new) id me.0 st k at live r (fills slots texts s id me.0 k new x lt few at live r own_number number seen_way empty empty) in
     let miss : x ≢ none → Goes x = λ filled.
     let stands : (p : Pair) → Contains (flat_map seen_by (st ∷ [])) p → Stands s.words p = λ p has. ⊎_elim
     (λ (fresh : (x ≡ none) × (pair k (holder new) ≡ p)). absurd (filled fresh.0))
@@ -342,7 +338,7 @@ lowers slots texts s id v k op m x lt few at live r number has equal cases =
     let after : Same m = ⊎_elim
     (λ (stays : (m ≡ was) × (least was ≤ least op)). subst Same (sym stays.0) before)
     (λ (falls : (m ≡ op) × (least op ≤ least was)). subst Same (sym falls.0) (
-      inr (number, sym equal),
+      (number, sym equal),
       record { filled = subst Filled stands.holds.holds before.1.filled; offered = inr own },
     ))
     cases in

@@ -8,5 +8,6 @@ pub mod Rows
 pub mod Seats
 pub mod Shown
 pub mod Sitting
+pub mod Tags
 pub mod Walks
 pub mod Words

@@ -8,7 +8,7 @@ use Rattle.intern_race.specs.declared.rule.OwnStep.TheVariants.{Loaded, Tried, L
 use Rattle.intern_race.specs.declared.rule.Pair.{Pair}
 use Rattle.intern_race.specs.declared.rule.View.{View}
 use Rattle.intern_race.specs.Interning.{AreApart, SeatView, seen_by, placed_by}
-use Rattle.intern_race.specs.Slots.{AreSlots, Holds, IsSlotCount, holder, least, none, no_number}
+use Rattle.intern_race.specs.Slots.{AreSlots, Holds, IsSlotCount, holder, least, none}
 use Rattle.intern_race.specs.Texts.{text_at}
 use Rattle.seat_views.specs.Shares.{AreWhole, half_of, halved}
 use Rattle.seat_views.specs.Views.{EachView, SomeView}
@@ -76,10 +76,10 @@ HasFilled slot number v = Contains v.steps (Tried slot number none)
 abbrev pub HasOffered : (slot number : ℕ) → View → Type 0
 HasOffered slot number v = (found : ℕ) × Contains v.steps (Lowered slot number found)
 
--- a filled slot's word: a seat has the step that filled it, and its least number is no number, or a seat has the step that offered it
+-- a filled slot's word: a seat has the step that filled it, and its least number came with it, or a seat has the step that offered it
 pub record IsOwned (views : List View) (slot word : ℕ) : Type 0 where
   pub filled : SomeView is_live (HasFilled slot (holder word)) views
-  pub offered : (least word ≡ no_number) ⊎ SomeView is_live (HasOffered slot (least word)) views
+  pub offered : (least word ≡ holder word) ⊎ SomeView is_live (HasOffered slot (least word)) views
 
 -- no word changes but by a step that a seat has among its own
 abbrev pub EachIsOwned : List View → List ℕ → Type 0

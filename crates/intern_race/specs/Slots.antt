@@ -1,5 +1,5 @@
 -- The slots of a text table. A slot is one word: NONE, or in its lower half the number of the text that it holds and in its
--- upper half the least number of an equal text so far, or no number.
+-- upper half the least number of an equal text so far.
 use Rattle.std.specs.Prelude.{◌≡◌, ◌≢◌, ℕ, ◌+◌, ◌*◌, ◌/◌, ◌%◌, ◌^◌, ◌<◌, ◌≤◌, ◌⊎◌, List, length, slice_index}
 use Rattle.intern_race.specs.Hash.{hash_of}
 use Rattle.intern_race.specs.Texts.{text_at}
@@ -7,10 +7,6 @@ use Rattle.intern_race.specs.Texts.{text_at}
 -- an empty slot's word
 abbrev pub none : ℕ
 none = 0xffffffffffffffff
-
--- the number of no text
-abbrev pub no_number : ℕ
-no_number = 0xffffffff
 
 -- the number of the text that is held in a slot with this word
 unfoldable pub holder : ℕ → ℕ
@@ -56,11 +52,11 @@ pub record IsInPlace (texts : List (List ℕ)) (words : List ℕ) (slot number :
   pub ends : slot_on (length words) (text_at texts number) far ≡ slot
   pub passed : (e : ℕ) → e < far → IsOther texts words (slot_on (length words) (text_at texts number) e) (text_at texts number)
 
--- the least number of a slot's word is no number, or that of a text equal to the one held
+-- the least number of a slot's word is that of a text equal to the one held
 abbrev pub HasEqual : (texts : List (List ℕ)) → (word : ℕ) → Type 0
-HasEqual texts word = (least word ≡ no_number) ⊎ ((least word < length texts) × (text_at texts (least word) ≡ text_at texts (holder word)))
+HasEqual texts word = (least word < length texts) × (text_at texts (least word) ≡ text_at texts (holder word))
 
--- a filled slot holds a text in its place, and has the number of an equal one or none
+-- a filled slot holds a text in its place, and has the number of an equal one
 pub record IsHeld (texts : List (List ℕ)) (words : List ℕ) (slot word : ℕ) : Type 0 where
   pub place : IsInPlace texts words slot (holder word)
   pub equal : HasEqual texts word

@@ -3,6 +3,7 @@ use Rattle.std.specs.Prelude.{◌≡◌, ℕ, ◌+◌, ◌-◌, ◌^◌, ◌≤�
 use Rattle.std.specs.Borrow.{Bor}
 use Rattle.std.specs.List.{range_with_len, position_or_len}
 use Rattle.std.specs.Str.{bytes_eq}
+use Rattle.intern_race.specs.Hash.{hash_of, tag_of}
 use Rattle.intern_race.specs.declared.texts.Cut.{Cut}
 use Rattle.intern_race.specs.declared.texts.Cut.TheVariants.{At, Whole}
 use Rattle.intern_race.specs.declared.texts.Row.{Row}
@@ -22,6 +23,13 @@ start_of ends k = slice_index (0 ∷ ends) k
 -- its bytes: they stop where the bytes do
 unfoldable pub cut_text : (bytes ends : List ℕ) → (k : ℕ) → List ℕ
 cut_text bytes ends k = take (slice_index ends k - start_of ends k) (drop (start_of ends k) bytes)
+
+-- the tag of text i, and a list of those of the first texts
+abbrev pub tag_at : List (List ℕ) → ℕ → ℕ
+tag_at texts i = tag_of (hash_of (text_at texts i))
+
+abbrev pub AreTags : (texts : List (List ℕ)) → (tags : List ℕ) → Type 0
+AreTags texts tags = (i : ℕ) → i < length tags → slice_index tags i ≡ tag_at texts i
 
 -- the texts that bytes are cut into, one for each end
 unfoldable pub cut_texts : (bytes ends : List ℕ) → List (List ℕ)

@@ -14,3 +14,11 @@ pub fn hash_of(text: &[u8]) -> u64
     }
     hash
 }
+
+/// The tag of the texts that have this hash: its eight highest bits, by which most texts are told apart that are searched for from one slot on.
+#[tactic(auto, unfolding(crate::specs::Hash::tag_of))]
+pub fn tag_of(hash: u64) -> u8
+    ensures { result ≡ spec.tag_of hash }
+{
+    (hash / 0x0100_0000_0000_0000) as u8
+}

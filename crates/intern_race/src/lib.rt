@@ -7,11 +7,9 @@
 mod hash;
 mod rule;
 mod table;
-#[cfg(test)]
-mod tests;
 mod texts;
 
-pub use hash::hash_of;
+pub use hash::{hash_of, tag_of};
 pub use rule::{OwnStep, Pair};
 pub use table::{InternSeat, Interner};
 pub use texts::Texts;

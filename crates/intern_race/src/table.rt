@@ -1,5 +1,5 @@
 // The table of slots and the seats at it.
-ghost use Rattle.std.specs.Prelude.{◌≡◌, ◌≢◌, ◌+◌, ◌%◌, ◌<◌, ◌≤◌, ◌^◌, [], ◌∷◌, ◌++◌, List, ℕ, length, true, vec_capacity, Contains, IfOk, IfErr};
+ghost use Rattle.std.specs.Prelude.{◌≡◌, ◌≢◌, ◌+◌, ◌%◌, ◌<◌, ◌≤◌, ◌^◌, ◌==◌, ◌&&◌, [], ◌∷◌, ◌++◌, List, ℕ, length, nat_lt, not, replicate, slice_index, true, vec_capacity, Contains, IfOk, IfErr};
 ghost use mathlib.Core.Logic.{◌↔◌};
 ghost use Rattle.std.specs.Str.{bytes_eq};
 ghost use Rattle.intern_race.specs.declared.rule.OwnStep.{OwnStep};
@@ -8,22 +8,20 @@ ghost use Rattle.intern_race.specs.Hash as hashing;
 ghost use Rattle.intern_race.specs.Interning.{AreApart, HasPlaced, HasPlacedAll, IsLeastOf, IsTaken, IsWalk, SitsAt};
 ghost use Rattle.intern_race.specs.Interning.{after_split, after_steps, first_seat, joined, known, newcomer, pair};
 ghost use Rattle.intern_race.specs.Slots.{IsSlotCount};
-ghost use Rattle.intern_race.specs.Slots as slots;
-ghost use Rattle.intern_race.specs.Texts.{text_at, text_numbers};
+ghost use Rattle.intern_race.specs.Slots as specs;
+ghost use Rattle.intern_race.specs.Texts.{AreTags, tag_at, text_at, text_numbers};
 ghost use Rattle.intern_race.specs.Visits.{CanFill, IsVisit};
 
-use crate::hash::hash_of;
+use crate::hash::{hash_of, tag_of};
 use crate::rule::{Filling, Held, Key, Learning, Looking, Lowering, Sharing, View};
 use crate::texts::Texts;
 use atomic_table::{Seat, Table};
 use std::alloc::{AllocError, Global};
 use std::marker::Model;
+use std::thread::{Threads, join_mut};
 
 /// The word of an empty slot.
 const NONE: u64 = 0xffff_ffff_ffff_ffff;
-
-/// The number of no text.
-const NO_NUMBER: u32 = 0xffff_ffff;
 
 /// The slots, which threads share by a `&`. It borrows the texts that it was opened for and keeps no copy of them.
 ///
@@ -79,15 +77,33 @@ impl<'a> Interner<'a> {
         ensures seat { IfOk result (λ r. r.1 ≡ first_seat r.0) }
     {
         let slots = slots_for(texts.len());
-        let key = Key { slots, texts };
         let row = vec![in alloc; NONE; slots]?;
-        let (table, seat) = Table::of_words(alloc, row.as_slice(), &key)?;
-        let interner = Interner {
-            table,
-            slots,
-            alloc,
-        };
-        Ok((interner, InternSeat { seat }))
+        open_with(alloc, texts, slots, row)
+    }
+
+    /// The same. Another thread makes the row of empty slots that the table begins with, and this one meanwhile takes as much memory and gives it back, which is
+    /// where the table comes to lie: so each of both asks the system for half of what is new.
+    pub fn open_beside<R: Threads + Sync>(
+        rt: &R,
+        alloc: Global,
+        texts: &'a Texts<'a>,
+    ) -> Result<(Interner<'a>, InternSeat), AllocError>
+        requires { length texts.now ≤ 2 ^ 31 }
+        ensures texts { IfOk result (λ r. r.0.texts ≡ texts.now) }
+        ensures slots { IfOk result (λ r. IsSlotCount (length texts.now) r.0.slots) }
+        ensures seat { IfOk result (λ r. r.1 ≡ first_seat r.0) }
+    {
+        let slots = slots_for(texts.len());
+        let (row, spare) = join_mut(
+            rt,
+            &mut || -> Result<Vec<u64>, AllocError>
+                ensures { IfOk result (λ row. row.items ≡ replicate slots specs.none) }
+            { vec![in alloc; NONE; slots] },
+            &mut || -> Result<Vec<u64>, AllocError> { vec![in alloc; NONE; slots] },
+        );
+        let row = row?;
+        drop(spare);
+        open_with(alloc, texts, slots, row)
     }
 
     /// Places text `i`, and answers the slot that holds it or an equal text. From the text's home on, and round the end, it looks
@@ -100,26 +116,39 @@ impl<'a> Interner<'a> {
         ensures walk { (own : List OwnStep) × IsWalk self.now i result own × (seat.new ≡ after_steps seat.old own) }
         ensures apart { AreApart self.now.texts (known seat.new) }
     {
-        self.place_hashed(seat, texts, i, hash_of(texts.text(i)))
+        let _ = &self.slots;
+        let number = i as u32;
+        self.place_hashed(seat, texts, i, hash_of(texts.text(i)), &[], number)
     }
 
-    /// The same, where the text's hash is known.
-    pub fn place_hashed(&self, seat: &mut InternSeat, texts: &Texts, i: usize, hash: u64) -> u32
+    /// The same, where the text's hash is known and the number of an equal text, if only its own. The bytes of a text that is met are read if it is neither of
+    /// these two and its tag is that of the hash or is not listed: `tags` are those of the first texts.
+    pub fn place_hashed(
+        &self,
+        seat: &mut InternSeat,
+        texts: &Texts,
+        i: usize,
+        hash: u64,
+        tags: &[u8],
+        alike: u32,
+    ) -> u32
         requires seat { SitsAt self.now seat.old }
         requires texts { texts.now ≡ self.now.texts }
         requires text { i < length texts.now }
         requires hash { hash ≡ hashing.hash_of (text_at texts.now i) }
+        requires tags { AreTags texts.now tags.now }
+        requires alike { text_at texts.now alike ≡ text_at texts.now i }
         ensures within { result < self.now.slots }
         ensures walk { (own : List OwnStep) × IsWalk self.now i result own × (seat.new ≡ after_steps seat.old own) }
         ensures apart { AreApart self.now.texts (known seat.new) }
     {
         let slots = self.slots;
         let number = i as u32;
-        let text = texts.text(i);
+        let tag = tag_of(hash);
         let mut slot = self.home_of(hash);
         for far in 0..slots {
             let holder = self.visit(seat, slot, number);
-            if is_text(texts, holder, number, text) {
+            if is_text(texts, tags, holder, number, tag, alike) {
                 self.lower(seat, slot, number, holder);
                 return slot as u32;
             }
@@ -135,17 +164,17 @@ impl<'a> Interner<'a> {
         requires texts { texts.now ≡ self.now.texts }
         requires within { slot < self.now.slots }
         requires slot { IsTaken seat.old slot }
-        ensures step { (found : ℕ) × (seat.new ≡ after_steps seat.old (Loaded slot found ∷ [])) × (result ≡ slots.least found) }
+        ensures step { (found : ℕ) × (seat.new ≡ after_steps seat.old (Loaded slot found ∷ [])) × (result ≡ specs.least found) }
         ensures least { IsLeastOf seat.old slot result }
         ensures apart { AreApart self.now.texts (known seat.new) }
     {
         least_of(self.load(seat, slot as usize))
     }
 
-    /// Reads the slot in which the search for a text with this hash begins, so that it is at hand when the text is placed. It is no
-    /// step of a seat.
-    pub fn warm(&self, hash: u64) {
-        self.table.shared.peek(self.home_of(hash));
+    /// Reads the slot in which the search for a text with this hash begins, so that it is at hand when the text is placed: the number of the text that it
+    /// holds now, and that of no text if it is empty. It is no step of a seat, so nothing is known of the number.
+    pub fn warm(&self, hash: u64) -> u32 {
+        holder_of(self.table.shared.peek(self.home_of(hash)))
     }
 
     /// How many slots there are. The search for a text begins in the slot whose number is the text's hash modulo this.
@@ -253,7 +282,7 @@ impl<'a> Interner<'a> {
         requires slot { slot < self.now.slots }
         ensures step { seat.new ≡ after_steps seat.old (Loaded slot result ∷ []) }
         ensures apart { AreApart self.now.texts (known seat.new) }
-        ensures word { IsLeastOf seat.old slot (slots.least result) }
+        ensures word { IsLeastOf seat.old slot (specs.least result) }
     {
         let shared = &self.table.shared;
         shared.load::<Looking>(&mut seat.seat, slot)
@@ -269,7 +298,7 @@ impl<'a> Interner<'a> {
         ensures apart { AreApart self.now.texts (known seat.new) }
     {
         let shared = &self.table.shared;
-        let word = word_of(NO_NUMBER, i);
+        let word = word_of(i, i);
         shared.compare_exchange::<Filling>(&mut seat.seat, slot, NONE, word)
     }
 
@@ -304,19 +333,63 @@ impl<'a> Interner<'a> {
     }
 }
 
-// Whether the text of a number is this one, which is text `i`.
-fn is_text(texts: &Texts, number: u32, i: u32, text: &[u8]) -> bool
+// A table whose words are those of a row, all of empty slots.
+fn open_with<'a>(
+    alloc: Global,
+    texts: &'a Texts<'a>,
+    slots: usize,
+    row: Vec<u64>,
+) -> Result<(Interner<'a>, InternSeat), AllocError>
+    requires few { length texts.now ≤ 2 ^ 31 }
+    requires count { IsSlotCount (length texts.now) slots }
+    requires most { slots ≤ 2 ^ 32 }
+    requires empty { row.items ≡ replicate slots specs.none }
+    ensures texts { IfOk result (λ r. r.0.texts ≡ texts.now) }
+    ensures slots { IfOk result (λ r. IsSlotCount (length texts.now) r.0.slots) }
+    ensures seat { IfOk result (λ r. r.1 ≡ first_seat r.0) }
+{
+    let key = Key { slots, texts };
+    let (table, seat) = Table::of_words(alloc, row.as_slice(), &key)?;
+    let interner = Interner {
+        table,
+        slots,
+        alloc,
+    };
+    Ok((interner, InternSeat { seat }))
+}
+
+// Whether the text of a number is text `i`, which has this tag and is equal to another one.
+fn is_text(texts: &Texts, tags: &[u8], number: u32, i: u32, tag: u8, alike: u32) -> bool
     requires number { number < length texts.now }
-    requires text { text.now ≡ text_at texts.now i }
+    requires text { i < length texts.now }
+    requires tag { tag ≡ tag_at texts.now i }
+    requires tags { AreTags texts.now tags.now }
+    requires alike { text_at texts.now alike ≡ text_at texts.now i }
     ensures { result ≡ bytes_eq (text_at texts.now number) (text_at texts.now i) }
 {
-    texts.text(number as usize) == text
+    if number == i {
+        return true;
+    }
+    if number == alike {
+        return true;
+    }
+    if has_other(tags, number as usize, tag) {
+        return false;
+    }
+    texts.text(number as usize) == texts.text(i as usize)
+}
+
+// Whether another tag than this one is listed at a number.
+fn has_other(tags: &[u8], number: usize, tag: u8) -> bool
+    ensures { result ≡ (nat_lt number (length tags.now) && not (slice_index tags.now number == tag)) }
+{
+    number < tags.len() && tags[number] != tag
 }
 
 // The word of a slot that holds a text, with the least number of an equal one.
 #[tactic(auto, unfolding(crate::specs::Slots::word_of))]
 fn word_of(least: u32, holder: u32) -> u64
-    ensures { result ≡ slots.word_of least holder }
+    ensures { result ≡ specs.word_of least holder }
 {
     (least as u64) * 0x1_0000_0000 + holder as u64
 }
@@ -324,7 +397,7 @@ fn word_of(least: u32, holder: u32) -> u64
 // The number of the text that a slot with this word holds.
 #[tactic(auto, unfolding(crate::specs::Slots::holder))]
 fn holder_of(word: u64) -> u32
-    ensures { result ≡ slots.holder word }
+    ensures { result ≡ specs.holder word }
 {
     (word % 0x1_0000_0000) as u32
 }
@@ -332,12 +405,12 @@ fn holder_of(word: u64) -> u32
 // The least number of an equal text so far that such a slot has.
 #[tactic(auto, unfolding(crate::specs::Slots::least))]
 fn least_of(word: u64) -> u32
-    ensures { result ≡ slots.least word }
+    ensures { result ≡ specs.least word }
 {
     (word / 0x1_0000_0000) as u32
 }
 
-// How many slots a table for so many texts has.
+/// How many slots a table for so many texts has.
 fn slots_for(texts: usize) -> usize
     requires { texts ≤ 2 ^ 31 }
     ensures count { IsSlotCount texts result }

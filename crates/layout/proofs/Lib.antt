@@ -32,3 +32,7 @@ pub mod Segments
 pub mod Apart
 pub mod Aligned
 pub mod FrameSpots
+pub mod OwnRows
+pub mod Groups
+pub mod Held
+pub mod AllHeld

@@ -31,15 +31,15 @@ use Rattle.layout.specs.Walk.{after, beside, cursor_at, is_empty, members_along,
 use Rattle.output_sections.proofs.NextPool.{pool_here}
 use Rattle.layout.proofs.Trails.{all_members}
 
-or_left : (a b : Bool) → a ≡ true → (a || b) ≡ true
+pub or_left : (a b : Bool) → a ≡ true → (a || b) ≡ true
 or_left true b is = refl
 or_left false b is = let none : ⊥ = cc in absurd none
 
-or_right : (a b : Bool) → b ≡ true → (a || b) ≡ true
+pub or_right : (a b : Bool) → b ≡ true → (a || b) ≡ true
 or_right true b is = refl
 or_right false b is = is
 
-or_cases : (P : Type 0) (a b : Bool) → (a || b) ≡ true → (a ≡ true → P) → (b ≡ true → P) → P
+pub or_cases : (P : Type 0) (a b : Bool) → (a || b) ≡ true → (a ≡ true → P) → (b ≡ true → P) → P
 or_cases P true b is one other = one refl
 or_cases P false b is one other = other is
 
@@ -56,13 +56,13 @@ not_true true is = let none : ⊥ = cc in absurd none
 not_true false is = refl
 
 -- one of two lists has it
-any_here : {X : Type 0} (test : X → Bool) (xs ys : List X) → list_any test xs ≡ true → list_any test (xs ++ ys) ≡ true
+pub any_here : {X : Type 0} (test : X → Bool) (xs ys : List X) → list_any test xs ≡ true → list_any test (xs ++ ys) ≡ true
 any_here test xs ys is = list_any-append test xs ys ∙ or_left (list_any test xs) (list_any test ys) is
 
-any_later : {X : Type 0} (test : X → Bool) (xs ys : List X) → list_any test ys ≡ true → list_any test (xs ++ ys) ≡ true
+pub any_later : {X : Type 0} (test : X → Bool) (xs ys : List X) → list_any test ys ≡ true → list_any test (xs ++ ys) ≡ true
 any_later test xs ys is = list_any-append test xs ys ∙ or_right (list_any test xs) (list_any test ys) is
 
-any_one : {X : Type 0} (t : Bool) (test : X → Bool) (x : X) → t ≡ true → test x ≡ true → list_any test (if t then x ∷ [] else []) ≡ true
+pub any_one : {X : Type 0} (t : Bool) (test : X → Bool) (x : X) → t ≡ true → test x ≡ true → list_any test (if t then x ∷ [] else []) ≡ true
 any_one true test x is passes = or_left (test x) false passes
 any_one false test x is passes = let none : ⊥ = cc in absurd none
 
@@ -87,14 +87,14 @@ module _ (files : List File) (b : Bindings) (pools : List Pool) (words : ℕ) (l
       (flat_listed test (items_at files b pools leaders) 0 (section_total files) n lt (subst (λ m. list_any test (items_at files b pools leaders m) ≡ true) e is))
 
   -- the item of a section that leads itself, of a pool, and of the table
-  section_listed : (n : ℕ) → n < section_total files → leads leaders n ≡ true → test (section_item n (input_at files b n)) ≡ true
+  pub section_listed : (n : ℕ) → n < section_total files → leads leaders n ≡ true → test (section_item n (input_at files b n)) ≡ true
       → list_any test (items files b pools words leaders) ≡ true
   unfolding items_at own_item
   section_listed n lt own passes =
       let s : InputSection = input_at files b n in
       at_listed n lt (any_here test (if leads leaders n then section_item n s ∷ [] else []) (pool_at 0 pools n s) (any_one (leads leaders n) test (section_item n s) own passes))
 
-  pool_listed : (p : ℕ) (d : Pool) → p < length pools → AreRising pools → (get_or pools p d).first < section_total files
+  pub pool_listed : (p : ℕ) (d : Pool) → p < length pools → AreRising pools → (get_or pools p d).first < section_total files
       → test (pool_item p (get_or pools p d).size (input_at files b (get_or pools p d).first)) ≡ true → list_any test (items files b pools words leaders) ≡ true
   unfolding items_at
   pool_listed p d below rising lt passes =
@@ -104,7 +104,7 @@ module _ (files : List File) (b : Bindings) (pools : List Pool) (words : ℕ) (l
       let one : pool_at 0 pools n s ≡ pool_item p pool.size s ∷ [] = pool_here pools p d s rising below in
       at_listed n lt (any_later test (own_item leaders n s) (pool_at 0 pools n s) (rw one (or_left (test (pool_item p pool.size s)) false passes)))
 
-  table_listed : test (got_item words) ≡ true → list_any test (items files b pools words leaders) ≡ true
+  pub table_listed : test (got_item words) ≡ true → list_any test (items files b pools words leaders) ≡ true
   unfolding items
   table_listed passes =
       any_later test (flat_map (items_at files b pools leaders) (range_with_len 0 (section_total files))) (got_item words ∷ [])
@@ -162,7 +162,7 @@ beside_any test row ((next ∷ run) ∷ rest) = by (next.group == row.group)
     by true = or_more (test row) (list_any test (next ∷ run)) (list_any (list_any test) rest)
     by false = or_none (test row) (list_any (list_any test) ((next ∷ run) ∷ rest))
 
-runs_any : (test : Row → Bool) (rows : List Row) → list_any (list_any test) (runs rows) ≡ list_any test rows
+pub runs_any : (test : Row → Bool) (rows : List Row) → list_any (list_any test) (runs rows) ≡ list_any test rows
 unfolding runs
 runs_any test [] = refl
 runs_any test (row ∷ rows) = beside_any test row (runs rows) ∙ ap (λ k. test row || k) (runs_any test rows)

@@ -97,7 +97,7 @@ pub within_limits : (limits : Limits) (laid : LaidOut) → limit_defects limits 
 within_limits limits laid none = let both = limits_hold limits laid none in record { outputs = both.0; image = both.1 }
 
 -- the cuts of one section
-cuts_here : (leaders : List (Option ℕ)) (sizes : List (List Cut)) (starts : List ℕ) (n : ℕ) → leads leaders n ≡ true
+pub cuts_here : (leaders : List (Option ℕ)) (sizes : List (List Cut)) (starts : List ℕ) (n : ℕ) → leads leaders n ≡ true
     → cuts_of leaders sizes starts n ≡ laid_cuts (get_or starts n 0) (get_or sizes n [])
 unfolding cuts_of
 cuts_here leaders sizes starts n is = rw is refl

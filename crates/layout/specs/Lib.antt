@@ -3,3 +3,4 @@ pub mod CutsSoFar
 pub mod Walk
 pub mod Layout
 pub mod Spots
+pub mod Holding

@@ -20,6 +20,7 @@ ghost use Rattle.link_sections.specs.SizesView.{sizes_of};
 ghost use Rattle.link_sections.specs.Sound.{IsSound};
 ghost use Rattle.output_sections.specs.Items.{AreLeaders, HaveFirsts, IsSized, items};
 ghost use Rattle.output_sections.specs.ItemViews.{items_view};
+ghost use Rattle.layout.specs.Holding.{AreHeld};
 ghost use Rattle.layout.specs.Layout as spec;
 ghost use Rattle.output_sections.specs.Order.{orders_of, rows_in};
 ghost use Rattle.layout.specs.Spots.{AreApart, AreRising, HasFrames, HaveAlignments, HaveSegments, HaveZeros, IsWithinClass, without_tls_zeros};
@@ -68,6 +69,7 @@ pub fn place<'a>(
     ensures segments { IfOk result (λ layout. HaveSegments layout.bounds) }
     ensures apart { IfOk result (λ layout. AreApart layout.bounds.headers_end (without_tls_zeros (layout_view layout).outputs)) }
     ensures inside { IfOk result (λ layout. All (IsWithinClass layout.bounds) (layout_view layout).outputs) }
+    ensures held { IfOk result (λ layout. AreHeld (files_of tables.now) (binding_view binding.now) pools.now.pools.items (word_count (entries_of got.now)) leaders.now (layout_view layout)) }
     ensures aligned { IfOk result (λ layout. HaveAlignments (files_of tables.now) (binding_view binding.now) (layout_view layout)) }
     ensures zeros { IfOk result (λ layout. HaveZeros (layout_view layout)) }
     ensures framed { IfOk result (λ layout. HasFrames (spec.frame_sizes frames.now) layout.bounds) }

@@ -37,7 +37,7 @@ none_left : (xs ys : List Defect) → xs ++ ys ≡ [] → xs ≡ []
 none_left [] ys none = refl
 none_left (x ∷ xs) ys none = cc
 
-none_over : (limit count : ℕ) → count_defects limit count ≡ [] → count ≤ limit
+pub none_over : (limit count : ℕ) → count_defects limit count ≡ [] → count ≤ limit
 none_over limit count none = ltb-false limit count (off (nat_lt limit count) none)
   where
     off : (over : Bool) → (if over then count_defect count ∷ [] else []) ≡ [] → over ≡ false

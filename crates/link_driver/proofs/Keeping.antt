@@ -1,6 +1,6 @@
 -- The sections that are kept may be.
-use Rattle.std.proofs.Common.{◌≡◌, ℕ, zero, suc, ◌+◌, ◌<◌, ◌≤◌, ◌==◌, ◌&&◌, Bool, true, false, List, [], ◌∷◌, ◌++◌, length, refl, sym, ap, ◌∙◌, subst, arith, inl, inr}
-use Rattle.std.specs.Prelude.{not, flat_map, if◌then◌else◌, Contains, ◌↔◌}
+use Rattle.std.proofs.Common.{◌≡◌, ℕ, zero, suc, ◌+◌, ◌<◌, ◌≤◌, ◌==◌, ◌&&◌, Bool, true, false, Option, Some, None, List, [], ◌∷◌, ◌++◌, length, refl, sym, ap, ◌∙◌, subst, arith, inl, inr}
+use Rattle.std.specs.Prelude.{not, flat_map, if◌then◌else◌, Contains, IfSome, ◌↔◌}
 use Rattle.std.specs.List.{All, range_with_len}
 use Rattle.std.proofs.lemmas.Bool.{and_parts, cases_lt}
 use Rattle.std.proofs.lemmas.List.{get_or_past}
@@ -34,7 +34,8 @@ use Rattle.sec_graph.specs.Graph.{edges, ends_in, section_in}
 use Rattle.sec_graph.specs.Kept as rules
 use Rattle.sec_graph.proofs.Closing.{bounds_stay}
 use Rattle.sec_graph.proofs.FrameEnds.{fdes_below}
-use Rattle.link_driver.specs.Tables.{IsCollected, MayStay}
+use Rattle.link_driver.specs.declared.collecting.SectionGraph.{SectionGraph}
+use Rattle.link_driver.specs.Tables.{IsCollected, IsGraph, MayStay}
 
 -- a section's number belongs to a file
 owner_below : (files : List File) (section m : ℕ) → m ≤ length files → section < first_section files m → (f : ℕ) × IsOwner files section f
@@ -177,3 +178,13 @@ collected_stay undefined files b ends found seen is few count are law reach = re
 pub ends_count : (files : List File) (b : Bindings) (ends : List (List ℕ)) → ends ≡ edges files b → length ends ≡ section_total files
 unfolding edges
 ends_count files b ends are = ap length are ∙ length_by_section files (ends_in files b)
+
+-- a graph, if it is wanted
+pub graph_held : (files : List File) (b : Bindings) (undefined : List (List ℕ)) (wanted : Bool) (graph : SectionGraph) (given : Option SectionGraph) →
+    given ≡ (if wanted then Some graph else None) → IsGraph files b undefined graph → IfSome given (IsGraph files b undefined)
+graph_held files b undefined true graph given is held =
+    let P : Option SectionGraph → Type 0 = λ o. IfSome o (IsGraph files b undefined) in
+    subst P (sym is) held
+graph_held files b undefined false graph given is held =
+    let P : Option SectionGraph → Type 0 = λ o. IfSome o (IsGraph files b undefined) in
+    subst P (sym is) tt

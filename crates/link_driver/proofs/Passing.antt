@@ -1,8 +1,8 @@
 -- What holds of a link past its layout: each shortened call reaches its target.
 use Rattle.std.proofs.Common.{◌≡◌, Bool, List, Option, [], ◌∷◌, ◌++◌, ℕ, sym, ap, ◌∙◌, subst}
 use Rattle.std.specs.Prelude.{Result, Ok, Err}
-use Rattle.call_reach.specs.Reach.{AreAlike, CallsReach}
-use Rattle.call_reach.proofs.Alike.{folded_alike, own_alike}
+use Rattle.link_driver.specs.Reach.{AreAlike, CallsReach}
+use Rattle.link_driver.proofs.Alike.{folded_alike, own_alike}
 use Rattle.comdat.specs.Discarded.{discarded}
 use Rattle.icf_part.specs.Folding.{AreLeaders}
 use Rattle.link_command.specs.Command.{Asked}
@@ -27,8 +27,10 @@ use Rattle.link_driver.specs.Defects.{opening_defects, reading_defects}
 use Rattle.link_driver.specs.Link.{Wishes, binding_phases, bound_names, kept_for, laid_out, leaders_in, piece_defects, placing_defects, placing_phases, plan_in, wishes_for}
 use Rattle.link_driver.specs.Phases.{HoldsAtStop, HoldsPast, ShortenedCallsReach}
 use Rattle.link_driver.specs.Sources.{Source, files_in}
+use Rattle.link_driver.specs.Symbols.{GoWithLeaders}
 use Rattle.link_driver.specs.Tables.{MayStay}
 use Rattle.link_driver.specs.Values.{value_defects}
+use Rattle.link_driver.proofs.GoingAlong.{folded_go, own_go}
 use Rattle.link_driver.proofs.Chain.{one_none, one_stop, passed, stopped}
 
 -- each section has as many bytes as its leader, without folding and with it
@@ -48,6 +50,20 @@ folded_so tables b kept barred pools own leaders list places own_is list_is lead
     let Q : List (Option ℕ) → Type 0 = λ l. AreAlike files b l in
     let whole = is ∙ ap (λ l. folded_leaders l places own) list_is ∙ ap (folded_leaders (items files b merged kept barred) places) own_is in
     subst Q (sym whole) (folded_alike tables b kept stay.each barred merged places (subst P list_is lead))
+
+-- and goes where its leader does
+pub own_goes : (files : List File) (b : Bindings) (kept : List Bool) (pools : Pools) (own : List (Option ℕ)) → own ≡ own_leaders kept (merged_views pools) →
+    GoWithLeaders files b kept (merged_views pools) own
+own_goes files b kept pools own is = subst (GoWithLeaders files b kept (merged_views pools)) (sym is) (own_go files b kept (merged_views pools))
+
+pub folded_goes : (files : List File) (b : Bindings) (kept barred : List Bool) (pools : Pools) (own leaders : List (Option ℕ)) (list : List FoldItem) (places : List ℕ) →
+    own ≡ own_leaders kept (merged_views pools) → list ≡ items files b (merged_views pools) kept barred → AreLeaders list places →
+    leaders ≡ folded_leaders list places own → GoWithLeaders files b kept (merged_views pools) leaders
+folded_goes files b kept barred pools own leaders list places own_is list_is lead is =
+    let merged = merged_views pools in
+    let P : List FoldItem → Type 0 = λ l. AreLeaders l places in
+    let whole = is ∙ ap (λ l. folded_leaders l places own) list_is ∙ ap (folded_leaders (items files b merged kept barred) places) own_is in
+    subst (GoWithLeaders files b kept merged) (sym whole) (folded_go files b kept barred merged places (subst P list_is lead))
 
 -- over the leaders and the layout of a link
 pub reaches_so : (w : Wishes) (files : List File) (b : Bindings) (kept : List Bool) (leaders : List (Option ℕ)) (laid : LaidOut) → leaders ≡ leaders_in w files b kept →

@@ -4,7 +4,7 @@ use Rattle.lk_base.specs.declared.abi.TheConstants.{EHDR_SIZE, IMAGE_BASE, PF_R,
 use Rattle.lk_tables.specs.Binding.{Bindings}
 use Rattle.lk_tables.specs.Files.{File}
 use Rattle.lk_tables.specs.FramePlans.{PlanView}
-use Rattle.call_reach.specs.Code.{CodeStands}
+use Rattle.link_driver.specs.Code.{CodeStands}
 use Rattle.link_sections.specs.declared.layouts.Bounds.{Bounds}
 use Rattle.link_sections.specs.LaidOut.{LaidOut}
 use Rattle.layout.specs.Layout.{count_of}
@@ -18,6 +18,7 @@ use Rattle.elf_out.proofs.Whole.{all_stand}
 use Rattle.reloc_apply.specs.Relocated.{relocation_defects}
 use Rattle.link_driver.specs.Link.{Wishes, laid_out, leaders_in, plan_in}
 use Rattle.link_driver.specs.Phases.{LinkStands, StandsWhole}
+use Rattle.link_driver.specs.Symbols.{SymbolsStand}
 use Rattle.link_driver.specs.Unwound.{Unwinds}
 use Rattle.link_driver.specs.Values.{contents_with}
 
@@ -38,8 +39,9 @@ pub stands_so : (w : Wishes) (files : List File) (b : Bindings) (kept : List Boo
     → HeadersStand files b leaders laid (own_tables files b kept w.strip leaders laid) exe → FramesStand laid (contents_with files b leaders laid plan) exe
     → PiecesStand files b leaders laid (own_tables files b kept w.strip leaders laid) exe → SectionsStand files b leaders laid exe
     → Unwinds files b leaders laid plan (contents_with files b leaders laid plan) → relocation_defects files b leaders laid ≡ [] → CodeStands files b leaders laid → HasAllUses files leaders laid.table
+    → SymbolsStand files b kept leaders laid
     → StandsWhole w files b kept leaders laid plan made
-stands_so w files b kept leaders laid plan exe made is head records others stand unwound done code uses =
+stands_so w files b kept leaders laid plan exe made is head records others stand unwound done code uses symbols =
     let whole : StandsWhole w files b kept leaders laid plan exe = record {
       pieces = all_stand files b leaders laid (contents_with files b leaders laid plan) (own_tables files b kept w.strip leaders laid) exe head records others;
       sections = stand;
@@ -47,6 +49,7 @@ stands_so w files b kept leaders laid plan exe made is head records others stand
       done = done;
       code = code;
       uses = uses;
+      symbols = symbols;
     } in
     subst (StandsWhole w files b kept leaders laid plan) (sym is) whole
 

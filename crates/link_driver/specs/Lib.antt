@@ -1,4 +1,5 @@
 pub mod Certificates
+pub mod Code
 pub mod Contents
 pub mod Counts
 pub mod Defects
@@ -14,11 +15,13 @@ pub mod OneLine
 pub mod Phases
 pub mod Placing
 pub mod Promises
+pub mod Reach
 pub mod Reading
 pub mod Reports
 pub mod Sources
 pub mod Spared
 pub mod Stops
+pub mod Symbols
 pub mod Tables
 pub mod Unwound
 pub mod Values

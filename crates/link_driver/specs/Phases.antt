@@ -7,8 +7,8 @@ use Rattle.lk_base.specs.declared.limits.Limits.{Limits}
 use Rattle.lk_tables.specs.Binding.{Bindings}
 use Rattle.lk_tables.specs.Files.{File}
 use Rattle.lk_tables.specs.FramePlans.{PlanView}
-use Rattle.call_reach.specs.Code.{CodeStands}
-use Rattle.call_reach.specs.Reach.{CallsReach}
+use Rattle.link_driver.specs.Code.{CodeStands}
+use Rattle.link_driver.specs.Reach.{CallsReach}
 use Rattle.elf_out.specs.Executable.{executable, own_tables}
 use Rattle.elf_out.specs.Standing.{AllStand, SectionsStand}
 use Rattle.file_live.specs.Live.{IsLive}
@@ -23,6 +23,7 @@ use Rattle.link_driver.specs.Laws.{StopsAtLeast}
 use Rattle.link_driver.specs.Link.{Wishes, bound_in, defects_in, executable_in, executable_with, kept_in, laid_out, leaders_in, link, linked_files, map_in, map_with, placing_defects, plan_in, report_by, report_with, say_in, wishes_in}
 use Rattle.link_driver.specs.Linked.{LinkedView}
 use Rattle.link_driver.specs.Sources.{Source, heads_in, live_in}
+use Rattle.link_driver.specs.Symbols.{SymbolsStand}
 use Rattle.link_driver.specs.Tables.{IsCollected}
 use Rattle.link_driver.specs.Unwound.{Unwinds}
 use Rattle.link_driver.specs.Values.{contents_with}
@@ -63,7 +64,7 @@ HoldsPast (Err stop) earlier holds = HoldsAtStop stop earlier holds
 -- bytes of each section, by its number; of the unwind records each FDE of a section whose own bytes are written is there, once and no other; and each
 -- relocation of a section that is written can be done, so that no block of the executable is refused. At the places of relocations code does what they
 -- ask for: the processor goes to S + A from a branch, a jump and a call, shortened or not, two parts of one value add up to it, and alignments keep nops;
--- and what is computed from the linker's table has its entry there
+-- and what is computed from the linker's table has its entry there. Each symbol in a section that is not merged lies in the section of its st_shndx
 pub record StandsWhole (w : Wishes) (files : List File) (b : Bindings) (kept : List Bool) (leaders : List (Option ℕ)) (laid : LaidOut) (plan : PlanView) (exe : List ℕ) : Type 0 where
   pub pieces : AllStand files b leaders laid (contents_with files b leaders laid plan) (own_tables files b kept w.strip leaders laid) exe
   pub sections : SectionsStand files b leaders laid exe
@@ -71,6 +72,7 @@ pub record StandsWhole (w : Wishes) (files : List File) (b : Bindings) (kept : L
   pub done : relocation_defects files b leaders laid ≡ []
   pub code : CodeStands files b leaders laid
   pub uses : HasAllUses files leaders laid.table
+  pub symbols : SymbolsStand files b kept leaders laid
 
 abbrev pub LinkStands : Wishes → List File → Bindings → (kept : List Bool) → (exe : List ℕ) → Type 0
 LinkStands w files b kept exe = StandsWhole w files b kept (leaders_in w files b kept) (laid_out w files b kept) (plan_in w files b kept) exe

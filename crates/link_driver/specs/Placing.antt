@@ -1,7 +1,7 @@
 -- What is settled of a link before anything is written.
 use Rattle.std.specs.Prelude.{◌≡◌, Bool, List}
-use Rattle.call_reach.specs.Code.{HaveOwnCuts}
-use Rattle.call_reach.specs.Reach.{CallsReach}
+use Rattle.link_driver.specs.Code.{HaveOwnCuts}
+use Rattle.link_driver.specs.Reach.{CallsReach}
 use Rattle.elf_out.specs.Standing.{HasHeaderRoom}
 use Rattle.got_tls.specs.GotList.{HasAllUses}
 use Rattle.link_sections.specs.GotView.{entries_of}
@@ -16,6 +16,7 @@ use Rattle.lk_tables.specs.FramePlans.{plan_view}
 use Rattle.lk_tables.specs.Frames.{all_lists, lists_of}
 use Rattle.output_sections.specs.Items.{AreLeaders}
 use Rattle.link_driver.specs.declared.placing.Placement.{Placement}
+use Rattle.link_driver.specs.Symbols.{SymbolsStand}
 use Rattle.link_driver.specs.Link.{Wishes, laid_out, leaders_in, plan_in}
 
 -- where everything stands
@@ -23,7 +24,8 @@ abbrev pub laid_by : List File → Placement → LaidOut
 laid_by files p = with_contents (layout_view p.layout) (pools_view files p.pools) (entries_of p.got)
 
 -- it is the one of Link; its layout is sound and has room for the headers and for the unwind records, each shortened call reaches its target,
--- where a section loses bytes is a call's or an alignment's own place, and what is computed from the linker's table has its entry there
+-- where a section loses bytes is a call's or an alignment's own place, what is computed from the linker's table has its entry there, and each symbol
+-- lies in the section of its st_shndx
 pub record IsPlacement (w : Wishes) (files : List File) (b : Bindings) (kept : List Bool) (p : Placement) : Type 0 where
   pub leaders : p.leaders.items ≡ leaders_in w files b kept
   pub lead : AreLeaders files b p.leaders.items
@@ -36,3 +38,4 @@ pub record IsPlacement (w : Wishes) (files : List File) (b : Bindings) (kept : L
   pub reach : CallsReach files b p.leaders.items (laid_by files p)
   pub cuts : HaveOwnCuts files p.leaders.items (laid_by files p)
   pub uses : HasAllUses files p.leaders.items (entries_of p.got)
+  pub symbols : SymbolsStand files b kept p.leaders.items (laid_by files p)

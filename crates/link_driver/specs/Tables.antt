@@ -1,14 +1,17 @@
 -- What the steps of a link hand on.
-use Rattle.std.specs.Prelude.{◌≡◌, ℕ, true, Bool, List, length, ◌↔◌}
+use Rattle.std.specs.Prelude.{◌≡◌, ◌<◌, ℕ, true, All, Bool, List, length, ◌↔◌}
 use Rattle.lk_tables.specs.Binding.{Bindings}
 use Rattle.lk_tables.specs.Files.{File, file_at, section_total}
 use Rattle.lk_tables.specs.Inside.{IsBodyInside, IsHeadInside}
 use Rattle.lk_tables.specs.Reach.{IsReach}
+use Rattle.link_sections.specs.Edges.{ends_of}
 use Rattle.link_sections.specs.InputSections.{may_stay_at}
 use Rattle.link_sections.specs.Leaders.{is_kept}
+use Rattle.link_driver.specs.declared.collecting.SectionGraph.{SectionGraph}
 use Rattle.link_driver.specs.declared.linking.Options.{Options}
 use Rattle.link_driver.specs.Link.{Wishes}
 use Rattle.sec_gc.specs.Roots.{roots}
+use Rattle.sec_graph.specs.Graph.{edges}
 use Rattle.sec_graph.specs.Kept.{HasEnds, IsClosedByRules}
 
 -- what a link is asked for, where these sections are to be folded with no other
@@ -30,3 +33,9 @@ pub record IsCollected (undefined : List (List ℕ)) (files : List File) (b : Bi
   pub ends : List (List ℕ)
   pub rules : (s : ℕ → Bool) → IsClosedByRules files b s ↔ HasEnds ends s
   pub reach : IsReach (roots files b undefined) ends kept
+
+-- the graph of the sections, where these names are asked for
+pub record IsGraph (files : List File) (b : Bindings) (undefined : List (List ℕ)) (graph : SectionGraph) : Type 0 where
+  pub rooted : graph.roots.items ≡ roots files b undefined
+  pub within : All (λ r. r < section_total files) graph.roots.items
+  pub ends : ends_of graph.edges ≡ edges files b

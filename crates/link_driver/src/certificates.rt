@@ -1,29 +1,34 @@
 //! Why a section is kept, and why two are not folded.
 
-ghost use Rattle.std.specs.Prelude.{◌≡◌, ◌<◌, ◌≤◌, ◌==◌, ◌||◌, ◌∷◌, [], All, Some, length, slice_get, slice_index, string_bytes, IfOk, IfSome};
+ghost use Rattle.std.specs.Prelude.{◌≡◌, ◌<◌, ◌≤◌, ◌^◌, ◌==◌, ◌||◌, ◌∷◌, [], All, Some, length, slice_get, slice_index, string_bytes, IfOk, IfSome};
 ghost use Rattle.std.specs.Option.{option_map};
 ghost use Rattle.std.specs.List.Sorted.{IsStrictlyIncreasing};
 ghost use Rattle.link_command.specs.Command.{asks, lists_of};
 ghost use Rattle.link_driver.specs.Certificates as spec;
 ghost use Rattle.link_driver.specs.Contents.{names_of};
+ghost use Rattle.link_driver.specs.Tables.{IsGraph, MayStay};
+ghost use Rattle.link_sections.specs.Edges.{ends_of};
 ghost use Rattle.link_sections.specs.FoldItems.{item_views, sections_of};
+ghost use Rattle.link_sections.specs.Merging.{piece_count};
 ghost use Rattle.lk_tables.specs.BindingView.{binding_view};
 ghost use Rattle.lk_tables.specs.BoundNames.{IsBindingOf};
 ghost use Rattle.lk_tables.specs.Files.{section_total};
 ghost use Rattle.lk_tables.specs.TablesView.{files_of};
 ghost use Rattle.sec_graph.specs.FrameRelocs.{AreFramesOf};
+ghost use Rattle.sec_graph.specs.Graph.{edges};
+ghost use Rattle.sec_graph.specs.WalkEdges.{walk_edges};
 ghost use Rattle.why_chain.specs.Aparts.{apart_chain, chain_view};
-ghost use Rattle.why_chain.specs.Walks.{sections_in};
+ghost use Rattle.why_chain.specs.Walks.{live_chain, sections_in};
 
 use crate::certificate_lines::{chain_text, name_at, name_line, walk_text};
+use crate::collecting::{SectionGraph, find_graph};
 use crate::linking::fold_items;
 use asked_names::sections_of_names;
 use link_command::Command;
 use link_sections::FoldItem;
 use lk_base::SecNo;
 use lk_tables::{Binding, Frames, Tables};
-use sec_gc::roots;
-use sec_graph::{edges, items, walk_edges};
+use sec_graph::{items, walk_edges};
 use std::alloc::{AllocError, Global};
 use std::marker::Brand;
 use std::sync::ledger::Blank;
@@ -67,6 +72,25 @@ fn section_of(
     Ok(first_of(sections.as_slice()))
 }
 
+/// A walk from a root of a graph to a section, if one leads there: of those with the fewest edges the first.
+fn walk_in(
+    alloc: Global,
+    tables: &Tables,
+    binding: &Binding,
+    graph: &SectionGraph,
+    target: SecNo,
+) -> Result<Option<LiveChain>, AllocError>
+    requires bound { IsBindingOf (files_of tables.now) (binding_view binding.now) }
+    requires roots { All (λ r. r < section_total (files_of tables.now)) graph.now.roots.items }
+    requires ends { ends_of graph.now.edges ≡ edges (files_of tables.now) (binding_view binding.now) }
+    requires target { target < section_total (files_of tables.now) }
+    ensures walk { IfOk result (λ chain. option_map sections_in chain ≡ live_chain graph.now.roots.items (walk_edges (files_of tables.now) (binding_view binding.now)) target) }
+    ensures within { IfOk result (λ chain. IfSome chain (λ c. All (λ s. s < section_total (files_of tables.now)) (sections_in c))) }
+{
+    let walks = walk_edges(alloc, tables, binding, &graph.edges)?;
+    why_live(alloc, graph.roots.as_slice(), &walks, target)
+}
+
 /// A walk from a root to a section, if one leads there: of those with the fewest edges the first.
 fn find_walk<R: Threads + Sync, G: Gate>(
     rt: &R,
@@ -87,10 +111,38 @@ fn find_walk<R: Threads + Sync, G: Gate>(
     ensures walk { IfOk result (λ chain. option_map sections_in chain ≡ spec.walk_to (files_of tables.now) (binding_view binding.now) (lists_of undefined.now) target) }
     ensures within { IfOk result (λ chain. IfSome chain (λ c. All (λ s. s < section_total (files_of tables.now)) (sections_in c))) }
 {
-    let roots = roots(alloc, tables, binding, undefined)?;
-    let edges = edges(rt, alloc, tables, binding, workers, gate, frames)?;
-    let walks = walk_edges(alloc, tables, binding, &edges)?;
-    why_live(alloc, roots.as_slice(), &walks, target)
+    let graph = find_graph(rt, alloc, tables, binding, frames, undefined, workers, gate)?;
+    walk_in(alloc, tables, binding, &graph, target)
+}
+
+/// The same, where the graph may be known.
+fn find_walk_by<R: Threads + Sync, G: Gate>(
+    rt: &R,
+    alloc: Global,
+    tables: &Tables,
+    binding: &Binding,
+    frames: &Frames,
+    known: &Option<SectionGraph>,
+    undefined: &[Vec<u8>],
+    target: SecNo,
+    workers: u32,
+    gate: &G,
+) -> Result<Option<LiveChain>, AllocError>
+    requires some { 1 ≤ workers }
+    requires most { workers ≤ 64 }
+    requires bound { IsBindingOf (files_of tables.now) (binding_view binding.now) }
+    requires frames { AreFramesOf (files_of tables.now) (binding_view binding.now) frames.now }
+    requires graph { IfSome known.now (IsGraph (files_of tables.now) (binding_view binding.now) (lists_of undefined.now)) }
+    requires target { target < section_total (files_of tables.now) }
+    ensures walk { IfOk result (λ chain. option_map sections_in chain ≡ spec.walk_to (files_of tables.now) (binding_view binding.now) (lists_of undefined.now) target) }
+    ensures within { IfOk result (λ chain. IfSome chain (λ c. All (λ s. s < section_total (files_of tables.now)) (sections_in c))) }
+{
+    let Some(graph) = known else {
+        return find_walk(
+            rt, alloc, tables, binding, frames, undefined, target, workers, gate,
+        );
+    };
+    walk_in(alloc, tables, binding, graph, target)
 }
 
 /// Why the section of a name is kept.
@@ -100,6 +152,7 @@ fn live_lines<R: Threads + Sync, G: Gate>(
     tables: &Tables,
     binding: &Binding,
     frames: &Frames,
+    graph: &Option<SectionGraph>,
     names: &[Vec<u8>],
     undefined: &[Vec<u8>],
     name: &[u8],
@@ -110,14 +163,15 @@ fn live_lines<R: Threads + Sync, G: Gate>(
     requires most { workers ≤ 64 }
     requires bound { IsBindingOf (files_of tables.now) (binding_view binding.now) }
     requires frames { AreFramesOf (files_of tables.now) (binding_view binding.now) frames.now }
+    requires graph { IfSome graph.now (IsGraph (files_of tables.now) (binding_view binding.now) (lists_of undefined.now)) }
     ensures { IfOk result (λ text. text.items ≡ spec.live_text (names_of names.now) (files_of tables.now) (binding_view binding.now) (lists_of undefined.now) (Some name.now)) }
 {
     let section = section_of(alloc, tables, binding, name)?;
     let Some(target) = section else {
         return name_line(alloc, b"unknown ", name);
     };
-    let walk = find_walk(
-        rt, alloc, tables, binding, frames, undefined, target, workers, gate,
+    let walk = find_walk_by(
+        rt, alloc, tables, binding, frames, graph, undefined, target, workers, gate,
     )?;
     walk_text(alloc, tables, binding, names, name, &walk)
 }
@@ -129,6 +183,7 @@ fn live_text<R: Threads + Sync, G: Gate>(
     tables: &Tables,
     binding: &Binding,
     frames: &Frames,
+    graph: &Option<SectionGraph>,
     names: &[Vec<u8>],
     undefined: &[Vec<u8>],
     asked: &Option<String>,
@@ -139,6 +194,7 @@ fn live_text<R: Threads + Sync, G: Gate>(
     requires most { workers ≤ 64 }
     requires bound { IsBindingOf (files_of tables.now) (binding_view binding.now) }
     requires frames { AreFramesOf (files_of tables.now) (binding_view binding.now) frames.now }
+    requires graph { IfSome graph.now (IsGraph (files_of tables.now) (binding_view binding.now) (lists_of undefined.now)) }
     ensures { IfOk result (λ text. text.items ≡ spec.live_text (names_of names.now) (files_of tables.now) (binding_view binding.now) (lists_of undefined.now) (option_map (λ name. string_bytes name) asked.now)) }
 {
     let Some(name) = asked else {
@@ -150,6 +206,7 @@ fn live_text<R: Threads + Sync, G: Gate>(
         tables,
         binding,
         frames,
+        graph,
         names,
         undefined,
         name.as_str().as_bytes(),
@@ -181,6 +238,7 @@ fn chain_once_folded<R: Threads + Sync, G: Gate>(
     requires order { IsStrictlyIncreasing (sections_of (item_views items.now)) }
     requires one { pair.one < length items.now }
     requires two { pair.two < length items.now }
+    requires few { length items.now < 2 ^ 31 }
     ensures { IfOk result (λ chain. option_map chain_view chain ≡ apart_chain (item_views items.now) pair.one pair.two) }
 {
     let leaders = fold_items::<R, G, Brand>(rt, alloc, items, workers, gate, Blank::new(1))?;
@@ -205,6 +263,7 @@ fn find_chain<R: Threads + Sync, G: Gate>(
     requires order { IsStrictlyIncreasing (sections_of (item_views items.now)) }
     requires one { pair.one < length items.now }
     requires two { pair.two < length items.now }
+    requires few { length items.now < 2 ^ 31 }
     ensures { IfOk result (λ chain. option_map chain_view chain ≡ apart_chain (item_views items.now) pair.one pair.two) }
 {
     let found = why_apart_within(alloc, items, pair.one, pair.two, items.len())?;
@@ -233,6 +292,7 @@ fn chain_lines<R: Threads + Sync, G: Gate>(
     requires within { All (λ s. s < section_total (files_of tables.now)) (sections_of (item_views items.now)) }
     requires one { pair.one < length items.now }
     requires two { pair.two < length items.now }
+    requires few { length items.now < 2 ^ 31 }
     ensures { IfOk result (λ text. text.items ≡ spec.lines_of_pair (names_of names.now) (files_of tables.now) (item_views items.now) one.now two.now pair) }
 {
     let chain = find_chain(rt, alloc, items, pair, workers, gate)?;
@@ -257,6 +317,7 @@ fn apart_lines<R: Threads + Sync, G: Gate>(
     requires most { workers ≤ 64 }
     requires order { IsStrictlyIncreasing (sections_of (item_views items.now)) }
     requires within { All (λ s. s < section_total (files_of tables.now)) (sections_of (item_views items.now)) }
+    requires few { length items.now < 2 ^ 31 }
     ensures { IfOk result (λ text. text.items ≡ spec.lines_of_both (names_of names.now) (files_of tables.now) (item_views items.now) one.now two.now s t) }
 {
     let Some(a) = place_of(items, s) else {
@@ -298,6 +359,8 @@ fn both_text<R: Threads + Sync, G: Gate>(
     requires most { workers ≤ 64 }
     requires bound { IsBindingOf (files_of tables.now) (binding_view binding.now) }
     requires frames { AreFramesOf (files_of tables.now) (binding_view binding.now) frames.now }
+    requires stay { MayStay (files_of tables.now) (binding_view binding.now) kept.now }
+    requires pieces { piece_count (files_of tables.now) < 2 ^ 31 }
     ensures { IfOk result (λ text. text.items ≡ spec.text_of_both (names_of names.now) (files_of tables.now) (binding_view binding.now) kept.now barred.now one.now two.now) }
 {
     let first = section_of(alloc, tables, binding, one)?;
@@ -343,6 +406,8 @@ fn apart_text<R: Threads + Sync, G: Gate>(
     requires most { workers ≤ 64 }
     requires bound { IsBindingOf (files_of tables.now) (binding_view binding.now) }
     requires frames { AreFramesOf (files_of tables.now) (binding_view binding.now) frames.now }
+    requires stay { MayStay (files_of tables.now) (binding_view binding.now) kept.now }
+    requires pieces { piece_count (files_of tables.now) < 2 ^ 31 }
     ensures { IfOk result (λ text. text.items ≡ spec.apart_text (names_of names.now) (files_of tables.now) (binding_view binding.now) kept.now barred.now (lists_of asked.now)) }
 {
     if asked.len() != 2 {
@@ -387,6 +452,7 @@ pub fn why_text<R: Threads + Sync, G: Gate>(
     tables: &Tables,
     binding: &Binding,
     frames: &Frames,
+    graph: &Option<SectionGraph>,
     kept: &[bool],
     barred: &[bool],
     names: &[Vec<u8>],
@@ -398,6 +464,9 @@ pub fn why_text<R: Threads + Sync, G: Gate>(
     requires most { workers ≤ 64 }
     requires bound { IsBindingOf (files_of tables.now) (binding_view binding.now) }
     requires frames { AreFramesOf (files_of tables.now) (binding_view binding.now) frames.now }
+    requires stay { MayStay (files_of tables.now) (binding_view binding.now) kept.now }
+    requires pieces { piece_count (files_of tables.now) < 2 ^ 31 }
+    requires graph { IfSome graph.now (IsGraph (files_of tables.now) (binding_view binding.now) (asks command.now).undefined) }
     ensures { IfOk result (λ text. text.items ≡ spec.why_text (asks command.now) (names_of names.now) (files_of tables.now) (binding_view binding.now) kept.now barred.now) }
 {
     if !asks_why(command) {
@@ -409,6 +478,7 @@ pub fn why_text<R: Threads + Sync, G: Gate>(
         tables,
         binding,
         frames,
+        graph,
         names,
         command.undefined.as_slice(),
         &command.why_live,

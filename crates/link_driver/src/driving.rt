@@ -379,9 +379,9 @@ pub fn tell<E: Sink>(err: &mut E, line: &[u8])
 /// The answer is the exit status: 0 linked; 1 the inputs have a defect, whose line is reported; 2 the command is refused; 3 an input
 /// could not be read, or a file or what goes to `say` could not be written; 4 out of memory. `rt` starts as many workers as the
 /// command asks for; they share the loads and the passes over files, symbols, sections and blocks. Where there are two or more, passes that do
-/// not need one another run side by side, each on a thread of its own; names, the pieces of merged sections and what folding compares are
-/// numbered, and the symbols of the executable and the map sorted, by eight threads or by as many as there are processors. `gate` is called
-/// by each worker of a pass before and after its piece, where there are two pieces or more. No answer depends on either.
+/// not need one another run side by side, each on a thread of its own; the symbols of the executable and the map are sorted, and the numbers of
+/// very many names listed, by as many threads as there are processors. `gate` is called by each worker of a pass before and after its piece,
+/// where there are two pieces or more. No answer depends on either.
 pub fn run<R: Threads + Sync, D: Depot, S: Sink, E: Sink, G: Gate>(
     rt: &R,
     alloc: Global,

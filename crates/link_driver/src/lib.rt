@@ -6,11 +6,12 @@
 //! bytes of a file.
 //!
 //! `linking` runs the phases: `finding` finds the files in the inputs (`sources`), `heads` and `bodies` read them by all workers, the latter with
-//! their unwind records (`records`), names are bound, what goes into the executable is laid out (`placing`), and all is made that is written but the
-//! executable's bytes (`writing`), the unwind records by `frames`. What a command asks why is said by `certificates`, in the lines of `certificate_lines`, and is found while the rest is made. What a link gives (`linked`)
-//! owns the tables (`executable`), and makes the executable from them block by block while it is written. `driving` reads the command, loads, links
-//! and writes, and says how it ended, by the lines of `diagnostics`. `piped` has `run_piped`, which reads the inputs while it loads them. The phases up to the layout are public one by one too, for whoever looks at
-//! what they hand on.
+//! their unwind records (`records`), names are bound, what is kept is found (`collecting`), what goes into the executable is laid out
+//! (`placing`), and all is made that is written but the executable's bytes (`writing`), the unwind records by `frames`. What a command asks why
+//! is said by `certificates`, in the lines of `certificate_lines`, and is found while the rest is made; the graph by which sections were kept
+//! stays for it. What a link gives (`linked`) owns the tables (`executable`), and makes the executable from them block by block while it is
+//! written. `driving` reads the command, loads, links and writes, and says how it ended, by the lines of `diagnostics`. `piped` has `run_piped`,
+//! which reads the inputs while it loads them. The phases up to the layout are public one by one too, for whoever looks at what they hand on.
 //!
 //! The executable is nowhere whole, and no memory is taken once its file is begun: a window has room for as many blocks of 65,536 bytes as there
 //! are workers, or as the file has blocks, or for one where there are so few relocations that a thread would cost more than it does. Each worker
@@ -20,12 +21,19 @@
 //! `barring` finds the sections that are folded with no other: those in which names stand that are to be kept unique (`asked_names`), and with
 //! `--icf safe` those whose address is taken (`sec_graph::address_taken`). `reports` counts what was shortened: a call that keeps less than
 //! its eight bytes is a cut that is no alignment, and these are counted by section number.
+//!
+//! A shortened call reaches its target (`reaching`): sizes are chosen by the greatest distances, before anything has a place (RISC-V ELF psABI,
+//! "Function Call Relaxation"), so once everything has its place no `jal` and no `c.j` of such a call is odd or out of range. Once all relocations
+//! are done, code does at their places what they ask for (`code`): that is said of the bytes of each section, from the fields of whole instructions.
+//! Where a section loses bytes is a call's or an alignment's own place (`HaveOwnCuts`), so no relocation fills what these leave.
 #![tactic(auto)]
 
 mod barring;
 mod bodies;
 mod certificate_lines;
 mod certificates;
+mod code;
+mod collecting;
 mod diagnostics;
 mod driving;
 mod executable;
@@ -39,6 +47,7 @@ mod linking;
 mod numbering;
 mod piped;
 mod placing;
+mod reaching;
 mod records;
 mod reports;
 mod sections;
@@ -48,13 +57,14 @@ mod symbol_names;
 mod writing;
 
 pub use barring::find_barred;
+pub use collecting::find_kept;
 pub use driving::run;
 pub use finding::find_sources;
 pub use frames::{find_frames, find_plan, write_frames};
 pub use inputs::Inputs;
 pub use link_command::{Command, IcfMode, Wanted};
 pub use linked::Linked;
-pub use linking::{Options, bind_names, find_kept, find_leaders, lay_out, link, read_files};
+pub use linking::{Options, bind_names, find_leaders, lay_out, link, read_files};
 pub use piped::run_piped;
 pub use piped_reads::{Piped, PipedFile, PipedFlaw, read_piped};
 pub use sources::Source;

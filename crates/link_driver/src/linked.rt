@@ -277,9 +277,9 @@ impl<'a> Linked<'a> {
         self.report.as_slice()
     }
 
-    /// Adds the executable to the end of the file of this name. Where it has many relocations, workers make as many blocks of 65,536 bytes at the same
-    /// time as there are workers of the link, else one is made at a time; each is added by a call of its own. `gate` is called before and after each
-    /// block where two or more are made at the same time.
+    /// Adds the executable to the end of the file of this name, in blocks of 65,536 bytes, each by a `put_all` of its own. Where the executable has
+    /// many relocations (1,024 a block on average), as many blocks are made at the same time as there are workers of the link, or as the executable
+    /// has blocks; else one is made at a time. `gate` is called before and after each block where two or more are made at the same time.
     ///
     /// If a call of the depot fails, a prefix of the executable was added, and not all. It may be written again, to this file or another.
     pub fn write_exe<R: Threads + Sync, D: Depot, G: Gate>(

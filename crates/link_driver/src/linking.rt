@@ -1,9 +1,9 @@
 //! The link of one command, pass after pass.
 
-ghost use Rattle.std.specs.Prelude.{◌≡◌, ◌<◌, ◌≤◌, ◌^◌, ◌∷◌, [], true, Bool, List, if◌then◌else◌, All, map, IfOk, IfSome};
+ghost use Rattle.std.specs.Prelude.{◌≡◌, ◌<◌, ◌≤◌, ◌^◌, ◌∷◌, [], true, Bool, List, if◌then◌else◌, All, length, map, IfOk, IfSome};
 ghost use Rattle.std.specs.List.Sorted.{IsStrictlyIncreasing};
-ghost use Rattle.call_reach.specs.Code.{HaveOwnCuts};
-ghost use Rattle.call_reach.specs.Reach.{AreAlike, CallsReach};
+ghost use Rattle.link_driver.specs.Code.{HaveOwnCuts};
+ghost use Rattle.link_driver.specs.Reach.{AreAlike, CallsReach};
 ghost use Rattle.comdat.specs.Discarded.{discarded};
 ghost use Rattle.eh_frame.specs.FrameLaws.{ArePlain};
 ghost use Rattle.eh_frame.specs.Laws.{IsSmall};
@@ -18,7 +18,7 @@ ghost use Rattle.link_command.specs.Command.{asks, generated_of, lists_of};
 ghost use Rattle.link_sections.specs.FoldItems.{item_views, sections_of};
 ghost use Rattle.link_sections.specs.GotView.{entries_of};
 ghost use Rattle.link_sections.specs.LaidOut.{layout_view, with_contents};
-ghost use Rattle.link_sections.specs.Merging.{pools_of};
+ghost use Rattle.link_sections.specs.Merging.{piece_count, pools_of};
 ghost use Rattle.link_sections.specs.PoolViews.{merged_views, pools_view};
 ghost use Rattle.link_sections.specs.Sound.{IsSound};
 ghost use Rattle.lk_base.specs.Firsts.{Goes};
@@ -40,7 +40,8 @@ ghost use Rattle.link_driver.specs.Link.{bound_names, kept_of, laid_out, last_ph
 ghost use Rattle.link_driver.specs.Linked.{IsSettled, settled_view};
 ghost use Rattle.link_driver.specs.Phases.{AfterLink, HoldsPast, LinkStands, Makes, ShortenedCallsReach};
 ghost use Rattle.link_driver.specs.Sources.{files_in, heads_in, live_in, shown_files, sources};
-ghost use Rattle.link_driver.specs.Tables.{AreInside, IsCollected, MayStay, wished};
+ghost use Rattle.link_driver.specs.Symbols.{GoWithLeaders, SymbolsStand};
+ghost use Rattle.link_driver.specs.Tables.{AreInside, IsGraph, MayStay, wished};
 ghost use Rattle.sec_graph.specs.Foldable.{item_of};
 ghost use Rattle.sec_graph.specs.FrameRelocs.{AreFramesOf};
 ghost use Rattle.sym_resolve.specs.Law.{IsLawful};
@@ -48,6 +49,7 @@ ghost use Rattle.sym_resolve.specs.Law.{IsLawful};
 use crate::barring::find_barred;
 use crate::bodies::read_bodies;
 use crate::certificates::{asks_why, wants_names, why_text};
+use crate::collecting::{SectionGraph, find_kept_by};
 use crate::finding::find_sources;
 use crate::frames::find_frames;
 use crate::heads::read_heads;
@@ -55,22 +57,21 @@ use crate::inputs::Inputs;
 use crate::linked::Linked;
 use crate::numbering::{number_for_members, numbers_of};
 use crate::placing::place_beside;
+use crate::reaching::calls_reach;
 use crate::shown::names_if;
 use crate::sources::Source;
 use crate::writing::{Settled, write};
-use call_reach::calls_reach;
 use comdat::discard;
 use file_live::live;
 use icf_part::{Steps, fold, lead_themselves, shared_texts};
 use layout::place;
 use link_command::{Command, Wanted};
-use link_sections::{FoldItem, Got, Layout, Pools, all_kept, fold_leaders, own_leaders};
+use link_sections::{FoldItem, Got, Layout, Pools, fold_leaders, own_leaders};
 use lk_base::{Limits, LinkStop, SecNo, check_count};
 use lk_tables::{Binding, FramePlan, Frames, Head, Record, Tables};
 use output_sections::order_sections;
 use relax::sizes;
-use sec_gc::{keep, roots};
-use sec_graph::{contents_of, edges, foldable, items_at};
+use sec_graph::{contents_of, foldable, items_at};
 use std::alloc::{AllocError, Global};
 use std::marker::Brand;
 use std::sync::ledger::{Blank, Ledger};
@@ -136,7 +137,7 @@ fn read_files_after<'a, R: Threads + Sync, G: Gate>(
         Ok(heads) => heads,
         Err(stop) => return Err(stop),
     };
-    number_for_members(rt, alloc, sources, &mut heads, workers)?;
+    number_for_members(rt, alloc, sources, &mut heads, workers, gate)?;
     let live = live(rt, alloc, &heads, undefined, workers, gate)?;
     read_bodies(
         rt,
@@ -180,38 +181,6 @@ pub fn bind_names<R: Threads + Sync, G: Gate>(
         workers,
         gate,
     )
-}
-
-/// By section number, which sections are kept: with `gc` those that the roots lead to, of which the sections are some in which the names of
-/// `undefined` stand, else all that may stay. It is as long as the tables have
-/// sections. The only error is out of memory.
-#[tactic(auto, unfolding(crate::specs::Link::kept_of))]
-pub fn find_kept<R: Threads + Sync, G: Gate>(
-    rt: &R,
-    alloc: Global,
-    tables: &Tables,
-    binding: &Binding,
-    frames: &Frames,
-    gc: bool,
-    undefined: &[Vec<u8>],
-    workers: u32,
-    gate: &G,
-) -> Result<Vec<bool>, AllocError>
-    requires some { 1 ≤ workers }
-    requires most { workers ≤ 64 }
-    requires bound { IsBindingOf (files_of tables.now) (binding_view binding.now) }
-    requires frames { AreFramesOf (files_of tables.now) (binding_view binding.now) frames.now }
-    ensures kept { IfOk result (λ kept. kept.items ≡ kept_of gc (lists_of undefined.now) (files_of tables.now) (binding_view binding.now)) }
-    ensures stay { IfOk result (λ kept. MayStay (files_of tables.now) (binding_view binding.now) kept.items) }
-    ensures collected { gc ≡ true → IfOk result (λ kept. IsCollected (lists_of undefined.now) (files_of tables.now) (binding_view binding.now) kept.items) }
-{
-    tables.is_few();
-    if !gc {
-        return all_kept(alloc, tables, binding);
-    }
-    let roots = roots(alloc, tables, binding, undefined)?;
-    let edges = edges(rt, alloc, tables, binding, workers, gate, frames)?;
-    keep(rt, alloc, roots.as_slice(), &edges, workers, gate)
 }
 
 /// What a command asks of a link beside its names.
@@ -279,6 +248,7 @@ pub fn find_leaders<R: Threads + Sync, G: Gate>(
     ensures leaders { IfOk result (λ leaders. leaders.items ≡ leaders_in (wished options barred.now) (files_of tables.now) (binding_view binding.now) kept.now) }
     ensures stay { IfOk result (λ leaders. AreLeaders (files_of tables.now) (binding_view binding.now) leaders.items) }
     ensures alike { IfOk result (λ leaders. AreAlike (files_of tables.now) (binding_view binding.now) leaders.items) }
+    ensures outputs { IfOk result (λ leaders. GoWithLeaders (files_of tables.now) (binding_view binding.now) kept.now (merged_views pools.now) leaders.items) }
 {
     tables.is_few();
     let mut leaders = own_leaders(alloc, kept, pools)?;
@@ -296,6 +266,7 @@ pub fn find_leaders<R: Threads + Sync, G: Gate>(
         pools,
         sections.as_slice(),
         workers,
+        gate,
     )?;
     let places = fold_items::<R, G, Brand>(
         rt,
@@ -311,7 +282,7 @@ pub fn find_leaders<R: Threads + Sync, G: Gate>(
 
 /// What decides of those of some sections whose contents another of them has with which others each is folded, in order: any other leads
 /// itself. The only error is out of memory.
-fn shared_items<'a, R: Threads + Sync>(
+fn shared_items<'a, R: Threads + Sync, G: Gate>(
     rt: &R,
     alloc: Global,
     tables: &Tables<'a>,
@@ -320,15 +291,18 @@ fn shared_items<'a, R: Threads + Sync>(
     pools: &Pools,
     sections: &[SecNo],
     workers: u32,
+    gate: &G,
 ) -> Result<Vec<FoldItem<'a>>, AllocError>
     requires frames { AreFramesOf (files_of tables.now) (binding_view binding.now) frames.now }
     requires within { All (λ n. n < section_total (files_of tables.now)) sections.now }
     requires order { IsStrictlyIncreasing sections.now }
+    requires few { length sections.now < 2 ^ 31 }
     ensures sharers { IfOk result (λ list. AreSharers (map (item_of (files_of tables.now) (binding_view binding.now) (merged_views pools.now)) sections.now) (item_views list.items)) }
     ensures order { IfOk result (λ list. IsStrictlyIncreasing (sections_of (item_views list.items))) }
+    ensures few { IfOk result (λ list. length list.items < 2 ^ 31) }
 {
     let texts = contents_of(alloc, tables, sections)?;
-    let places = shared_texts(rt, alloc, texts.as_slice(), workers)?;
+    let places = shared_texts(rt, alloc, texts, workers, gate)?;
     let items = items_at(
         alloc,
         tables,
@@ -353,6 +327,7 @@ pub fn fold_items<R: Threads + Sync, G: Gate, L: Ledger>(
     requires some { 1 ≤ workers }
     requires most { workers ≤ 64 }
     requires order { IsStrictlyIncreasing (sections_of (item_views items.now)) }
+    requires few { length items.now < 2 ^ 31 }
     requires name { blank.name ≡ L.name }
     requires parts { blank.parts ≡ L.parts }
     requires part { 0 < L.parts }
@@ -392,6 +367,7 @@ pub fn lay_out<'a, R: Threads + Sync, G: Gate>(
     requires stay { MayStay (files_of tables.now) (binding_view binding.now) kept.now }
     requires lead { AreLeaders (files_of tables.now) (binding_view binding.now) leaders.now }
     requires alike { AreAlike (files_of tables.now) (binding_view binding.now) leaders.now }
+    requires outputs { GoWithLeaders (files_of tables.now) (binding_view binding.now) kept.now (merged_views pools.now) leaders.now }
     requires pools { pools_view (files_of tables.now) pools.now ≡ pools_of (files_of tables.now) kept.now }
     requires leaders { leaders.now ≡ leaders_in (wished options barred.now) (files_of tables.now) (binding_view binding.now) kept.now }
     requires plan { plan_view plan.now ≡ plan_in (wished options barred.now) (files_of tables.now) (binding_view binding.now) kept.now }
@@ -404,6 +380,7 @@ pub fn lay_out<'a, R: Threads + Sync, G: Gate>(
     ensures framed { IfOk result (λ layout. HasFrames (frame_sizes plan.now) layout.bounds) }
     ensures reach { IfOk result (λ layout. CallsReach (files_of tables.now) (binding_view binding.now) leaders.now (with_contents (layout_view layout) (pools_view (files_of tables.now) pools.now) (entries_of got.now))) }
     ensures cuts { IfOk result (λ layout. HaveOwnCuts (files_of tables.now) leaders.now (with_contents (layout_view layout) (pools_view (files_of tables.now) pools.now) (entries_of got.now))) }
+    ensures symbols { IfOk result (λ layout. SymbolsStand (files_of tables.now) (binding_view binding.now) kept.now leaders.now (with_contents (layout_view layout) (pools_view (files_of tables.now) pools.now) (entries_of got.now))) }
 {
     let on = options.relax;
     let sections = order_sections(
@@ -448,6 +425,7 @@ fn link_kept<'a, 't, R: Threads + Sync, G: Gate>(
     requires frames { AreFramesOf (files_of tables.now) (binding_view binding.now) frames.now }
     requires plain { ArePlain (all_lists (files_of tables.now)) }
     requires stay { MayStay (files_of tables.now) (binding_view binding.now) kept.now }
+    requires pieces { piece_count (files_of tables.now) < 2 ^ 31 }
     ensures goes { Goes result (first_phase (last_phases limits.now (wished options barred.now) (files_of tables.now) (binding_view binding.now) kept.now)) }
     ensures settled { IfOk result (IsSettled (files_of tables.now) (binding_view binding.now) kept.now options.strip) }
     ensures written { IfOk result (λ settled. Makes (wished options barred.now) (names_of names.now) (files_of tables.now) (binding_view binding.now) kept.now (settled_view (files_of tables.now) (binding_view binding.now) kept.now options.strip settled)) }
@@ -483,7 +461,8 @@ fn finds_beside(command: &Command, workers: u32) -> bool {
 }
 
 /// What is made of files whose names are bound and numbered, if these sections are kept, and what is said to what a command asks why. With two workers or
-/// more another thread finds the latter meanwhile, since neither needs the other. Files are shown by `names`.
+/// more another thread finds the latter meanwhile, since neither needs the other. Files are shown by `names`. The graph by which sections were kept is at
+/// hand, or none is.
 fn link_beside<'a, 't, R: Threads + Sync, G: Gate>(
     rt: &R,
     alloc: Global,
@@ -491,6 +470,7 @@ fn link_beside<'a, 't, R: Threads + Sync, G: Gate>(
     tables: &Tables<'a>,
     binding: &Binding,
     frames: &'t Frames,
+    graph: &Option<SectionGraph>,
     kept: &[bool],
     barred: &[bool],
     names: &[Vec<u8>],
@@ -508,8 +488,10 @@ fn link_beside<'a, 't, R: Threads + Sync, G: Gate>(
     requires bound { IsBindingOf (files_of tables.now) (binding_view binding.now) }
     requires numbered { have_numbers tables.now ≡ true }
     requires frames { AreFramesOf (files_of tables.now) (binding_view binding.now) frames.now }
+    requires graph { IfSome graph.now (IsGraph (files_of tables.now) (binding_view binding.now) (asks command.now).undefined) }
     requires plain { ArePlain (all_lists (files_of tables.now)) }
     requires stay { MayStay (files_of tables.now) (binding_view binding.now) kept.now }
+    requires pieces { piece_count (files_of tables.now) < 2 ^ 31 }
     ensures goes { Goes result.0 (first_phase (last_phases limits.now (wished options barred.now) (files_of tables.now) (binding_view binding.now) kept.now)) }
     ensures settled { IfOk result.0 (IsSettled (files_of tables.now) (binding_view binding.now) kept.now options.strip) }
     ensures written { IfOk result.0 (λ settled. Makes (wished options barred.now) (names_of names.now) (files_of tables.now) (binding_view binding.now) kept.now (settled_view (files_of tables.now) (binding_view binding.now) kept.now options.strip settled)) }
@@ -522,14 +504,14 @@ fn link_beside<'a, 't, R: Threads + Sync, G: Gate>(
             rt, alloc, limits, tables, binding, frames, kept, barred, names, options, workers, gate,
         );
         let told = why_text(
-            rt, alloc, tables, binding, frames, kept, barred, names, command, workers, gate,
+            rt, alloc, tables, binding, frames, graph, kept, barred, names, command, workers, gate,
         );
         return (made, told);
     }
     join_mut(
         rt,
         &mut || -> Result<Settled, LinkStop>
-            requires { IsWithinStandard limits.now × (1 ≤ workers) × (workers ≤ 64) × IsBindingOf (files_of tables.now) (binding_view binding.now) × (have_numbers tables.now ≡ true) × AreFramesOf (files_of tables.now) (binding_view binding.now) frames.now × ArePlain (all_lists (files_of tables.now)) × MayStay (files_of tables.now) (binding_view binding.now) kept.now }
+            requires { IsWithinStandard limits.now × (1 ≤ workers) × (workers ≤ 64) × IsBindingOf (files_of tables.now) (binding_view binding.now) × (have_numbers tables.now ≡ true) × AreFramesOf (files_of tables.now) (binding_view binding.now) frames.now × ArePlain (all_lists (files_of tables.now)) × MayStay (files_of tables.now) (binding_view binding.now) kept.now × (piece_count (files_of tables.now) < 2 ^ 31) }
             ensures { Goes result (first_phase (last_phases limits.entry.now (wished options barred.entry.now) (files_of tables.entry.now) (binding_view binding.entry.now) kept.entry.now)) × IfOk result (IsSettled (files_of tables.entry.now) (binding_view binding.entry.now) kept.entry.now options.strip) × IfOk result (λ settled. Makes (wished options barred.entry.now) (names_of names.entry.now) (files_of tables.entry.now) (binding_view binding.entry.now) kept.entry.now (settled_view (files_of tables.entry.now) (binding_view binding.entry.now) kept.entry.now options.strip settled)) × IfOk result (λ settled. LinkStands (wished options barred.entry.now) (files_of tables.entry.now) (binding_view binding.entry.now) kept.entry.now (settled_view (files_of tables.entry.now) (binding_view binding.entry.now) kept.entry.now options.strip settled).exe) × HoldsPast result (first_phase (placing_phases limits.entry.now (wished options barred.entry.now) (files_of tables.entry.now) (binding_view binding.entry.now) kept.entry.now)) (ShortenedCallsReach (wished options barred.entry.now) (files_of tables.entry.now) (binding_view binding.entry.now) kept.entry.now) }
         {
             link_kept(
@@ -538,12 +520,12 @@ fn link_beside<'a, 't, R: Threads + Sync, G: Gate>(
             )
         },
         &mut || -> Result<Vec<u8>, AllocError>
-            requires { IsBindingOf (files_of tables.now) (binding_view binding.now) × AreFramesOf (files_of tables.now) (binding_view binding.now) frames.now }
+            requires { IsBindingOf (files_of tables.now) (binding_view binding.now) × AreFramesOf (files_of tables.now) (binding_view binding.now) frames.now × IfSome graph.now (IsGraph (files_of tables.now) (binding_view binding.now) (asks command.now).undefined) × MayStay (files_of tables.now) (binding_view binding.now) kept.now × (piece_count (files_of tables.now) < 2 ^ 31) }
             ensures { IfOk result (λ text. text.items ≡ why_text (asks command.entry.now) (names_of names.entry.now) (files_of tables.entry.now) (binding_view binding.entry.now) kept.entry.now barred.entry.now) }
         {
             // One thread is enough, so that the others are left to the link.
             why_text(
-                rt, alloc, tables, binding, frames, kept, barred, names, command, 1, gate,
+                rt, alloc, tables, binding, frames, graph, kept, barred, names, command, 1, gate,
             )
         },
     )
@@ -637,8 +619,17 @@ pub fn link_sources<'a, R: Threads + Sync, G: Gate>(
     // Each FDE has its function from here on.
     let frames = find_frames(alloc, &tables, &binding, records)?;
     // What nothing refers to is left out from here on.
-    let kept = find_kept(
-        rt, alloc, &tables, &binding, &frames, command.gc, undefined, workers, gate,
+    let (kept, graph) = find_kept_by(
+        rt,
+        alloc,
+        &tables,
+        &binding,
+        &frames,
+        command.gc,
+        command.why_live.is_some(),
+        undefined,
+        workers,
+        gate,
     )?;
     let barred = find_barred(
         alloc,
@@ -657,6 +648,7 @@ pub fn link_sources<'a, R: Threads + Sync, G: Gate>(
         &tables,
         &binding,
         &frames,
+        &graph,
         kept.as_slice(),
         barred.as_slice(),
         names.as_slice(),
@@ -691,8 +683,9 @@ pub fn link_sources<'a, R: Threads + Sync, G: Gate>(
 /// The answer is what the link gives if the inputs have no defect: the executable, which is made while it is written, the map if one is asked,
 /// in which files have the names of their inputs, and what is to be said: for generated objects the report, and what the command asks why.
 /// Else it is the first defect of the first phase that has any, before which none of that phase stands by file, section and place, whatever
-/// the number of workers and the order of their steps; or out of memory. Whatever the answer, the files that take part are the least closed set
-/// and each name is bound to its least offer. No limit is above the standard one. The command's `threads` is from 1 to 64.
+/// the number of workers and the order of their steps; or out of memory. Whatever the answer, of inputs with no more files and symbols than a
+/// link may have the files that take part are the least closed set, wherever an archive stands among the objects, and each name is bound to its
+/// least offer. No limit is above the standard one. The command's `threads` is from 1 to 64.
 ///
 /// What is given lends the inputs' bytes. To free its many lists takes a tenth of the time of a link of many objects: who is about to end the
 /// process can [`forget`](std::mem::forget) it.

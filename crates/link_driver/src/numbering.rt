@@ -50,17 +50,18 @@ fn are_many(files: &[File]) -> bool {
 }
 
 /// Numbers the names of all files, once for all passes.
-fn number<R: Threads + Sync>(
+fn number<R: Threads + Sync, G: Gate>(
     rt: &R,
     alloc: Global,
     heads: &mut Heads,
     workers: u32,
+    gate: &G,
 ) -> Result<(), AllocError>
     requires { symbol_total (heads_of heads.old) < 2 ^ 31 }
     ensures same { heads_of heads.new ≡ heads_of heads.old }
     ensures numbered { IfOk result (λ _. are_numbered heads.new ≡ true) }
 {
-    let names = number_names(rt, alloc, heads.files(), workers)?;
+    let names = number_names(rt, alloc, heads.files(), workers, gate)?;
     heads.keep_names(names);
     Ok(())
 }
@@ -74,12 +75,13 @@ pub fn numbers_of<'t>(tables: &'t Tables) -> &'t NameNumbers
 }
 
 /// Numbers the names of all files if one of these is a member, since it is found by names which members take part.
-pub fn number_for_members<R: Threads + Sync>(
+pub fn number_for_members<R: Threads + Sync, G: Gate>(
     rt: &R,
     alloc: Global,
     sources: &[Source],
     heads: &mut Heads,
     workers: u32,
+    gate: &G,
 ) -> Result<(), AllocError>
     requires { symbol_total (heads_of heads.old) < 2 ^ 31 }
     ensures { heads_of heads.new ≡ heads_of heads.old }
@@ -87,7 +89,7 @@ pub fn number_for_members<R: Threads + Sync>(
     if !has_member(sources) {
         return Ok(());
     }
-    number(rt, alloc, heads, workers)
+    number(rt, alloc, heads, workers, gate)
 }
 
 /// Numbers the names of all files, which have no numbers yet, while the body of each file that takes part is read.
@@ -117,7 +119,7 @@ fn read_beside<R: Threads + Sync, G: Gate>(
         &mut || -> Result<NameNumbers, AllocError>
             requires { symbol_total (file_views files.now) < 2 ^ 31 }
             ensures { IfOk result (NumbersNames (heads_alone (file_views files.entry.now))) }
-        { number_names(rt, alloc, files, workers) },
+        { number_names(rt, alloc, files, workers, gate) },
         &mut || -> Result<Vec<Option<Body>>, LinkStop>
             requires { (file_views files.now ≡ map (headed (sources_of sources.now)) (range_with_len 0 (length sources.now))) × (length live.now ≡ length sources.now) × ((f : ℕ) → f < length sources.now → has_body (sources_of sources.now) live.now f ≡ true → IsHeaded (source_at (sources_of sources.now) f).bytes) × (length sources.now < 2 ^ 24) × (1 ≤ workers) × (workers ≤ 64) }
             ensures { IsShare (body_defects_at (sources_of sources.entry.now) live.entry.now) (IsBodyAt (sources_of sources.entry.now) live.entry.now) 0 (length sources.entry.now) result }
@@ -160,6 +162,6 @@ pub fn read_numbered<R: Threads + Sync, G: Gate>(
     if 1 < workers && are_many(heads.files()) {
         return read_beside(rt, alloc, sources, live, heads, workers, gate);
     }
-    number(rt, alloc, heads, workers)?;
+    number(rt, alloc, heads, workers, gate)?;
     read_each(rt, alloc, sources, live, heads.files(), workers, gate)
 }

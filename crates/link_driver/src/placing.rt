@@ -1,8 +1,9 @@
 //! What is written, and where: equal pieces are merged, equal code is folded, the linker's table is listed, and all of it is laid out. What needs
 //! none of this is done beside it.
 
-ghost use Rattle.std.specs.Prelude.{◌≡◌, ◌≤◌, ◌∷◌, [], IfOk};
+ghost use Rattle.std.specs.Prelude.{◌≡◌, ◌<◌, ◌≤◌, ◌^◌, ◌∷◌, [], IfOk};
 ghost use Rattle.layout.specs.Layout.{layout_defects};
+ghost use Rattle.link_sections.specs.Merging.{piece_count};
 ghost use Rattle.lk_base.specs.Firsts.{Goes};
 ghost use Rattle.lk_base.specs.Limits.{IsWithinStandard};
 ghost use Rattle.lk_tables.specs.Binding.{first_phase};
@@ -86,6 +87,7 @@ fn find_placement<'a, 't, R: Threads + Sync, G: Gate>(
     requires numbers { NumbersNames (heads_alone (files_of tables.now)) numbers.now }
     requires frames { AreFramesOf (files_of tables.now) (binding_view binding.now) frames.now }
     requires stay { MayStay (files_of tables.now) (binding_view binding.now) kept.now }
+    requires pieces { piece_count (files_of tables.now) < 2 ^ 31 }
     ensures goes { Goes result (layout_defects limits.now (files_of tables.now) (laid_out (wished options barred.now) (files_of tables.now) (binding_view binding.now) kept.now)) }
     ensures placed { IfOk result (IsPlacement (wished options barred.now) (files_of tables.now) (binding_view binding.now) kept.now) }
 {
@@ -159,6 +161,7 @@ pub fn place_beside<'a, 't, R: Threads + Sync, G: Gate>(
     requires numbers { NumbersNames (heads_alone (files_of tables.now)) numbers.now }
     requires frames { AreFramesOf (files_of tables.now) (binding_view binding.now) frames.now }
     requires stay { MayStay (files_of tables.now) (binding_view binding.now) kept.now }
+    requires pieces { piece_count (files_of tables.now) < 2 ^ 31 }
     ensures goes { Goes result (first_phase (placing_phases limits.now (wished options barred.now) (files_of tables.now) (binding_view binding.now) kept.now)) }
     ensures listed { IfOk result (λ both. AreListed (section_uppers (files_of tables.now)) both.0) }
     ensures placed { IfOk result (λ both. IsPlacement (wished options barred.now) (files_of tables.now) (binding_view binding.now) kept.now both.1) }
@@ -183,7 +186,7 @@ pub fn place_beside<'a, 't, R: Threads + Sync, G: Gate>(
             ensures { Goes result (undefined_defects (files_of tables.entry.now) (binding_view binding.entry.now) kept.entry.now) × IfOk result (AreListed (section_uppers (files_of tables.entry.now))) }
         { find_defined_uppers(alloc, tables, binding, frames, kept) },
         &mut || -> Result<Placement, LinkStop>
-            requires { IsWithinStandard limits.now × (1 ≤ workers) × (workers ≤ 64) × IsBindingOf (files_of tables.now) (binding_view binding.now) × NumbersNames (heads_alone (files_of tables.now)) numbers.now × AreFramesOf (files_of tables.now) (binding_view binding.now) frames.now × MayStay (files_of tables.now) (binding_view binding.now) kept.now }
+            requires { IsWithinStandard limits.now × (1 ≤ workers) × (workers ≤ 64) × IsBindingOf (files_of tables.now) (binding_view binding.now) × NumbersNames (heads_alone (files_of tables.now)) numbers.now × AreFramesOf (files_of tables.now) (binding_view binding.now) frames.now × MayStay (files_of tables.now) (binding_view binding.now) kept.now × (piece_count (files_of tables.now) < 2 ^ 31) }
             ensures { Goes result (layout_defects limits.entry.now (files_of tables.entry.now) (laid_out (wished options barred.entry.now) (files_of tables.entry.now) (binding_view binding.entry.now) kept.entry.now)) × IfOk result (IsPlacement (wished options barred.entry.now) (files_of tables.entry.now) (binding_view binding.entry.now) kept.entry.now) }
         {
             find_placement(

@@ -1,7 +1,7 @@
 //! What is made of a link once it is placed: its map and its report, and of its executable all but the bytes, which are made while they are written.
 
 ghost use Rattle.std.specs.Prelude.{◌≡◌, ◌≤◌, [], if◌then◌else◌, length, IfOk};
-ghost use Rattle.call_reach.specs.Code.{HaveOwnCuts};
+ghost use Rattle.link_driver.specs.Code.{HaveOwnCuts};
 ghost use Rattle.eh_frame.specs.FrameLaws.{ArePlain};
 ghost use Rattle.eh_frame.specs.Plan.{plan_of};
 ghost use Rattle.elf_out.specs.Prepared.{IsPreparedFor};
@@ -24,6 +24,7 @@ ghost use Rattle.lk_tables.specs.Uppers.{AreListed, section_uppers};
 ghost use Rattle.link_driver.specs.Contents.{names_of};
 ghost use Rattle.link_driver.specs.Linked.{IsMade, written_view};
 ghost use Rattle.link_driver.specs.Phases.{IsWritten, StandsWhole};
+ghost use Rattle.link_driver.specs.Symbols.{SymbolsStand};
 ghost use Rattle.link_driver.specs.Placing.{laid_by};
 ghost use Rattle.link_driver.specs.Tables.{wished};
 ghost use Rattle.link_driver.specs.Unwound.{Unwinds};
@@ -32,11 +33,11 @@ ghost use Rattle.reloc_apply.specs.Relocated.{relocation_defects};
 ghost use Rattle.map_file.specs.MapView.{map_in};
 ghost use Rattle.output_sections.specs.Items.{AreLeaders};
 
+use crate::code::code_stands;
 use crate::frames::write_frames;
 use crate::linking::Options;
 use crate::placing::Placement;
 use crate::reports::report_if;
-use call_reach::code_stands;
 use elf_out::{BLOCK, Prepared, file_stands, prepare};
 use link_sections::{Addresses, View};
 use lk_base::LinkStop;
@@ -137,8 +138,8 @@ fn window_for(
 }
 
 /// What `.eh_frame` and `.eh_frame_hdr` hold, and what else is made of the executable before its first block. With two workers or more another
-/// thread makes the bytes of the unwind records meanwhile, since neither needs the other; what is wrong with their values is reported first, as
-/// where they are made first.
+/// thread makes the bytes of the unwind records meanwhile, since neither needs the other. Where a value of one does not fit, its answer is the
+/// first defect of all values in order of sections, and else that of the relocations.
 fn make_beside<R: Threads + Sync, G: Gate>(
     rt: &R,
     alloc: Global,
@@ -210,6 +211,7 @@ pub fn write<R: Threads + Sync, G: Gate>(
     requires framed { HasFrames (frame_sizes placement.now.plan) placement.now.layout.bounds }
     requires cuts { HaveOwnCuts (files_of tables.now) placement.now.leaders.items (laid_by (files_of tables.now) placement.now) }
     requires uses { HasAllUses (files_of tables.now) placement.now.leaders.items (entries_of placement.now.got) }
+    requires symbols { SymbolsStand (files_of tables.now) (binding_view binding.now) kept.now placement.now.leaders.items (laid_by (files_of tables.now) placement.now) }
     ensures goes { Goes result (value_defects (files_of tables.now) (binding_view binding.now) placement.now.leaders.items (laid_by (files_of tables.now) placement.now) (plan_view placement.now.plan)) }
     ensures made { IfOk result (IsMade (files_of tables.now) (binding_view binding.now) kept.now options.strip placement.now.leaders.items (laid_by (files_of tables.now) placement.now)) }
     ensures written { IfOk result (λ written. IsWritten (wished options barred.now) (names_of names.now) (files_of tables.now) (binding_view binding.now) kept.now placement.now.leaders.items (laid_by (files_of tables.now) placement.now) (plan_view placement.now.plan)

@@ -3,11 +3,10 @@
 use crate::images::FIRST;
 use crate::libraries::Library;
 use crate::stores::Store;
-use elf_bytes::Image;
+use elf_bytes::{Image, record};
 use std::alloc::{AllocError, Global};
 
-/// The words that are put behind those of an example, so that it runs with the default number of workers, with one, two, three and
-/// 64.
+/// The words that are added to those of an example, so that it runs with the default number of workers, with one, two, three and 64.
 pub const WORKERS: &[&[&str]] = &[
     &[],
     &["--threads", "1"],
@@ -52,8 +51,7 @@ pub struct Stream<'a> {
     pub room: usize,
 }
 
-/// What is outside the program: the numbers of the depot's calls that fail, how many bytes an append takes at most, for how many bytes
-/// each output has room, and the streams.
+/// What is outside the program: which of the depot's calls fail, the most bytes that an append takes and an output has room for, and the streams.
 #[derive(Clone, Copy)]
 pub struct Outside<'a> {
     pub fails: &'a [u64],
@@ -64,22 +62,13 @@ pub struct Outside<'a> {
 }
 
 /// A stream that takes all that is said.
-pub const WIDE_STREAM: Stream = Stream {
-    fails: &[],
-    room: 1000,
-};
+pub const WIDE_STREAM: Stream = record!(Stream; fails: &[], room: 1000);
 
 /// Nothing fails.
-pub const SOUND: Outside = Outside {
-    fails: &[],
-    most: 1000,
-    room: 200_000,
-    say: WIDE_STREAM,
-    err: WIDE_STREAM,
-};
+pub const SOUND: Outside =
+    record!(Outside; fails: &[], most: 1000, room: 200_000, say: WIDE_STREAM, err: WIDE_STREAM);
 
-/// A call of the program: its words, those that ask for a number of workers, the files and archives that are at hand, and what is
-/// outside.
+/// A call of the program: its words, those that ask for a number of workers, the files and archives at hand, and what is outside.
 #[derive(Clone, Copy)]
 pub struct Call<'a> {
     pub words: &'a [&'a str],
@@ -103,16 +92,9 @@ pub struct Link<'a> {
     pub said: &'a str,
 }
 
-pub const FIRST_LINK: Link = Link {
-    words: &["rvld", "-s", "a.o"],
-    store: Store::Objects,
-    libraries: &[],
-    output: "a.out",
-    image: FIRST,
-    map: "m",
-    lines: &[],
-    said: "",
-};
+pub const FIRST_LINK: Link =
+    record!(Link; words: &["rvld", "-s", "a.o"], store: Store::Objects, libraries: &[],
+    output: "a.out", image: FIRST, map: "m", lines: &[], said: "");
 
 /// A command that links nothing: its words, its files and archives, its status and its line, and how many loads there are.
 #[derive(Clone, Copy)]
@@ -126,11 +108,5 @@ pub struct Refusal<'a> {
 }
 
 /// No words, not even the program's name.
-pub const NO_WORDS: Refusal = Refusal {
-    words: &[],
-    store: Store::Objects,
-    libraries: &[],
-    status: 2,
-    line: "rvld: bad command\n",
-    loads: 0,
-};
+pub const NO_WORDS: Refusal =
+    record!(Refusal; words: &[], store: Store::Objects, libraries: &[], status: 2, line: "rvld: bad command\n", loads: 0);

@@ -63,8 +63,7 @@ const OTHER_INPUTS: &[Input] = inputs!(
     "t.o" => object!([RETURN, GROUP, section!(b".text.c", 1, 0x206, 4; b"\x73\0\x10\0")]; [symbol!(b"c", 1, 2, 3, 0, 4), START]),
     // A second copy of it, which has `k` too.
     "u.o" => object!([
-        section!(GROUP => bytes: b"\x01\0\0\0\x02\0\0\0"),
-        section!(b".text.c", 1, 0x206, 4; b"\x73\0\x10\0\x67\x80\0\0"),
+        section!(GROUP => bytes: b"\x01\0\0\0\x02\0\0\0"), section!(b".text.c", 1, 0x206, 4; b"\x73\0\x10\0\x67\x80\0\0"),
     ]; [symbol!(b"c", 1, 2, 2, 0, 4), symbol!(b"k", 1, 2, 2, 4, 4)]),
     // A jump to `k`.
     "v.o" => object!([text!(b"\xef\0\0\0"; reloc!(0, 17, 1, 0))]; [ASKED_K]),
@@ -73,12 +72,8 @@ const OTHER_INPUTS: &[Input] = inputs!(
         text!(b"\xef\0\0\0"; reloc!(0, 17, 1, 0)), section!(GROUP => info: 2), N_RETURNS,
     ]; [symbol!(b".L0", 0, 0, 3, 0, 0), N_IN_3]),
     // A word of a group's section that is not in memory.
-    "whole.o" => object!([
-        data!(b"\0\0\0\0\0\0\0\0"; reloc!(0, 2, 1, 0)),
-        section!(GROUP => bytes: b"\x01\0\0\0\x03\0\0\0\x04\0\0\0", info: 2),
-        section!(b".debug_n", 1, 0x200, 1; b"notes"),
-        N_RETURNS,
-    ]; [symbol!(b"", 0, 3, 3, 0, 0), symbol!(b"n", 1, 2, 4, 0, 4)]),
+    "whole.o" => object!([data!(b"\0\0\0\0\0\0\0\0"; reloc!(0, 2, 1, 0)), section!(GROUP => bytes: b"\x01\0\0\0\x03\0\0\0\x04\0\0\0", info: 2),
+        section!(b".debug_n", 1, 0x200, 1; b"notes"), N_RETURNS]; [symbol!(b"", 0, 3, 3, 0, 0), symbol!(b"n", 1, 2, 4, 0, 4)]),
     // A jump to `k`, weak.
     "weakly.o" => object!([text!(b"\0\0\0\0\0\0\0\0"; reloc!(0, 2, 1, 0))]; [symbol!(b"k", 2, 0, 0, 0, 0)]),
     // So many zero bytes, told to stay, that an executable has two blocks.

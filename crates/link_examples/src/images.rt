@@ -116,14 +116,10 @@ pub const KEPT_NOTE: Image = image!(FIRST => table: 0x1020,
 /// A `ret`, and an array of each type.
 pub const ARRAYS_ALONE: Image = image!(FIRST => table: 0x2060,
     segments: &[READ_OF_FOUR, [1, 5, 4096, 0x11000, 4, 4, 4096], [1, 6, 0x2000, 0x12000, 32, 32, 4096], STACK],
-    contents: &[
-        (0x1000, b"\x67\x80\0\0"), (0x2000, b"pppppppp"), (0x2008, b"iiiiiiii"), (0x2010, b"ffffffff"), (0x2018, b"dddddddd"),
-        (0x2020, b"\0.text\0.preinit_array\0.init_array\0.fini_array\0.data\0.shstrtab\0"),
-    ],
-    sections: &[
-        [1, 1, 6, 0x11000, 4096, 4, 4], [7, 16, 3, 0x12000, 0x2000, 8, 8], [22, 14, 3, 0x12008, 0x2008, 8, 8], [34, 15, 3, 0x12010, 0x2010, 8, 8],
-        [46, 15, 3, 0x12018, 0x2018, 8, 8], [52, 3, 0, 0, 0x2020, 62, 1],
-    ]);
+    contents: &[(0x1000, b"\x67\x80\0\0"), (0x2000, b"pppppppp"), (0x2008, b"iiiiiiii"), (0x2010, b"ffffffff"), (0x2018, b"dddddddd"),
+        (0x2020, b"\0.text\0.preinit_array\0.init_array\0.fini_array\0.data\0.shstrtab\0")],
+    sections: &[[1, 1, 6, 0x11000, 4096, 4, 4], [7, 16, 3, 0x12000, 0x2000, 8, 8], [22, 14, 3, 0x12008, 0x2008, 8, 8],
+        [34, 15, 3, 0x12010, 0x2010, 8, 8], [46, 15, 3, 0x12018, 0x2018, 8, 8], [52, 3, 0, 0, 0x2020, 62, 1]]);
 
 /// A jump to the function after it, and another.
 pub const KEPT_TOGETHER: Image = code!(12 => 0x1020; b"\xef\0\x40\0\x67\x80\0\0\x73\0\x10\0");
@@ -160,58 +156,41 @@ pub const ASKED_WORD: Image = image!(FIRST => table: 0x1020,
 pub const ONE_NOTE: Image = image!(FIRST => table: 0x1030,
     segments: &[[1, 4, 0, 0x10000, 248, 248, 4096], [1, 5, 4096, 0x11000, 4, 4, 4096], STACK],
     contents: &[(0xe8, b"note"), (0xec, b"data"), (0xf0, b"own late"), (0x1000, b"\x67\x80\0\0"), (0x1004, b"\0.note.a\0.rodata\0.own\0.text\0.shstrtab\0")],
-    sections: &[
-        [1, 7, 2, 0x100e8, 232, 4, 4], [9, 1, 2, 0x100ec, 236, 4, 4], [17, 1, 2, 0x100f0, 240, 8, 4], [22, 1, 6, 0x11000, 4096, 4, 4],
-        [28, 3, 0, 0, 0x1004, 38, 1],
-    ]);
+    sections: &[[1, 7, 2, 0x100e8, 232, 4, 4], [9, 1, 2, 0x100ec, 236, 4, 4], [17, 1, 2, 0x100f0, 240, 8, 4], [22, 1, 6, 0x11000, 4096, 4, 4],
+        [28, 3, 0, 0, 0x1004, 38, 1]]);
 
 /// A second note after the first, and a third in read-only data.
 pub const TWO_NOTES: Image = image!(FIRST => table: 0x1038,
     segments: &[[1, 4, 0, 0x10000, 264, 264, 4096], [1, 5, 4096, 0x11000, 4, 4, 4096], STACK],
-    contents: &[
-        (0xe8, b"note"), (0xf0, b"NOTE"), (0xf4, b"datanoted"), (0x100, b"own late"), (0x1000, b"\x67\x80\0\0"),
-        (0x1004, b"\0.note.a\0.note.b\0.rodata\0.own\0.text\0.shstrtab\0"),
-    ],
-    sections: &[
-        [1, 7, 2, 0x100e8, 232, 4, 4], [9, 7, 2, 0x100f0, 240, 4, 8], [17, 1, 2, 0x100f4, 244, 9, 4], [25, 1, 2, 0x10100, 256, 8, 4],
-        [30, 1, 6, 0x11000, 4096, 4, 4], [36, 3, 0, 0, 0x1004, 46, 1],
-    ]);
+    contents: &[(0xe8, b"note"), (0xf0, b"NOTE"), (0xf4, b"datanoted"), (0x100, b"own late"), (0x1000, b"\x67\x80\0\0"),
+        (0x1004, b"\0.note.a\0.note.b\0.rodata\0.own\0.text\0.shstrtab\0")],
+    sections: &[[1, 7, 2, 0x100e8, 232, 4, 4], [9, 7, 2, 0x100f0, 240, 4, 8], [17, 1, 2, 0x100f4, 244, 9, 4], [25, 1, 2, 0x10100, 256, 8, 4],
+        [30, 1, 6, 0x11000, 4096, 4, 4], [36, 3, 0, 0, 0x1004, 46, 1]]);
 
 /// Read-only data that begins with a note, and two more notes.
 pub const NOTES_AND_DATA: Image = image!(FIRST => table: 0x1038,
     segments: &[[1, 4, 0, 0x10000, 264, 264, 4096], [1, 5, 4096, 0x11000, 4, 4, 4096], STACK],
-    contents: &[
-        (0xe8, b"noted\0\0\0data"), (0xf8, b"NOTE"), (0xfc, b"note"), (0x100, b"own late"), (0x1000, b"\x67\x80\0\0"),
-        (0x1004, b"\0.rodata\0.note.b\0.note.a\0.own\0.text\0.shstrtab\0"),
-    ],
-    sections: &[
-        [1, 7, 2, 0x100e8, 232, 12, 4], [9, 7, 2, 0x100f8, 248, 4, 8], [17, 7, 2, 0x100fc, 252, 4, 4], [25, 1, 2, 0x10100, 256, 8, 4],
-        [30, 1, 6, 0x11000, 4096, 4, 4], [36, 3, 0, 0, 0x1004, 46, 1],
-    ]);
+    contents: &[(0xe8, b"noted\0\0\0data"), (0xf8, b"NOTE"), (0xfc, b"note"), (0x100, b"own late"), (0x1000, b"\x67\x80\0\0"),
+        (0x1004, b"\0.rodata\0.note.b\0.note.a\0.own\0.text\0.shstrtab\0")],
+    sections: &[[1, 7, 2, 0x100e8, 232, 12, 4], [9, 7, 2, 0x100f8, 248, 4, 8], [17, 7, 2, 0x100fc, 252, 4, 4], [25, 1, 2, 0x10100, 256, 8, 4],
+        [30, 1, 6, 0x11000, 4096, 4, 4], [36, 3, 0, 0, 0x1004, 46, 1]]);
 
 /// Arrays in order of their numbers.
 pub const NUMBERED: Image = image!(FIRST => table: 0x2070,
     segments: &[READ_OF_FOUR, [1, 5, 4096, 0x11000, 4, 4, 4096], [1, 6, 0x2000, 0x12000, 56, 56, 4096], STACK],
-    contents: &[
-        (0x1000, b"\x67\x80\0\0"), (0x2000, b"00000000"), (0x2008, b"aaaaaaaabbbbbbbbccccccccdddddddd"), (0x2028, b"ffffffffgggggggg"),
-        (0x2038, b"\0.text\0.preinit_array\0.init_array\0.fini_array\0.shstrtab\0"),
-    ],
-    sections: &[
-        [1, 1, 6, 0x11000, 4096, 4, 4], [7, 16, 3, 0x12000, 0x2000, 8, 8], [22, 14, 3, 0x12008, 0x2008, 32, 8], [34, 15, 3, 0x12028, 0x2028, 16, 8],
-        [46, 3, 0, 0, 0x2038, 56, 1],
-    ]);
+    contents: &[(0x1000, b"\x67\x80\0\0"), (0x2000, b"00000000"), (0x2008, b"aaaaaaaabbbbbbbbccccccccdddddddd"), (0x2028, b"ffffffffgggggggg"),
+        (0x2038, b"\0.text\0.preinit_array\0.init_array\0.fini_array\0.shstrtab\0")],
+    sections: &[[1, 1, 6, 0x11000, 4096, 4, 4], [7, 16, 3, 0x12000, 0x2000, 8, 8], [22, 14, 3, 0x12008, 0x2008, 32, 8],
+        [34, 15, 3, 0x12028, 0x2028, 16, 8], [46, 3, 0, 0, 0x2038, 56, 1]]);
 
 /// The same with those of a second file.
 pub const NUMBERED_OF_TWO: Image = image!(FIRST => table: 0x20a0,
     segments: &[READ_OF_FOUR, [1, 5, 4096, 0x11000, 4, 4, 4096], [1, 6, 0x2000, 0x12000, 88, 88, 4096], STACK],
-    contents: &[
-        (0x1000, b"\x67\x80\0\0"), (0x2000, b"00000000"), (0x2008, b"AAAAAAAAaaaaaaaabbbbbbbbBBBBBBBBccccccccddddddddeeeeeeee"), (0x2040, b"ffffffffgggggggg"),
-        (0x2050, b"????????"), (0x2058, b"\0.text\0.preinit_array\0.init_array\0.fini_array\0.init_array.\0.shstrtab\0"),
-    ],
-    sections: &[
-        [1, 1, 6, 0x11000, 4096, 4, 4], [7, 16, 3, 0x12000, 0x2000, 8, 8], [22, 14, 3, 0x12008, 0x2008, 56, 8], [34, 15, 3, 0x12040, 0x2040, 16, 8],
-        [46, 14, 3, 0x12050, 0x2050, 8, 8], [59, 3, 0, 0, 0x2058, 69, 1],
-    ]);
+    contents: &[(0x1000, b"\x67\x80\0\0"), (0x2000, b"00000000"), (0x2008, b"AAAAAAAAaaaaaaaabbbbbbbbBBBBBBBBccccccccddddddddeeeeeeee"),
+        (0x2040, b"ffffffffgggggggg"), (0x2050, b"????????"),
+        (0x2058, b"\0.text\0.preinit_array\0.init_array\0.fini_array\0.init_array.\0.shstrtab\0")],
+    sections: &[[1, 1, 6, 0x11000, 4096, 4, 4], [7, 16, 3, 0x12000, 0x2000, 8, 8], [22, 14, 3, 0x12008, 0x2008, 56, 8],
+        [34, 15, 3, 0x12040, 0x2040, 16, 8], [46, 14, 3, 0x12050, 0x2050, 8, 8], [59, 3, 0, 0, 0x2058, 69, 1]]);
 
 /// An array that is read-only.
 pub const READ_ONLY_ARRAY: Image = image!(FIRST => table: 0x1028,

@@ -1,7 +1,6 @@
-//! What worked examples of whole links share: the files that they have at hand, the executables and the lines that many of them leave, and
-//! the records that say what an example is.
+//! What worked examples of whole links share: files at hand, executables and lines that many examples leave, and the form of an example.
 //!
-//! It is data alone, and stands on no pass: so it is proved once, beside the passes, and each crate of examples adds its own.
+//! `link_examples` is data alone and stands on no pass, so it is proved once, beside the passes; each crate of examples adds its own data.
 #![tactic(auto)]
 
 mod collected;

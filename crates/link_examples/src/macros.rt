@@ -51,11 +51,7 @@ macro_rules! library {
     ($name:expr, $magic:expr, $index:expr, $tail:expr; $($member:expr),*) => {
         $crate::libraries::Library {
             name: $name,
-            archive: $crate::libraries::Archive {
-                magic: $magic,
-                index: $index,
-                members: &[$($member),*],
-            },
+            archive: $crate::libraries::Archive { magic: $magic, index: $index, members: &[$($member),*] },
             tail: $tail,
         }
     };
@@ -66,36 +62,26 @@ macro_rules! library {
 macro_rules! code {
     ($size:literal => $table:literal; $code:expr $(; $($field:ident: $value:expr),+)?) => {
         $crate::images::Image {
-            segments: &[
-                $crate::images::READ, [1, 5, 0x1000, 0x11000, $size, $size, 4096], $crate::images::STACK,
-            ],
+            segments: &[$crate::images::READ, [1, 5, 0x1000, 0x11000, $size, $size, 4096], $crate::images::STACK],
             contents: &[(0x1000, $code), (0x1000 + $size, $crate::images::NAMES)],
             table: $table,
-            sections: &[
-                [1, 1, 6, 0x11000, 0x1000, $size, 4], [7, 3, 0, 0, 0x1000 + $size, 17, 1],
-            ],
+            sections: &[[1, 1, 6, 0x11000, 0x1000, $size, 4], [7, 3, 0, 0, 0x1000 + $size, 17, 1]],
             $($($field: $value,)+)?
             ..$crate::images::FIRST
         }
     };
 }
 
-/// An executable of code and of data that may be written: how many bytes they have, the offset of the section headers, the code and the data,
-/// and other fields by name.
+/// An executable of code and of data that may be written: their sizes, the offset of the section headers, code, data, and other fields by name.
 #[macro_export]
 macro_rules! code_and_data {
     ($size:literal, $data_size:literal => $table:literal; $code:expr; $data:expr $(; $($field:ident: $value:expr),+)?) => {
         $crate::images::Image {
-            segments: &[
-                $crate::images::READ_OF_FOUR, [1, 5, 0x1000, 0x11000, $size, $size, 4096],
-                [1, 6, 0x2000, 0x12000, $data_size, $data_size, 4096], $crate::images::STACK,
-            ],
+            segments: &[$crate::images::READ_OF_FOUR, [1, 5, 0x1000, 0x11000, $size, $size, 4096],
+                [1, 6, 0x2000, 0x12000, $data_size, $data_size, 4096], $crate::images::STACK],
             contents: &[(0x1000, $code), (0x2000, $data), (0x2000 + $data_size, $crate::images::NAMES_WITH_DATA)],
             table: $table,
-            sections: &[
-                [1, 1, 6, 0x11000, 0x1000, $size, 4], [7, 1, 3, 0x12000, 0x2000, $data_size, 8],
-                [13, 3, 0, 0, 0x2000 + $data_size, 23, 1],
-            ],
+            sections: &[[1, 1, 6, 0x11000, 0x1000, $size, 4], [7, 1, 3, 0x12000, 0x2000, $data_size, 8], [13, 3, 0, 0, 0x2000 + $data_size, 23, 1]],
             $($($field: $value,)+)?
             ..$crate::images::FIRST
         }
@@ -121,8 +107,7 @@ macro_rules! link {
     };
 }
 
-/// A command that links nothing: its words behind the program's name; its status, how many loads there are, and its line behind the
-/// program's name; and other fields by name.
+/// A command that links nothing: its words, its status, how many loads there are, its line (both after the program's name), other fields by name.
 #[macro_export]
 macro_rules! refusal {
     ($($word:literal),* => $status:literal, $loads:literal, $line:literal $(; $($field:ident: $value:expr),+)?) => {

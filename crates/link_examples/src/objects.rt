@@ -112,10 +112,8 @@ pub const INPUTS: &[Input] = inputs!(
     // A call of `w`.
     "call.o" => object!([text!(b"\x97\0\0\0\xe7\x80\0\0"; reloc!(0, 19, 1, 0))]; [WEAKLY, START]),
     // Both halves of the address 0x800 behind `d`; at `d` the word of `w` plus 7.
-    "halves.o" => object!([
-        text!(b"\x17\x05\0\0\x13\x05\x05\0"; reloc!(0, 23, 2, 0x800), reloc!(4, 24, 1, 0)),
-        data!(b"\xff\xff\xff\xff\xff\xff\xff\xff"; reloc!(0, 2, 3, 7)),
-    ]; [LABEL, symbol!(b"d", 1, 1, 2, 0, 8), WEAKLY, START]),
+    "halves.o" => object!([text!(b"\x17\x05\0\0\x13\x05\x05\0"; reloc!(0, 23, 2, 0x800), reloc!(4, 24, 1, 0)),
+        data!(b"\xff\xff\xff\xff\xff\xff\xff\xff"; reloc!(0, 2, 3, 7))]; [LABEL, symbol!(b"d", 1, 1, 2, 0, 8), WEAKLY, START]),
     "m.o" => ASKER, "both.o" => ASKER_OF_BOTH,
     // A jump to the function behind it; `x` is of another file.
     "x.o" => object!(A => symbols: &[START, symbol!(b"f", 1, 2, 1, 4, 4), symbol!(b"x", 1, 0, 0, 0, 0)]),

@@ -6,8 +6,7 @@ use crate::{collected, groups};
 use elf_bytes::{archive_of, object_of};
 use std::alloc::{AllocError, Global};
 
-/// The files that an example has at hand, beside archives of its own. Those of the first three stores are `shared_files`; each other one
-/// belongs to one crate of examples.
+/// The files that an example has at hand, beside its own archives: `shared_files` has the first three stores, a crate of examples each other one.
 #[derive(Clone, Copy)]
 pub enum Store {
     Objects,

@@ -4,7 +4,10 @@ use Rattle.std.proofs.lemmas.List.{length-replicate}
 use Rattle.lk_base.specs.Arithmetic.{up}
 use Rattle.std.specs.List.{range_with_len}
 use Rattle.std.specs.Prelude.{decimal}
-use Rattle.link_gen.specs.Elf.{Symbol, half, long, padded, relocation, symbol_entries, symbol_entry, word, zeros}
+use Rattle.elf_fields.specs.Numbers.{half, long, word}
+use Rattle.elf_fields.specs.Symbols.{symbol_entry}
+use Rattle.elf_fields.proofs.Lengths.{symbol_entry_long}
+use Rattle.link_gen.specs.Elf.{Symbol, entry_of, padded, relocation, symbol_entries, zeros}
 use Rattle.link_gen.specs.Generated.{ret, call, call_relocations, f_code, f_relocations, g_code, symbol_table, merged_string}
 
 -- so many times the same number of bytes
@@ -42,17 +45,13 @@ pub string_length : (k digits : ℕ) → digits ≡ length (decimal (k % 11)) �
 unfolding merged_string
 string_length k digits e = omega (arith, e, length-append (decimal (k % 11)) (0 ∷ []))
 
-entry_length : (name info section size : ℕ) → length (symbol_entry name info section size) ≡ 24
-unfolding symbol_entry half word long
-entry_length name info section size = refl
-
 entries_length : (name : ℕ) (symbols : List Symbol) → length (symbol_entries name symbols) ≡ 24 * length symbols
 entries_length name [] = refl
 entries_length name (s ∷ rest) =
     omega (
       arith,
-      length-append (symbol_entry name s.info s.section s.size) (symbol_entries (name + (length s.name + 1)) rest),
-      entry_length name s.info s.section s.size,
+      length-append (symbol_entry (entry_of name s.info s.section s.size)) (symbol_entries (name + (length s.name + 1)) rest),
+      symbol_entry_long (entry_of name s.info s.section s.size),
       entries_length (name + (length s.name + 1)) rest,
     )
 

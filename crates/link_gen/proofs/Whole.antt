@@ -3,21 +3,21 @@ use Rattle.std.proofs.Common.{◌≡◌, ℕ, ◌+◌, List, [], ◌∷◌, ◌+
 use Rattle.std.proofs.lemmas.List.{map-append}
 use Rattle.std.specs.Global.{Global, Vec}
 use Rattle.std.specs.Prelude.{String, string_bytes}
-use Rattle.link_gen.specs.Elf.{Section, Symbol, file_header, laid, object_of, section_headers, zeros}
+use Rattle.link_gen.specs.Elf.{Section, Symbol, laid, object_header, object_of, section_headers, zeros}
 use Rattle.link_gen.specs.Generated.{called, generated, named_symbols, object, object_name, objects_in, sections_with}
 
 pub whole : (flags table count : ℕ) (sections : List Section) (o0 o1 o2 o3 o4 : List ℕ) → o0 ≡ [] → table ≡ 64 + length (laid sections)
-    → count ≡ 1 + length sections → o1 ≡ o0 ++ file_header table flags count → o2 ≡ o1 ++ laid sections → o3 ≡ o2 ++ zeros 64
+    → count ≡ 1 + length sections → o1 ≡ o0 ++ object_header table flags count → o2 ≡ o1 ++ laid sections → o3 ≡ o2 ++ zeros 64
     → o4 ≡ o3 ++ section_headers 1 64 sections → o4 ≡ object_of flags sections
 unfolding object_of
 whole flags table count sections o0 o1 o2 o3 o4 e0 table_is count_is e1 e2 e3 e4 =
-    let header : List ℕ = file_header table flags count in
+    let header : List ℕ = object_header table flags count in
     let headers : List ℕ = section_headers 1 64 sections in
     let first : o1 ≡ header = e1 ∙ ap (λ l. l ++ header) e0 in
     e4 ∙ ap (λ l. l ++ headers) (e3 ∙ ap (λ l. l ++ zeros 64) (e2 ∙ ap (λ l. l ++ laid sections) first))
     ∙ append_assoc (header ++ laid sections) (zeros 64) headers ∙ append_assoc header (laid sections) (zeros 64 ++ headers)
-    ∙ ap (λ t. file_header t flags count ++ (laid sections ++ (zeros 64 ++ headers))) table_is
-    ∙ ap (λ m. file_header (64 + length (laid sections)) flags m ++ (laid sections ++ (zeros 64 ++ headers))) count_is
+    ∙ ap (λ t. object_header t flags count ++ (laid sections ++ (zeros 64 ++ headers))) table_is
+    ∙ ap (λ m. object_header (64 + length (laid sections)) flags m ++ (laid sections ++ (zeros 64 ++ headers))) count_is
 
 pub object_is : (k n count : ℕ) (bytes : List ℕ) (sections : List Section) (symbols : List Symbol) → bytes ≡ object_of 5 sections
     → sections ≡ sections_with k (1 + count) symbols → symbols ≡ named_symbols k n → count ≡ length (called k n) → bytes ≡ object k n

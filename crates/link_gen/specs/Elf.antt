@@ -1,27 +1,16 @@
 -- Relocatable objects for RISC-V, each laid out from the list of its sections (System V gABI, "ELF Header", "Section Header", "String
 -- Table", "Symbol Table", "Relocation").
 use Rattle.std.specs.Prelude.{ℕ, ◌+◌, ◌-◌, List, [], ◌∷◌, ◌++◌, length, replicate, flat_map, map, codes}
-use Rattle.std.specs.Int.{to_le_bytes, w16, w32, w64}
 use Rattle.lk_base.specs.Arithmetic.{up}
-use Rattle.lk_base.specs.declared.abi.TheConstants.{ELFCLASS64, ELFDATA2LSB, EV_CURRENT, ET_REL, EM_RISCV, EHDR_SIZE, SHDR_SIZE, SHT_STRTAB}
-use Rattle.link_gen.specs.declared.sections.SectionHeader.{SectionHeader}
-
--- numbers of 2, 4 and 8 bytes
-unfoldable pub half : ℕ → List ℕ
-half n = to_le_bytes w16 n
-
-unfoldable pub word : ℕ → List ℕ
-word n = to_le_bytes w32 n
-
-unfoldable pub long : ℕ → List ℕ
-long n = to_le_bytes w64 n
+use Rattle.lk_base.specs.declared.abi.TheConstants.{ET_REL, EHDR_SIZE, SHDR_SIZE, SHT_STRTAB}
+use Rattle.elf_fields.specs.declared.headers.SectionHeader.{SectionHeader}
+use Rattle.elf_fields.specs.declared.symbols.SymbolEntry.{SymbolEntry}
+use Rattle.elf_fields.specs.Headers.{file_header, section_header}
+use Rattle.elf_fields.specs.Numbers.{long, word}
+use Rattle.elf_fields.specs.Symbols.{symbol_entry, zero_ended}
 
 abbrev pub zeros : ℕ → List ℕ
 zeros count = replicate count 0
-
--- a name as it stands in a string table
-abbrev pub zero_ended : List ℕ → List ℕ
-zero_ended name = name ++ 0 ∷ []
 
 -- a string table: a zero byte, and the names in order
 abbrev pub strings : List (List ℕ) → List ℕ
@@ -34,15 +23,16 @@ pub record Symbol : Type 0 where
   pub section : ℕ
   pub size : ℕ
 
--- Elf64_Sym; the symbol's name starts at `name` of the string table
-unfoldable pub symbol_entry : (name info section size : ℕ) → List ℕ
-symbol_entry name info section size = word name ++ (info ∷ 0 ∷ half section ++ (long 0 ++ long size))
+-- the entry of a symbol of value 0 whose name starts at `name` of the string table
+abbrev pub entry_of : (name info section size : ℕ) → SymbolEntry
+entry_of name info section size =
+    record { st_name = name; st_info = info; st_other = 0; st_shndx = section; st_value = 0; st_size = size }
 
 -- the entries of symbols whose names stand one after the other, the first at `name`
 abbrev pub symbol_entries : (name : ℕ) → List Symbol → List ℕ
 symbol_entries name [] = []
 symbol_entries name (s ∷ rest) =
-    symbol_entry name s.info s.section s.size ++ symbol_entries (name + (length s.name + 1)) rest
+    symbol_entry (entry_of name s.info s.section s.size) ++ symbol_entries (name + (length s.name + 1)) rest
 
 -- Elf64_Rela with addend 0
 unfoldable pub relocation : (offset kind symbol : ℕ) → List ℕ
@@ -80,21 +70,17 @@ laid sections = flat_map (λ s. padded s.contents) sections
 -- what a section's header says if its name starts at `name` of the section names and its bytes at `offset` of the file
 abbrev pub header_of : (name offset : ℕ) → Section → SectionHeader
 header_of name offset s = record {
-  name = name;
+  sh_name = name;
   sh_type = s.sh_type;
-  flags = s.flags;
-  offset = offset;
-  size = length s.contents;
-  link = s.link;
-  info = s.info;
-  align = s.align;
-  entry_size = s.entry_size;
+  sh_flags = s.flags;
+  sh_addr = 0;
+  sh_offset = offset;
+  sh_size = length s.contents;
+  sh_link = s.link;
+  sh_info = s.info;
+  sh_addralign = s.align;
+  sh_entsize = s.entry_size;
 }
-
--- Elf64_Shdr, with address 0
-unfoldable pub section_header : SectionHeader → List ℕ
-section_header h = word h.name ++ (word h.sh_type ++ (long h.flags ++ (long 0 ++ (long h.offset ++ (long h.size
-    ++ (word h.link ++ (word h.info ++ (long h.align ++ long h.entry_size))))))))
 
 -- the headers of sections whose names and bytes stand one after the other, the first at `name` and `offset`
 abbrev pub section_headers : (name offset : ℕ) → List Section → List ℕ
@@ -102,18 +88,22 @@ section_headers name offset [] = []
 section_headers name offset (s ∷ rest) = section_header (header_of name offset s)
     ++ section_headers (name + (length s.name + 1)) (offset + length (padded s.contents)) rest
 
--- 64 bits, little endian, version 1, and nine zeros
-unfoldable pub identification : List ℕ
-identification = 0x7f ∷ 0x45 ∷ 0x4c ∷ 0x46 ∷ ELFCLASS64 ∷ ELFDATA2LSB ∷ EV_CURRENT ∷ zeros 9
-
--- Elf64_Ehdr of a relocatable object: section headers at `table`, the code's flags, and how many section headers there are, of which
+-- the file header of a relocatable object: section headers at `table`, the code's flags, and how many section headers there are, of which
 -- the last is that of the section names
-unfoldable pub file_header : (table flags count : ℕ) → List ℕ
-file_header table flags count =
-    identification ++ (half ET_REL ++ (half EM_RISCV ++ (word EV_CURRENT ++ (long 0 ++ (long 0 ++ (long table
-    ++ (word flags ++ (half EHDR_SIZE ++ (half 0 ++ (half 0 ++ (half SHDR_SIZE ++ (half count ++ half (count - 1)))))))))))))
+unfoldable pub object_header : (table flags count : ℕ) → List ℕ
+object_header table flags count = file_header (record {
+  e_type = ET_REL;
+  e_entry = 0;
+  e_phoff = 0;
+  e_shoff = table;
+  e_flags = flags;
+  e_phentsize = 0;
+  e_phnum = 0;
+  e_shnum = count;
+  e_shstrndx = count - 1;
+})
 
 -- an object: the file header, the sections' bytes, and the section headers, the first of which is that of no section
 unfoldable pub object_of : (flags : ℕ) → List Section → List ℕ
-object_of flags sections = file_header (EHDR_SIZE + length (laid sections)) flags (1 + length sections)
+object_of flags sections = object_header (EHDR_SIZE + length (laid sections)) flags (1 + length sections)
     ++ (laid sections ++ (zeros SHDR_SIZE ++ section_headers 1 EHDR_SIZE sections))

@@ -3,7 +3,9 @@ use Rattle.std.specs.Prelude.{ℕ, ◌+◌, ◌*◌, ◌%◌, ◌^◌, ◌==◌,
 use Rattle.std.specs.Global.{Global, Vec}
 use Rattle.std.specs.List.{range_with_len}
 use Rattle.lk_base.specs.declared.abi.TheConstants.{EF_RISCV_FLOAT_ABI_DOUBLE, EF_RISCV_RVC, SHT_PROGBITS, SHT_RELA, SHT_SYMTAB, SHF_WRITE, SHF_ALLOC, SHF_EXECINSTR, SHF_INFO_LINK, SHF_MERGE, SHF_STRINGS, RELA_SIZE, SYM_SIZE, STB_LOCAL, STB_GLOBAL, STT_NOTYPE, STT_FUNC, STT_SECTION, SHN_UNDEF, R_RISCV_64, R_RISCV_CALL_PLT, R_RISCV_RELAX}
-use Rattle.link_gen.specs.Elf.{Section, Symbol, object_of, relocation, string_section, strings, symbol_entries, symbol_entry, with_section_names, word, zeros}
+use Rattle.elf_fields.specs.Numbers.{word}
+use Rattle.elf_fields.specs.Symbols.{symbol_entry}
+use Rattle.link_gen.specs.Elf.{Section, Symbol, entry_of, object_of, relocation, string_section, strings, symbol_entries, with_section_names, zeros}
 
 -- the numbers of the sections that symbols and other sections name
 abbrev pub f_section : ℕ
@@ -81,7 +83,8 @@ named_symbols k n = start k (call_count k n)
 
 -- symbol 0, which is no symbol; symbol 1, that of the string's section; and those that have names
 unfoldable pub symbol_table : List Symbol → List ℕ
-symbol_table named = symbol_entry 0 0 0 0 ++ (symbol_entry 0 (STB_LOCAL * 16 + STT_SECTION) rodata_section 0 ++ symbol_entries 1 named)
+symbol_table named = symbol_entry (entry_of 0 0 0 0)
+    ++ (symbol_entry (entry_of 0 (STB_LOCAL * 16 + STT_SECTION) rodata_section 0) ++ symbol_entries 1 named)
 
 -- the symbol of the function that call i of object k is to: behind the two symbols without names, and _start in object 0, stand f, g, d
 -- and the others; call 0 is of g, call 1 of the first of the others

@@ -5,11 +5,12 @@ ghost use Rattle.link_gen.specs.Contents.{IsSmall, contents_of};
 ghost use Rattle.link_gen.specs.Elf as elf;
 ghost use Rattle.link_gen.specs.Generated as spec;
 
-use crate::numbers::{digit_count, push_decimal, push_long, push_word, push_zeros};
+use crate::numbers::{digit_count, push_decimal, push_zeros};
 use crate::sections::{Contents, Section, push_section_names, section_names_size};
 use crate::symbols::{
     NUMBER_SIZE, RET_SIZE, Symbol, f_size, push_symbol_names, push_symbol_table, symbol_names_size,
 };
+use elf_fields::{push_long, push_word};
 use lk_base::abi::{R_RISCV_64, R_RISCV_CALL_PLT, R_RISCV_RELAX, RELA_SIZE, SYM_SIZE};
 use std::alloc::AllocError;
 
@@ -32,7 +33,7 @@ pub struct Object<'a> {
     pub sections: &'a [Section],
 }
 
-#[tactic(auto, unfolding(crate::specs::Generated::call, crate::specs::Elf::word))]
+#[tactic(auto, unfolding(crate::specs::Generated::call, elf_fields::specs::Numbers::word))]
 fn push_call(out: &mut Vec<u8>) -> Result<(), AllocError>
     ensures { OnOk result (out.new.items ≡ out.old.items ++ spec.call) }
 {

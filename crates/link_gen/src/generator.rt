@@ -8,8 +8,9 @@ ghost use Rattle.link_gen.specs.Generated as spec;
 
 use crate::contents::{Object, contents_size, push_contents};
 use crate::numbers::push_zeros;
-use crate::sections::{SECTIONS, Section, SectionHeader, push_file_header, push_section_header};
+use crate::sections::{SECTIONS, Section, push_object_header};
 use crate::symbols::{Symbol, called_count, named_symbols};
+use elf_fields::{SectionHeader, push_section_header};
 use lk_base::abi::{EF_RISCV_FLOAT_ABI_DOUBLE, EF_RISCV_RVC, EHDR_SIZE, SHDR_SIZE};
 use lk_base::up;
 use std::alloc::{AllocError, Global};
@@ -72,15 +73,16 @@ fn header_of(name: u32, offset: u64, section: &Section, object: &Object) -> Sect
     ensures { result ≡ elf.header_of name offset (section_view object.now section.now) }
 {
     SectionHeader {
-        name,
+        sh_name: name,
         sh_type: section.sh_type,
-        flags: section.flags,
-        offset,
-        size: contents_size(section.contents, object),
-        link: section.link,
-        info: section.info,
-        align: section.align,
-        entry_size: section.entry_size,
+        sh_flags: section.flags,
+        sh_addr: 0,
+        sh_offset: offset,
+        sh_size: contents_size(section.contents, object),
+        sh_link: section.link,
+        sh_info: section.info,
+        sh_addralign: section.align,
+        sh_entsize: section.entry_size,
     }
 }
 
@@ -107,7 +109,7 @@ fn bytes_of(alloc: Global, object: &Object) -> Result<Vec<u8>, AllocError>
     let table = table_offset(object);
     let count = 1 + object.sections.len() as u64;
     let mut out = Vec::with_capacity(alloc, (table + count * SHDR_SIZE) as usize)?;
-    push_file_header(&mut out, table, OBJECT_FLAGS, count as u16)?;
+    push_object_header(&mut out, table, OBJECT_FLAGS, count as u16)?;
     push_laid(&mut out, object)?;
     // The first section header is that of no section.
     push_zeros(&mut out, SHDR_SIZE)?;

@@ -1,33 +1,9 @@
-//! Numbers as an object's bytes and names have them.
+//! Zero bytes, and numbers as names have them.
 
 ghost use Rattle.std.specs.Prelude.{◌≡◌, ◌≤◌, ◌++◌, length, decimal, OnOk};
 ghost use Rattle.link_gen.specs.Elf as spec;
 
 use std::alloc::AllocError;
-
-/// Adds a number of two bytes.
-#[tactic(auto, unfolding(crate::specs::Elf::half))]
-pub fn push_half(out: &mut Vec<u8>, n: u16) -> Result<(), AllocError>
-    ensures { OnOk result (out.new.items ≡ out.old.items ++ spec.half n) }
-{
-    out.extend_from_slice(&n.to_le_bytes())
-}
-
-/// Adds a number of four bytes.
-#[tactic(auto, unfolding(crate::specs::Elf::word))]
-pub fn push_word(out: &mut Vec<u8>, n: u32) -> Result<(), AllocError>
-    ensures { OnOk result (out.new.items ≡ out.old.items ++ spec.word n) }
-{
-    out.extend_from_slice(&n.to_le_bytes())
-}
-
-/// Adds a number of eight bytes.
-#[tactic(auto, unfolding(crate::specs::Elf::long))]
-pub fn push_long(out: &mut Vec<u8>, n: u64) -> Result<(), AllocError>
-    ensures { OnOk result (out.new.items ≡ out.old.items ++ spec.long n) }
-{
-    out.extend_from_slice(&n.to_le_bytes())
-}
 
 /// Adds zero bytes.
 pub fn push_zeros(out: &mut Vec<u8>, count: u64) -> Result<(), AllocError>

@@ -1,14 +1,13 @@
-//! The sections of an object, and the bytes of headers (System V gABI, "ELF Header", "Section Header").
+//! The sections of an object, and the bytes of its file header (System V gABI, "ELF Header", "Section Header").
 
 ghost use Rattle.std.specs.Prelude.{◌≡◌, ◌^◌, ◌<◌, ◌≤◌, ◌++◌, length, OnOk};
 ghost use Rattle.link_gen.specs.Contents.{section_names};
 ghost use Rattle.link_gen.specs.Elf as spec;
 
-use crate::numbers::{push_half, push_long, push_word};
+use elf_fields::{FileHeader, push_file_header};
 use lk_base::abi::{
-    EHDR_SIZE, EM_RISCV, ET_REL, EV_CURRENT, RELA_SIZE, SHDR_SIZE, SHF_ALLOC, SHF_EXECINSTR,
-    SHF_INFO_LINK, SHF_MERGE, SHF_STRINGS, SHF_WRITE, SHT_PROGBITS, SHT_RELA, SHT_STRTAB,
-    SHT_SYMTAB, SYM_SIZE,
+    ET_REL, RELA_SIZE, SHF_ALLOC, SHF_EXECINSTR, SHF_INFO_LINK, SHF_MERGE, SHF_STRINGS, SHF_WRITE,
+    SHT_PROGBITS, SHT_RELA, SHT_STRTAB, SHT_SYMTAB, SYM_SIZE,
 };
 use std::alloc::AllocError;
 
@@ -151,72 +150,31 @@ pub const SECTIONS: [Section; 10] = [
     },
 ];
 
-/// One section header (`Elf64_Shdr`) of address 0.
-#[derive(Clone, Copy)]
-pub struct SectionHeader {
-    /// Where the name starts among the section names, in bytes.
-    pub name: u32,
-    pub sh_type: u32,
-    pub flags: u64,
-    pub offset: u64,
-    pub size: u64,
-    pub link: u32,
-    pub info: u32,
-    pub align: u64,
-    pub entry_size: u64,
-}
-
-#[tactic(auto, unfolding(crate::specs::Elf::identification))]
-fn push_identification(out: &mut Vec<u8>) -> Result<(), AllocError>
-    ensures { OnOk result (out.new.items ≡ out.old.items ++ spec.identification) }
-{
-    out.extend_from_slice(b"\x7fELF\x02\x01\x01\0\0\0\0\0\0\0\0\0")
-}
-
 /// Adds the file header of an object: the file offset of the section headers, the code's flags, and how many section headers there
 /// are.
-pub fn push_file_header(
+#[tactic(auto, unfolding(crate::specs::Elf::object_header))]
+pub fn push_object_header(
     out: &mut Vec<u8>,
     table: u64,
     flags: u32,
     count: u16,
 ) -> Result<(), AllocError>
     requires { 1 ≤ count }
-    ensures { OnOk result (out.new.items ≡ out.old.items ++ spec.file_header table flags count) }
+    ensures { OnOk result (out.new.items ≡ out.old.items ++ spec.object_header table flags count) }
 {
-    push_identification(out)?;
-    push_half(out, ET_REL)?;
-    push_half(out, EM_RISCV)?;
-    push_word(out, EV_CURRENT as u32)?;
-    push_long(out, 0)?;
-    push_long(out, 0)?;
-    push_long(out, table)?;
-    push_word(out, flags)?;
-    push_half(out, EHDR_SIZE as u16)?;
-    push_half(out, 0)?;
-    push_half(out, 0)?;
-    push_half(out, SHDR_SIZE as u16)?;
-    push_half(out, count)?;
-    // The last section has the names.
-    push_half(out, count - 1)?;
-    Ok(())
-}
-
-/// Adds a section header.
-pub fn push_section_header(out: &mut Vec<u8>, header: &SectionHeader) -> Result<(), AllocError>
-    ensures { OnOk result (out.new.items ≡ out.old.items ++ spec.section_header header.now) }
-{
-    push_word(out, header.name)?;
-    push_word(out, header.sh_type)?;
-    push_long(out, header.flags)?;
-    push_long(out, 0)?;
-    push_long(out, header.offset)?;
-    push_long(out, header.size)?;
-    push_word(out, header.link)?;
-    push_word(out, header.info)?;
-    push_long(out, header.align)?;
-    push_long(out, header.entry_size)?;
-    Ok(())
+    let header = FileHeader {
+        e_type: ET_REL,
+        e_entry: 0,
+        e_phoff: 0,
+        e_shoff: table,
+        e_flags: flags,
+        e_phentsize: 0,
+        e_phnum: 0,
+        e_shnum: count,
+        // The last section has the names.
+        e_shstrndx: count - 1,
+    };
+    push_file_header(out, &header)
 }
 
 /// Adds the names of sections as a string table.

@@ -2,11 +2,13 @@
 
 ghost use Rattle.std.specs.Prelude.{◌≡◌, ◌+◌, ◌*◌, ◌^◌, ◌<◌, ◌≤◌, ◌++◌, ◌∷◌, length, map, decimal, IfOk, OnOk};
 ghost use Rattle.std.specs.List.{range_with_len};
+ghost use Rattle.elf_fields.specs.Symbols.{symbol_entry};
 ghost use Rattle.link_gen.specs.Contents.{name_bytes, symbol_names, symbol_view};
 ghost use Rattle.link_gen.specs.Elf as elf;
 ghost use Rattle.link_gen.specs.Generated as spec;
 
-use crate::numbers::{digit_count, push_decimal, push_half, push_long, push_word};
+use crate::numbers::{digit_count, push_decimal};
+use elf_fields::{SymbolEntry, push_symbol_entry};
 use lk_base::abi::{SHN_UNDEF, STB_GLOBAL, STB_LOCAL, STT_FUNC, STT_NOTYPE, STT_SECTION};
 use std::alloc::{AllocError, Global};
 
@@ -159,7 +161,7 @@ fn push_name(out: &mut Vec<u8>, name: Name) -> Result<(), AllocError>
     }
 }
 
-/// Adds a symbol's entry (`Elf64_Sym`) of value 0; its name starts at `name` of the string table.
+/// Adds the entry of a symbol of value 0; its name starts at `name` of the string table.
 fn push_entry(
     out: &mut Vec<u8>,
     name: u32,
@@ -167,15 +169,17 @@ fn push_entry(
     section: u16,
     size: u64,
 ) -> Result<(), AllocError>
-    ensures { OnOk result (out.new.items ≡ out.old.items ++ elf.symbol_entry name info section size) }
+    ensures { OnOk result (out.new.items ≡ out.old.items ++ symbol_entry (elf.entry_of name info section size)) }
 {
-    push_word(out, name)?;
-    out.push(info)?;
-    out.push(0)?;
-    push_half(out, section)?;
-    push_long(out, 0)?;
-    push_long(out, size)?;
-    Ok(())
+    let entry = SymbolEntry {
+        st_name: name,
+        st_info: info,
+        st_other: 0,
+        st_shndx: section,
+        st_value: 0,
+        st_size: size,
+    };
+    push_symbol_entry(out, &entry)
 }
 
 /// Adds the entries of symbols whose names stand one after the other, the first behind the zero byte.

@@ -1,5 +1,4 @@
-//! Runs of the commands of worked examples over files and streams in memory, and whether they leave what their examples say. A crate of
-//! examples gives its `Stores`.
+//! Runs of the commands of worked examples over files and streams in memory, and whether each leaves what its example says.
 #![tactic(auto)]
 
 mod links;

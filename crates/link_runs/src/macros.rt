@@ -11,8 +11,7 @@ macro_rules! each {
     }};
 }
 
-/// That a condition holds of each row of a list with each number of workers, which the caller imports as `WORKERS`; a failure names the row's
-/// number.
+/// That a condition holds of each row of a list with each number of workers, which the caller imports as `WORKERS`; a failure names the row.
 #[macro_export]
 macro_rules! each_by_any {
     ($rt:ident; $row:ident, $workers:ident in $rows:expr => $holds:expr) => {{

@@ -1,5 +1,6 @@
 //! Runs of commands over files and streams in memory.
 
+use elf_bytes::record;
 use link_driver::{Gate, run, run_piped};
 use link_examples::{Call, Files, Outside, Stores, Stream, files_of, words_of};
 use lk_depot::{MemDepot, MemSink};
@@ -39,12 +40,7 @@ pub fn run_over<R: Threads + Sync, G: Gate>(
     let mut say = sink_of(alloc, &outside.say)?;
     let mut err = sink_of(alloc, &outside.err)?;
     let status = run(rt, alloc, words, &mut depot, &mut say, &mut err, gate);
-    Ok(Left {
-        status,
-        depot,
-        say,
-        err,
-    })
+    Ok(record!(Left; status: status, depot: depot, say: say, err: err))
 }
 
 /// Runs a command over the files and archives that it has at hand.
@@ -73,10 +69,5 @@ pub fn run_piped_over<R: Threads + Wait + Sync, G: Gate>(
     let mut say = sink_of(alloc, &outside.say)?;
     let mut err = sink_of(alloc, &outside.err)?;
     let status = run_piped(rt, alloc, words, &mut depot, &mut say, &mut err, gate);
-    Ok(Left {
-        status,
-        depot,
-        say,
-        err,
-    })
+    Ok(record!(Left; status: status, depot: depot, say: say, err: err))
 }

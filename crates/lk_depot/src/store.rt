@@ -37,7 +37,7 @@ pub trait Depot {
     ///
     /// A depot may have up to so many workers, each in a thread of its own that `rt` starts, read files at once. At a failure
     /// the first one in the list is answered, whichever worker was ahead, and files that come after it may have been read.
-    /// The clause on `rt` says what its bound does: that workers may share it.
+    /// The clause on `rt` says what its bound does: that workers may share it. Where a depot has no `load_files` of its own, its files are loaded one after another.
     fn load_files<R: Threads + Sync>(
         &mut self,
         rt: &R,
@@ -52,7 +52,20 @@ pub trait Depot {
         ensures later { (store self.old).faults ≤ (store self.new).faults }
         ensures files { (store self.new).files ≡ (store self.old).files }
         ensures kinds { (store self.new).kinds ≡ (store self.old).kinds }
-        ensures begun { (store self.new).begun ≡ (store self.old).begun };
+        ensures begun { (store self.new).begun ≡ (store self.old).begun }
+    {
+        let mut contents = Vec::new(alloc);
+        for (index, name) in names.iter().enumerate() {
+            let bytes = match self.load(alloc, name.as_str()) {
+                Ok(bytes) => bytes,
+                Err(LoadStop::Absent) => return Err(LoadAllStop::Absent { index }),
+                Err(LoadStop::Failed) => return Err(LoadAllStop::Failed { index }),
+                Err(LoadStop::Memory) => return Err(LoadAllStop::Memory),
+            };
+            contents.push(bytes).map_err(|_| LoadAllStop::Memory)?;
+        }
+        Ok(contents)
+    }
 
     /// Makes the file of this name anew and empty, or empties the one that is there.
     ///

@@ -1,14 +1,16 @@
-//! The outside for real: the files of the system as a store, and the two standard streams to write to. Their contracts say
-//! what failed, and nothing of what a file holds or a stream was given: that is the system's.
+//! The outside for real: the files of the system as a store, and the two standard streams to write to. The contracts of both
+//! say what failed, and nothing of what a file holds or a stream was given: that is the system's.
 //!
-//! Beside these it has what a program does first: its words (`words_of`), and what it asks of the system for its memory and its streams.
+//! Beside files and streams `lk_real` has what a program does first: its words (`words_of`), and what it asks of the system for its memory and its streams.
 //!
 //! Of a list of files each worker reads a share, up to the first that it can't read. The shares are joined in order, and the first failure
 //! of all is answered, counted and named. A worker is given 32 files at least, so a list of up to 63 is read file after file, and none
 //! after the first failure. Each loading thread keeps a buffer of 128 KB, so that a file costs an open, a seek, a read for each 128 KB and
-//! a close. Where seeking tells no end, as at a pipe or a file of the system's own, a file is read until it ends.
+//! a close. Where all files are read by the calling thread, and there are three workers or more, they read a file of 16 MB or more together.
+//! Where seeking tells no end, as at a pipe or a file of the system's own, a file is read until it ends.
 #![tactic(auto)]
 
+mod large;
 mod output;
 mod program;
 mod reading;

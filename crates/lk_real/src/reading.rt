@@ -5,6 +5,7 @@ ghost use Rattle.std.specs.Prelude.{◌≡◌, ◌^◌, ◌≤◌, length, IfOk}
 ghost use Rattle.work_split.specs.Shares.{IsShare};
 ghost use Rattle.lk_real.specs.Reading.{no_defects, AreRead, IsAny, IsOfNames};
 
+use crate::large::{LARGE, LEAST_WORKERS, read_by_all};
 use lk_base::LinkStop;
 use lk_depot::LoadAllStop;
 use std::alloc::{AllocError, Global};
@@ -79,10 +80,10 @@ fn read_up_to(file: &File, bytes: &mut Vec<u8>, end: u64, buffer: &mut [u8]) -> 
     Err(io::Error::from(ErrorKind::Interrupted))
 }
 
-/// Up to `MOST_READ` bytes of a file, from its start. What is in `buffer` does not matter.
-fn bytes_by(rt: &HostRuntime, alloc: Global, name: &str, buffer: &mut [u8]) -> io::Result<Vec<u8>> {
-    let mut file = File::open(rt, name)?;
-    let end = end_of(&mut file);
+/// The bytes of a file that is open, at its start where `end` is 0. What is in `buffer` does not matter.
+fn bytes_to(alloc: Global, file: File, end: u64, buffer: &mut [u8]) -> io::Result<Vec<u8>>
+    requires { end ≤ 2 ^ 31 }
+{
     let mut bytes = Vec::with_capacity(alloc, end as usize)?;
     if 0 < end {
         read_up_to(&file, &mut bytes, end, buffer)?;
@@ -95,21 +96,44 @@ fn bytes_by(rt: &HostRuntime, alloc: Global, name: &str, buffer: &mut [u8]) -> i
 /// Up to `MOST_READ` bytes of a file, from its start.
 pub(crate) fn bytes_of(rt: &HostRuntime, alloc: Global, name: &str) -> io::Result<Vec<u8>> {
     let mut buffer = vec![in alloc; 0u8; BUFFER]?;
-    bytes_by(rt, alloc, name, buffer.as_mut_slice())
+    let mut file = File::open(rt, name)?;
+    let end = end_of(&mut file);
+    bytes_to(alloc, file, end, buffer.as_mut_slice())
 }
 
-/// The bytes of a file, or None if it can't be read, or is not wanted.
-fn read_if(
-    wanted: bool,
+/// Up to `MOST_READ` bytes of a file, from its start, those of a large one by so many workers. What is in `buffer` does not matter.
+fn bytes_by<R: Threads + Sync>(
     files: &HostRuntime,
+    rt: &R,
     alloc: Global,
     name: &str,
     buffer: &mut [u8],
+    workers: u32,
+) -> io::Result<Vec<u8>> {
+    let mut file = File::open(files, name)?;
+    let end = end_of(&mut file);
+    if LARGE <= end && LEAST_WORKERS <= workers {
+        if let Some(bytes) = read_by_all(rt, alloc, &file, end as usize, workers)? {
+            return Ok(bytes);
+        }
+    }
+    bytes_to(alloc, file, end, buffer)
+}
+
+/// The bytes of a file, or None if it can't be read, or is not wanted.
+fn read_if<R: Threads + Sync>(
+    wanted: bool,
+    files: &HostRuntime,
+    rt: &R,
+    alloc: Global,
+    name: &str,
+    buffer: &mut [u8],
+    workers: u32,
 ) -> Result<Option<Vec<u8>>, AllocError> {
     if !wanted {
         return Ok(None);
     }
-    match bytes_by(files, alloc, name, buffer) {
+    match bytes_by(files, rt, alloc, name, buffer, workers) {
         Ok(bytes) => Ok(Some(bytes)),
         Err(error) => {
             if error.kind() == ErrorKind::OutOfMemory {
@@ -120,12 +144,14 @@ fn read_if(
     }
 }
 
-/// The bytes of the files of one share. After the first that can't be read none is opened.
-fn read_share(
+/// The bytes of the files of one share, the large ones by so many workers. After the first that can't be read none is opened.
+fn read_share<R: Threads + Sync>(
     files: &HostRuntime,
+    rt: &R,
     alloc: Global,
     names: &[String],
     share: Range<usize>,
+    workers: u32,
 ) -> Result<Vec<Option<Vec<u8>>>, LinkStop>
     requires ordered { share.start ≤ share.end }
     requires within { share.end ≤ length names.now }
@@ -136,7 +162,15 @@ fn read_share(
     let mut buffer = vec![in alloc; 0u8; BUFFER]?;
     let mut all = true;
     for at in share.start..share.end {
-        let file = read_if(all, files, alloc, names[at].as_str(), buffer.as_mut_slice())?;
+        let file = read_if(
+            all,
+            files,
+            rt,
+            alloc,
+            names[at].as_str(),
+            buffer.as_mut_slice(),
+            workers,
+        )?;
         all = file.is_some();
         read.push(file)?;
     }
@@ -187,6 +221,7 @@ pub(crate) fn read_files<R: Threads + Sync>(
     let Ok(cuts) = pieces(alloc, names.len(), workers_for(names.len(), workers)) else {
         return Err(LoadAllStop::Memory);
     };
+    let within = if cuts.len() == 1 { workers } else { 1 };
     let list = over_shares(
         rt,
         alloc,
@@ -196,7 +231,7 @@ pub(crate) fn read_files<R: Threads + Sync>(
             requires ordered { piece.start ≤ piece.end }
             requires within { piece.end ≤ length names.now }
             ensures { IsShare no_defects IsAny piece.start piece.end result }
-        { read_share(files, alloc, names, piece) },
+        { read_share(files, rt, alloc, names, piece, within) },
     );
     match list {
         Ok(list) => all_read(alloc, list),

@@ -132,6 +132,45 @@ fn long_files_are_read_whole(rt: HostRuntime) -> Result<(), Fail> {
     Ok(())
 }
 
+/// Whether so many workers load exactly these bytes as the only file of a list.
+fn is_read_by<R: Threads + Sync>(
+    rt: &R,
+    alloc: Global,
+    depot: &mut RealDepot<'_>,
+    names: &[String],
+    workers: u32,
+    bytes: &[u8],
+) -> bool
+    requires some { 1 ≤ workers }
+    requires most { workers ≤ 64 }
+{
+    let Ok(contents) = depot.load_files(rt, alloc, names, workers) else {
+        return false;
+    };
+    contents.len() == 1 && contents[0].as_slice() == bytes
+}
+
+#[test]
+fn large_files_are_read_by_all(rt: HostRuntime) -> Result<(), Fail> {
+    let alloc = rt.alloc();
+    let folder = made_folder(&rt, alloc, "large")?;
+    let mut names = Vec::new(alloc);
+    names.push(joined(alloc, &folder, "large")?)?;
+    let mut depot = RealDepot::new(&rt, alloc);
+    let piece = long_text(alloc, 250_000)?;
+    let mut text = Vec::new(alloc);
+    for _ in 0..68 {
+        text.extend_from_slice(&piece)?;
+    }
+    // A file of no whole blocks and no equal parts.
+    text.truncate(16_777_217);
+    stands(&rt, names[0].as_str(), &text, 0o600)?;
+    assert!(rt; is_read_by(&rt, alloc, &mut depot, &names, 3, &text));
+    assert_eq!(rt; depot.faults(), 0);
+    fs::remove_dir_all(&rt, folder.as_str())?;
+    Ok(())
+}
+
 /// So many files, each of which holds its own name.
 fn made_files(
     rt: &HostRuntime,

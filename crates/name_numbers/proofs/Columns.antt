@@ -1,12 +1,10 @@
--- Keys as lists of their tags, their texts and their places, as loops list them.
+-- Keys as lists of their texts and their places, as loops list them.
 use Rattle.std.proofs.Common.{◌≡◌, ℕ, ◌+◌, ◌-◌, ◌<◌, ◌≤◌, ◌==◌, ◌&&◌, Bool, true, false, List, [], ◌∷◌, ◌++◌, length, map, get_or, refl, sym, ap, ◌∙◌, subst, arith}
 use Rattle.std.specs.Prelude.{flat_map}
 use Rattle.std.specs.Borrow.{Bor}
 use Rattle.std.specs.List.{range_with_len}
-use Rattle.std.proofs.lemmas.List.{append-nil, get_or-map, length-map, map_push}
+use Rattle.std.proofs.lemmas.List.{append-nil, get_or-map, map_push}
 use Rattle.std.proofs.lemmas.Bool.{and_parts, cond-false, cond-true}
-use Rattle.std.proofs.lemmas.List.FromFn.{fill_by_all}
-use Rattle.std.proofs.lemmas.List.Elements.{All-contains, Contains-get_or}
 use Rattle.lk_base.proofs.Ranges.{two_parts}
 use Rattle.lk_tables.proofs.ByNumber.{symbol_rows_all}
 use Rattle.lk_tables.specs.declared.heads.Symbol.{Symbol}
@@ -16,21 +14,18 @@ use Rattle.lk_tables.specs.Names.{text_of}
 use Rattle.name_numbers.specs.declared.keys.Keys.{Keys}
 use Rattle.name_numbers.specs.declared.keys.Listed.{Listed}
 use Rattle.name_numbers.specs.Columns.{Appends, AreKeys, HasKeys, IsEmpty}
-use Rattle.name_numbers.specs.Firsts.{spread_tags}
-use Rattle.name_numbers.specs.Keys.{AreTagged, KeyView, first_no, firsts, firsts_in, key_in, key_of, keys, keys_in, place_of_key, tag_of_key, text_of_key}
+use Rattle.name_numbers.specs.Keys.{KeyView, first_no, firsts, firsts_in, key_in, key_of, keys, keys_in, place_of_key, text_of_key}
 use Rattle.name_numbers.specs.Spans.{first_span, symbol_in}
-use Rattle.name_numbers.specs.Tags.{spread_tag}
 use Rattle.name_numbers.specs.Texts.{lent_texts, text_at}
 use Rattle.name_numbers.proofs.Keyed.{no_view}
 use Rattle.name_numbers.proofs.Walks.{walk_more}
 
 -- one key, none, and those of one number more
-pub appends_one : (text : Bor (List ℕ)) (tag symbol : ℕ) (old new : Keys) → tag ≡ spread_tag text.now → new.tags.items ≡ old.tags.items ++ tag ∷ [] →
+pub appends_one : (text : Bor (List ℕ)) (symbol : ℕ) (old new : Keys) →
     new.texts.items ≡ old.texts.items ++ text ∷ [] → new.symbols.items ≡ old.symbols.items ++ symbol ∷ [] → Appends (key_of text.now symbol ∷ []) old new
-appends_one text tag symbol old new is tags texts symbols list are =
+appends_one text symbol old new texts symbols list are =
     let key = key_of text.now symbol in
     record {
-      tags = tags ∙ ap (λ l. l ++ tag ∷ []) are.tags ∙ ap (λ t. map tag_of_key list ++ t ∷ []) is ∙ sym (map_push tag_of_key list key);
       texts = ap lent_texts texts ∙ map_push (λ (t : Bor (List ℕ)). t.now) old.texts.items text ∙ ap (λ l. l ++ text.now ∷ []) are.texts ∙ sym (map_push text_of_key list key);
       symbols = symbols ∙ ap (λ l. l ++ symbol ∷ []) are.symbols ∙ sym (map_push place_of_key list key);
     }
@@ -56,7 +51,7 @@ pub listed_none : (files : List File) (a : ℕ) (listed : Listed) → IsEmpty li
 listed_none files a listed none =
     let e : a - a ≡ 0 = omega arith in
     let P : ℕ → Type 0 = λ n. AreKeys (flat_map (keys_in files) (range_with_len a n)) listed.keys in
-    let own : P 0 = record { tags = none.tags; texts = none.texts; symbols = none.symbols } in
+    let own : P 0 = record { texts = none.texts; symbols = none.symbols } in
     record { own = subst P (sym e) own; firsts = none.firsts ∙ ap (λ n. flat_map (firsts_in files) (range_with_len a n)) (sym e) }
 
 pub listed_next : (files : List File) (a f : ℕ) (more : List KeyView) (row : List ℕ) (old new : Listed) → a ≤ f → more ≡ keys_in files f → row ≡ firsts_in files f → Appends more old.keys new.keys → new.firsts.items ≡ old.firsts.items ++ row →
@@ -89,18 +84,6 @@ module _ (list : List KeyView) (k : ℕ) (lt : k < length list) where
 
   pub place_column : (places : List ℕ) → places ≡ map place_of_key list → get_or places k 0 ≡ place_of_key (get_or list k no_view)
   place_column places is = ap (λ l. get_or l k 0) is ∙ get_or-map place_of_key list k no_view 0 lt
-
--- their tags are those of their texts
-pub columns_tagged : (list : List KeyView) (tags : List ℕ) (texts : List (List ℕ)) → AreTagged list → tags ≡ map tag_of_key list → texts ≡ map text_of_key list → tags ≡ spread_tags texts
-unfolding spread_tags
-columns_tagged list tags texts tagged is are =
-    let count : length texts ≡ length list = ap length are ∙ length-map list text_of_key in
-    fill_by_all (λ i. spread_tag (text_at texts i)) tags (length texts) 0 (ap length is ∙ length-map list tag_of_key ∙ sym count)
-    (λ k lt.
-    let inside : k < length list = omega (arith, lt, count) in
-    ap (λ l. get_or l k 0) is ∙ get_or-map tag_of_key list k no_view 0 inside
-    ∙ All-contains (λ (v : KeyView). v.tag ≡ spread_tag v.text) list (get_or list k no_view) tagged (Contains-get_or list k no_view inside)
-    ∙ ap spread_tag (sym (text_column list k inside texts are)))
 
 -- a loop that lists keys
 pub key_next : (b : List ℕ) (symbols : List Symbol) (start i first : ℕ) (text : List ℕ) (initial old new : Keys) → (is_named (symbol_in symbols i) ≡ true → first ≡ first_span symbols i) →

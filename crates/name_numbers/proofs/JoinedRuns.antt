@@ -9,8 +9,8 @@ use Rattle.lk_base.proofs.Ranges.{two_parts}
 use Rattle.lk_tables.specs.Files.{File}
 use Rattle.work_split.proofs.RunsBeside.{GoesBeside}
 use Rattle.name_numbers.specs.declared.keys.Listed.{Listed}
-use Rattle.name_numbers.specs.Columns.{AreRuns, HasKeys, IsEmpty, IsJoin, Joins, firsts_of, symbols_of, tags_of, texts_of}
-use Rattle.name_numbers.specs.Keys.{firsts_in, keys_in, place_of_key, tag_of_key, text_of_key}
+use Rattle.name_numbers.specs.Columns.{AreRuns, HasKeys, IsEmpty, IsJoin, Joins, firsts_of, symbols_of, texts_of}
+use Rattle.name_numbers.specs.Keys.{firsts_in, keys_in, place_of_key, text_of_key}
 
 -- each element of a walk, seen through a view
 walk_viewed : {X Y : Type 0} (view : X → Y) (g : ℕ → List X) (ns : List ℕ) → map view (flat_map g ns) ≡ flat_map (λ n. map view (g n)) ns
@@ -35,13 +35,11 @@ module _ (files : List File) where
   pub runs_beside : GoesBeside {X = Listed} (AreRuns files)
   runs_beside = record {
     none = λ a. record {
-      tags = list_none tags_of (λ f. map tag_of_key (keys_in files f)) a;
       texts = list_none texts_of (λ f. map text_of_key (keys_in files f)) a;
       symbols = list_none symbols_of (λ f. map place_of_key (keys_in files f)) a;
       firsts = list_none firsts_of (firsts_in files) a;
     };
     both = λ a m b xs ys low high one two. record {
-      tags = list_both tags_of (λ f. map tag_of_key (keys_in files f)) a m b xs ys low high one.tags two.tags;
       texts = list_both texts_of (λ f. map text_of_key (keys_in files f)) a m b xs ys low high one.texts two.texts;
       symbols = list_both symbols_of (λ f. map place_of_key (keys_in files f)) a m b xs ys low high one.symbols two.symbols;
       firsts = list_both firsts_of (firsts_in files) a m b xs ys low high one.firsts two.firsts;
@@ -52,7 +50,6 @@ module _ (files : List File) where
   run_one a b run held =
       let ns = range_with_len a (b - a) in
       record {
-        tags = list_one tags_of (λ f. map tag_of_key (keys_in files f)) a b run (held.own.tags ∙ walk_viewed tag_of_key (keys_in files) ns);
         texts = list_one texts_of (λ f. map text_of_key (keys_in files f)) a b run (held.own.texts ∙ walk_viewed text_of_key (keys_in files) ns);
         symbols = list_one symbols_of (λ f. map place_of_key (keys_in files f)) a b run (held.own.symbols ∙ walk_viewed place_of_key (keys_in files) ns);
         firsts = list_one firsts_of (firsts_in files) a b run held.firsts;
@@ -63,7 +60,6 @@ module _ (files : List File) where
       let ns = range_with_len a (b - a) in
       record {
         own = record {
-          tags = is.tags ∙ are.tags ∙ sym (walk_viewed tag_of_key (keys_in files) ns);
           texts = is.texts ∙ are.texts ∙ sym (walk_viewed text_of_key (keys_in files) ns);
           symbols = is.symbols ∙ are.symbols ∙ sym (walk_viewed place_of_key (keys_in files) ns);
         };
@@ -72,14 +68,12 @@ module _ (files : List File) where
 
 -- the first r runs are joined
 pub record JoinedTo (runs : List Listed) (r : ℕ) (whole : Listed) : Type 0 where
-  pub tags : tags_of whole ++ flat_map tags_of (drop r runs) ≡ flat_map tags_of runs
   pub texts : texts_of whole ++ flat_map texts_of (drop r runs) ≡ flat_map texts_of runs
   pub symbols : symbols_of whole ++ flat_map symbols_of (drop r runs) ≡ flat_map symbols_of runs
   pub firsts : firsts_of whole ++ flat_map firsts_of (drop r runs) ≡ flat_map firsts_of runs
 
 pub joined_none : (runs : List Listed) (whole : Listed) → IsEmpty whole → JoinedTo runs 0 whole
 joined_none runs whole none = record {
-  tags = ap (λ l. l ++ flat_map tags_of runs) none.tags;
   texts = ap (λ l. l ++ flat_map texts_of runs) none.texts;
   symbols = ap (λ l. l ++ flat_map symbols_of runs) none.symbols;
   firsts = ap (λ l. l ++ flat_map firsts_of runs) none.firsts;
@@ -96,7 +90,6 @@ rest_next f runs r run old new lt is push held =
 
 pub joined_next : (runs : List Listed) (r : ℕ) (run old new : Listed) → r < length runs → run ≡ get_or runs r run → Joins run old new → JoinedTo runs r old → JoinedTo runs (r + 1) new
 joined_next runs r run old new lt is push held = record {
-  tags = rest_next tags_of runs r run old new lt is push.tags held.tags;
   texts = rest_next texts_of runs r run old new lt is push.texts held.texts;
   symbols = rest_next symbols_of runs r run old new lt is push.symbols held.symbols;
   firsts = rest_next firsts_of runs r run old new lt is push.firsts held.firsts;
@@ -107,7 +100,6 @@ rest_none f runs r whole all held = sym (append-nil (f whole)) ∙ ap (λ l. f w
 
 pub joined_all : (runs : List Listed) (r : ℕ) (whole : Listed) → length runs ≤ r → JoinedTo runs r whole → IsJoin runs whole
 joined_all runs r whole all held = record {
-  tags = rest_none tags_of runs r whole all held.tags;
   texts = rest_none texts_of runs r whole all held.texts;
   symbols = rest_none symbols_of runs r whole all held.symbols;
   firsts = rest_none firsts_of runs r whole all held.firsts;

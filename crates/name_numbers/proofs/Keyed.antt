@@ -28,7 +28,7 @@ use Rattle.name_numbers.specs.declared.sorting.Key.{Key}
 use Rattle.name_numbers.specs.Keys.{KeyView, key_view, key_views, key_of, key_in, keys_in, keys, first_in, first_no, no_key, key_cmp, key_text, text_of_key, place_of_key, AreTagged}
 use Rattle.name_numbers.specs.Marks.{Marks}
 use Rattle.name_numbers.specs.Spans.{symbol_in, first_span, first_or_none}
-use Rattle.name_numbers.specs.Tags.{spread_tag}
+use Rattle.intern_race.specs.Hash.{hash_of}
 use Rattle.name_numbers.proofs.Runs.{Runs, Marked, marks_all, marks_viewed, runs_by, runs_sorted, Exact, same_number, then_second, first_tie}
 use Rattle.name_numbers.proofs.Walks.{all_range, all_if, in_range, in_if}
 
@@ -95,8 +95,8 @@ view_in list k lt =
     let P : KeyView → Type 0 = Contains (key_views list) in
     subst P (view_at list k lt) (Contains-get_or (key_views list) k no_view (omega (arith, length-map list key_view)))
 
-tagged_at : (list : List Key) → AreTagged (key_views list) → (k : ℕ) → k < length list → (get_or list k no_key).name.tag ≡ spread_tag (get_or list k no_key).name.text.now
-tagged_at list tagged k lt = All-contains (λ (v : KeyView). v.tag ≡ spread_tag v.text) (key_views list) (key_view (get_or list k no_key)) tagged (view_in list k lt)
+tagged_at : (list : List Key) → AreTagged (key_views list) → (k : ℕ) → k < length list → (get_or list k no_key).name.tag ≡ hash_of (get_or list k no_key).name.text.now
+tagged_at list tagged k lt = All-contains (λ (v : KeyView). v.tag ≡ hash_of v.text) (key_views list) (key_view (get_or list k no_key)) tagged (view_in list k lt)
 
 abbrev tag_text_of : Key → TagText
 tag_text_of key = tag_text key.name.tag key.name.text.now
@@ -104,9 +104,9 @@ tag_text_of key = tag_text key.name.tag key.name.text.now
 pub keys_run : (list : List Key) → IsSorted key_cmp list → AreTagged (key_views list) → ((v w : KeyView) → Contains (key_views list) v → Contains (key_views list) w → v.at ≡ w.at → v.text ≡ w.text) → Runs (λ j. (get_or list j no_key).name.text.now) (λ j. (get_or list j no_key).at) (length list)
 keys_run list up tagged once =
     let place : Key → ℕ = λ key. key.at in
-    let tag_is : (k : ℕ) → k < length list → (get_or list k no_key).name.tag ≡ spread_tag (get_or list k no_key).name.text.now = tagged_at list tagged in
+    let tag_is : (k : ℕ) → k < length list → (get_or list k no_key).name.tag ≡ hash_of (get_or list k no_key).name.text.now = tagged_at list tagged in
     let same : (i j : ℕ) → i < length list → j < length list → (get_or list i no_key).name.text.now ≡ (get_or list j no_key).name.text.now → tag_text_of (get_or list i no_key) ≡ tag_text_of (get_or list j no_key) = λ i j lt less e.
-    ap (λ t. tag_text t (get_or list i no_key).name.text.now) (tag_is i lt ∙ ap spread_tag e ∙ sym (tag_is j less)) ∙ ap (tag_text (get_or list j no_key).name.tag) e in
+    ap (λ t. tag_text t (get_or list i no_key).name.text.now) (tag_is i lt ∙ ap hash_of e ∙ sym (tag_is j less)) ∙ ap (tag_text (get_or list j no_key).name.tag) e in
     let view : (x : Key) → Contains list x → (k : ℕ) × ((k < length list) × (get_or list k no_key ≡ x)) = λ x has. (has.0, (has.1, get_or_default list has.0 no_key x has.1 ∙ has.2)) in
     runs_by (λ j. tag_text_of (get_or list j no_key)) (λ j. (get_or list j no_key).name.text.now) (λ j. (get_or list j no_key).at) (length list)
     (λ i j lt less e. ap (λ (x : TagText). x.text) e) same
@@ -219,7 +219,7 @@ module _ (lent : List LentFile) (starts : List ℕ) (is : starts ≡ map (first_
 pub keys_tagged : (files : List File) → AreTagged (keys files)
 unfolding keys keys_in key_in
 keys_tagged files =
-    let P : KeyView → Type 0 = λ v. v.tag ≡ spread_tag v.text in
+    let P : KeyView → Type 0 = λ v. v.tag ≡ hash_of v.text in
     all_range P (keys_in files) 0 (length files) (λ f low high.
     all_range P (key_in (file_at files f).bytes (file_at files f).head.symbols (first_symbol files f)) 0 (length (file_at files f).head.symbols) (λ i low2 high2.
     all_if P _ (key_of (text_of (file_at files f).bytes (symbol_in (file_at files f).head.symbols i).name) (first_symbol files f + i)) (λ both. refl)))

@@ -1,6 +1,7 @@
 pub mod Walks
 pub mod Runs
 pub mod FirstSpans
+pub mod RisingSpans
 pub mod Keyed
 pub mod Columns
 pub mod JoinedRuns
@@ -10,5 +11,7 @@ pub mod Numbered
 pub mod NameWords
 pub mod LeastClaims
 pub mod TextPlaces
-pub mod TagFirsts
-pub mod TagParts
+pub mod Placing
+pub mod HashSteps
+pub mod BlockTexts
+pub mod HashLists

@@ -12,14 +12,12 @@ use Rattle.std.proofs.lemmas.List.Elements.{All-contains_itself, All-weaker, Con
 use Rattle.std.proofs.lemmas.List.Sorted.{IsPermutation-map}
 use Rattle.std.proofs.lemmas.Bool.{cases_Bool, cases_lt, both_ways}
 use Rattle.std.proofs.lemmas.Slice.Eq.{bytes_eq-Decides}
+use Rattle.intern_race.specs.Hash.{hash_of}
 use Rattle.name_numbers.specs.declared.sorting.Key.{Key}
-use Rattle.name_numbers.specs.Firsts.{spread_tags}
 use Rattle.name_numbers.specs.Keys.{KeyView, key_of, key_view, key_views, text_of_key, place_of_key, AreTagged}
 use Rattle.name_numbers.specs.Marks.{Marks}
-use Rattle.name_numbers.specs.Tags.{spread_tag}
 use Rattle.name_numbers.specs.Texts.{lent_texts, text_at, text_keys, text_number, text_numbers}
 use Rattle.name_numbers.proofs.Runs.{marks_moved}
-use Rattle.name_numbers.proofs.TagFirsts.{tag_is}
 use Rattle.name_numbers.proofs.Keyed.{view_of}
 use Rattle.name_numbers.proofs.Walks.{walk_map}
 
@@ -30,7 +28,7 @@ key_at texts i = key_of (text_at texts i) i
 pub record IsTextKey (texts : List (List ℕ)) (v : KeyView) : Type 0 where
   pub within : v.at < length texts
   pub text : v.text ≡ text_at texts v.at
-  pub tag : v.tag ≡ spread_tag v.text
+  pub tag : v.tag ≡ hash_of v.text
 
 text_key_of : (texts : List (List ℕ)) (i : ℕ) → i < length texts → IsTextKey texts (key_at texts i)
 text_key_of texts i lt = record { within = lt; text = refl; tag = refl }
@@ -54,7 +52,7 @@ text_key_has texts i lt = (
 
 pub text_keys_tagged : (texts : List (List ℕ)) → AreTagged (text_keys texts)
 text_keys_tagged texts =
-    let P : KeyView → Type 0 = λ v. v.tag ≡ spread_tag v.text in
+    let P : KeyView → Type 0 = λ v. v.tag ≡ hash_of v.text in
     All-weaker (Contains (text_keys texts)) P (λ v has. (text_key_is texts v has).tag) (text_keys texts) (All-contains_itself (text_keys texts))
 
 pub text_keys_once : (texts : List (List ℕ)) (v w : KeyView) → Contains (text_keys texts) v → Contains (text_keys texts) w → v.at ≡ w.at → v.text ≡ w.text
@@ -154,20 +152,13 @@ pub number_tells : (texts : List (List ℕ)) (s t : List ℕ) → Contains texts
 number_tells texts s t has also e = sym (number_of_text texts s has).same ∙ ap (text_at texts) e ∙ (number_of_text texts t also).same
 
 -- a loop that lists keys
-text_key_made : (list : List (Bor (List ℕ))) (i tag : ℕ) (blank : Bor (List ℕ)) → i < length list → tag ≡ spread_tag (text_at (lent_texts list) i) → view_of tag (get_or list i blank).now i ≡ key_at (lent_texts list) i
-text_key_made list i tag blank lt is =
-    let read : (get_or list i blank).now ≡ text_at (lent_texts list) i = sym (get_or-map (λ (text : Bor (List ℕ)). text.now) list i blank [] lt) in
-    ap (λ text. view_of tag text i) read ∙ ap (λ t. view_of t (text_at (lent_texts list) i) i) is
+pub text_key_next : (texts : List (List ℕ)) (i : ℕ) (key : Key) (old new : List Key) → key.name.text.now ≡ text_at texts i → key.name.tag ≡ hash_of key.name.text.now → key.at ≡ i
+    → new ≡ old ++ key ∷ [] → key_views old ≡ map (key_at texts) (range_with_len 0 i) → key_views new ≡ map (key_at texts) (range_with_len 0 (i + 1))
+text_key_next texts i key old new text tag at push before =
+    let one : key_view key ≡ key_at texts i =
+    ap (λ t. view_of t key.name.text.now key.at) tag ∙ ap (λ t. view_of (hash_of t) t key.at) text ∙ ap (view_of (hash_of (text_at texts i)) (text_at texts i)) at in
+    walk_map (key_at texts) [] (key_views old) (key_views new) (key_view key) i before (ap key_views push ∙ map_push key_view old key) one
 
-pub text_key_next : (list : List (Bor (List ℕ))) (tags : List ℕ) (i : ℕ) (blank : Bor (List ℕ)) (key : Key) (old new : List Key) → i < length list → tags ≡ spread_tags (lent_texts list) → key.name.text ≡ get_or list i blank → key.name.tag ≡ get_or tags i 0 → key.at ≡ i
-    → new ≡ old ++ key ∷ [] → key_views old ≡ map (key_at (lent_texts list)) (range_with_len 0 i) → key_views new ≡ map (key_at (lent_texts list)) (range_with_len 0 (i + 1))
-text_key_next list tags i blank key old new lt are text tag at push before =
-    let spread : key.name.tag ≡ spread_tag (text_at (lent_texts list) i) = tag ∙ ap (λ l. get_or l i 0) are ∙ tag_is (lent_texts list) i (omega (arith, lt, length_texts list)) in
-    let one : key_view key ≡ key_at (lent_texts list) i =
-    ap (λ (t : Bor (List ℕ)). view_of key.name.tag t.now key.at) text ∙ ap (view_of key.name.tag (get_or list i blank).now) at
-    ∙ text_key_made list i key.name.tag blank lt spread in
-    walk_map (key_at (lent_texts list)) [] (key_views old) (key_views new) (key_view key) i before (ap key_views push ∙ map_push key_view old key) one
-
-pub text_keys_all : (list : List (Bor (List ℕ))) (i : ℕ) (keys : List Key) → i ≡ length list → key_views keys ≡ map (key_at (lent_texts list)) (range_with_len 0 i) → key_views keys ≡ text_keys (lent_texts list)
+pub text_keys_all : (texts : List (List ℕ)) (i : ℕ) (keys : List Key) → i ≡ length texts → key_views keys ≡ map (key_at texts) (range_with_len 0 i) → key_views keys ≡ text_keys texts
 unfolding text_keys
-text_keys_all list i keys all is = is ∙ ap (λ n. map (key_at (lent_texts list)) (range_with_len 0 n)) (all ∙ sym (length_texts list))
+text_keys_all texts i keys all is = is ∙ ap (λ n. map (key_at texts) (range_with_len 0 n)) all

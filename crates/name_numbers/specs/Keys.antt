@@ -4,6 +4,7 @@ use Rattle.std.specs.List.{range_with_len}
 use Rattle.std.specs.declared.cmp.Ordering.{Ordering}
 use Rattle.std.specs.Ordering.{nat_cmp, ordering_then}
 use Rattle.std.specs.Cmp.Lexicographic.{slice_cmp}
+use Rattle.intern_race.specs.Hash.{hash_of}
 use Rattle.lk_tables.specs.declared.heads.Symbol.{Symbol}
 use Rattle.lk_tables.specs.Files.{File, file_at, first_symbol, by_symbol}
 use Rattle.lk_tables.specs.Names.{text_of}
@@ -11,7 +12,6 @@ use Rattle.lk_tables.specs.NameNumbers.{is_named}
 use Rattle.name_numbers.specs.declared.sorting.Key.{Key}
 use Rattle.name_numbers.specs.declared.sorting.TaggedText.{TaggedText}
 use Rattle.name_numbers.specs.Spans.{symbol_in, first_span}
-use Rattle.name_numbers.specs.Tags.{spread_tag}
 
 -- a key as a plain record
 pub record KeyView : Type 0 where
@@ -35,11 +35,11 @@ abbrev pub place_of_key : KeyView → ℕ
 place_of_key v = v.at
 
 abbrev pub AreTagged : List KeyView → Type 0
-AreTagged list = All (λ v. v.tag ≡ spread_tag v.text) list
+AreTagged list = All (λ v. v.tag ≡ hash_of v.text) list
 
 -- the key of symbol i of a file, whose first symbol has the number `start`: if its name counts, and it is the first of its span
 abbrev pub key_of : (text : List ℕ) (at : ℕ) → KeyView
-key_of text at = record { tag = spread_tag text; text = text; at = at }
+key_of text at = record { tag = hash_of text; text = text; at = at }
 
 unfoldable pub key_in : (b : List ℕ) → List Symbol → (start i : ℕ) → List KeyView
 key_in b symbols start i = if is_named (symbol_in symbols i) && first_span symbols i == i

@@ -1,7 +1,6 @@
 pub mod Columns
-pub mod Firsts
 pub mod Keys
 pub mod Marks
+pub mod Placed
 pub mod Spans
-pub mod Tags
 pub mod Texts

@@ -1,5 +1,5 @@
 -- The symbols of a file whose names are the same span of its bytes.
-use Rattle.std.specs.Prelude.{ℕ, ◌==◌, ◌&&◌, Bool, Option, Some, None, if◌then◌else◌, List, [], ◌∷◌, length, find, flat_map, slice_index_or}
+use Rattle.std.specs.Prelude.{◌≡◌, ℕ, ◌+◌, ◌≤◌, ◌==◌, ◌&&◌, Bool, true, false, Option, Some, None, if◌then◌else◌, List, [], ◌∷◌, length, find, flat_map, slice_index_or}
 use Rattle.std.specs.List.{range_with_len}
 use Rattle.std.specs.declared.cmp.Ordering.{Ordering}
 use Rattle.std.specs.Ordering.{nat_cmp, ordering_then}
@@ -60,3 +60,8 @@ abbrev pub is_same_span : List Spot → (j k : ℕ) → Bool
 is_same_span list j k =
     (slice_index_or list j no_spot).span.from == (slice_index_or list k no_spot).span.from
     && (slice_index_or list j no_spot).span.len == (slice_index_or list k no_spot).span.len
+
+-- a name that counts begins at `next` or after it, and `more` is right after its first byte; for another symbol `more` is `next`
+pub record StepsOver (s : Symbol) (next more : ℕ) : Type 0 where
+  pub named : is_named s ≡ true → (next ≤ s.name.from) × (more ≡ s.name.from + 1)
+  pub other : is_named s ≡ false → more ≡ next

@@ -10,7 +10,6 @@ ghost use Rattle.name_numbers.specs.Keys.{key_in, key_of, first_in};
 ghost use Rattle.name_numbers.specs.Spans.{first_or_none};
 
 use crate::spans::{first_spans, is_named};
-use crate::tags::spread_tag_of;
 use lk_tables::{File, Symbol, text_of};
 use std::alloc::{AllocError, Global};
 use std::ops::Range;
@@ -18,8 +17,6 @@ use std::ops::Range;
 /// The keys of some files, in order of file and symbol. Each step that numbers them reads one of these lists alone.
 #[derive(Drop)]
 pub struct Keys<'a> {
-    /// The tags of the names, spread over all bits.
-    pub tags: Vec<u64>,
     /// The names.
     pub texts: Vec<&'a [u8]>,
     /// The numbers of the first symbols of the names' spans.
@@ -42,14 +39,9 @@ pub fn nothing_listed<'a>(
     ensures { IfOk result IsEmpty }
 {
     let firsts = Vec::with_capacity(alloc, symbols)?;
-    let tags = Vec::with_capacity(alloc, keys)?;
     let texts = Vec::with_capacity(alloc, keys)?;
     let symbols = Vec::with_capacity(alloc, keys)?;
-    let keys = Keys {
-        tags,
-        texts,
-        symbols,
-    };
+    let keys = Keys { texts, symbols };
     Ok(Listed { keys, firsts })
 }
 
@@ -115,7 +107,6 @@ fn push_keys<'a>(
 fn push_key<'a>(keys: &mut Keys<'a>, text: &'a [u8], symbol: u32) -> Result<(), AllocError>
     ensures { OnOk result (Appends (key_of text.now symbol ∷ []) keys.old keys.new) }
 {
-    keys.tags.push(spread_tag_of(text))?;
     keys.texts.push(text)?;
     keys.symbols.push(symbol)?;
     Ok(())

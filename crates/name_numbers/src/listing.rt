@@ -136,7 +136,7 @@ fn join_runs<'a>(
 fn key_count(runs: &[Listed]) -> usize {
     let mut count: usize = 0;
     for run in runs {
-        count = count.saturating_add(run.keys.tags.len());
+        count = count.saturating_add(run.keys.texts.len());
     }
     count
 }
@@ -145,7 +145,6 @@ fn key_count(runs: &[Listed]) -> usize {
 fn join_run<'a>(whole: &mut Listed<'a>, run: &Listed<'a>) -> Result<(), AllocError>
     ensures { OnOk result (Joins run.now whole.old whole.new) }
 {
-    whole.keys.tags.extend_from_slice(run.keys.tags.as_slice())?;
     whole
         .keys
         .texts

@@ -10,35 +10,35 @@ ghost use Rattle.name_numbers.specs.Marks.{AreMarked};
 
 use crate::keys::Keys;
 use crate::listing::keys_of;
-use crate::texts::number_tagged;
+use crate::texts::number_texts;
+use intern_race::Texts;
 use lk_tables::{File, NameNumbers, first_symbols};
 use rayon::prelude::*;
 use std::alloc::{AllocError, Global};
 use std::thread::Threads;
+use work_split::Gate;
 
 /// The numbers of fewer symbols are not worth threads.
 const LEAST: usize = 262_144;
 
 /// Numbers the names of all files' symbols, whether their files take part in the link or not: by symbol number, 0 for LOCAL ones. One worker
 /// does all by itself; for more, threads are started if there are many names. The only error is out of memory.
-pub fn number_names<R: Threads + Sync>(
+pub fn number_names<R: Threads + Sync, G: Gate>(
     rt: &R,
     alloc: Global,
     files: &[File],
     workers: u32,
+    gate: &G,
 ) -> Result<NameNumbers, AllocError>
     requires symbols { symbol_total (file_views files.now) < 2 ^ 31 }
     ensures { IfOk result (λ n. NumbersNames (heads_alone (file_views files.now)) n) }
 {
     let starts = first_symbols(alloc, files)?;
     let listed = keys_of(rt, alloc, files, starts.as_slice(), workers)?;
-    let Keys {
-        tags,
-        texts,
-        symbols,
-    } = listed.keys;
+    let Keys { texts, symbols } = listed.keys;
     let mut firsts = listed.firsts;
-    let indexes = number_tagged(rt, alloc, texts.as_slice(), tags.as_slice(), workers)?;
+    let texts = Texts::of(alloc, texts);
+    let indexes = number_texts(rt, alloc, &texts, workers, gate)?;
     mark_firsts(
         firsts.as_mut_slice(),
         symbols.as_slice(),

@@ -1,4 +1,4 @@
-//! Texts in order, and the first of each run of equal ones: slower than tables of their tags, but whatever the tags are.
+//! Texts in order, and the first of each run of equal ones: slower than a table of their hashes, but whatever the hashes are.
 
 ghost use Rattle.std.specs.Prelude.{◌≡◌, ℕ, ◌<◌, ◌==◌, ◌||◌, ◌-◌, not, length, Contains};
 ghost use Rattle.std.specs.Str.{bytes_eq};

@@ -1,12 +1,12 @@
 //! The first symbol of a file whose name is the same span of its bytes: symbols of one span have one name, whatever its bytes.
 
-ghost use Rattle.std.specs.Prelude.{◌≡◌, ℕ, ◌<◌, ◌==◌, ◌||◌, ◌-◌, ◌^◌, not, length, map, slice_index, replicate, IfOk, Contains};
+ghost use Rattle.std.specs.Prelude.{◌≡◌, ℕ, ◌<◌, ◌==◌, ◌||◌, ◌-◌, ◌^◌, not, length, map, slice_index, replicate, if◌then◌else◌, IfOk, IfSome, Contains};
 ghost use Rattle.std.specs.List.{range_with_len};
 ghost use Rattle.std.specs.List.Sorted.{IsPermutation, IsSorted};
 ghost use Rattle.lk_tables.specs.FileView.{file_view};
 ghost use Rattle.lk_tables.specs.NameNumbers.{is_named};
 ghost use Rattle.name_numbers.specs.Marks.{Marks};
-ghost use Rattle.name_numbers.specs.Spans.{spot_cmp, spots, span_of, place_of, first_or_none, is_same_span};
+ghost use Rattle.name_numbers.specs.Spans.{StepsOver, spot_cmp, spots, span_of, place_of, first_or_none, is_same_span};
 
 use lk_tables::{File, Symbol, is_common, is_visible};
 use std::alloc::{AllocError, Global};
@@ -25,8 +25,59 @@ pub struct Spot {
     pub symbol: u32,
 }
 
-/// By index, the first symbol of the file whose name is the same span; 0 for a symbol whose name does not count.
+/// By index, the first symbol of the file whose name is the same span; 0 for a symbol whose name does not count. Where names stand in order of their
+/// symbols, each is its own first, and no list of spans is made.
 pub fn first_spans(alloc: Global, file: &File) -> Result<Vec<u32>, AllocError>
+    requires { length (file_view file.now).head.symbols < 2 ^ 31 }
+    ensures { IfOk result (λ firsts. firsts.items ≡ map (first_or_none (file_view file.now).head.symbols) (range_with_len 0 (length (file_view file.now).head.symbols))) }
+{
+    match rising_firsts(alloc, file)? {
+        Some(firsts) => Ok(firsts),
+        None => sorted_firsts(alloc, file),
+    }
+}
+
+/// The same, if each name that counts begins after where the one before it begins.
+fn rising_firsts(alloc: Global, file: &File) -> Result<Option<Vec<u32>>, AllocError>
+    requires { length (file_view file.now).head.symbols < 2 ^ 31 }
+    ensures { IfOk result (λ found. IfSome found (λ firsts. firsts.items ≡ map (first_or_none (file_view file.now).head.symbols) (range_with_len 0 (length (file_view file.now).head.symbols)))) }
+{
+    let count = file.symbols().len();
+    let mut firsts = Vec::with_capacity(alloc, count)?;
+    let mut next: u64 = 0;
+    for i in 0..count {
+        let symbol = file.symbol(i);
+        let Some(more) = next_from(&symbol, next) else {
+            return Ok(None);
+        };
+        next = more;
+        firsts.push(own_or_none(&symbol, i as u32))?;
+    }
+    Ok(Some(firsts))
+}
+
+/// Where the name of the next symbol may begin, after a symbol whose name may begin at `next` or later. None if it begins before.
+fn next_from(symbol: &Symbol, next: u64) -> Option<u64>
+    ensures { IfSome result (StepsOver symbol.now next) }
+{
+    if !is_named(symbol) {
+        return Some(next);
+    }
+    if symbol.name.from < next {
+        return None;
+    }
+    symbol.name.from.checked_add(1)
+}
+
+/// The index of a symbol whose name counts; 0 for another.
+fn own_or_none(symbol: &Symbol, i: u32) -> u32
+    ensures { result ≡ (if is_named symbol.now then i else 0) }
+{
+    if is_named(symbol) { i } else { 0 }
+}
+
+/// The same in any order: names are sorted by their spans.
+fn sorted_firsts(alloc: Global, file: &File) -> Result<Vec<u32>, AllocError>
     requires { length (file_view file.now).head.symbols < 2 ^ 31 }
     ensures { IfOk result (λ firsts. firsts.items ≡ map (first_or_none (file_view file.now).head.symbols) (range_with_len 0 (length (file_view file.now).head.symbols))) }
 {

@@ -1,68 +1,84 @@
 //! Any texts by number.
 
 ghost use Rattle.std.specs.Prelude.{◌≡◌, ◌<◌, ◌^◌, length, IfOk};
-ghost use Rattle.name_numbers.specs.Firsts.{spread_tags};
 ghost use Rattle.name_numbers.specs.Keys.{key_views};
-ghost use Rattle.name_numbers.specs.Texts.{lent_texts, text_keys, text_numbers};
+ghost use Rattle.name_numbers.specs.Texts.{text_keys, text_numbers};
 
-use crate::shards::{number_tags, tags_of};
+use crate::racing::{number_by_all, number_by_one};
 use crate::sorting::{Key, TaggedText, mark_keys, sort_keys};
-use crate::telling::are_told;
+use intern_race::{Texts, hash_of};
 use std::alloc::{AllocError, Global};
 use std::thread::Threads;
+use work_split::Gate;
 
-/// So few texts are sorted by one worker: the tables of all shards would take longer to make, and threads longer to start.
-const FEW: usize = 2048;
+/// Fewer texts are not worth threads.
+const FEW: usize = 16_384;
 
-/// For each text the index of the first that is equal to it. One worker does all by itself; for more, threads are started if there are many texts.
-pub fn number_texts<R: Threads + Sync>(
+/// So many workers place texts, if there are more.
+const MOST: u32 = 64;
+
+/// For each text the index of the first that is equal to it. One worker does all by itself; for more, threads are started if there are many texts,
+/// and worker w passes `gate` before and after each of its two tasks.
+pub fn number_texts<R: Threads + Sync, G: Gate>(
     rt: &R,
     alloc: Global,
-    texts: &[&[u8]],
+    texts: &Texts,
     workers: u32,
+    gate: &G,
 ) -> Result<Vec<u32>, AllocError>
     requires { length texts.now < 2 ^ 31 }
-    ensures { IfOk result (λ list. list.items ≡ text_numbers (lent_texts texts.now)) }
+    ensures { IfOk result (λ list. list.items ≡ text_numbers texts.now) }
 {
-    let tags = tags_of(rt, alloc, texts, workers)?;
-    number_tagged(rt, alloc, texts, tags.as_slice(), workers)
+    if workers == 1 || texts.len() < FEW {
+        return number_alone(rt, alloc, texts);
+    }
+    number_together(rt, alloc, texts, workers, gate)
 }
 
-/// The same, where the tags of the texts are known.
-pub fn number_tagged<R: Threads + Sync>(
+/// The same by one worker.
+fn number_alone<R: Threads + Sync>(
     rt: &R,
     alloc: Global,
-    texts: &[&[u8]],
-    tags: &[u64],
-    workers: u32,
+    texts: &Texts,
 ) -> Result<Vec<u32>, AllocError>
-    requires few { length texts.now < 2 ^ 31 }
-    requires tags { tags.now ≡ spread_tags (lent_texts texts.now) }
-    ensures { IfOk result (λ list. list.items ≡ text_numbers (lent_texts texts.now)) }
+    requires { length texts.now < 2 ^ 31 }
+    ensures { IfOk result (λ list. list.items ≡ text_numbers texts.now) }
 {
-    if texts.len() < FEW {
-        return number_by_order(rt, alloc, texts, tags, 1);
+    match number_by_one(alloc, texts)? {
+        Some(numbers) => Ok(numbers),
+        None => number_by_order(rt, alloc, texts, 1),
     }
-    let numbers = number_tags(rt, alloc, tags, workers)?;
-    if !are_told(rt, texts, numbers.as_slice(), workers) {
-        return number_by_order(rt, alloc, texts, tags, workers);
-    }
-    Ok(numbers)
 }
 
-/// The same by a sort by their tags and their bytes: of few texts, and where texts that differ have one tag, or tags crowd a table.
+/// The same by several.
+fn number_together<R: Threads + Sync, G: Gate>(
+    rt: &R,
+    alloc: Global,
+    texts: &Texts,
+    workers: u32,
+    gate: &G,
+) -> Result<Vec<u32>, AllocError>
+    requires { length texts.now < 2 ^ 31 }
+    ensures { IfOk result (λ list. list.items ≡ text_numbers texts.now) }
+{
+    let some = workers.max(1).min(MOST);
+    match number_by_all(rt, alloc, texts, some, gate)? {
+        Some(numbers) => Ok(numbers),
+        None => number_by_order(rt, alloc, texts, workers),
+    }
+}
+
+/// The same by a sort by their hashes and their bytes: where hashes crowd the table, by design too.
 fn number_by_order<R: Threads + Sync>(
     rt: &R,
     alloc: Global,
-    texts: &[&[u8]],
-    tags: &[u64],
+    texts: &Texts,
     workers: u32,
 ) -> Result<Vec<u32>, AllocError>
-    requires few { length texts.now < 2 ^ 31 }
-    requires tags { tags.now ≡ spread_tags (lent_texts texts.now) }
-    ensures { IfOk result (λ list. list.items ≡ text_numbers (lent_texts texts.now)) }
+    requires { length texts.now < 2 ^ 31 }
+    ensures { IfOk result (λ list. list.items ≡ text_numbers texts.now) }
 {
-    let mut keys = keys_of_texts(alloc, texts, tags)?;
+    let mut keys = keys_of_texts(alloc, texts)?;
     let mut numbers = vec![in alloc; 0; texts.len()]?;
     sort_keys(rt, keys.as_mut_slice(), workers);
     mark_keys(numbers.as_mut_slice(), keys.as_slice());
@@ -70,21 +86,17 @@ fn number_by_order<R: Threads + Sync>(
 }
 
 /// The keys of texts, each with its index.
-fn keys_of_texts<'a>(
-    alloc: Global,
-    texts: &[&'a [u8]],
-    tags: &[u64],
-) -> Result<Vec<Key<'a>>, AllocError>
-    requires few { length texts.now < 2 ^ 31 }
-    requires tags { tags.now ≡ spread_tags (lent_texts texts.now) }
-    ensures { IfOk result (λ keys. key_views keys.items ≡ text_keys (lent_texts texts.now)) }
+fn keys_of_texts<'t>(alloc: Global, texts: &'t Texts) -> Result<Vec<Key<'t>>, AllocError>
+    requires { length texts.now < 2 ^ 31 }
+    ensures { IfOk result (λ keys. key_views keys.items ≡ text_keys texts.now) }
 {
     let mut keys = Vec::with_capacity(alloc, texts.len())?;
     for i in 0..texts.len() {
+        let text = texts.text(i);
         keys.push(Key {
             name: TaggedText {
-                tag: tags[i],
-                text: texts[i],
+                tag: hash_of(text),
+                text,
             },
             at: i as u32,
         })?;

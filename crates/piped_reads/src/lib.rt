@@ -6,7 +6,7 @@
 //! each result is of a file that was loaded, and of no file there are two. `reading` is what is read of one file, `results` collects it, and `piped`
 //! starts the parsers, joins them and puts what they have read in order.
 //!
-//! A parser for which there is no thread runs once the loader is done. Then it ends at once: parsers add themselves to a count, which the loader closes
+//! A parser for which there is no thread runs once the loader is done, and ends at once: parsers add themselves to a count, which the loader closes
 //! before it puts an end mark for each that it found there. No clause speaks of that count.
 #![tactic(auto)]
 

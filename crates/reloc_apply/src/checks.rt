@@ -1,10 +1,11 @@
 //! Which relocations can't be done: the first that lacks its partner, or whose value its field does not take.
 
-ghost use Rattle.std.specs.Prelude.{◌≡◌, ℕ, ◌+◌, ◌-◌, ◌<◌, ◌≤◌, [], ◌∷◌, true, false, length, map, flat_map, min, slice_index, slice_index_or, None, Some, MatchResult, All, if◌then◌else◌};
+ghost use Rattle.std.specs.Prelude.{◌≡◌, ◌==◌, ℕ, ◌+◌, ◌-◌, ◌<◌, ◌≤◌, [], ◌∷◌, true, false, length, map, flat_map, min, slice_index, slice_index_or, None, Some, MatchResult, All, if◌then◌else◌};
 ghost use Rattle.std.specs.List.{range_with_len};
 ghost use Rattle.lk_base.specs.Firsts.{Goes, IsFirst};
 ghost use Rattle.lk_base.specs.Reaches.{misfit_of};
 ghost use Rattle.lk_base.specs.RelocKinds.{HasValue};
+ghost use Rattle.lk_base.specs.declared.abi.TheConstants.{R_RISCV_64};
 ghost use Rattle.lk_tables.specs.Files.{file_at, is_section_symbol, no_reloc, section_total, symbol_at};
 ghost use Rattle.lk_tables.specs.Sites.{relocs_of};
 ghost use Rattle.link_sections.specs.Leaders.{leads};
@@ -19,6 +20,7 @@ use crate::plain::plain_from;
 use crate::sites::{Site, relocs_at, site_of};
 use crate::values::{is_hint, value_of};
 use link_sections::{View, leads};
+use lk_base::abi::R_RISCV_64;
 use lk_base::kinds::{NO_PARTNER, ODD, RANGE};
 use lk_base::relocations::is_uleb;
 use lk_base::{Defect, DefectKind, LinkStop, Misfit, SecNo, low_bits};
@@ -150,6 +152,9 @@ pub fn check_reloc(
     if is_hint(reloc.kind) {
         return None;
     }
+    if is_word(reloc.kind) {
+        return None;
+    }
     let Ok(value) = value_of(view, site, reloc, plain, operand(view, site, relocs, k, 0)) else {
         return Some(reloc_defect(NO_PARTNER, site.place, reloc, 0));
     };
@@ -160,6 +165,13 @@ pub fn check_reloc(
         return Some(misfit_defect(site.place, reloc, v, misfit));
     }
     None
+}
+
+/// Whether a relocation is an address of eight bytes: its place takes every value.
+fn is_word(kind: u32) -> bool
+    ensures { result ≡ (kind == R_RISCV_64) }
+{
+    kind == R_RISCV_64
 }
 
 /// Whether the place of a relocation holds a value.

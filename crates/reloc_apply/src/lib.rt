@@ -6,7 +6,7 @@
 //! the first that is not local on is not read to learn whether it is a SECTION symbol (`plain`); for fewer than 64 relocations of a section
 //! that first symbol is not looked for. The upper parts of all sections stand in one list by section number, made once (`uppers`), so that
 //! a lower part finds its own by bisection, while the definition speaks of the section's relocations alone. Relocations of one section are
-//! done in order, and some kinds add to what their place holds. So a block walks them with a window of ten bytes (`scanning`), in which
+//! done in order, and some kinds add to what their place holds. A block therefore walks them with a window of ten bytes (`scanning`), in which
 //! stand the bytes of the place after all relocations before it, whether or not these lie in the block.
 //!
 //! `uppers` lists the upper parts of each section, `values` computes what a relocation puts into its place, `plain` looks ahead whether

@@ -1,6 +1,6 @@
 //! Relocation values in RISC-V code and data: which values the field of a relocation holds, and putting a value
-//! there (RISC-V ELF psABI, "Relocations"; unprivileged manual, "Immediate Encoding Variants"). What there is to know
-//! of each kind is `lk_base`'s table. No call takes memory.
+//! there (RISC-V ELF psABI, "Relocations"; unprivileged manual, "Immediate Encoding Variants"). The table of
+//! the kinds stands in `lk_base`. No call takes memory.
 #![tactic(auto)]
 
 mod instructions;

@@ -64,42 +64,30 @@ const FIELDS: [Field; 23] = fields![
 ];
 
 const REACHES: [Reach; 8] = reaches![
-    kinds [R_RISCV_BRANCH]
-        fit [-4096, -4094, -2, 0, 2, 4092, 4094]
+    kinds [R_RISCV_BRANCH] fit [-4096, -4094, -2, 0, 2, 4092, 4094]
         odd [-4099, -4097, -4095, -1, 1, 4093, 4095, 4097, i128::MAX]
         out [i128::MIN, -18446744073709551618, -4098, 4096, 18446744073709551618, i128::MAX - 1];
-    kinds [R_RISCV_JAL]
-        fit [-1048576, -1048574, -2, 0, 2, 1048572, 1048574]
+    kinds [R_RISCV_JAL] fit [-1048576, -1048574, -2, 0, 2, 1048572, 1048574]
         odd [-1048579, -1048577, -1048575, -1, 1, 1048573, 1048575, 1048577, i128::MAX]
         out [i128::MIN, -18446744073709551618, -1048578, 1048576, 18446744073709551618, i128::MAX - 1];
-    kinds [R_RISCV_RVC_BRANCH]
-        fit [-256, -254, -2, 0, 2, 252, 254]
+    kinds [R_RISCV_RVC_BRANCH] fit [-256, -254, -2, 0, 2, 252, 254]
         odd [-259, -257, -255, -1, 1, 253, 255, 257, i128::MAX]
         out [i128::MIN, -18446744073709551618, -258, 256, 18446744073709551618, i128::MAX - 1];
-    kinds [R_RISCV_RVC_JUMP]
-        fit [-2048, -2046, -2, 0, 2, 2044, 2046]
+    kinds [R_RISCV_RVC_JUMP] fit [-2048, -2046, -2, 0, 2, 2044, 2046]
         odd [-2051, -2049, -2047, -1, 1, 2045, 2047, 2049, i128::MAX]
         out [i128::MIN, -18446744073709551618, -2050, 2048, 18446744073709551618, i128::MAX - 1];
-    kinds [R_RISCV_CALL, R_RISCV_CALL_PLT, R_RISCV_GOT_HI20, R_RISCV_TLS_GOT_HI20, R_RISCV_TLS_GD_HI20,
-        R_RISCV_PCREL_HI20, R_RISCV_HI20, R_RISCV_TPREL_HI20]
-        fit [-2147485696, -2147485695, -1, 0, 1, 2147481598, 2147481599]
-        odd []
+    kinds [R_RISCV_CALL, R_RISCV_CALL_PLT, R_RISCV_GOT_HI20, R_RISCV_TLS_GOT_HI20, R_RISCV_TLS_GD_HI20, R_RISCV_PCREL_HI20,
+        R_RISCV_HI20, R_RISCV_TPREL_HI20]
+        fit [-2147485696, -2147485695, -1, 0, 1, 2147481598, 2147481599] odd []
         out [i128::MIN, -18446744073709551616, -2147485697, 2147481600, 18446744073709551616, i128::MAX];
-    kinds [R_RISCV_32]
-        fit [-2147483648, -2147483647, -1, 0, 1, 2147483647, 2147483648, 4294967294, 4294967295]
-        odd []
+    kinds [R_RISCV_32] fit [-2147483648, -2147483647, -1, 0, 1, 2147483647, 2147483648, 4294967294, 4294967295] odd []
         out [i128::MIN, -18446744073709551616, -4294967295, -2147483649, 4294967296, 18446744073709551616, i128::MAX];
-    kinds [R_RISCV_32_PCREL, R_RISCV_PLT32]
-        fit [-2147483648, -2147483647, -1, 0, 1, 2147483646, 2147483647]
-        odd []
+    kinds [R_RISCV_32_PCREL, R_RISCV_PLT32] fit [-2147483648, -2147483647, -1, 0, 1, 2147483646, 2147483647] odd []
         out [i128::MIN, -18446744073709551616, -2147483649, 2147483648, 4294967295, 18446744073709551616, i128::MAX];
     kinds [R_RISCV_64, R_RISCV_PCREL_LO12_I, R_RISCV_PCREL_LO12_S, R_RISCV_LO12_I, R_RISCV_LO12_S, R_RISCV_TPREL_LO12_I,
         R_RISCV_TPREL_LO12_S, R_RISCV_ADD8, R_RISCV_ADD16, R_RISCV_ADD32, R_RISCV_ADD64, R_RISCV_SUB8, R_RISCV_SUB16,
         R_RISCV_SUB32, R_RISCV_SUB64, R_RISCV_SUB6, R_RISCV_SET6, R_RISCV_SET8, R_RISCV_SET16, R_RISCV_SET32]
-        fit [i128::MIN, -18446744073709551617, -129, -1, 0, 63, 64, 255, 256, 4095, 4096, 65536, 4294967296,
-            18446744073709551616, i128::MAX]
-        odd []
-        out []
+        fit [i128::MIN, -18446744073709551617, -129, -1, 0, 63, 64, 255, 256, 4095, 4096, 65536, 4294967296, 18446744073709551616, i128::MAX] odd [] out []
 ];
 
 /// Why a value is refused, if it is.
@@ -232,15 +220,10 @@ macro_rules! ulebs {
 }
 
 const ULEBS: &[Row] = ulebs![
-    1, low!(0), 0, low!(0), true;
-    1, low!(0), 127, low!(0x7f), true;
-    1, low!(0x2a), 128, low!(0, 1), false;
-    1, low!(0), -1, ten!(0x7f, 0x7f, 0x7f), false;
-    2, low!(0x80, 0), 4, low!(0x84, 0), true;
-    2, low!(0x80, 0x7f), 8, low!(0x88, 0), true;
-    2, low!(0xff, 0), 16383, low!(0xff, 0x7f), true;
-    2, low!(0x80, 0), -4, ten!(0xfc, 0x7f, 0x7f), false;
-    9, ten!(0x80, 0x80, 0), 0x7fff_ffff_ffff_ffff, ten!(0xff, 0xff, 0), true;
+    1, low!(0), 0, low!(0), true; 1, low!(0), 127, low!(0x7f), true; 1, low!(0x2a), 128, low!(0, 1), false;
+    1, low!(0), -1, ten!(0x7f, 0x7f, 0x7f), false; 2, low!(0x80, 0), 4, low!(0x84, 0), true;
+    2, low!(0x80, 0x7f), 8, low!(0x88, 0), true; 2, low!(0xff, 0), 16383, low!(0xff, 0x7f), true;
+    2, low!(0x80, 0), -4, ten!(0xfc, 0x7f, 0x7f), false; 9, ten!(0x80, 0x80, 0), 0x7fff_ffff_ffff_ffff, ten!(0xff, 0xff, 0), true;
     9, ten!(0x80, 0x80, 0), 0x8000_0000_0000_0000, ten!(0x80, 0x80, 1), false;
     10, ten!(0x80, 0x80, 0), 0xffff_ffff_ffff_ffff, ten!(0xff, 0xff, 1), true;
     10, ten!(0x80, 0x80, 0), 0x1_0000_0000_0000_0000, ten!(0x80, 0x80, 2), false;

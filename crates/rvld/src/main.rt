@@ -1,7 +1,7 @@
 //! `rvld -s -o program start.o part.o`: links relocatable objects for 64-bit RISC-V into an executable.
 //!
-//! `run` of link_driver reads the command, links, and says how it ended; it is given the command's words and the real files
-//! and streams here, and its status is the program's. Where there is no memory for the words the status is 4.
+//! `run` of link_driver reads the command, links, and says how the run ended; `main` gives `run` the command's words and the real files
+//! and streams, and ends with its status. Where there is no memory for the words the status is 4.
 #![tactic(auto)]
 
 use link_driver::{OpenGate, run};

@@ -1,7 +1,7 @@
 //! `rvld_piped -s -o program start.o part.o`: does what `rvld` does, and reads its files while it loads them.
 //!
-//! `run_piped` of link_driver reads the command, links, and says how it ended; it is given the command's words and the real files
-//! and streams here, and its status is the program's. Where there is no memory for the words the status is 4.
+//! `run_piped` of link_driver reads the command, links, and says how the run ended; `main` gives `run_piped` the command's words and the real files
+//! and streams, and ends with its status. Where there is no memory for the words the status is 4.
 #![tactic(auto)]
 
 use link_driver::{OpenGate, run_piped};

@@ -74,15 +74,7 @@ impl<'t, 'a> RelocTest for SymbolTest<'t, 'a> {
     }
 
     fn check(&self, file: FileNo, section: u32, reloc: &Reloc) -> Option<Defect> {
-        check_reloc(
-            self.tables,
-            self.binding,
-            self.kept,
-            self.frames,
-            file,
-            section,
-            reloc,
-        )
+        check_reloc(self, file, section, reloc)
     }
 }
 
@@ -149,26 +141,35 @@ fn is_surely_bound(test: &SymbolTest, rank: u64) -> bool
     is_prevailing(test.tables, test.binding, rank)
 }
 
+/// Whether the symbol of a number in a file stands for nothing, and may not.
+fn names_nothing(test: &SymbolTest, file: FileNo, symbol: SymNo) -> bool
+    requires { file < length (files_of test.now.tables.now) }
+    ensures { result ≡ is_undefined (files_of test.now.tables.now) (binding_view test.now.binding.now) file symbol }
+{
+    let own = test.tables.file(file).symbol(symbol as usize);
+    stands_for_nothing(test, file, symbol, &own)
+}
+
 /// The defect of one relocation, if it is needed and its symbol is undefined.
 #[tactic(auto, unfolding(crate::specs::Undefined::undefined_at))]
-fn check_reloc(
-    tables: &Tables,
-    binding: &Binding,
-    kept: &[bool],
-    frames: &Frames,
-    file: FileNo,
-    section: u32,
-    reloc: &Reloc,
-) -> Option<Defect>
-    requires file { file < length (files_of tables.now) }
-    requires frames { AreFramesOf (files_of tables.now) (binding_view binding.now) frames.now }
-    ensures { IsFirst (spec.undefined_at (files_of tables.now) (binding_view binding.now) kept.now file section reloc.now) result }
+fn check_reloc(test: &SymbolTest, file: FileNo, section: u32, reloc: &Reloc) -> Option<Defect>
+    requires { file < length (files_of test.now.tables.now) }
+    ensures { IsFirst (spec.undefined_at (files_of test.now.tables.now) (binding_view test.now.binding.now) test.now.kept.now file section reloc.now) result }
 {
-    if !names_a_symbol(reloc.kind) || !is_undefined(tables, binding, file, reloc.symbol) {
+    if !names_a_symbol(reloc.kind) || !names_nothing(test, file, reloc.symbol) {
         return None;
     }
-    let number = tables.section_no(file as usize, section as usize);
-    if !is_kept(kept, number) && !is_needed(tables, binding, kept, frames, number, reloc) {
+    let number = test.tables.section_no(file as usize, section as usize);
+    if !is_kept(test.kept, number)
+        && !is_needed(
+            test.tables,
+            test.binding,
+            test.kept,
+            test.frames,
+            number,
+            reloc,
+        )
+    {
         return None;
     }
     Some(reloc_defect(UNDEFINED, file, section, reloc, 0))

@@ -153,7 +153,7 @@ parts_answered w pool members lists old new own low are adds =
     record {
       pools = adds.pools;
       pieces = adds.pieces;
-      bytes = adds.bytes;
+      rows = omega (arith, ap length adds.parts, long, count);
       count = ap length adds.answers ∙ keeps.0;
       ordered = λ all. subst Rows (sym adds.parts) (All-append AreInOrder before lists all
           (λ k d lt. subst AreInOrder (sym (read k d (omega (arith, lt, count)))) (own_ordered files kept (nth_site files kept (get_or members k 0)))));

@@ -14,6 +14,7 @@ use Rattle.str_merge.specs.declared.cuts.Cut.{Cut}
 use Rattle.str_merge.specs.declared.sites.Site.{Site as HeldSite}
 use Rattle.str_merge.specs.Cutting.{IsCutAt, no_defects}
 use Rattle.str_merge.specs.Sites.{IsIn, cut_views, pieces_of, site_view, site_views, texts_of}
+use Rattle.str_merge.specs.Small.{IsNear}
 use Rattle.str_merge.proofs.ListSteps.{by_index}
 
 each_count : {X : Type 0} (Is : ℕ → X → Type 0) (a b : ℕ) (xs : List X) → EachFrom Is a b xs → a + length xs ≡ b
@@ -56,3 +57,8 @@ pub cuts_in : (files : List File) (held : List HeldSite) (r : Result (Vec Cut) L
     IsShare no_defects (IsCutAt files (site_views held)) 0 (length held) r → All (IsIn files) cuts.items
 cuts_in files held r cuts is share =
     each_all (IsCutAt files (site_views held)) (IsIn files) (λ i c here. here.1) 0 (length held) cuts.items (each_of files held r cuts is share)
+
+pub cuts_near : (files : List File) (held : List HeldSite) (r : Result (Vec Cut) LinkStop) (cuts : Vec Cut) → r ≡ Ok cuts →
+    IsShare no_defects (IsCutAt files (site_views held)) 0 (length held) r → All IsNear cuts.items
+cuts_near files held r cuts is share =
+    each_all (IsCutAt files (site_views held)) IsNear (λ i c here. here.2) 0 (length held) cuts.items (each_of files held r cuts is share)

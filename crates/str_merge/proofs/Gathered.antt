@@ -1,21 +1,17 @@
 -- The pieces of several sections, one section after the other.
-use Rattle.std.proofs.Common.{◌≡◌, ℕ, suc, ◌+◌, ◌-◌, ◌<◌, ◌≤◌, List, [], ◌∷◌, ◌++◌, length, map, get_or, drop, refl, sym, ap, ◌∙◌, subst, arith, inl, inr}
+use Rattle.std.proofs.Common.{◌≡◌, ℕ, suc, ◌+◌, ◌-◌, ◌<◌, ◌≤◌, List, [], ◌∷◌, ◌++◌, length, map, get_or, drop, take, sym, ap, ◌∙◌, subst, arith, inl, inr}
 use Rattle.std.specs.Prelude.{All}
-use Rattle.std.specs.List.{range_with_len}
-use Rattle.std.specs.Borrow.{Bor}
 use Rattle.std.proofs.Math.Seq.{drop-append_seam, drop-cons}
 use Rattle.std.proofs.lemmas.Bool.{cases_lt}
-use Rattle.std.proofs.lemmas.List.{drop-drop, get_or-drop, get_or_append_left, get_or_default, get_or_past, length-append, map-append}
-use Rattle.std.proofs.lemmas.Simd.{map-map}
-use Rattle.std.proofs.lemmas.List.FromFn.{map-range_with_len_more}
-use Rattle.lk_base.proofs.Ranges.{range_parts}
-use Rattle.name_numbers.specs.Firsts.{spread_tag, spread_tags}
-use Rattle.work_split.proofs.RunsBeside.{GoesBeside}
+use Rattle.std.proofs.lemmas.List.{drop-drop, get_or-drop, get_or_append_left, get_or_default, get_or_past, append-nil, length-append, length-drop, map-append, take_all, take_more}
+use Rattle.std.proofs.lemmas.Grind.{flat_map-append}
+use Rattle.intern_race.specs.Texts.{cut_texts as lent_cut}
 use Rattle.str_merge.specs.declared.gathering.Place.{Place}
-use Rattle.str_merge.specs.Gathering.{AreTags, IsFound, IsPlace}
-use Rattle.str_merge.specs.Sites.{CutPiece, gathered, no_piece, texts_of}
-use Rattle.str_merge.specs.Texts.{lent_texts}
-use Rattle.str_merge.proofs.ListSteps.{by_index, drop_past, view_step}
+use Rattle.str_merge.specs.Gathering.{IsFound, IsPlace}
+use Rattle.str_merge.specs.declared.cuts.Cut.{Cut}
+use Rattle.str_merge.specs.Sites.{CutPiece, cut_texts, gathered, piece_lists, pieces_of, texts_of}
+use Rattle.str_merge.proofs.CutTexts.{pieces_texts}
+use Rattle.str_merge.proofs.ListSteps.{drop_past}
 
 -- the list at a place, and those after it
 gathered_at : {X : Type 0} (lists : List (List X)) (places : List ℕ) (n : ℕ) → n < length places →
@@ -48,6 +44,13 @@ place_next lists places n before next own lt held is more =
     ap (λ k. drop k all) more ∙ sym (drop-drop (length own) before all) ∙ ap (drop (length own)) (held ∙ gathered_at lists places n lt)
     ∙ ap (λ l. drop (length l) (here ++ rest)) is ∙ drop-append_seam here rest
 
+-- an element that is there stands in one of the lists
+pub not_past : {X : Type 0} (lists : List (List X)) (places : List ℕ) (n before i : ℕ) → length places ≤ n → IsPlace lists places (record { section = n; before = before }) → before ≤ i →
+    i < length (gathered lists places) → ⊥
+not_past lists places n before i le at low lt =
+    let none : drop before (gathered lists places) ≡ [] = at ∙ ap (gathered lists) (drop_past places n le) in
+    omega (arith, low, lt, ap length none, length-drop before (gathered lists places))
+
 -- the element that is found
 pub found_read : {X : Type 0} (lists : List (List X)) (places : List ℕ) (i : ℕ) (p : Place) (own : List X) (default d : X) → IsFound lists places i p →
     own ≡ get_or lists (get_or places p.section 0) [] → get_or own (i - p.before) default ≡ get_or (gathered lists places) i d
@@ -60,23 +63,6 @@ found_read lists places i p own default d found is =
     ∙ ap (λ l. get_or l k d) (sym (gathered_at lists places p.section found.within) ∙ sym found.place)
     ∙ get_or-drop p.before (gathered lists places) k d ∙ ap (λ j. get_or (gathered lists places) j d) at
 
--- a list over a run of numbers
-run_first : {Y : Type 0} (f : ℕ → Y) (a : ℕ) → [] ≡ map f (range_with_len a (a - a))
-run_first f a = let e : a - a ≡ 0 = omega arith in sym (ap (λ k. map f (range_with_len a k)) e)
-
-run_more : {Y : Type 0} (f : ℕ → Y) (a n : ℕ) → a ≤ n → map f (range_with_len a ((n + 1) - a)) ≡ map f (range_with_len a (n - a)) ++ f n ∷ []
-run_more f a n le =
-    let e : (n + 1) - a ≡ (n - a) + 1 = omega arith in
-    ap (λ k. map f (range_with_len a k)) e ∙ map-range_with_len_more f a (n - a) n (omega arith)
-
-two_runs : {Y : Type 0} (f : ℕ → Y) (a m b : ℕ) → a ≤ m → m ≤ b → map f (range_with_len a (b - a)) ≡ map f (range_with_len a (m - a)) ++ map f (range_with_len m (b - m))
-two_runs f a m b low high =
-    let n : b - a ≡ (m - a) + (b - m) = omega arith in
-    let from : a + (m - a) ≡ m = omega arith in
-    ap (λ k. map f (range_with_len a k)) n ∙ ap (map f) (range_parts a (m - a) (b - m))
-    ∙ map-append f (range_with_len a (m - a)) (range_with_len (a + (m - a)) (b - m))
-    ∙ ap (λ k. map f (range_with_len a (m - a)) ++ map f (range_with_len k (b - m))) from
-
 -- what holds of each element, and of what stands for others
 pub at_any : {X : Type 0} (P : X → Type 0) (xs : List X) (d : X) → All P xs → P d → (i : ℕ) → P (get_or xs i d)
 at_any P xs d all own i = elim (cases_lt i (length xs)) [
@@ -84,43 +70,19 @@ at_any P xs d all own i = elim (cases_lt i (length xs)) [
   | inr past ↦ subst P (sym (get_or_past xs i d past)) own
 ]
 
-module _ (pieces : List CutPiece) where
-  -- the tags of a share, as it begins and one more
-  pub tags_first : (a : ℕ) → AreTags pieces a a []
-  tags_first a = run_first (λ i. spread_tag (get_or pieces i no_piece).text) a
+-- the texts of the pieces of sections, one section more, and of all
+pub texts_next : (cuts : List Cut) (places : List ℕ) (n : ℕ) (cut : Cut) (old new : List (List ℕ)) → n < length places → pieces_of cut ≡ get_or (piece_lists cuts) (get_or places n 0) [] →
+    new ≡ old ++ lent_cut cut.bytes.now cut.ends.items → old ≡ texts_of (gathered (piece_lists cuts) (take n places)) → new ≡ texts_of (gathered (piece_lists cuts) (take (n + 1) places))
+unfolding lent_cut
+texts_next cuts places n cut old new lt read push before =
+    let lists = piece_lists cuts in
+    let here = get_or lists (get_or places n 0) [] in
+    let so_far = gathered lists (take n places) in
+    let more : gathered lists (take (n + 1) places) ≡ so_far ++ here =
+    ap (gathered lists) (take_more places n 0 lt) ∙ flat_map-append (λ i. get_or lists i []) (take n places) (get_or places n 0 ∷ []) ∙ ap (λ l. so_far ++ l) (append-nil here) in
+    push ∙ ap (λ l. l ++ cut_texts cut.bytes.now cut.ends.items) before
+    ∙ ap (λ l. texts_of so_far ++ l) (sym (pieces_texts cut) ∙ ap texts_of read)
+    ∙ sym (map-append (λ (p : CutPiece). p.text) so_far here) ∙ ap texts_of (sym more)
 
-  pub tags_more : (a i : ℕ) (old new : List ℕ) (t : ℕ) → a ≤ i → AreTags pieces a i old → new ≡ old ++ t ∷ [] →
-      t ≡ spread_tag (get_or pieces i no_piece).text → AreTags pieces a (i + 1) new
-  tags_more a i old new t le held is own =
-      let f : ℕ → ℕ = λ i. spread_tag (get_or pieces i no_piece).text in
-      is ∙ ap (λ l. l ++ t ∷ []) held ∙ ap (λ y. map f (range_with_len a (i - a)) ++ y ∷ []) own ∙ sym (run_more f a i le)
-
-  -- two shares side by side
-  pub tags_beside : GoesBeside {X = ℕ} (AreTags pieces)
-  tags_beside =
-      let f : ℕ → ℕ = λ i. spread_tag (get_or pieces i no_piece).text in
-      record {
-        none = tags_first;
-        both = λ a m b xs ys low high one two.
-            ap (λ l. l ++ ys) one ∙ ap (λ l. map f (range_with_len a (m - a)) ++ l) two ∙ sym (two_runs f a m b low high);
-      }
-
-  -- all of them
-  pub tags_all : (n : ℕ) (tags : List ℕ) → n ≡ length pieces → AreTags pieces 0 n tags → tags ≡ spread_tags (texts_of pieces)
-  unfolding spread_tags
-  tags_all n tags count held =
-      let f : ℕ → ℕ = λ i. spread_tag (get_or pieces i no_piece).text in
-      let texts = texts_of pieces in
-      let e : n - 0 ≡ n = omega arith in
-      held ∙ ap (λ k. map f (range_with_len 0 k)) e ∙ by_index (λ (p : CutPiece). spread_tag p.text) pieces no_piece n count
-      ∙ sym (map-map spread_tag (λ (p : CutPiece). p.text) pieces) ∙ sym (by_index spread_tag texts [] (length texts) refl)
-
-  -- texts that are listed, one more, and all
-  pub texts_more : (i : ℕ) (old new : List (Bor (List ℕ))) (t : Bor (List ℕ)) →
-      lent_texts old ≡ map (λ k. (get_or pieces k no_piece).text) (range_with_len 0 i) → new ≡ old ++ t ∷ [] →
-      t.now ≡ (get_or pieces i no_piece).text → lent_texts new ≡ map (λ k. (get_or pieces k no_piece).text) (range_with_len 0 (i + 1))
-  texts_more i old new t held is own = view_step (λ (t : Bor (List ℕ)). t.now) (λ k. (get_or pieces k no_piece).text) i old new t held is own
-
-  pub texts_all : (n : ℕ) (texts : List (Bor (List ℕ))) → n ≡ length pieces →
-      lent_texts texts ≡ map (λ k. (get_or pieces k no_piece).text) (range_with_len 0 n) → lent_texts texts ≡ texts_of pieces
-  texts_all n texts count held = held ∙ by_index (λ (p : CutPiece). p.text) pieces no_piece n count
+pub texts_end : (cuts : List Cut) (places : List ℕ) (n : ℕ) (texts : List (List ℕ)) → length places ≤ n → texts ≡ texts_of (gathered (piece_lists cuts) (take n places)) → texts ≡ texts_of (gathered (piece_lists cuts) places)
+texts_end cuts places n texts le is = is ∙ ap (λ l. texts_of (gathered (piece_lists cuts) l)) (take_all n places le)

@@ -11,7 +11,6 @@ pub mod CutTexts
 pub mod ByteStrings
 pub mod CutLists
 pub mod Gathered
-pub mod ToldSteps
 pub mod PoolFacts
 pub mod PoolTexts
 pub mod WorkFacts
@@ -20,7 +19,8 @@ pub mod ReadySteps
 pub mod PoolSteps
 pub mod SiteRows
 pub mod PoolOrder
+pub mod PoolRooms
+pub mod SmallSites
 pub mod CountSteps
 pub mod BoundSteps
 pub mod PieceLaws
-pub mod RepeatShares

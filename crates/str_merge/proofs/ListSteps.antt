@@ -4,8 +4,6 @@ use Rattle.std.specs.Prelude.{flat_map}
 use Rattle.std.specs.List.{range_with_len}
 use Rattle.std.proofs.lemmas.List.{length-map, get_or-map, length-drop, map-append, nil_from_length}
 use Rattle.std.proofs.lemmas.List.FromFn.{fill_by_all, map-range_with_len_more}
-use Rattle.std.specs.Borrow.{Bor}
-use Rattle.str_merge.specs.Texts.{lent_texts}
 use Rattle.lk_base.proofs.Loops.{map_step, flat_step}
 
 pub by_index : {X Y : Type 0} (f : X → Y) (xs : List X) (d : X) (n : ℕ) → n ≡ length xs → map (λ i. f (get_or xs i d)) (range_with_len 0 n) ≡ map f xs
@@ -38,10 +36,3 @@ row_step give n prefix old new x held is own =
     is ∙ ap (λ l. l ++ x ∷ []) held ∙ ap (λ y. (prefix ++ map give (range_with_len 0 n)) ++ y ∷ []) own
     ∙ append_assoc prefix (map give (range_with_len 0 n)) (give n ∷ [])
     ∙ ap (λ l. prefix ++ l) (sym (map-range_with_len_more give 0 n n (omega arith)))
-
--- a text that is lent
-pub text_read : (texts : List (Bor (List ℕ))) (i : ℕ) (d : Bor (List ℕ)) → i < length texts → get_or (lent_texts texts) i [] ≡ (get_or texts i d).now
-text_read texts i d lt = get_or-map (λ (t : Bor (List ℕ)). t.now) texts i d [] lt
-
-pub length_texts : (texts : List (Bor (List ℕ))) → length (lent_texts texts) ≡ length texts
-length_texts texts = length-map texts (λ (t : Bor (List ℕ)). t.now)

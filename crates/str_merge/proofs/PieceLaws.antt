@@ -128,6 +128,26 @@ section_together true size bytes whole ended =
     strings_together [] (elements size bytes) (elements_end_zero size bytes whole ended) ∙ elements_together size bytes (whole_elements size bytes whole).0
 section_together false size bytes whole ended = elements_together size bytes (whole_elements size bytes whole).0
 
+-- a section that is merged has bytes
+some_bytes : (size : ℕ) (bytes : List ℕ) → is_whole size bytes ≡ true → 0 < length bytes
+unfolding is_whole
+some_bytes size bytes e =
+    let p = both (not (length bytes == 0)) (not (size == 0) && length bytes % size == 0) e in
+    let some = eqb-false (length bytes) 0 (not_false (length bytes == 0) p.0) in
+    omega (arith, some)
+
+pub some_contents : (file : File) (k : ℕ) → is_mergeable file k ≡ true → 0 < length (contents file k)
+unfolding is_mergeable
+some_contents file k merges =
+    let s = section_at file k in
+    let bytes = contents file k in
+    let ended = not (has_strings file k) || is_ended s.entsize bytes in
+    let whole = is_whole s.entsize bytes in
+    let last = both whole ended (both (length (relocs_at file k) == 0) (whole && ended) (both (bit_and s.flags SHF_WRITE == 0) (length (relocs_at file k) == 0 && (whole && ended))
+    (both (s.sh_type == SHT_PROGBITS) (bit_and s.flags SHF_WRITE == 0 && (length (relocs_at file k) == 0 && (whole && ended)))
+    (both (not (bit_and s.flags SHF_MERGE == 0)) (s.sh_type == SHT_PROGBITS && (bit_and s.flags SHF_WRITE == 0 && (length (relocs_at file k) == 0 && (whole && ended)))) merges).1).1).1).1 in
+    some_bytes s.entsize bytes last.0
+
 pub pieces_together : (file : File) (k : ℕ) → is_mergeable file k ≡ true → together (pieces_in file k) ≡ contents file k
 unfolding is_mergeable section_pieces contents
 pieces_together file k merges =

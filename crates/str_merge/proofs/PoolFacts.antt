@@ -1,12 +1,12 @@
 -- The pieces of one pool.
-use Rattle.std.proofs.Common.{◌≡◌, ℕ, zero, suc, ◌+◌, ◌-◌, ◌<◌, ◌≤◌, ◌==◌, Bool, true, false, List, [], ◌∷◌, ◌++◌, length, map, get_or, take, drop, refl, sym, ap, ◌∙◌, arith, inl, inr}
+use Rattle.std.proofs.Common.{◌≡◌, ℕ, zero, suc, ◌+◌, ◌-◌, ◌<◌, ◌≤◌, ◌^◌, ◌==◌, Bool, true, false, List, [], ◌∷◌, ◌++◌, length, map, get_or, take, drop, refl, sym, ap, ◌∙◌, arith, inl, inr}
 use Rattle.std.specs.Prelude.{All, flat_map, if◌then◌else◌}
 use Rattle.std.specs.List.{filter, range_with_len}
 use Rattle.std.specs.Str.{bytes_eq}
 use Rattle.std.proofs.Math.ListN.{get_or-map as get_or-map_default}
 use Rattle.std.proofs.Math.Seq.{take-nil}
 use Rattle.std.proofs.lemmas.Bool.{cases_lt, eqb-true}
-use Rattle.std.proofs.lemmas.List.{drop-drop, drop-take, get_or-map, length-take, map-append, take_all, take_min, take-take}
+use Rattle.std.proofs.lemmas.List.{drop-drop, drop-take, get_or-map, length-drop, length-take, map-append, take_all, take_min, take-take}
 use Rattle.std.proofs.lemmas.List.Elements.{All-append, All-cons, All-filter, All-nil, filter_passes}
 use Rattle.std.proofs.lemmas.List.FromFn.{length-range_with_len, get_or-range_with_len}
 use Rattle.std.proofs.lemmas.Simd.{map-map}
@@ -21,6 +21,7 @@ use Rattle.str_merge.specs.declared.cuts.Cut.{Cut}
 use Rattle.str_merge.specs.Gathering.{piece_at}
 use Rattle.str_merge.specs.Placing.{chosen}
 use Rattle.str_merge.specs.Sites.{CutPiece, IsIn, cut_text, cut_views, gathered, no_piece, piece_lists, piece_of, pieces_of, span_text, start_of, texts_of}
+use Rattle.str_merge.specs.Small.{IsNear}
 use Rattle.str_merge.specs.Works.{members_at, nth_site}
 use Rattle.str_merge.proofs.Gathered.{at_any}
 use Rattle.str_merge.proofs.ListSteps.{by_index, drop_past}
@@ -47,7 +48,7 @@ gathered_texts cuts (i ∷ places) =
     ∙ ap (λ l. get_or (cut_views cuts) i [] ++ l) (gathered_texts cuts places)
 
 -- a filter by index
-filter_map_is : {X Y : Type 0} (t : Y → Bool) (g : X → Y) (xs : List X) → filter t (map g xs) ≡ map g (filter (λ x. t (g x)) xs)
+pub filter_map_is : {X Y : Type 0} (t : Y → Bool) (g : X → Y) (xs : List X) → filter t (map g xs) ≡ map g (filter (λ x. t (g x)) xs)
 filter_map_is t g [] = refl
 filter_map_is t g (x ∷ xs) =
     ap (λ l. if t (g x) then g x ∷ l else l) (filter_map_is t g xs) ∙ both_ways_map (t (g x)) g x (filter (λ y. t (g y)) xs)
@@ -185,6 +186,22 @@ span_len cuts places i =
     let pieces = gathered (piece_lists cuts) places in
     at_any IsLong pieces no_piece (pieces_all IsLong (λ c. Unit {0}) (λ c k is. refl) cuts places (λ k d lt. tt)) refl i
     ∙ ap length (sym (get_or-map_default (λ (p : CutPiece). p.text) pieces i no_piece))
+
+-- no piece has more bytes than its section
+abbrev IsBrief : CutPiece → Type 0
+IsBrief p = p.span.len < 2 ^ 31
+
+brief : (c : Cut) (k : ℕ) → IsNear c → IsBrief (piece_of c k)
+unfolding cut_text
+brief c k is =
+    let start = start_of c.ends.items k in
+    let n = get_or c.ends.items k 0 - start in
+    let len = is.len in
+    omega (arith, len, length-take n (drop start c.bytes.now), length-drop start c.bytes.now)
+
+pub span_most : (cuts : List Cut) (places : List ℕ) (i : ℕ) → All IsNear cuts → (piece_at (gathered (piece_lists cuts) places) i).span.len < 2 ^ 31
+span_most cuts places i near =
+    at_any IsBrief (gathered (piece_lists cuts) places) no_piece (pieces_all IsBrief IsNear brief cuts places near) (omega arith) i
 
 -- pieces that are chosen by place
 pub chosen_texts : (files : List File) (pieces : List CutPiece) (firsts : List ℕ) → All (Stands files) pieces → All (λ i. i < length pieces) firsts →

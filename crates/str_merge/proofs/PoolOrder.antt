@@ -25,6 +25,7 @@ use Rattle.str_merge.specs.Members.{AreMembers, having}
 use Rattle.str_merge.specs.Orders.{IsFirstOf, firsts, ranks}
 use Rattle.str_merge.specs.Placing.{chosen}
 use Rattle.str_merge.specs.Sites.{IsIn, cut_views, site_views}
+use Rattle.str_merge.specs.Small.{AreSmall, IsNear}
 use Rattle.str_merge.specs.Spreading.{answer_in, sites_upto, spread}
 use Rattle.str_merge.specs.Works.{IsWork, members_at, nth_site}
 use Rattle.str_merge.proofs.KeyMaps.{eq_keys_is, same_by}
@@ -230,11 +231,11 @@ pools_are_of files kept pools merged n count first second =
 
 -- all that is known before the pools are filled
 pub works : (w : Work) (ns rs : List ℕ) (count : ℕ) → site_views w.sites.now ≡ sites (files_of w.tables.now) w.kept.now →
-    All (IsIn (files_of w.tables.now)) w.cuts.now → cut_views w.cuts.now ≡ map (site_pieces (files_of w.tables.now)) (sites (files_of w.tables.now) w.kept.now) →
+    All (IsIn (files_of w.tables.now)) w.cuts.now → All IsNear w.cuts.now → cut_views w.cuts.now ≡ map (site_pieces (files_of w.tables.now)) (sites (files_of w.tables.now) w.kept.now) →
     key_views w.keys.now ≡ map (site_key (files_of w.tables.now)) (sites (files_of w.tables.now) w.kept.now) →
     ns ≡ site_numbers (files_of w.tables.now) w.kept.now → w.firsts.now ≡ firsts ns → rs ≡ ranks ns → AreMembers rs count (length rs) w.members.now →
-    count ≡ length w.firsts.now → length (sites (files_of w.tables.now) w.kept.now) < 2 ^ 31 → IsWork w
-works w ns rs count sited stands cut keyed numbered first ranked members counted few =
+    count ≡ length w.firsts.now → AreSmall (files_of w.tables.now) w.kept.now → IsWork w
+works w ns rs count sited stands near cut keyed numbered first ranked members counted small =
     let files = files_of w.tables.now in
     let kept = w.kept.now in
     let all = sites files kept in
@@ -242,15 +243,17 @@ works w ns rs count sited stands cut keyed numbered first ranked members counted
     let P : List ℕ → Type 0 = All (λ i. i < length all) in
     let Q : List ℕ → Type 0 = λ l. AreMembers l count (length l) w.members.now in
     let are : Q (ranks (site_numbers files kept)) = subst Q (ranked ∙ ap ranks numbered) members in
-    let most = few_firsts files kept few in
+    let most = few_firsts files kept small.sections in
     record {
       sites_are = sited;
       cuts_in = stands;
+      cuts_near = near;
       cuts_are = cut;
       keys_are = keyed;
       firsts_within = subst P (sym firsts_are) (site_firsts_within files kept);
       firsts_are = ap (chosen all no_site) firsts_are ∙ site_firsts files kept;
       few = omega (arith, most, ap length firsts_are);
+      small = small;
       member_count = members.count_is ∙ counted;
       members_are = λ p d lt. site_members files kept count p d w.members.now are (omega (arith, counted));
     }

@@ -22,7 +22,9 @@ use Rattle.str_merge.specs.declared.pooling.Work.{Work}
 use Rattle.str_merge.specs.Filling.{AddsPool, AreAnswered, IsAnswered, IsFilledTo}
 use Rattle.str_merge.specs.Pooling.{IsPooled, pool_align}
 use Rattle.str_merge.specs.Works.{IsWork, members_at, nth_site}
-use Rattle.str_merge.proofs.WorkFacts.{count_sites}
+use Rattle.str_merge.proofs.PoolFacts.{align_some}
+use Rattle.str_merge.proofs.PoolRooms.{count_below, pool_room, rooms_below}
+use Rattle.str_merge.proofs.WorkFacts.{align_most, count_sites}
 
 -- pools with their pieces, one more
 views_push : (files : List File) (pools : List Pool) (rows : List (List Piece)) (pool : Pool) (row : List Piece) → length pools ≡ length rows →
@@ -89,10 +91,10 @@ member_has files kept pool i lt own =
     filter_has (λ i. pool_number files kept (nth_site files kept i) == pool) (range_with_len 0 n) i i
     (omega (arith, length-range_with_len 0 n)) (omega arith) (eq-eqb (pool_number files kept (nth_site files kept i)) pool own)
 
-pub filled_next : (w : Work) (pool first : ℕ) (p : Placed) (old mid new : Filled) → IsWork w → IsFilledTo w pool old →
+pub filled_next : (w : Work) (pool first : ℕ) (p : Placed) (old mid new : Filled) → IsWork w → pool < length w.firsts.now → IsFilledTo w pool old →
     IsPooled (files_of w.tables.now) w.kept.now pool p → first ≡ (pool_site (files_of w.tables.now) w.kept.now pool).section →
     AreAnswered w (members_at (files_of w.tables.now) w.kept.now pool) old mid → AddsPool first p mid new → IsFilledTo w (pool + 1) new
-filled_next w pool first p old mid new is held pooled start answered adds =
+filled_next w pool first p old mid new is less held pooled start answered adds =
     let files = files_of w.tables.now in
     let kept = w.kept.now in
     let here : Pool = record { first = first; size = p.size } in
@@ -115,11 +117,14 @@ filled_next w pool first p old mid new is held pooled start answered adds =
           let P : List Pool → Type 0 = λ l. ArePiles l new.rows.pieces in
           let R : List (List Piece) → Type 0 = λ l. ArePiles (old.pools.items ++ here ∷ []) l in
           subst P (sym pools) (subst R (sym rows) (piles_push old.pools.items old.rows.pieces here pieces held.paired held.piled (pooled.piled here refl)));
-      bytes_are = ap pool_bytes pools ∙ sum_by_push (λ (x : Pool). x.size) old.pools.items here ∙ ap (λ n. n + p.size) (held.bytes_are ∙ sym answered.bytes) ∙ sym adds.bytes;
-      small = adds.small;
+      rows = omega (arith, ap length adds.parts, answered.rows, held.rows, count_below files kept pool);
+      room =
+          let bytes : pool_bytes new.pools.items ≡ pool_bytes old.pools.items + p.size = ap pool_bytes pools ∙ sum_by_push (λ (x : Pool). x.size) old.pools.items here in
+          let room = pool_room files kept pool (pool_align files kept pool) (align_some files (pool_site files kept pool)) (align_most w pool is less) in
+          omega (arith, bytes, pooled.size_is, room, held.room, rooms_below files kept pool);
       ordered = subst Q (sym adds.parts) (answered.ordered held.ordered);
       count = ap length adds.answers ∙ answered.count ∙ held.count;
-      answered = λ i lt less. elim (cases_lt (pool_number files kept (nth_site files kept i)) pool) [
+      answered = λ i lt low. elim (cases_lt (pool_number files kept (nth_site files kept i)) pool) [
         | inl before ↦ moved i (answered.keeps i (held.answered i lt before))
         | inr at ↦
             let own : pool_number files kept (nth_site files kept i) ≡ pool = omega arith in

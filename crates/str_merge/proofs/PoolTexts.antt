@@ -9,21 +9,20 @@ use Rattle.lk_tables.specs.TablesView.{files_of}
 use Rattle.link_sections.specs.Distinct.{distinct, first_same}
 use Rattle.link_sections.specs.Merging.{end_from, piece_number, pool_members, pool_number, pool_pieces, positions_from, site_pieces, sites}
 use Rattle.link_sections.specs.PoolViews.{Merged}
-use Rattle.name_numbers.specs.Firsts.{AreTold}
 use Rattle.name_numbers.specs.Texts.{text_number, text_numbers}
-use Rattle.name_numbers.proofs.TagFirsts.{texts_by_tags}
 use Rattle.str_merge.specs.declared.placing.Placed.{Placed}
 use Rattle.str_merge.specs.declared.pooling.Pooled.{Pooled}
 use Rattle.str_merge.specs.declared.pooling.Work.{Work}
 use Rattle.str_merge.specs.Orders.{IsFirstOf, firsts, ranks}
 use Rattle.str_merge.specs.Parts.{part_lists, parts_by}
 use Rattle.str_merge.specs.Placing.{IsPlaced, chosen}
-use Rattle.str_merge.specs.Pooling.{AreNumbered, AreTagged, IsMadeOf, IsPoolOf, IsPooled, own_parts, pool_align}
+use Rattle.str_merge.specs.Pooling.{AreNumbered, IsMadeOf, IsPoolOf, IsPooled, own_parts, pool_align}
 use Rattle.str_merge.specs.Sites.{CutPiece, cut_views, gathered, piece_lists, span_text, texts_of}
 use Rattle.str_merge.specs.Works.{IsWork, members_at, nth_site}
 use Rattle.str_merge.proofs.AnswerSteps.{merged_is}
 use Rattle.str_merge.proofs.PartSteps.{lists_known}
 use Rattle.str_merge.proofs.PoolFacts.{Stands, bytes_same, chosen_texts, gathered_texts, member_texts, members_own, members_within, piece_texts, pieces_stand, pool_texts_are}
+use Rattle.str_merge.proofs.PoolRooms.{pool_few}
 use Rattle.str_merge.proofs.Ranking.{distinct_is, firsts_below, numbers, numbers_first, ranks_are}
 use Rattle.str_merge.proofs.WorkFacts.{pieces_at}
 
@@ -60,6 +59,19 @@ own_texts w pool members is own =
     let files = files_of w.tables.now in
     let kept = w.kept.now in
     gathered_texts w.cuts.now members ∙ ap (gathered (cut_views w.cuts.now)) own ∙ pool_texts_are files kept (cut_views w.cuts.now) pool is.cuts_are
+
+-- they are not too many
+pub few_pieces : (w : Work) (pool : ℕ) (members : List ℕ) → IsWork w → members ≡ members_at (files_of w.tables.now) w.kept.now pool →
+    length (gathered (piece_lists w.cuts.now) members) < 2 ^ 31
+few_pieces w pool members is own =
+    let few = is.small.pieces in
+    omega (
+      arith,
+      few,
+      length-map (gathered (piece_lists w.cuts.now) members) (λ (p : CutPiece). p.text),
+      ap length (own_texts w pool members is own),
+      pool_few (files_of w.tables.now) w.kept.now pool,
+    )
 
 -- with their numbers in the pool
 ranks_known : (files : List File) (kept : List Bool) (pool : ℕ) (texts : List (List ℕ)) (ns : List ℕ) → AreNumbered files kept pool texts ns →
@@ -129,23 +141,7 @@ pool_of w pool members ns align p is own held aligned made =
           (λ i d lt. own_parts_are files kept pool (get_or members i d) (of_pool i d lt));
     }
 
--- pieces whose tags tell them apart
-pub told_numbered : (w : Work) (pool : ℕ) (members ns : List ℕ) → IsWork w → members ≡ members_at (files_of w.tables.now) w.kept.now pool →
-    AreTagged (texts_of (gathered (piece_lists w.cuts.now) members)) ns → AreTold (texts_of (gathered (piece_lists w.cuts.now) members)) ns → length ns < 2 ^ 31 →
-    AreNumbered (files_of w.tables.now) w.kept.now pool (texts_of (gathered (piece_lists w.cuts.now) members)) ns
-told_numbered w pool members ns is own tagged told few =
-    let texts = texts_of (gathered (piece_lists w.cuts.now) members) in
-    let long = tagged.0 in
-    record {
-      texts_are = own_texts w pool members is own;
-      numbers_are = texts_by_tags texts ns (omega (arith, few, long)) tagged.0 tagged.1 told;
-      few = omega (arith, few, long);
-    }
-
 -- so many numbers as pieces
-pub count_tagged : (pieces : List CutPiece) (ns : List ℕ) → AreTagged (texts_of pieces) ns → length ns ≡ length pieces
-count_tagged pieces ns tagged = tagged.0 ∙ length-map pieces (λ (p : CutPiece). p.text)
-
 pub count_numbered : (pieces : List CutPiece) (ns : List ℕ) → ns ≡ text_numbers (texts_of pieces) → length ns ≡ length pieces
 unfolding text_numbers
 count_numbered pieces ns is = ap length is ∙ length-map (texts_of pieces) (text_number (texts_of pieces)) ∙ length-map pieces (λ (p : CutPiece). p.text)

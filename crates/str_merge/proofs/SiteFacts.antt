@@ -1,5 +1,5 @@
 -- Facts of the sections that are merged.
-use Rattle.std.proofs.Common.{◌≡◌, ℕ, ◌<◌, Bool, List, length, map, get_or, sym, ap, ◌∙◌, arith}
+use Rattle.std.proofs.Common.{◌≡◌, ℕ, ◌<◌, Bool, List, length, map, get_or, sym, ap, ◌∙◌, subst, arith}
 use Rattle.std.specs.Prelude.{All}
 use Rattle.std.specs.List.{range_with_len}
 use Rattle.std.proofs.lemmas.List.{get_or-map, length-map}
@@ -19,6 +19,13 @@ sites_by_index f held n e = by_index (λ (s : HeldSite). f (site_view s)) held n
 
 pub site_read : (held : List HeldSite) (i : ℕ) → i < length held → get_or (site_views held) i no_site ≡ site_view (get_or held i no_held)
 site_read held i lt = get_or-map site_view held i no_held no_site lt
+
+-- what holds of each section holds of each as it is held
+pub held_all : (P : Site → Type 0) (all : List Site) (held : List HeldSite) → site_views held ≡ all → All P all → All (λ (s : HeldSite). P (site_view s)) held
+held_all P all held is each = λ i d lt.
+    let within : i < length all = omega (arith, lt, length-map held site_view, ap length is) in
+    let same = sym (get_or-map site_view held i d (site_view d) lt) ∙ ap (λ l. get_or l i (site_view d)) is in
+    subst P (sym same) (each i (site_view d) within)
 
 -- each of them is of a file that is there
 pub held_of_files : (files : List File) (kept : List Bool) (held : List HeldSite) → site_views held ≡ sites files kept → All (λ (s : HeldSite). s.file < length files) held

@@ -8,7 +8,7 @@ use Rattle.std.proofs.lemmas.Bool.{cases_Bool}
 use Rattle.std.proofs.lemmas.Grind.{flat_map-append}
 use Rattle.std.proofs.lemmas.List.{get_or-append-add, get_or_append_left, length-append, length-map}
 use Rattle.std.proofs.lemmas.List.Elements.{All-append}
-use Rattle.lk_tables.specs.Files.{File, file_at, first_section, section_count}
+use Rattle.lk_tables.specs.Files.{File, file_at, first_section, section_count, section_total}
 use Rattle.lk_tables.proofs.FirstNumbers.{section_more}
 use Rattle.link_sections.specs.Merging.{Site, is_merge, no_site, site, site_at, sites, sites_in}
 use Rattle.str_merge.specs.Spreading.{sites_before, sites_upto}
@@ -103,6 +103,28 @@ rise_file files kept f lt =
 pub sites_rise : (files : List File) (kept : List Bool) → Rise (first_section files 0) (first_section files (0 + length files)) (sites files kept)
 unfolding sites
 sites_rise files kept = rise_rows (sites_in files kept) (first_section files) 0 (length files) (λ f low high. rise_file files kept f (omega arith))
+
+-- there are no more of them than numbers
+rise_count : (low high : ℕ) (ss : List Site) → Rise low high ss → low + length ss ≤ high
+rise_count low high [] le = omega (arith, le)
+rise_count low high (s ∷ ss) held = let own = held.0 in let more = rise_count (s.section + 1) high ss held.1 in omega (arith, own, more)
+
+pub sites_most : (files : List File) (kept : List Bool) → length (sites files kept) ≤ section_total files
+sites_most files kept =
+    let all : 0 + length files ≡ length files = omega arith in
+    omega (arith, rise_count (first_section files 0) (first_section files (0 + length files)) (sites files kept) (sites_rise files kept), ap (first_section files) all)
+
+pub upto_most : (files : List File) (kept : List Bool) (f k : ℕ) → f < length files → sites_upto files kept f k ≤ first_section files f + k
+unfolding sites_upto sites_before
+upto_most files kept f k lt =
+    let before = flat_map (sites_in files kept) (range_with_len 0 f) in
+    let own = flat_map (site_at files kept f) (range_with_len 0 k) in
+    let all : 0 + f ≡ f = omega arith in
+    let rows = rise_count (first_section files 0) (first_section files (0 + f)) before
+    (rise_rows (sites_in files kept) (first_section files) 0 f (λ g low high. rise_file files kept g (omega (arith, lt)))) in
+    let row = rise_count (first_section files f + 0) (first_section files f + (0 + k)) own
+    (rise_rows (site_at files kept f) (λ j. first_section files f + j) 0 k (λ j low high. rise_one files kept f j)) in
+    omega (arith, rows, row, ap (first_section files) all)
 
 -- some of them, by place
 rise_filter : (at : ℕ → Site) (t : ℕ → Bool) (low high : ℕ) (ks : List ℕ) → Rise low high (map at ks) → Rise low high (map at (filter t ks))

@@ -1,9 +1,9 @@
 -- What is known of each section and of each pool before the pools are filled.
-use Rattle.std.proofs.Common.{◌≡◌, ℕ, ◌<◌, List, [], length, get_or, sym, ap, ◌∙◌, subst, arith}
+use Rattle.std.proofs.Common.{◌≡◌, ℕ, ◌<◌, ◌≤◌, ◌^◌, List, [], length, get_or, sym, ap, ◌∙◌, subst, arith}
 use Rattle.std.specs.Prelude.{All}
 use Rattle.std.proofs.lemmas.List.{get_or-map, length-map}
 use Rattle.lk_tables.specs.TablesView.{files_of}
-use Rattle.link_sections.specs.Merging.{no_site, pool_site, site_key, site_pieces, sites}
+use Rattle.link_sections.specs.Merging.{Site, no_site, pool_site, site_key, site_pieces, sites}
 use Rattle.str_merge.specs.declared.pooling.Work.{Work}
 use Rattle.str_merge.specs.Keys.{key_view}
 use Rattle.str_merge.specs.Sites.{cut_views, site_view}
@@ -45,6 +45,13 @@ pub pieces_at : (w : Work) (i : ℕ) → IsWork w → i < length (sites (files_o
 pieces_at w i is lt =
     let files = files_of w.tables.now in
     ap (λ l. get_or l i []) is.cuts_are ∙ get_or-map (site_pieces files) (sites files w.kept.now) i no_site [] lt
+
+-- its alignment is not too great
+pub align_most : (w : Work) (pool : ℕ) → IsWork w → pool < length w.firsts.now → (site_key (files_of w.tables.now) (pool_site (files_of w.tables.now) w.kept.now pool)).align ≤ 2 ^ 20
+align_most w pool is lt =
+    let files = files_of w.tables.now in
+    let P : Site → Type 0 = λ s. (site_key files s).align ≤ 2 ^ 20 in
+    subst P (first_is w pool is lt) (is.small.aligned (get_or w.firsts.now pool 0) no_site (is.firsts_within pool 0 lt))
 
 -- the sections of a pool are among them
 pub members_below : (w : Work) (pool : ℕ) (members : List ℕ) (n : ℕ) → IsWork w → members ≡ members_at (files_of w.tables.now) w.kept.now pool → n ≡ length w.sites.now →

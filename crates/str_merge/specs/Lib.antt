@@ -9,6 +9,6 @@ pub mod Parts
 pub mod Placing
 pub mod Pooling
 pub mod Sites
+pub mod Small
 pub mod Spreading
-pub mod Texts
 pub mod Works

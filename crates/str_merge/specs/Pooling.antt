@@ -8,7 +8,6 @@ use Rattle.link_sections.specs.declared.pools.Pool.{Pool}
 use Rattle.link_sections.specs.Merging.{end_from, merged_of, pool_members, pool_pieces, pool_site, positions_from, site_key, site_pieces}
 use Rattle.link_sections.specs.PoolViews.{piece_text}
 use Rattle.link_sections.specs.Pools.{IsPile}
-use Rattle.name_numbers.specs.Firsts.{AreFirsts, spread_tags}
 use Rattle.name_numbers.specs.Texts.{text_numbers}
 use Rattle.str_merge.specs.declared.cuts.Cut.{Cut}
 use Rattle.str_merge.specs.declared.placing.Placed.{Placed}
@@ -28,10 +27,6 @@ pub record AreNumbered (files : List File) (kept : List Bool) (pool : ℕ) (text
   pub texts_are : texts ≡ flat_map (site_pieces files) (pool_members files kept pool)
   pub numbers_are : numbers ≡ text_numbers texts
   pub few : length texts < 2 ^ 31
-
--- for each piece a number, which is the first piece that has its tag, if it is a piece
-abbrev pub AreTagged : (texts : List (List ℕ)) (numbers : List ℕ) → Type 0
-AreTagged texts numbers = (length numbers ≡ length texts) × AreFirsts (spread_tags texts) numbers
 
 -- the distinct ones, each at its place
 pub record IsPooled (files : List File) (kept : List Bool) (pool : ℕ) (placed : Placed) : Type 0 where

@@ -1,6 +1,8 @@
 -- The sections that are merged and their pieces, as plain records.
-use Rattle.std.specs.Prelude.{◌≡◌, ℕ, ◌+◌, ◌-◌, List, [], ◌∷◌, length, map, flat_map, take, drop, slice_index, slice_index_or}
+use Rattle.std.specs.Prelude.{◌≡◌, ℕ, ◌+◌, List, [], length, map, flat_map, slice_index_or}
 use Rattle.std.specs.List.{range_with_len}
+pub use Rattle.intern_race.specs.Texts.{start_of}
+unfoldable pub use Rattle.intern_race.specs.Texts.{cut_text}
 use Rattle.lk_tables.specs.declared.spans.Span.{Span}
 use Rattle.lk_tables.specs.Files.{File, file_at}
 use Rattle.lk_tables.specs.Names.{no_name, text_of}
@@ -14,13 +16,7 @@ site_view s = record { section = s.section; file = s.file; index = s.index }
 abbrev pub site_views : List HeldSite → List Site
 site_views sites = map site_view sites
 
--- where piece k of bytes begins that are cut at these ends: where the one before ends
-abbrev pub start_of : (ends : List ℕ) → (k : ℕ) → ℕ
-start_of ends k = slice_index (0 ∷ ends) k
-
-unfoldable pub cut_text : (bytes ends : List ℕ) → (k : ℕ) → List ℕ
-cut_text bytes ends k = take (slice_index ends k - start_of ends k) (drop (start_of ends k) bytes)
-
+-- the pieces of bytes that are cut at these ends
 abbrev pub cut_texts : (bytes ends : List ℕ) → List (List ℕ)
 cut_texts bytes ends = map (cut_text bytes ends) (range_with_len 0 (length ends))
 

@@ -9,6 +9,7 @@ use Rattle.str_merge.specs.declared.pooling.Work.{Work}
 use Rattle.str_merge.specs.Keys.{key_views}
 use Rattle.str_merge.specs.Placing.{chosen}
 use Rattle.str_merge.specs.Sites.{IsIn, cut_views, site_views}
+use Rattle.str_merge.specs.Small.{AreSmall, IsNear}
 
 module _ (files : List File) (kept : List Bool) where
   abbrev pub nth_site : (i : ℕ) → Site
@@ -21,10 +22,12 @@ module _ (files : List File) (kept : List Bool) where
 pub record IsWork (w : Work) : Type 0 where
   pub sites_are : site_views w.sites.now ≡ sites (files_of w.tables.now) w.kept.now
   pub cuts_in : All (IsIn (files_of w.tables.now)) w.cuts.now
+  pub cuts_near : All IsNear w.cuts.now
   pub cuts_are : cut_views w.cuts.now ≡ map (site_pieces (files_of w.tables.now)) (sites (files_of w.tables.now) w.kept.now)
   pub keys_are : key_views w.keys.now ≡ map (site_key (files_of w.tables.now)) (sites (files_of w.tables.now) w.kept.now)
   pub firsts_within : All (λ i. i < length (sites (files_of w.tables.now) w.kept.now)) w.firsts.now
   pub firsts_are : chosen (sites (files_of w.tables.now) w.kept.now) no_site w.firsts.now ≡ pool_sites (files_of w.tables.now) w.kept.now
   pub few : length w.firsts.now < 2 ^ 31
+  pub small : AreSmall (files_of w.tables.now) w.kept.now
   pub member_count : length w.members.now ≡ length w.firsts.now
   pub members_are : (p : ℕ) (d : Vec ℕ) → p < length w.firsts.now → (slice_index_or w.members.now p d).items ≡ members_at (files_of w.tables.now) w.kept.now p

@@ -3,11 +3,13 @@
 ghost use Rattle.std.specs.Prelude.{◌≡◌, ◌+◌, ◌-◌, ◌<◌, ◌≤◌, ◌^◌, ◌++◌, ◌∷◌, [], length, map, take, drop, IfOk, OnOk, if◌then◌else◌, All};
 ghost use Rattle.lk_tables.specs.TablesView.{files_of};
 ghost use Rattle.lk_tables.specs.Names as names;
+ghost use Rattle.lk_tables.specs.Sections.{contents_of};
 ghost use Rattle.link_sections.specs.MergeSections as spec;
 ghost use Rattle.link_sections.specs.Merging.{site_pieces};
 ghost use Rattle.work_split.specs.Shares.{IsShare};
 ghost use Rattle.str_merge.specs.Cutting.{IsCutAt, no_defects};
 ghost use Rattle.str_merge.specs.Sites.{IsIn, cut_texts, cut_views, pieces_of, site_view, site_views, texts_of};
+ghost use Rattle.str_merge.specs.Small.{IsNear, IsShort};
 
 use crate::sections::is_zero_char;
 use crate::sites::Site;
@@ -22,9 +24,6 @@ use work_split::{Gate, over_shares, pieces_by_weight};
 
 /// Room is made for strings of so many bytes: for shorter ones the list grows. Memory that no string takes is not touched.
 const USUAL: usize = 16;
-
-/// A section of a file has no more bytes, since no file has.
-const END_MAX: usize = 0xffff_ffff;
 
 /// A section that is cut into its pieces, which stand one after the other.
 #[derive(Drop)]
@@ -49,8 +48,10 @@ pub fn cut_sites<'a, R: Threads + Sync, G: Gate>(
     requires some { 1 ≤ workers }
     requires most { workers ≤ 64 }
     requires files { All (λ (s : _). s.file < length (files_of tables.now)) sites.now }
+    requires short { All (λ (s : _). IsShort (files_of tables.now) (site_view s)) sites.now }
     ensures pieces { IfOk result (λ cuts. cut_views cuts.items ≡ map (site_pieces (files_of tables.now)) (site_views sites.now)) }
     ensures files { IfOk result (λ cuts. All (IsIn (files_of tables.now)) cuts.items) }
+    ensures near { IfOk result (λ cuts. All IsNear cuts.items) }
 {
     let weights = weights_of(alloc, tables, sites)?;
     let pieces = pieces_by_weight(alloc, weights.as_slice(), workers)?;
@@ -61,6 +62,7 @@ pub fn cut_sites<'a, R: Threads + Sync, G: Gate>(
         pieces.as_slice(),
         |piece: Range<usize>| -> Result<Vec<Cut>, LinkStop>
             requires files { All (λ (s : _). s.file < length (files_of tables.now)) sites.now }
+            requires short { All (λ (s : _). IsShort (files_of tables.now) (site_view s)) sites.now }
             requires ordered { piece.start ≤ piece.end }
             requires within { piece.end ≤ length sites.now }
             ensures { IsShare no_defects (IsCutAt (files_of tables.entry.now) (site_views sites.entry.now)) piece.start piece.end result }
@@ -94,6 +96,7 @@ fn cut_share<'a>(
     share: Range<usize>,
 ) -> Result<Vec<Cut<'a>>, LinkStop>
     requires files { All (λ (s : _). s.file < length (files_of tables.now)) sites.now }
+    requires short { All (λ (s : _). IsShort (files_of tables.now) (site_view s)) sites.now }
     requires ordered { share.start ≤ share.end }
     requires within { share.end ≤ length sites.now }
     ensures { IsShare no_defects (IsCutAt (files_of tables.now) (site_views sites.now)) share.start share.end result }
@@ -108,9 +111,11 @@ fn cut_share<'a>(
 
 /// A section, cut.
 fn cut_site<'a>(alloc: Global, tables: &Tables<'a>, site: &Site) -> Result<Cut<'a>, AllocError>
-    requires { site.now.file < length (files_of tables.now) }
+    requires file { site.now.file < length (files_of tables.now) }
+    requires short { IsShort (files_of tables.now) (site_view site.now) }
     ensures pieces { IfOk result (λ cut. texts_of (pieces_of cut) ≡ site_pieces (files_of tables.now) (site_view site.now)) }
     ensures file { IfOk result (IsIn (files_of tables.now)) }
+    ensures near { IfOk result IsNear }
 {
     let file = tables.file(site.file);
     let section = file.section(site.index as usize);
@@ -126,9 +131,12 @@ fn cut_section<'a>(
     section: &Section,
     file: FileNo,
 ) -> Result<Cut<'a>, AllocError>
+    requires { length (contents_of bytes.now section.now) < 2 ^ 31 }
     ensures pieces { IfOk result (λ cut. texts_of (pieces_of cut) ≡ spec.section_pieces bytes.now section.now) }
     ensures bytes { IfOk result (λ cut. cut.bytes.now ≡ names.text_of bytes.now cut.whole) }
     ensures file { IfOk result (λ cut. cut.whole.file ≡ file) }
+    ensures from { IfOk result (λ cut. cut.whole.from ≡ section.now.offset) }
+    ensures len { IfOk result (λ cut. length cut.bytes.now < 2 ^ 31) }
 {
     let whole = Span {
         file,
@@ -152,11 +160,9 @@ fn ends_of(
     are_strings: bool,
     size: usize,
 ) -> Result<Vec<u32>, AllocError>
+    requires { length contents.now < 2 ^ 31 }
     ensures { IfOk result (λ ends. cut_texts contents.now ends.items ≡ (if are_strings then spec.strings_from [] (spec.elements size contents.now) else spec.elements size contents.now)) }
 {
-    if contents.len() > END_MAX {
-        return Err(AllocError);
-    }
     if size == 0 {
         return Ok(Vec::new(alloc));
     }

@@ -15,12 +15,6 @@ use std::alloc::{AllocError, Global};
 use std::thread::Threads;
 use work_split::Gate;
 
-/// The pools of a link have fewer bytes.
-const BYTES_END: u64 = 1 << 60;
-
-/// A link has fewer sections.
-const ROW_END: usize = 1 << 31;
-
 /// The pools that are filled.
 #[derive(Debug, Drop)]
 pub struct Filled {
@@ -30,8 +24,6 @@ pub struct Filled {
     pub rows: PieceRows,
     /// What is merged of each section of the list.
     pub answers: Vec<Merged>,
-    /// The bytes of all pools.
-    pub bytes: u64,
 }
 
 /// All pools.
@@ -68,7 +60,6 @@ fn empty(alloc: Global, work: &Work) -> Result<Filled, AllocError>
             parts: Rows::empty(alloc)?,
         },
         answers: vec![in alloc; Merged { pool: 0, row: 0 }; work.sites.len()]?,
-        bytes: 0,
     })
 }
 
@@ -116,12 +107,10 @@ fn add_parts(
     parts: Rows<Part>,
 ) -> Result<Filled, AllocError>
     requires members { All (λ m. m < length filled.answers.items) members.now }
+    requires few { length filled.rows.parts + length members.now < 2 ^ 31 }
     ensures { IfOk result (AddsParts members.now pool parts filled) }
 {
     let row = filled.rows.parts.count();
-    if row.saturating_add(members.len()) >= ROW_END {
-        return Err(AllocError);
-    }
     let mut filled = filled;
     take_rows(&mut filled.rows.parts, parts)?;
     answer(&mut filled.answers, members, pool, row as u32);
@@ -158,18 +147,11 @@ fn answer(answers: &mut Vec<Merged>, members: &[u32], pool: u32, row: u32)
 fn push_pool(filled: Filled, first: SecNo, placed: Placed) -> Result<Filled, AllocError>
     ensures { IfOk result (AddsPool first placed filled) }
 {
-    let Some(bytes) = filled.bytes.checked_add(placed.size) else {
-        return Err(AllocError);
-    };
-    if bytes >= BYTES_END {
-        return Err(AllocError);
-    }
     let mut filled = filled;
     filled.pools.push(Pool {
         first,
         size: placed.size,
     })?;
     filled.rows.pieces.push_vec(placed.pieces)?;
-    filled.bytes = bytes;
     Ok(filled)
 }

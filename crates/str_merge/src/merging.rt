@@ -1,10 +1,11 @@
 //! The pools of a link.
 
-ghost use Rattle.std.specs.Prelude.{◌≡◌, ◌≤◌, length, IfOk};
+ghost use Rattle.std.specs.Prelude.{◌≡◌, ◌<◌, ◌≤◌, ◌^◌, length, IfOk};
 ghost use Rattle.lk_tables.specs.TablesView.{files_of};
-ghost use Rattle.link_sections.specs.Merging.{pools_of};
+ghost use Rattle.link_sections.specs.Merging.{piece_count, pools_of};
 ghost use Rattle.link_sections.specs.PoolViews.{piece_rows, pools_view};
 ghost use Rattle.str_merge.specs.Filling.{IsFilledTo};
+ghost use Rattle.str_merge.specs.Small.{AreSmall, AreWritten};
 ghost use Rattle.str_merge.specs.Works.{IsWork};
 
 use crate::cuts::cut_sites;
@@ -21,12 +22,19 @@ use std::alloc::{AllocError, Global};
 use std::thread::Threads;
 use work_split::Gate;
 
-/// A link has fewer sections.
-const SITE_END: usize = 1 << 31;
+/// A link in which the sections that are merged are written has neither too many of them, nor too many pieces, nor too many bytes in them.
+/// Nothing is done while a program runs: the clause is all.
+fn are_small(tables: &Tables, kept: &[bool])
+    requires pieces { piece_count (files_of tables.now) < 2 ^ 31 }
+    requires written { AreWritten (files_of tables.now) kept.now }
+    ensures { AreSmall (files_of tables.now) kept.now }
+{
+    tables.is_few();
+}
 
 /// The pools of the sections that are kept, which stand in `kept` by number: the sections that are merged, cut into pieces, of which equal
-/// ones stand in their pool once, by first appearance, each at a multiple of the pool's alignment. The workers find the pieces. It answers
-/// the same whatever the number of workers. The only error is out of memory.
+/// ones stand in their pool once, by first appearance, each at a multiple of the pool's alignment. The workers find the pieces. Those that are
+/// merged are written, and [`piece_count`](crate::piece_count) is below 2^31. It answers the same whatever the number of workers. The only error is out of memory.
 pub fn merge<R: Threads + Sync, G: Gate>(
     rt: &R,
     alloc: Global,
@@ -37,13 +45,13 @@ pub fn merge<R: Threads + Sync, G: Gate>(
 ) -> Result<Pools, AllocError>
     requires some { 1 ≤ workers }
     requires most { workers ≤ 64 }
+    requires pieces { piece_count (files_of tables.now) < 2 ^ 31 }
+    requires written { AreWritten (files_of tables.now) kept.now }
     ensures value { IfOk result (λ pools. pools_view (files_of tables.now) pools ≡ pools_of (files_of tables.now) kept.now) }
     ensures rows { IfOk result (λ pools. length (piece_rows pools) ≡ length pools.pools.items) }
 {
+    are_small(tables, kept);
     let sites = merge_sites(alloc, tables, kept)?;
-    if sites.len() >= SITE_END {
-        return Err(AllocError);
-    }
     let cuts = cut_sites(rt, alloc, tables, sites.as_slice(), workers, gate)?;
     let keys = keys_of(alloc, tables, sites.as_slice())?;
     let numbers = number_keys(alloc, keys.as_slice())?;

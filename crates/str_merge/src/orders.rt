@@ -1,9 +1,12 @@
 //! Distinct elements by first appearance.
 
-ghost use Rattle.std.specs.Prelude.{◌≡◌, ◌==◌, ◌+◌, ◌<◌, ◌^◌, ◌++◌, ◌∷◌, [], length, slice_index, if◌then◌else◌, IfOk, OnOk};
-ghost use Rattle.str_merge.specs.Orders.{IsFirstOf, firsts, owns, rank, ranks};
+ghost use Rattle.std.specs.Prelude.{◌≡◌, ◌==◌, ◌+◌, ◌<◌, ◌≤◌, ◌^◌, ◌++◌, length, take, slice_index, if◌then◌else◌, IfOk};
+ghost use Rattle.str_merge.specs.Orders.{IsFirstOf, firsts, owns, ranks};
 
 use std::alloc::{AllocError, Global};
+
+/// So many elements are looked at before those of them are listed with which no earlier one is the same.
+const BLOCK: usize = 512;
 
 /// The distinct elements of a list.
 #[derive(Debug, Drop)]
@@ -32,13 +35,56 @@ pub fn firsts_of(alloc: Global, numbers: &[u32]) -> Result<Vec<u32>, AllocError>
     ensures { IfOk result (λ list. list.items ≡ firsts numbers.now) }
 {
     let mut firsts = Vec::with_capacity(alloc, numbers.len())?;
-    for i in 0..numbers.len() {
-        push_own(&mut firsts, numbers[i], i)?;
+    let mut own = vec![in alloc; 0; BLOCK]?;
+    let mut done = 0;
+    while done < numbers.len() {
+        let end = done + block_of(numbers.len() - done);
+        let count = list_own(&mut own, numbers, done, end);
+        firsts.extend_from_slice(head(own.as_slice(), count))?;
+        done = end;
     }
     Ok(firsts)
 }
 
-/// For each element the place of its first equal among these, if the numbers are indexes of first elements.
+/// How many of the elements that are left are of the next block.
+fn block_of(left: usize) -> usize
+    requires { 0 < left }
+    ensures some { 0 < result }
+    ensures most { result ≤ left }
+    ensures room { result ≤ 512 }
+{
+    if left < BLOCK { left } else { BLOCK }
+}
+
+/// Lists the elements from one on and before another with which no earlier one is the same: so many, at the head of the list. Whether an element is one
+/// of them is not to be foreseen, so each is written, and kept or not without a branch.
+fn list_own(own: &mut Vec<u32>, numbers: &[u32], start: usize, end: usize) -> usize
+    requires order { start ≤ end }
+    requires room { end ≤ start + length own.old.items }
+    requires within { end ≤ length numbers.now }
+    requires few { length numbers.now < 2 ^ 31 }
+    ensures len { length own.new.items ≡ length own.old.items }
+    ensures most { result ≤ length own.new.items }
+    ensures own { owns numbers.now start ++ take result own.new.items ≡ owns numbers.now end }
+{
+    let mut count: usize = 0;
+    for i in start..end {
+        own[count] = i as u32;
+        count = count_own(count, numbers[i], i);
+    }
+    count
+}
+
+/// The first so many elements of a list.
+fn head(list: &[u32], count: usize) -> &[u32]
+    requires { count ≤ length list.now }
+    ensures { result.now ≡ take count list.now }
+{
+    &list[..count]
+}
+
+/// For each element the place of its first equal among these, if the numbers are indexes of first elements. The place after all before is listed for each
+/// element before its number is read, so one that is the first of its kind finds it there, and nothing is chosen by a branch.
 #[tactic(auto, unfolding(crate::specs::Orders::ranks))]
 pub fn ranks_of(alloc: Global, numbers: &[u32]) -> Result<Vec<u32>, AllocError>
     requires { length numbers.now < 2 ^ 31 }
@@ -48,43 +94,30 @@ pub fn ranks_of(alloc: Global, numbers: &[u32]) -> Result<Vec<u32>, AllocError>
     let mut ranks = Vec::with_capacity(alloc, numbers.len())?;
     let mut count: usize = 0;
     for i in 0..numbers.len() {
-        let rank = rank_of(ranks.as_slice(), count, numbers[i], i);
-        ranks.push(rank)?;
+        ranks.push(narrow(count))?;
+        let rank = rank_at(ranks.as_slice(), numbers[i] as usize);
+        ranks[i] = rank;
         count = count_own(count, numbers[i], i);
     }
     Ok(ranks)
 }
 
-/// The place of element `i`, if the first equal one has this number: that of the earlier one, or after all before.
-fn rank_of(ranks: &[u32], count: usize, first: u32, i: usize) -> u32
+/// A number of 32 bits.
+fn narrow(count: usize) -> u32
     requires { count < 2 ^ 32 }
-    ensures { result ≡ (if first == i then count else slice_index ranks.now first) }
+    ensures { result ≡ count }
 {
-    if first as usize == i {
-        return count as u32;
-    }
-    earlier_rank(ranks, first as usize)
+    count as u32
 }
 
-/// The place of an element before this one; 0 of any other.
-fn earlier_rank(ranks: &[u32], first: usize) -> u32
-    ensures { result ≡ slice_index ranks.now first }
+/// The place that is listed for an element; 0 if none is.
+fn rank_at(ranks: &[u32], at: usize) -> u32
+    ensures { result ≡ slice_index ranks.now at }
 {
-    match ranks.get(first) {
+    match ranks.get(at) {
         Some(rank) => *rank,
         None => 0,
     }
-}
-
-/// Adds the index of an element if the first equal one is itself.
-fn push_own(firsts: &mut Vec<u32>, first: u32, i: usize) -> Result<(), AllocError>
-    requires { i < 2 ^ 32 }
-    ensures { OnOk result (firsts.new.items ≡ firsts.old.items ++ (if first == i then i ∷ [] else [])) }
-{
-    if first as usize == i {
-        firsts.push(first)?;
-    }
-    Ok(())
 }
 
 /// The count with an element more, which counts if the first equal one is itself.

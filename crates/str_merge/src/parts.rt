@@ -4,6 +4,7 @@ ghost use Rattle.std.specs.Prelude.{◌≡◌, ◌-◌, ◌<◌, ◌≤◌, ◌^
 ghost use Rattle.str_merge.specs.Orders.{IsFirstOf, ranks};
 ghost use Rattle.str_merge.specs.Parts.{lists_at, part_lists, parts_by};
 ghost use Rattle.str_merge.specs.Sites.{cut_views, gathered, piece_lists, pieces_of, texts_of};
+ghost use Rattle.str_merge.specs.Small.{IsNear};
 
 use crate::cuts::Cut;
 use crate::gathering::{cut_at, text_in};
@@ -21,6 +22,7 @@ pub fn part_rows(
     numbers: &[u32],
 ) -> Result<Rows<Part>, AllocError>
     requires members { All (λ m. m < length cuts.now) members.now }
+    requires near { All IsNear cuts.now }
     requires few { length numbers.now < 2 ^ 31 }
     requires wide { length numbers.now ≡ length (gathered (piece_lists cuts.now) members.now) }
     ensures { IfOk result (λ rows. IsFirstOf numbers.now → rows ≡ part_lists (lists_at (cut_views cuts.now) members.now) (ranks numbers.now)) }
@@ -51,7 +53,9 @@ fn part<T>(items: &[T], from: usize, to: usize) -> &[T]
 
 /// The parts of a section whose pieces have these numbers.
 fn parts_of(alloc: Global, cut: &Cut, numbers: &[u32]) -> Result<Vec<Part>, AllocError>
-    requires { length numbers.now ≡ length cut.now.ends.items }
+    requires wide { length numbers.now ≡ length cut.now.ends.items }
+    requires few { length numbers.now < 2 ^ 31 }
+    requires near { IsNear cut.now }
     ensures { IfOk result (λ parts. parts.items ≡ parts_by 0 (texts_of (pieces_of cut.now)) numbers.now) }
 {
     let mut parts = Vec::with_capacity(alloc, numbers.len())?;
@@ -61,7 +65,7 @@ fn parts_of(alloc: Global, cut: &Cut, numbers: &[u32]) -> Result<Vec<Part>, Allo
             start,
             piece: numbers[i],
         })?;
-        start = end_of(start, text_in(cut, i).len() as u64)?;
+        start = end_of(start, text_in(cut, i).len() as u64);
     }
     Ok(parts)
 }

@@ -1,10 +1,10 @@
 //! Where the pieces of a pool stand.
 
 ghost use Rattle.std.specs.Prelude.{◌≡◌, ◌+◌, ◌<◌, ◌≤◌, ◌^◌, All, length, IfOk};
-ghost use Rattle.lk_base.specs.Arithmetic.{up};
 ghost use Rattle.str_merge.specs.Orders.{firsts};
 ghost use Rattle.str_merge.specs.Placing.{IsPlaced};
 ghost use Rattle.str_merge.specs.Sites.{gathered, piece_lists};
+ghost use Rattle.str_merge.specs.Small.{IsNear};
 
 use crate::cuts::Cut;
 use crate::gathering::{START, span_at};
@@ -12,9 +12,6 @@ use crate::orders::firsts_of;
 use link_sections::Piece;
 use lk_base::up;
 use std::alloc::{AllocError, Global};
-
-/// No pool of a link has so many bytes.
-const ROOM: u64 = 1 << 58;
 
 /// The distinct pieces of a pool, and its bytes.
 #[derive(Debug, Drop)]
@@ -35,8 +32,11 @@ pub fn place_distinct(
     align: u64,
 ) -> Result<Placed, AllocError>
     requires align { 1 ≤ align }
+    requires most { align ≤ 2 ^ 20 }
     requires members { All (λ m. m < length cuts.now) members.now }
+    requires near { All IsNear cuts.now }
     requires few { length numbers.now < 2 ^ 31 }
+    requires wide { length numbers.now ≡ length (gathered (piece_lists cuts.now) members.now) }
     ensures { IfOk result (IsPlaced (gathered (piece_lists cuts.now) members.now) (firsts numbers.now) align) }
 {
     let firsts = firsts_of(alloc, numbers)?;
@@ -46,31 +46,18 @@ pub fn place_distinct(
     let mut size = 0;
     for n in 0..firsts.len() {
         let at = firsts[n] as usize;
-        let position = next_position(size, align)?;
-        let text = span_at(cuts, members, &mut place, at)?;
+        let position = up(size, align);
+        let text = span_at(cuts, members, &mut place, at);
         pieces.push(Piece { text, position })?;
-        size = end_of(position, text.len)?;
+        size = end_of(position, text.len);
     }
     Ok(Placed { pieces, size })
 }
 
-/// The next multiple of an alignment.
-fn next_position(end: u64, align: u64) -> Result<u64, AllocError>
-    requires { 1 ≤ align }
-    ensures { IfOk result (λ position. position ≡ up end align) }
-{
-    if end >= ROOM || align >= ROOM {
-        return Err(AllocError);
-    }
-    Ok(up(end, align))
-}
-
 /// The end of a piece.
-pub fn end_of(start: u64, len: u64) -> Result<u64, AllocError>
-    ensures { IfOk result (λ end. end ≡ start + len) }
+pub fn end_of(start: u64, len: u64) -> u64
+    requires { start + len < 2 ^ 64 }
+    ensures { result ≡ start + len }
 {
-    match start.checked_add(len) {
-        Some(end) => Ok(end),
-        None => Err(AllocError),
-    }
+    start + len
 }

@@ -1,34 +1,29 @@
 //! The pieces of one pool.
 
-ghost use Rattle.std.specs.Prelude.{◌≡◌, ◌<◌, ◌≤◌, ◌^◌, All, length, IfOk, IfSome, true};
+ghost use Rattle.std.specs.Prelude.{◌≡◌, ◌<◌, ◌≤◌, ◌^◌, All, length, IfOk, IfSome};
 ghost use Rattle.lk_tables.specs.TablesView.{files_of};
 ghost use Rattle.link_sections.specs.Merging.{pool_site, site_key};
-ghost use Rattle.name_numbers.specs.Firsts.{AreTold};
 ghost use Rattle.str_merge.specs.Orders.{IsFirstOf, firsts, ranks};
 ghost use Rattle.str_merge.specs.Parts.{lists_at, part_lists};
 ghost use Rattle.str_merge.specs.Placing.{IsPlaced};
-ghost use Rattle.str_merge.specs.Pooling.{AreTagged, IsMadeOf, IsPoolOf};
-ghost use Rattle.str_merge.specs.Sites.{cut_views, gathered, piece_lists, texts_of};
+ghost use Rattle.str_merge.specs.Pooling.{IsMadeOf, IsPoolOf};
+ghost use Rattle.str_merge.specs.Sites.{cut_views, gathered, piece_lists};
+ghost use Rattle.str_merge.specs.Small.{IsNear};
 ghost use Rattle.str_merge.specs.Works.{IsWork, members_at};
 
-use crate::comparing::are_told;
 use crate::cuts::Cut;
-use crate::gathering::{count_of, texts_of};
+use crate::gathering::texts_of;
 use crate::keys::PoolKey;
 use crate::parts::part_rows;
 use crate::placing::{Placed, place_distinct};
 use crate::sites::Site;
-use crate::tagging::tags_of;
 use flat_rows::Rows;
 use link_sections::Part;
 use lk_tables::Tables;
-use name_numbers::{number_tags, number_texts};
+use name_numbers::number_texts;
 use std::alloc::{AllocError, Global};
 use std::thread::{Threads, join_mut};
 use work_split::Gate;
-
-/// So many pieces have numbers. A link has no more, since that is its limit.
-const PIECE_MAX: usize = 0x7fff_ffff;
 
 /// What is known before the pools are filled, lent. Each list that has no other order has one element for each section that is merged.
 #[derive(Clone, Copy)]
@@ -79,130 +74,61 @@ pub fn pool_pieces<R: Threads + Sync, G: Gate>(
     if let Some(pooled) = known {
         return Ok(pooled);
     }
-    let count = count_of(work.cuts, members)?;
-    if count > PIECE_MAX {
-        return Err(AllocError);
-    }
-    let numbers = number_tagged(rt, alloc, work.cuts, members, count, workers, gate)?;
-    if workers == 1 {
-        return by_one(rt, alloc, work, pool, members, numbers.as_slice(), gate);
-    }
-    by_all(
+    by_texts(rt, alloc, work, pool, members, workers, gate)
+}
+
+/// What becomes of the pieces of a pool, if nothing is known of them.
+pub fn by_texts<R: Threads + Sync, G: Gate>(
+    rt: &R,
+    alloc: Global,
+    work: &Work,
+    pool: usize,
+    members: &[u32],
+    workers: u32,
+    gate: &G,
+) -> Result<Pooled, AllocError>
+    requires work { IsWork work.now }
+    requires pool { pool < length work.now.firsts.now }
+    requires members { members.now ≡ members_at (files_of work.now.tables.now) work.now.kept.now pool }
+    requires few { length (gathered (piece_lists work.now.cuts.now) members.now) < 2 ^ 31 }
+    ensures { IfOk result (IsPoolOf work.now pool members.now) }
+{
+    let texts = texts_of(alloc, work.cuts, members)?;
+    let numbers = number_texts(rt, alloc, &texts, workers, gate)?;
+    let align = align_of(work, pool);
+    let pooled = place(
         rt,
         alloc,
-        work,
-        pool,
+        work.cuts,
         members,
         numbers.as_slice(),
+        align,
         workers,
-        gate,
-    )
-}
-
-/// What becomes of the pieces of a pool, if for each the first is known that has its tag. While the workers compare them with these, the
-/// distinct ones are placed and the parts listed, as they are if pieces of one tag are equal; else they are numbered once more.
-fn by_all<R: Threads + Sync, G: Gate>(
-    rt: &R,
-    alloc: Global,
-    work: &Work,
-    pool: usize,
-    members: &[u32],
-    numbers: &[u32],
-    workers: u32,
-    gate: &G,
-) -> Result<Pooled, AllocError>
-    requires work { IsWork work.now }
-    requires pool { pool < length work.now.firsts.now }
-    requires members { members.now ≡ members_at (files_of work.now.tables.now) work.now.kept.now pool }
-    requires few { length numbers.now < 2 ^ 31 }
-    requires tagged { AreTagged (texts_of (gathered (piece_lists work.now.cuts.now) members.now)) numbers.now }
-    requires some { 1 ≤ workers }
-    requires most { workers ≤ 64 }
-    ensures { IfOk result (IsPoolOf work.now pool members.now) }
-{
-    let cuts = work.cuts;
-    let align = align_of(work, pool);
-    let (told, pooled) = join_mut(
-        rt,
-        &mut || -> Result<bool, AllocError>
-            requires { All (λ m. m < length cuts.now) members.now × (length numbers.now ≡ length (gathered (piece_lists cuts.now) members.now)) × (1 ≤ workers) × (workers ≤ 64) }
-            ensures { IfOk result (λ told. told ≡ true → AreTold (texts_of (gathered (piece_lists cuts.entry.now) members.entry.now)) numbers.entry.now) }
-        { are_told(rt, alloc, cuts, members, numbers, workers, gate) },
-        &mut || -> Result<Pooled, AllocError>
-            requires { All (λ m. m < length cuts.now) members.now × (1 ≤ align) × (length numbers.now < 2 ^ 31) × (length numbers.now ≡ length (gathered (piece_lists cuts.now) members.now)) }
-            ensures { IfOk result (IsMadeOf cuts.entry.now members.entry.now numbers.entry.now align) }
-        { place_beside(rt, alloc, cuts, members, numbers, align) },
-    );
-    if !told? {
-        return by_texts(rt, alloc, work, pool, members, numbers.len(), workers);
-    }
-    let pooled = pooled?;
-    Ok(pooled)
-}
-
-/// The same by one worker, one after the other.
-fn by_one<R: Threads + Sync, G: Gate>(
-    rt: &R,
-    alloc: Global,
-    work: &Work,
-    pool: usize,
-    members: &[u32],
-    numbers: &[u32],
-    gate: &G,
-) -> Result<Pooled, AllocError>
-    requires work { IsWork work.now }
-    requires pool { pool < length work.now.firsts.now }
-    requires members { members.now ≡ members_at (files_of work.now.tables.now) work.now.kept.now pool }
-    requires few { length numbers.now < 2 ^ 31 }
-    requires tagged { AreTagged (texts_of (gathered (piece_lists work.now.cuts.now) members.now)) numbers.now }
-    ensures { IfOk result (IsPoolOf work.now pool members.now) }
-{
-    if !are_told(rt, alloc, work.cuts, members, numbers, 1, gate)? {
-        return by_texts(rt, alloc, work, pool, members, numbers.len(), 1);
-    }
-    let align = align_of(work, pool);
-    let pooled = place(alloc, work.cuts, members, numbers, align)?;
-    Ok(pooled)
-}
-
-/// What becomes of the pieces of a pool, which are so many, if nothing is known of them: their texts are listed.
-pub fn by_texts<R: Threads + Sync>(
-    rt: &R,
-    alloc: Global,
-    work: &Work,
-    pool: usize,
-    members: &[u32],
-    count: usize,
-    workers: u32,
-) -> Result<Pooled, AllocError>
-    requires work { IsWork work.now }
-    requires pool { pool < length work.now.firsts.now }
-    requires members { members.now ≡ members_at (files_of work.now.tables.now) work.now.kept.now pool }
-    requires count { count ≡ length (gathered (piece_lists work.now.cuts.now) members.now) }
-    requires few { count < 2 ^ 31 }
-    ensures { IfOk result (IsPoolOf work.now pool members.now) }
-{
-    let texts = texts_of(alloc, work.cuts, members, count)?;
-    let numbers = number_texts(rt, alloc, texts.as_slice(), workers)?;
-    let align = align_of(work, pool);
-    let pooled = place(alloc, work.cuts, members, numbers.as_slice(), align)?;
+    )?;
     Ok(pooled)
 }
 
 /// The distinct pieces of these sections, placed, and the parts of the sections, if for each piece the index of the first equal one is known.
-fn place(
+fn place<R: Threads + Sync>(
+    rt: &R,
     alloc: Global,
     cuts: &[Cut],
     members: &[u32],
     numbers: &[u32],
     align: u64,
+    workers: u32,
 ) -> Result<Pooled, AllocError>
     requires members { All (λ m. m < length cuts.now) members.now }
+    requires near { All IsNear cuts.now }
     requires align { 1 ≤ align }
+    requires most { align ≤ 2 ^ 20 }
     requires few { length numbers.now < 2 ^ 31 }
     requires wide { length numbers.now ≡ length (gathered (piece_lists cuts.now) members.now) }
     ensures { IfOk result (IsMadeOf cuts.now members.now numbers.now align) }
 {
+    if 1 < workers {
+        return place_beside(rt, alloc, cuts, members, numbers, align);
+    }
     let placed = place_distinct(alloc, cuts, members, numbers, align)?;
     let parts = part_rows(alloc, cuts, members, numbers)?;
     Ok(Pooled { placed, parts })
@@ -218,7 +144,9 @@ fn place_beside<R: Threads + Sync>(
     align: u64,
 ) -> Result<Pooled, AllocError>
     requires members { All (λ m. m < length cuts.now) members.now }
+    requires near { All IsNear cuts.now }
     requires align { 1 ≤ align }
+    requires most { align ≤ 2 ^ 20 }
     requires few { length numbers.now < 2 ^ 31 }
     requires wide { length numbers.now ≡ length (gathered (piece_lists cuts.now) members.now) }
     ensures { IfOk result (IsMadeOf cuts.now members.now numbers.now align) }
@@ -226,11 +154,11 @@ fn place_beside<R: Threads + Sync>(
     let (placed, parts) = join_mut(
         rt,
         &mut || -> Result<Placed, AllocError>
-            requires { (1 ≤ align) × All (λ m. m < length cuts.now) members.now × (length numbers.now < 2 ^ 31) }
+            requires { (1 ≤ align) × (align ≤ 2 ^ 20) × All (λ m. m < length cuts.now) members.now × All IsNear cuts.now × (length numbers.now < 2 ^ 31) × (length numbers.now ≡ length (gathered (piece_lists cuts.now) members.now)) }
             ensures { IfOk result (IsPlaced (gathered (piece_lists cuts.entry.now) members.entry.now) (firsts numbers.entry.now) align) }
         { place_distinct(alloc, cuts, members, numbers, align) },
         &mut || -> Result<Rows<Part>, AllocError>
-            requires { All (λ m. m < length cuts.now) members.now × (length numbers.now < 2 ^ 31) × (length numbers.now ≡ length (gathered (piece_lists cuts.now) members.now)) }
+            requires { All (λ m. m < length cuts.now) members.now × All IsNear cuts.now × (length numbers.now < 2 ^ 31) × (length numbers.now ≡ length (gathered (piece_lists cuts.now) members.now)) }
             ensures { IfOk result (λ rows. IsFirstOf numbers.entry.now → rows ≡ part_lists (lists_at (cut_views cuts.entry.now) members.entry.now) (ranks numbers.entry.now)) }
         { part_rows(alloc, cuts, members, numbers) },
     );
@@ -239,34 +167,13 @@ fn place_beside<R: Threads + Sync>(
     Ok(Pooled { placed, parts })
 }
 
-/// For each piece of these sections, which are so many, the first that has its tag.
-fn number_tagged<R: Threads + Sync, G: Gate>(
-    rt: &R,
-    alloc: Global,
-    cuts: &[Cut],
-    members: &[u32],
-    count: usize,
-    workers: u32,
-    gate: &G,
-) -> Result<Vec<u32>, AllocError>
-    requires members { All (λ m. m < length cuts.now) members.now }
-    requires count { count ≡ length (gathered (piece_lists cuts.now) members.now) }
-    requires few { count < 2 ^ 31 }
-    requires some { 1 ≤ workers }
-    requires most { workers ≤ 64 }
-    ensures { IfOk result (λ numbers. AreTagged (texts_of (gathered (piece_lists cuts.now) members.now)) numbers.items) }
-{
-    let tags = tags_of(rt, alloc, cuts, members, count, workers, gate)?;
-    let numbers = number_tags(rt, alloc, tags.as_slice(), workers)?;
-    Ok(numbers)
-}
-
 /// The alignment of a pool.
 pub fn align_of(work: &Work, pool: usize) -> u64
     requires work { IsWork work.now }
     requires pool { pool < length work.now.firsts.now }
     ensures value { result ≡ (site_key (files_of work.now.tables.now) (pool_site (files_of work.now.tables.now) work.now.kept.now pool)).align }
     ensures some { 1 ≤ result }
+    ensures most { result ≤ 2 ^ 20 }
 {
     let (_, _, _, align) = work.keys[work.firsts[pool] as usize];
     align

@@ -12,7 +12,7 @@ use lk_base::LinkStop;
 use std::alloc::{AllocError, Global};
 use std::ops::Range;
 use std::thread::Threads;
-use work_split::{Gate, over_shares, pieces_by_weight};
+use work_split::{Gate, OpenGate, over_shares, pieces_by_weight};
 
 /// Fewer pieces are not worth a thread.
 const LEAST: usize = 16_384;
@@ -62,7 +62,7 @@ fn pool_weights(alloc: Global, work: &Work) -> Result<Vec<u64>, AllocError>
 {
     let mut weights = Vec::with_capacity(alloc, work.firsts.len())?;
     for pool in 0..work.firsts.len() {
-        let count = count_of(work.cuts, work.members[pool].as_slice())?;
+        let count = count_of(work.cuts, work.members[pool].as_slice());
         if count < LEAST {
             weights.push(POOL_WEIGHT + count as u64)?;
         } else {
@@ -121,10 +121,10 @@ fn small_pool<R: Threads + Sync>(
     ensures { IfOk result (IsReady work.now pool) }
 {
     let members = work.members[pool].as_slice();
-    let count = count_of(work.cuts, members)?;
+    let count = count_of(work.cuts, members);
     if count >= LEAST {
         return Ok(None);
     }
-    let pooled = by_texts(rt, alloc, work, pool, members, count, 1)?;
+    let pooled = by_texts(rt, alloc, work, pool, members, 1, &OpenGate)?;
     Ok(Some(pooled))
 }

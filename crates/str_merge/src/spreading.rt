@@ -1,6 +1,6 @@
 //! What is merged, by section number.
 
-ghost use Rattle.std.specs.Prelude.{◌≡◌, ◌+◌, ◌<◌, ◌++◌, length, slice_get, None, if◌then◌else◌, IfOk, OnOk};
+ghost use Rattle.std.specs.Prelude.{◌≡◌, ◌+◌, ◌<◌, ◌++◌, ◌^◌, length, slice_get, None, if◌then◌else◌, IfOk, OnOk};
 ghost use Rattle.lk_tables.specs.TablesView.{files_of};
 ghost use Rattle.lk_tables.proofs.ByNumber.{section_row};
 ghost use Rattle.str_merge.specs.Spreading.{answer_in, sites_before, spread};
@@ -48,7 +48,7 @@ fn spread_file(
     for index in 0..section_count(tables.file(file)) {
         let merges = is_merge(tables, kept, file, index as u32);
         list.push(answer(answers, next, merges))?;
-        next = after(next, merges)?;
+        next = after(next, merges);
     }
     Ok(next)
 }
@@ -67,14 +67,12 @@ fn answer(answers: &[Merged], number: usize, merges: bool) -> Option<Merged>
 }
 
 /// The number of the next answer.
-fn after(number: usize, merges: bool) -> Result<usize, AllocError>
-    ensures { IfOk result (λ next. next ≡ number + (if merges then 1 else 0)) }
+fn after(number: usize, merges: bool) -> usize
+    requires { number < 2 ^ 31 }
+    ensures { result ≡ number + (if merges then 1 else 0) }
 {
     if !merges {
-        return Ok(number);
+        return number;
     }
-    match number.checked_add(1) {
-        Some(next) => Ok(next),
-        None => Err(AllocError),
-    }
+    number + 1
 }

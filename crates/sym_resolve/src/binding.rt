@@ -60,7 +60,7 @@ pub fn bind<R: Threads + Sync, G: Gate>(
     if let Some(names) = tables.names() {
         return bind_names(rt, alloc, tables, names, discarded, entry, workers, gate);
     }
-    let names = number_names(rt, alloc, tables.files(), workers)?;
+    let names = number_names(rt, alloc, tables.files(), workers, gate)?;
     bind_names(rt, alloc, tables, &names, discarded, entry, workers, gate)
 }
 

@@ -1,7 +1,7 @@
 //! The address of each symbol, once everything has its place (RISC-V ELF psABI, "Relocations": S).
 //!
 //! Workers find the address of each symbol as its own file defines it, each those of a run of symbol numbers, whatever file they are of, so
-//! that one large object is shared out too. Then a symbol whose name is bound to another takes that one's, from the list alone
+//! that one large object is shared out too. After that a symbol whose name is bound to another takes that one's, from the list alone
 //! (`prevailing`). Where the output sections of a name start and end is found once for all names, before the workers start (`extents`), so
 //! no symbol's name is searched for among 65,000 output sections.
 //!

@@ -1,4 +1,5 @@
 pub mod EntrySteps
+pub mod NameKeys
 pub mod NameOrders
 pub mod NotedSteps
 pub mod OutputPlaces

@@ -1,4 +1,5 @@
 pub mod NameOrder
+pub mod NameKeys
 pub mod NamedViews
 pub mod Noted
 pub mod Outputs

@@ -6,11 +6,13 @@
 //! references to one of the linker's symbols, the first stays.
 //!
 //! `symbols` has the type of the entries, `outputs` finds the output section of a section, `entries` makes the entry of one symbol of a
-//! file, `listing` those of all files by many workers, `named` compares them by their names, and `sorting` brings them in order.
+//! file, `listing` those of all files by many workers, `named` compares them by their names, by their first bytes first (`name_keys`), and `sorting`
+//! brings them in order.
 #![tactic(auto)]
 
 mod entries;
 mod listing;
+mod name_keys;
 mod named;
 mod outputs;
 mod sorting;

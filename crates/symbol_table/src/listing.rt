@@ -12,6 +12,7 @@ ghost use Rattle.symbol_table.specs.SymbolViews.{symbol_views, views_if};
 ghost use Rattle.work_split.specs.Pieces.{Tiles};
 
 use crate::entries::entry_of;
+use crate::name_keys::key_of;
 use crate::named::Named;
 use crate::outputs::Outputs;
 use crate::sorting::in_order;
@@ -158,7 +159,10 @@ fn push_if<'a>(list: &mut Vec<Named<'a>>, entry: Option<TableSymbol<'a>>) -> Res
     ensures { OnOk result (named_views list.new.items ≡ named_views list.old.items ++ views_if entry.entry) }
 {
     if let Some(symbol) = entry {
-        list.push(Named { symbol })?;
+        list.push(Named {
+            symbol,
+            key: key_of(symbol.name),
+        })?;
     }
     Ok(())
 }

@@ -1,17 +1,24 @@
 //! Entries that compare by their names alone.
 
-ghost use Rattle.std.specs.Prelude.{Some, nat_eq, refl};
+ghost use Rattle.std.specs.Prelude.{◌≡◌, ◌<◌, All, Some, nat_eq, refl};
+ghost use Rattle.std.proofs.Props.{props};
 ghost use Rattle.std.specs.Cmp.{on_equiv, on_per, on_po, on_total, partial_equiv_from_equiv};
 ghost use Rattle.std.specs.Cmp.Lexicographic.{nat_list_cmp_total, nat_list_eq_equiv, pointwise, slice_cmp, texts_po, texts_ties};
 ghost use Rattle.std.specs.Ordering.{nat_cmp};
+ghost use Rattle.symbol_table.specs.NameKeys.{key_of};
 
+use crate::name_keys::order_of;
 use crate::symbols::TableSymbol;
 use std::cmp::Ordering;
 
-/// An entry that compares by the bytes of its name.
+/// An entry that compares by the bytes of its name, with the key of that.
 #[derive(Clone, Copy)]
 pub struct Named<'a> {
     pub symbol: TableSymbol<'a>,
+    pub key: u64,
+
+    ghost keyed: { key ≡ key_of symbol.name.now } by { Prim.hlevel props },
+    ghost bytes: { All (λ byte. byte < 256) symbol.name.now } by { Prim.hlevel props },
 }
 
 impl<'a> PartialEq for Named<'a> {
@@ -56,6 +63,6 @@ impl<'a> Ord for Named<'a> {
     ghost matches_eq = { λ x y. texts_ties (name_of x) (name_of y) };
 
     fn cmp(&self, other: &Self) -> Ordering {
-        self.symbol.name.cmp(other.symbol.name)
+        order_of(self.key, self.symbol.name, other.key, other.symbol.name)
     }
 }

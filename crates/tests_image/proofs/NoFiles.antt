@@ -1,15 +1,21 @@
 -- A link without files, for the tests.
 use Rattle.std.proofs.Common.{◌≡◌, ℕ, ◌+◌, ◌<◌, ◌≤◌, ◌^◌, true, false, List, [], length, refl, ap, sym, ◌∙◌, arith, slice_index}
 use Rattle.std.specs.List.{All}
+use Rattle.std.proofs.lemmas.Bool.{and_parts}
 use Rattle.lk_base.specs.declared.abi.TheConstants.{EHDR_SIZE, IMAGE_BASE}
 use Rattle.lk_tables.specs.Binding.{Bindings, bound_rank, least_rank, offered_bindings, offers}
 use Rattle.lk_tables.specs.BoundNames.{bindings, or_linker, with_linker}
-use Rattle.lk_tables.specs.Files.{File, by_symbol}
+use Rattle.lk_tables.specs.Files.{File, by_symbol, file_at, section_no}
 use Rattle.lk_tables.specs.LinkerSymbols.{bound_no, fixed_no, fixed_symbols, identifier_after, is_c_identifier, linker_no, start_prefix, stop_prefix}
 use Rattle.lk_tables.specs.Ranks.{no_rank}
 use Rattle.link_sections.specs.declared.pools.Pools.{Pools}
 use Rattle.link_sections.specs.GotEntries.{word_count}
 use Rattle.link_sections.specs.LaidOut.{LaidOut, OutputPlace, no_pools}
+use Rattle.link_sections.specs.Leaders.{is_kept}
+use Rattle.link_sections.specs.MergeSections.{is_mergeable}
+use Rattle.link_sections.specs.Merging.{is_merge}
+use Rattle.link_sections.proofs.OwnLeaders.{kept_below}
+use Rattle.str_merge.specs.Small.{AreWritten}
 use Rattle.link_sections.specs.PoolViews.{PoolsView, merged_views, piece_rows, pool_views, pools_view}
 use Rattle.link_sections.specs.Sound.{IsSound}
 
@@ -24,6 +30,15 @@ unfolding pools_view
 none_pooled files pools none same =
     ap (λ ps. record { pools = pool_views files ps (piece_rows pools); merged = merged_views pools }) none
     ∙ ap (λ ms. record { pools = []; merged = ms }) same
+
+-- where nothing is kept, nothing is merged
+pub none_written : (files : List File) → AreWritten files []
+unfolding is_merge
+none_written files = λ f k lt low is.
+    let n = section_no files f k in
+    let on = (and_parts (is_kept [] n) (is_mergeable (file_at files f) k) is).0 in
+    let below = kept_below [] n on in
+    absurd (omega (arith, below))
 
 -- nothing is laid out
 pub record IsBare (laid : LaidOut) : Type 0 where

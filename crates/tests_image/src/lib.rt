@@ -1,7 +1,6 @@
-//! Worked rows of the passes from merging to the map, over their public calls: what they answer on objects that were written by hand, whose
-//! files and names `link_driver` reads and binds first.
+//! Worked rows of the passes from merging to the map, by their public calls on objects written by hand, which `link_driver` reads and binds first.
 //!
-//! A crate with tests of its own is proved once more for them. These stand in a crate above, so that those below are proved once.
+//! A crate with tests of its own is proved once more for them, so these rows stand in a crate above those that they test.
 #![tactic(auto)]
 
 #[cfg(test)]

@@ -1,5 +1,4 @@
-//! `links` links objects pass after pass; `objects` has what the rows' objects share. There is one file of rows for each pass; `kept`, `leaders`
-//! and `addresses` have tables that were made by hand.
+//! One file of rows for each pass; `links` links objects pass after pass; `kept`, `leaders` and `addresses` have tables that were made by hand.
 
 /// A table, several rows a line.
 macro_rules! table {
@@ -8,17 +7,12 @@ macro_rules! table {
     };
 }
 
-/// A link whose executable is written by blocks: its objects; how many bytes its sections have in the file, and the first length of blocks and
-/// the one past the last; and the executable.
+/// A link by blocks: its objects; how many bytes its sections have in the file, and the first and the end of the lengths of blocks; the executable.
 macro_rules! example {
     ($objects:expr; $written:expr, $from:expr, $to:expr; $image:expr) => {
         Example {
             objects: $objects,
-            lengths: Lengths {
-                written: $written,
-                from: $from,
-                to: $to,
-            },
+            lengths: Lengths { written: $written, from: $from, to: $to },
             image: $image,
         }
     };
@@ -36,3 +30,4 @@ mod listed;
 mod objects;
 mod pieces;
 mod shortened;
+mod values;

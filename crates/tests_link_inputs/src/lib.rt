@@ -1,8 +1,8 @@
 //! Worked examples of whole links by what is read, over stores of files and streams in memory: commands, archives, groups, what is collected,
-//! generated objects, what is refused, failed calls, limits, and workers in either order. Each is a command and its objects, and the line or the
+//! generated objects, what is refused, failed calls, limits, and workers in either order. An example is a command and its objects, and the line or the
 //! executable that it has to leave, worked out by hand from the rules of a link.
 //!
-//! All of it is tests: nothing stands on it. So it is with `tests_link_outputs`.
+//! This crate has tests alone, and no crate stands on it; `tests_link_outputs` has the other examples.
 #![tactic(auto)]
 
 #[cfg(test)]

@@ -1,8 +1,7 @@
-//! Worked examples of whole links by what is written: the order of sections, the values of relocations, the global offset table, thread-local data
-//! and the linker's symbols; pools of merged strings and constants, folded code, alignments, symbol tables and maps. Links whose files are read while
-//! they are loaded stand here too.
+//! Worked examples of whole links by what is written: the order of sections, relocations, the global offset table, thread-local data, the linker's
+//! symbols, pools of strings and constants, folded code, alignments, symbol tables and maps; and links whose files are read while they are loaded.
 //!
-//! All of it is tests: nothing stands on it. So it is with `tests_link_inputs`.
+//! This crate has tests alone, and no crate stands on it; `tests_link_inputs` has the other examples.
 #![tactic(auto)]
 
 #[cfg(test)]

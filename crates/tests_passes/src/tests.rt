@@ -7,6 +7,13 @@ macro_rules! table {
     };
 }
 
+/// A struct of this name, its fields in one line.
+macro_rules! record {
+    ($name:ident; $($field:ident: $value:expr),+) => {
+        $name { $($field: $value),+ }
+    };
+}
+
 mod alone;
 mod archives;
 mod bound_names;

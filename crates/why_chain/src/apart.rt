@@ -1,6 +1,6 @@
 //! Why two items are not folded.
 
-ghost use Rattle.std.specs.Prelude.{◌≡◌, ◌<◌, ◌*◌, ◌↔◌, false, length, is_some, option_map, slice_index_or, IfOk, IfSome};
+ghost use Rattle.std.specs.Prelude.{◌≡◌, ◌<◌, ◌*◌, ◌^◌, ◌↔◌, false, length, is_some, option_map, slice_index_or, IfOk, IfSome};
 ghost use Rattle.std.specs.List.Sorted.{IsStrictlyIncreasing};
 ghost use Rattle.link_sections.specs.FoldItems.{item_views, sections_of};
 ghost use Rattle.icf_part.specs.Folding.{StandsFor};
@@ -15,13 +15,10 @@ use indexmap::IndexSet;
 use link_sections::FoldItem;
 use std::alloc::{AllocError, Global};
 
-/// More items than a link can have sections.
-const ITEM_END: usize = 1 << 31;
-
 /// Why two items, by their places in the list, are not folded: pairs of items from these two on, each next pair met through one relocation
 /// of both of the pair before, whose last pair differs. Of all such lists with the fewest pairs it is the first, by the
-/// numbers of the relocations. `None` exactly where the two are folded, or are one. Items are given in order of their sections' numbers. The only error is out of memory, which 2^31 items or more are answered
-/// with.
+/// numbers of the relocations. `None` exactly where the two are folded, or are one. Items are given in order of their sections' numbers. There are fewer
+/// than 2^31 of them, as there are sections in a link. The only error is out of memory.
 ///
 /// Two cycles of p and of q items that are folded meet p * q pairs where p and q have no common factor. Who knows which items are folded
 /// asks it only of others; who does not can ask [`why_apart_within`] first.
@@ -34,13 +31,14 @@ pub fn why_apart(
     requires order { IsStrictlyIncreasing (sections_of (item_views items.now)) }
     requires one { a < length items.now }
     requires two { b < length items.now }
+    requires few { length items.now < 2 ^ 31 }
     ensures chain { IfOk result (λ chain. option_map chain_view chain ≡ apart_chain (item_views items.now) a b) }
     ensures least { IfOk result (λ chain. IfSome chain (λ c. IsLeastApart (item_views items.now) a b (chain_view c))) }
     ensures given { IfOk result (λ chain. (is_some chain ≡ false) ↔ StandsFor (item_views items.now) a b) }
 {
     let found = why_apart_within(alloc, items, a, b, usize::MAX)?;
     let Some(chain) = found else {
-        return Err(AllocError);
+        unreachable!();
     };
     Ok(chain)
 }
@@ -56,14 +54,12 @@ pub fn why_apart_within(
     requires order { IsStrictlyIncreasing (sections_of (item_views items.now)) }
     requires one { a < length items.now }
     requires two { b < length items.now }
+    requires few { length items.now < 2 ^ 31 }
     ensures chain { IfOk result (λ found. IfSome found (λ chain. option_map chain_view chain ≡ apart_chain (item_views items.now) a b)) }
     ensures least { IfOk result (λ found. IfSome found (λ chain. IfSome chain (λ c. IsLeastApart (item_views items.now) a b (chain_view c)))) }
     ensures given { IfOk result (λ found. IfSome found (λ chain. (is_some chain ≡ false) ↔ StandsFor (item_views items.now) a b)) }
     ensures many { IfOk result (λ found. is_some found ≡ false → most < length items.now * length items.now) }
 {
-    if items.len() >= ITEM_END {
-        return Err(AllocError);
-    }
     let mut queue: Vec<Met> = Vec::new(alloc);
     let mut known: IndexSet<usize> = IndexSet::new(alloc);
     meet(

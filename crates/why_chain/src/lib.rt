@@ -7,7 +7,7 @@
 //! queue asks for, `alike` compares two items, and `paths` reads off the list that leads to a place.
 //!
 //! The queue notes for each entry the place from which it was met. For a section the queue begins with a start that leads to the roots, and
-//! what is met at one place stands in it in order of number (`visits`). So the queue stands in order of the lists that lead there, shorter
+//! what is met at one place stands in it in order of number (`visits`). The queue thus stands in order of the lists that lead there, shorter
 //! ones first, and of lists of one length the lesser first: what is met first is met by the least list, which is read back from the places
 //! (`paths`). For two sections the entries are pairs of items; a pair is met through one relocation of both of the pair before, in order of
 //! these (`meetings`), and each is numbered by one word, under which a table knows it. Relocations with equal targets are passed over,

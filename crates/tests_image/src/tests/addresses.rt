@@ -1,5 +1,4 @@
-//! No addresses where there are no symbols, by a layout that was made by hand; and those of the linker's own symbols, where two names stand in
-//! two classes.
+//! No addresses where there are no symbols, by a layout made by hand; and those of the linker's own symbols, of which two stand in two classes.
 
 ghost use Rattle.std.specs.Prelude.{◌≡◌, ◌+◌, ◌≤◌, ◌^◌, ◌<◌, [], All, map, IfOk, OnOk};
 ghost use Rattle.lk_tables.specs.Binding.{Bindings};
@@ -11,7 +10,7 @@ ghost use Rattle.link_sections.specs.Sound.{IsSound};
 
 use super::links::{PLAIN, inputs_of, run_passes};
 use super::objects::START;
-use elf_bytes::{Object, Section, Symbol, section, symbol};
+use elf_bytes::{Object, Section, Symbol, record, section, symbol};
 use flat_rows::Rows;
 use link_sections::{Bounds, Got, Layout, OutputPlace, Pools, Sizes};
 use lk_tables::{Binding, Class, Heads, NO_RANK, Tables};
@@ -144,15 +143,10 @@ const READ: Section = section!(b"part", 1, 2, 8; b""; zeros: 16);
 /// A symbol that no file defines.
 const ASKED: Symbol = symbol!(b"_start", 1, 0, 0, 0, 0);
 
-const SECTIONS: &[Section] = &[
-    section!(READ => name: b".init_array"),
-    section!(b".fini_array", 1, 2, 8; b""; zeros: 8),
-    READ,
-    section!(b".text", 1, 6, 4; b""; zeros: 0x40),
-    section!(b".init_array", 1, 3, 8; b""; zeros: 0x18),
-    section!(b"part", 1, 3, 8; b""; zeros: 8),
-    section!(b".sdata", 1, 3, 8; b""; zeros: 0x40),
-    section!(b".sdata", 8, 3, 8; b""; size: 0x40),
+const SECTIONS: &[Section] = table![
+    section!(READ => name: b".init_array"); section!(b".fini_array", 1, 2, 8; b""; zeros: 8); READ; section!(b".text", 1, 6, 4; b""; zeros: 0x40);
+    section!(b".init_array", 1, 3, 8; b""; zeros: 0x18); section!(b"part", 1, 3, 8; b""; zeros: 8); section!(b".sdata", 1, 3, 8; b""; zeros: 0x40);
+    section!(b".sdata", 8, 3, 8; b""; size: 0x40);
 ];
 
 /// The symbols that the linker defines, each with its address, in order of their numbers.
@@ -175,16 +169,11 @@ fn asking(alloc: Global) -> Result<Vec<Symbol<'static>>, AllocError> {
     Ok(symbols)
 }
 
-// The global pointer stands 0x800 past the small data that has bytes; there is no list of functions to call before all others, one that is
-// not written, and two of which one is written.
+// The global pointer is 0x800 past the small data with bytes; there is no .preinit_array, .fini_array is read-only, and so is one .init_array of two.
 #[test]
 fn each_linker_symbol_has_its_address(rt: HostRuntime) -> Result<(), Fail> {
     let symbols = asking(rt.alloc())?;
-    let object = Object {
-        flags: 1,
-        sections: SECTIONS,
-        symbols: symbols.as_slice(),
-    };
+    let object = record!(Object; flags: 1, sections: SECTIONS, symbols: symbols.as_slice());
     let inputs = inputs_of(rt.alloc(), &[object])?;
     let made = run_passes(&rt, rt.alloc(), &inputs, &PLAIN)?;
     // The null symbol and the start have the first two.

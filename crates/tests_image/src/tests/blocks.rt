@@ -1,5 +1,4 @@
-//! An executable is the same by blocks of any length, written in any order, as by one block; and a block is refused for a relocation that
-//! touches it alone.
+//! An executable is the same by blocks of any length and order as by one block; a block is refused for a relocation that touches it alone.
 
 ghost use Rattle.std.specs.Prelude.{◌≡◌, ◌≤◌};
 ghost use Rattle.elf_out.specs.Prepared.{IsPreparedFor};
@@ -7,7 +6,7 @@ ghost use Rattle.elf_out.specs.Prepared.{IsPreparedFor};
 use super::examples::{Example, OF_THREE_BLOCKS, SMALL, WITH_DEFECTS};
 use super::links::{Asked, PLAIN, inputs_of, run_passes};
 use super::shortened::SHORTENED;
-use elf_bytes::{Image, image_of};
+use elf_bytes::{Image, image_of, record};
 use elf_out::{Prepared, block, fill_window, headers};
 use link_driver::Options;
 use link_sections::View;
@@ -317,10 +316,7 @@ fn example_agrees<R: Threads + Sync>(
 ) -> Result<bool, LinkStop> {
     let inputs = inputs_of(alloc, example.objects)?;
     let asked = Asked {
-        options: Options {
-            icf: true,
-            ..PLAIN.options
-        },
+        options: record!(Options, PLAIN.options => icf: true),
         lengths: Some(example.lengths),
         ..PLAIN
     };
@@ -351,26 +347,17 @@ fn blocks_of_a_long_file_agree(rt: HostRuntime) -> Result<(), Fail> {
     Ok(())
 }
 
-macro_rules! defect {
-    (; $($field:ident: $value:expr),+) => {
-        Defect { $($field: $value),+ }
-    };
-    ($base:expr => $($field:ident: $value:expr),+) => {
-        Defect { $($field: $value,)+ ..$base }
-    };
-}
-
 /// A number of 64 bits for a field of 32, at offset 4 of the data, which stand at 65,536 of the file.
 const TOO_WIDE: Defect =
-    defect!(; kind: RANGE, file: 0, section: 2, place: 4, symbol: 5, other: 0xfedc_ba98_7654_3210);
+    record!(Defect; kind: RANGE, file: 0, section: 2, place: 4, symbol: 5, other: 0xfedc_ba98_7654_3210);
 /// Another, over the end of the second block.
-const OVER_THE_END: Defect = defect!(TOO_WIDE => place: 0xfffe);
+const OVER_THE_END: Defect = record!(Defect, TOO_WIDE => place: 0xfffe);
 /// A jump in the fourth block back to offset 3.
 const ODD_JUMP: Defect =
-    defect!(TOO_WIDE => kind: ODD, place: 0x2_0008, symbol: 4, other: 0xffff_ffff_fffd_fffb);
+    record!(Defect, TOO_WIDE => kind: ODD, place: 0x2_0008, symbol: 4, other: 0xffff_ffff_fffd_fffb);
 /// A lower part in the fifth block.
 const LOWER_ALONE: Defect =
-    defect!(TOO_WIDE => kind: NO_PARTNER, place: 0x3_0004, symbol: 4, other: 0);
+    record!(Defect, TOO_WIDE => kind: NO_PARTNER, place: 0x3_0004, symbol: 4, other: 0);
 
 macro_rules! slices {
     ($($k:literal, $most:literal => $defect:expr);+ $(;)?) => {
@@ -388,10 +375,7 @@ const SLICES: [Slice; 11] = slices![
 #[test]
 fn blocks_are_refused_for_what_touches_them(rt: HostRuntime) -> Result<(), Fail> {
     let inputs = inputs_of(rt.alloc(), &WITH_DEFECTS)?;
-    let asked = Asked {
-        slices: &SLICES,
-        ..PLAIN
-    };
+    let asked = record!(Asked, PLAIN => slices: &SLICES);
     let made = run_passes(&rt, rt.alloc(), &inputs, &asked)?;
     assert!(rt; made.written.agrees);
     let tested = run_passes(&rt, rt.alloc(), &inputs, &PLAIN);

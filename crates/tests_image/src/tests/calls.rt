@@ -2,7 +2,7 @@
 
 use super::links::{PLAIN, inputs_of, run_passes};
 use super::objects::{BY_FIRST, CODE, LABEL, START};
-use elf_bytes::{Object, Reloc, Section, Symbol};
+use elf_bytes::{Object, Reloc, Section, Symbol, record};
 use link_driver::Inputs;
 use link_sections::Cut;
 use lk_base::LinkStop;
@@ -59,18 +59,10 @@ fn lay(bytes: &mut Vec<u8>, at: usize, way: &[u8]) {
 fn relocs_of(alloc: Global, calls: &[Call]) -> Result<Vec<Reloc>, AllocError> {
     let mut relocs = Vec::new(alloc);
     for (k, call) in calls.iter().enumerate() {
-        let by = Reloc {
-            offset: call.at,
-            kind: R_RISCV_CALL_PLT as u64,
-            symbol: (k as u64).wrapping_add(1),
-            ..BY_FIRST
-        };
+        let by =
+            record!(Reloc, BY_FIRST => offset: call.at, kind: R_RISCV_CALL_PLT as u64, symbol: (k as u64).wrapping_add(1));
         relocs.push(by)?;
-        relocs.push(Reloc {
-            kind: R_RISCV_RELAX as u64,
-            symbol: 0,
-            ..by
-        })?;
+        relocs.push(record!(Reloc, by => kind: R_RISCV_RELAX as u64, symbol: 0))?;
     }
     Ok(relocs)
 }
@@ -79,10 +71,7 @@ fn relocs_of(alloc: Global, calls: &[Call]) -> Result<Vec<Reloc>, AllocError> {
 fn symbols_of(alloc: Global, calls: &[Call]) -> Result<Vec<Symbol<'static>>, AllocError> {
     let mut symbols = Vec::new(alloc);
     for call in calls {
-        symbols.push(Symbol {
-            value: call.target,
-            ..LABEL
-        })?;
+        symbols.push(record!(Symbol, LABEL => value: call.target))?;
     }
     symbols.push(START)?;
     Ok(symbols)
@@ -98,11 +87,7 @@ fn kept_at(cuts: &[Cut], at: u64) -> u64 {
 
 /// A section of these bytes.
 fn code_of<'x>(bytes: &'x [u8], relocs: &'x [Reloc]) -> Section<'x> {
-    Section {
-        bytes,
-        relocs,
-        ..CODE
-    }
+    record!(Section, CODE => bytes: bytes, relocs: relocs)
 }
 
 /// The inputs of a link of one object.
@@ -114,11 +99,7 @@ fn inputs_with(
 ) -> Result<Inputs, AllocError> {
     inputs_of(
         alloc,
-        &[Object {
-            flags,
-            sections,
-            symbols,
-        }],
+        &[record!(Object; flags: flags, sections: sections, symbols: symbols)],
     )
 }
 
@@ -153,11 +134,7 @@ fn sizes<R: Threads + Sync>(
 fn calls_at_the_ends_of_their_reach(rt: HostRuntime) -> Result<(), Fail> {
     for (end, size) in [(1_048_588u64, 4), (1_048_590, 8)] {
         let calls = [call!(8 => end), call!(end.wrapping_sub(8) => 0)];
-        let code = Code {
-            calls: &calls,
-            way: CALL,
-            len: end as usize,
-        };
+        let code = record!(Code; calls: &calls, way: CALL, len: end as usize);
         let found = sizes(&rt, rt.alloc(), 1, &code)?;
         assert!(rt; found.as_slice() == [size, size].as_slice());
     }
@@ -181,15 +158,10 @@ fn a_tail_call_is_shortened(rt: HostRuntime) -> Result<(), Fail> {
 
 /// The section of a chain or a zigzag.
 fn long<'a>(calls: &'a [Call]) -> Code<'a> {
-    Code {
-        calls,
-        way: CALL,
-        len: 1_200_000,
-    }
+    record!(Code; calls: calls, way: CALL, len: 1_200_000)
 }
 
-/// So many calls side by side, each of which must have eight bytes once all those have that it goes over: all after it, or all before it. The
-/// last or the first goes too far from the start.
+/// So many calls side by side, each of eight bytes once all are that it goes over: those after it, or before it. The last or first goes too far.
 fn chain(alloc: Global, count: u64, forwards: bool) -> Result<Vec<Call>, AllocError> {
     let mut calls = Vec::new(alloc);
     for k in 0..count {
@@ -224,9 +196,8 @@ fn chain_of_calls_back(rt: HostRuntime) -> Result<(), Fail> {
 }
 
 /// The call that gets larger after so many others, of 300: 150 side by side go forwards over 150 others, and these go back over them. The last
-/// of the first ones goes too far from the start, then follow the first of the others, the last but one of the first ones, and so on. Each
-/// must have eight bytes once all those of the turns before it have, all of which it goes over; but for the one of a turn, which has room for
-/// four bytes more.
+/// of the first ones goes too far from the start, then the first of the others does, the last but one of the first ones, and so on. Each call
+/// must have eight bytes once all calls of the turns before it have; but the call of one turn has room for four bytes more.
 fn call_of(turn: u64, with_room: u64) -> Call {
     let room = if turn == with_room { 4u64 } else { 0 };
     let pair = turn / 2;
@@ -240,10 +211,7 @@ fn call_of(turn: u64, with_room: u64) -> Call {
                 .wrapping_sub(room),
         };
     }
-    Call {
-        at: pair.wrapping_mul(8).wrapping_add(1_049_176),
-        target: pair.wrapping_mul(12).wrapping_add(room),
-    }
+    record!(Call; at: pair.wrapping_mul(8).wrapping_add(1_049_176), target: pair.wrapping_mul(12).wrapping_add(room))
 }
 
 /// The calls of all turns.

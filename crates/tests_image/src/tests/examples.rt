@@ -3,8 +3,7 @@
 use super::blocks::Lengths;
 use elf_bytes::{Image, Object, Section, Symbol, object, reloc, section, symbol};
 
-/// Kinds of relocations: an address of 32 bits, a whole one, a jump, a call of two instructions, a distance in two parts, and one as a number of
-/// seven bits a byte.
+/// Kinds of relocations: an address of 32 bits, one of 64, a jump, a call of two instructions, a distance in two parts, and one as ULEB128.
 const WORD: u64 = 1;
 
 pub const WHOLE: u64 = 2;
@@ -57,26 +56,20 @@ const FIRST: Object =
     object!(1; [TEXT, DATA, WITH_NUMBER, NO_BITS]; [LOADED, BEGIN, FAR, ODD, LARGE]);
 
 /// Its sections stand at multiples of 16, 32 and 16, so that there are gaps before them.
-const SECOND: Object = object!(1; [
-    section!(b".text", 1, 6, 16; b"\x01\0\x82\x80"),
+const SECOND: Object = object!(1; [section!(b".text", 1, 6, 16; b"\x01\0\x82\x80"),
     section!(b".data", 1, 3, 32; b"f\0\0\0\0\0\0\0\0\0\0\0\0\0\0\0\0g"; relocs: &[reloc!(1, WHOLE, 1, 0), reloc!(9, WHOLE, 2, 0)]),
-    section!(READ_ONLY => align: 16),
-]; [symbol!(b"far", 1, 0, 1, 0, 0), symbol!(b"odd", 1, 0, 0, 0, 0)]);
+    section!(READ_ONLY => align: 16)]; [symbol!(b"far", 1, 0, 1, 0, 0), symbol!(b"odd", 1, 0, 0, 0, 0)]);
 
 /// Its data stand at 65,536 of the file, with an address over the end of the second block.
 const LONG: Object = object!(1; [
-    TEXT,
-    section!(DATA => align: 65536, zeros: 65532, relocs: &[reloc!(65533, WHOLE, 4, 0), reloc!(65544, WHOLE, 2, 0)]),
-    NO_BITS,
+    TEXT, section!(DATA => align: 65536, zeros: 65532, relocs: &[reloc!(65533, WHOLE, 4, 0), reloc!(65544, WHOLE, 2, 0)]), NO_BITS,
 ]; [LOADED, BEGIN, FAR, ODD]);
 
 /// Its data stand at 65,536 of the file, with four relocations that can't be done: at offset 4 a number that 32 bits don't hold, and another over the
 /// end of the second block; in the fourth block a jump to an odd place, and in the fifth a lower part whose label has no upper part.
-const DEFECTIVE: Object = object!(1; [
-    TEXT,
+const DEFECTIVE: Object = object!(1; [TEXT,
     section!(DATA => align: 65536, zeros: 0x3_0010, relocs: &[reloc!(4, WORD, 5, 0), reloc!(0xfffe, WORD, 5, 0), reloc!(0x2_0008, JUMP, 4, 0), reloc!(0x3_0004, LOWER, 4, 0)]),
-    NO_BITS,
-]; [LOADED, BEGIN, FAR, ODD, LARGE]);
+    NO_BITS]; [LOADED, BEGIN, FAR, ODD, LARGE]);
 
 /// The objects of a link of which four relocations can't be done.
 pub const WITH_DEFECTS: [Object; 2] = [DEFECTIVE, SECOND];

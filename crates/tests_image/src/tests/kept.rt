@@ -3,6 +3,7 @@
 ghost use Rattle.std.specs.Prelude.{◌≡◌, ◌+◌, ◌<◌, ◌≤◌, ◌∷◌, [], All, length, IfOk, OnOk};
 ghost use Rattle.link_sections.specs.Edges.{ends_of};
 
+use elf_bytes::record;
 use flat_rows::Rows;
 use link_sections::Edges;
 use lk_base::SecNo;
@@ -180,7 +181,6 @@ fn graph(alloc: Global, shape: Shape) -> Result<Edges, AllocError>
     Ok(Edges::from_rows(rows))
 }
 
-/// All sections.
 fn all_sections(alloc: Global) -> Result<Vec<SecNo>, AllocError>
     ensures { IfOk result (λ list. All (λ end. end < SECTIONS) list.items) }
 {
@@ -251,14 +251,8 @@ fn is_reached<R: Threads + Sync>(
 ) -> Result<bool, AllocError>
     requires { length (ends_of edges.now) ≡ SECTIONS }
 {
-    let first = Holder {
-        held: 0,
-        passed: AtomicU64::new(0),
-    };
-    let second = Holder {
-        held: 1,
-        passed: AtomicU64::new(0),
-    };
+    let first = record!(Holder; held: 0, passed: AtomicU64::new(0));
+    let second = record!(Holder; held: 1, passed: AtomicU64::new(0));
     Ok(
         digest(&keep(rt, alloc, &[0], edges, 1, &OpenGate)?) == wanted
             && digest(&keep(rt, alloc, &[0], edges, 2, &OpenGate)?) == wanted
@@ -315,11 +309,8 @@ fn steps_of<R: Threads + Sync>(
     requires most { workers ≤ 64 }
     requires sections { length (ends_of edges.now) ≡ SECTIONS }
 {
-    let steps = Steps {
-        first: AtomicU64::new(0),
-        second: AtomicU64::new(0),
-        third: AtomicU64::new(0),
-    };
+    let steps =
+        record!(Steps; first: AtomicU64::new(0), second: AtomicU64::new(0), third: AtomicU64::new(0));
     let _ = keep(rt, alloc, &[0], edges, workers, &steps)?;
     Ok((
         steps.first.load(Ordering::SeqCst),

@@ -4,7 +4,7 @@ ghost use Rattle.lk_base.specs.Limits.{IsWithinStandard};
 
 use super::links::{PLAIN, inputs_of, run_passes, run_within};
 use super::objects::{CODE, LABEL, START, object_with};
-use elf_bytes::{Object, Section, object, reloc, section, symbol};
+use elf_bytes::{Object, Section, object, record, reloc, section, symbol};
 use link_sections::{Content, Layout, Member, OutputPlace};
 use lk_base::abi::SHT_NOBITS;
 use lk_base::kinds::{NOPS_SHORT, TOO_BIG};
@@ -20,22 +20,13 @@ macro_rules! place {
     };
 }
 
-/// A section.
 fn section(name: &'static [u8], sort: u64, flags: u64, size: u64, align: u64) -> Section<'static> {
     let zeros = if sort == SHT_NOBITS as u64 {
         0
     } else {
         size as usize
     };
-    Section {
-        name,
-        sort,
-        flags,
-        size,
-        align,
-        zeros,
-        ..CODE
-    }
+    record!(Section, CODE => name: name, sort: sort, flags: flags, size: size, align: align, zeros: zeros)
 }
 
 /// Sections: name, type, flags, size and alignment of each.
@@ -59,14 +50,7 @@ struct Expected {
 /// Output sections: name, type, flags, address, size and alignment of each.
 macro_rules! outputs {
     ($($name:literal, $sh_type:literal, $flags:literal, $address:literal, $size:literal, $align:literal);+ $(;)?) => {
-        [$(Expected {
-            name: $name,
-            sh_type: $sh_type,
-            flags: $flags,
-            address: $address,
-            size: $size,
-            align: $align,
-        }),+]
+        [$(Expected { name: $name, sh_type: $sh_type, flags: $flags, address: $address, size: $size, align: $align }),+]
     };
 }
 
@@ -143,8 +127,7 @@ fn text_alone_is_laid_out(rt: HostRuntime) -> Result<(), Fail> {
     Ok(())
 }
 
-/// The first thread-local output section starts at the greatest alignment of all of them; those without bits do not move the cursor,
-/// nor does the empty table.
+/// The first thread-local output section starts at the greatest alignment of all; those without bits and the empty table do not move the cursor.
 #[test]
 fn sections_of_each_class_are_laid_out(rt: HostRuntime) -> Result<(), Fail> {
     let sections = sections![
@@ -173,9 +156,8 @@ fn sections_of_each_class_are_laid_out(rt: HostRuntime) -> Result<(), Fail> {
 
 #[test]
 fn priorities_and_the_linkers_table(rt: HostRuntime) -> Result<(), Fail> {
-    let sections = sections![
-        b".got", 1, 3, 4, 4; b".init_array", 1, 3, 8, 8; b".init_array.00005", 1, 3, 8, 8; b".init_array.3", 1, 3, 8, 8;
-    ];
+    let sections =
+        sections![b".got", 1, 3, 4, 4; b".init_array", 1, 3, 8, 8; b".init_array.00005", 1, 3, 8, 8; b".init_array.3", 1, 3, 8, 8;];
     let inputs = inputs_of(rt.alloc(), &[object_with(&sections)])?;
     let made = run_passes(&rt, rt.alloc(), &inputs, &PLAIN)?;
     let rows = outputs![b".init_array", 1, 3, 0x11000, 24, 8; b".got", 1, 3, 0x11018, 8, 8];
@@ -201,11 +183,9 @@ const WITH_ALL: Object =
     object!(1; [CALLING, BY_TABLE, STRINGS, NO_DATA]; [symbol!(b"_start", 1, 0, 1, 0, 0), symbol!(b"end_of_text", 1, 0, 1, 20, 0)]);
 
 /// Where its output sections are.
-const PLACES: &[OutputPlace] = &[
-    place!(b".rodata", Class::R, 0x10120; 0x10125),
-    place!(b".text", Class::Rx, 0x11000; 0x11018),
-    place!(b".got", Class::RwBits, 0x12000; 0x12010),
-    place!(b".data", Class::RwBits, 0x12020; 0x12020),
+const PLACES: &[OutputPlace] = table![
+    place!(b".rodata", Class::R, 0x10120; 0x10125); place!(b".text", Class::Rx, 0x11000; 0x11018);
+    place!(b".got", Class::RwBits, 0x12000; 0x12010); place!(b".data", Class::RwBits, 0x12020; 0x12020);
 ];
 
 /// What follows a shortened call moves; an empty output section has a place, and moves nothing.
@@ -214,9 +194,8 @@ fn a_pool_a_table_and_a_short_call(rt: HostRuntime) -> Result<(), Fail> {
     let inputs = inputs_of(rt.alloc(), &[WITH_ALL])?;
     let made = run_passes(&rt, rt.alloc(), &inputs, &PLAIN)?;
     let layout = &made.layout;
-    let rows = outputs![
-        b".rodata", 1, 2, 0x10120, 5, 1; b".text", 1, 6, 0x11000, 24, 8; b".got", 1, 3, 0x12000, 16, 8;
-    ];
+    let rows =
+        outputs![b".rodata", 1, 2, 0x10120, 5, 1; b".text", 1, 6, 0x11000, 24, 8; b".got", 1, 3, 0x12000, 16, 8;];
     // Strings have the place of their pool.
     let starts = [0x11000, 0x11010, 0, 0x12020];
     check(&rt, layout, &starts, &rows, 4, 0x12010);
@@ -267,9 +246,8 @@ const UNWOUND: Object = object!(1; [
 fn unwind_records_stand_last_in_what_is_read(rt: HostRuntime) -> Result<(), Fail> {
     let inputs = inputs_of(rt.alloc(), &[UNWOUND])?;
     let made = run_within(&rt, rt.alloc(), &limits_of(3, 0x8000_0000), &inputs, &PLAIN)?;
-    let rows = outputs![
-        b".eh_frame_hdr", 1, 2, 0x10120, 20, 4; b".eh_frame", 1, 2, 0x10138, 44, 8; b".text", 1, 6, 0x11000, 4, 4;
-    ];
+    let rows =
+        outputs![b".eh_frame_hdr", 1, 2, 0x10120, 20, 4; b".eh_frame", 1, 2, 0x10138, 44, 8; b".text", 1, 6, 0x11000, 4, 4;];
     check(&rt, &made.layout, &[0x11000, 0], &rows, 4, 0x11004);
     assert_eq!(rt; made.layout.members.len(), 1);
     let found = run_within(&rt, rt.alloc(), &limits_of(2, 0x8000_0000), &inputs, &PLAIN);
@@ -308,14 +286,8 @@ fn alignments_lose_the_nops_that_they_do_not_need(rt: HostRuntime) -> Result<(),
     assert!(rt; sizes.as_slice() == [6, 8].as_slice());
     // Four bytes are not enough where six are needed.
     let less = section!(ALIGNED => relocs: &[reloc!(2, 43, 0, 4)]);
-    let short = Defect {
-        kind: NOPS_SHORT,
-        file: 0,
-        section: 1,
-        place: 2,
-        symbol: 0,
-        other: 6,
-    };
+    let short =
+        record!(Defect; kind: NOPS_SHORT, file: 0, section: 1, place: 2, symbol: 0, other: 6);
     let found = sizes_of(&rt, rt.alloc(), &[less]);
     assert!(rt; found.err() == Some(LinkStop::Defect(short)));
     Ok(())

@@ -1,6 +1,6 @@
 //! Links of objects, pass after pass.
 
-ghost use Rattle.std.specs.Prelude.{◌≡◌, ◌≤◌, IfOk};
+ghost use Rattle.std.specs.Prelude.{◌≡◌, ◌<◌, ◌≤◌, length, IfOk};
 ghost use Rattle.eh_frame.specs.FrameLaws.{ArePlain};
 ghost use Rattle.eh_frame.specs.Plan.{plan_of};
 ghost use Rattle.elf_out.specs.Prepared.{IsPreparedFor};
@@ -11,33 +11,36 @@ ghost use Rattle.link_sections.specs.GotView.{entries_of};
 ghost use Rattle.link_sections.specs.LaidOut.{layout_view, with_contents};
 ghost use Rattle.link_sections.specs.PoolViews.{pools_view};
 ghost use Rattle.link_sections.specs.Sound.{IsSound};
+ghost use Rattle.link_sections.specs.Views.{files_in};
 ghost use Rattle.lk_base.specs.Limits.{IsWithinStandard};
 ghost use Rattle.lk_tables.specs.BindingView.{binding_view};
 ghost use Rattle.lk_tables.specs.BoundNames.{IsBindingOf};
+ghost use Rattle.lk_tables.specs.Files.{section_total};
 ghost use Rattle.lk_tables.specs.FramePlans.{plan_view};
 ghost use Rattle.lk_tables.specs.Frames.{AreListsWithin, all_lists, lists_of};
 ghost use Rattle.lk_tables.specs.NameNumbers.{NumbersNames, heads_alone};
+ghost use Rattle.lk_tables.specs.Sites.{relocs_of};
 ghost use Rattle.lk_tables.specs.TablesView.{files_of};
 ghost use Rattle.output_sections.specs.Items.{AreLeaders};
 ghost use Rattle.sec_graph.specs.FrameRelocs.{AreFramesOf};
 
 use super::blocks::{Lengths, Slice, blocks_agree, slices_agree, whole_of};
-use elf_bytes::{Object, object_of};
+use elf_bytes::{Object, object_of, record};
 use elf_out::{Prepared, SymbolTables, prepare, prepare_unchecked};
 use got_tls::entries;
 use link_driver::{
     Inputs, Options, bind_names, find_frames, find_kept, find_leaders, find_plan, find_sources,
     lay_out, read_files, write_frames,
 };
-use link_sections::{Addresses, Got, Layout, Pools, View};
+use link_sections::{Addresses, Got, Layout, Pools, View, leads};
 use lk_base::{Limits, LinkStop, SecNo};
 use lk_tables::{Binding, FramePlan, Frames, NameNumbers, Tables};
 use map_file::map_text;
 use name_numbers::number_names;
-use reloc_apply::find_uppers;
+use reloc_apply::{find_uppers, value};
 use std::alloc::{AllocError, Global};
 use std::thread::Threads;
-use str_merge::merge;
+use str_merge::{merge, piece_count};
 use symbol_addresses::find_addresses;
 use symbol_table::table_symbols;
 use work_split::OpenGate;
@@ -55,14 +58,7 @@ pub struct Asked<'a> {
 /// Calls are shortened.
 pub const PLAIN: Asked = Asked {
     entry: "_start",
-    options: Options {
-        gc: false,
-        icf: false,
-        relax: true,
-        strip: false,
-        map: false,
-        generated: None,
-    },
+    options: record!(Options; gc: false, icf: false, relax: true, strip: false, map: false, generated: None),
     lengths: None,
     slices: &[],
 };
@@ -77,6 +73,8 @@ pub struct Written {
     /// The values of the symbols in order, by one worker and by two.
     pub by_one: Vec<u64>,
     pub by_two: Vec<u64>,
+    /// The values of the relocations that have one, of sections that lead themselves, in order of section number and offset.
+    pub relocated: Vec<i128>,
     /// Whether the executable is the same by blocks, and slices of blocks are what they have to be.
     pub agrees: bool,
 }
@@ -121,6 +119,40 @@ fn values_by<R: Threads + Sync>(
     let symbols = table_symbols(rt, alloc, view, workers, &OpenGate)?;
     for symbol in symbols.iter() {
         values.push(symbol.value)?;
+    }
+    Ok(values)
+}
+
+/// How many relocations a section has.
+fn reloc_count(tables: &Tables, section: SecNo) -> usize
+    requires { section < section_total (files_of tables.now) }
+    ensures { result ≡ length (relocs_of (files_of tables.now) section) }
+{
+    let place = tables.place_of(section);
+    tables.relocs(place.file, place.index).len()
+}
+
+/// Adds the values of a section's relocations that have one, if it leads itself.
+fn push_values(values: &mut Vec<i128>, view: &View, section: SecNo) -> Result<(), AllocError>
+    requires { section < section_total (files_in view.now) }
+{
+    if !leads(view.leaders, section as usize) {
+        return Ok(());
+    }
+    for reloc in 0..reloc_count(view.tables, section) {
+        if let Some(found) = value(view, section, reloc) {
+            values.push(found)?;
+        }
+    }
+    Ok(())
+}
+
+/// Those of all sections.
+fn values_of(alloc: Global, view: &View) -> Result<Vec<i128>, AllocError> {
+    view.tables.is_few();
+    let mut values = Vec::new(alloc);
+    for section in 0..view.tables.section_count() as u32 {
+        push_values(&mut values, view, section)?;
     }
     Ok(values)
 }
@@ -193,6 +225,7 @@ fn answers_of<R: Threads + Sync>(
     let map = map_text(rt, alloc, &view, 2, &OpenGate)?;
     let by_one = values_by(rt, alloc, &view, 1)?;
     let by_two = values_by(rt, alloc, &view, 2)?;
+    let relocated = values_of(alloc, &view)?;
     Ok(Written {
         addresses,
         exe,
@@ -200,6 +233,7 @@ fn answers_of<R: Threads + Sync>(
         map,
         by_one,
         by_two,
+        relocated,
         agrees: by_lengths && by_slices,
     })
 }
@@ -223,7 +257,10 @@ fn kept_made<'a, R: Threads + Sync>(
 {
     tables.is_few();
     let options = asked.options;
-    let numbers = number_names(rt, alloc, tables.files(), 2)?;
+    let numbers = number_names(rt, alloc, tables.files(), 2, &OpenGate)?;
+    if piece_count(tables) >= 1 << 31 {
+        return Err(LinkStop::Memory);
+    }
     let pools = merge(rt, alloc, tables, kept, 2, &OpenGate)?;
     let leaders = find_leaders(
         rt,
@@ -283,11 +320,7 @@ fn kept_made<'a, R: Threads + Sync>(
         &numbers,
         asked,
     )?;
-    Ok(Made {
-        pools,
-        layout,
-        written,
-    })
+    Ok(record!(Made; pools: pools, layout: layout, written: written))
 }
 
 /// What the passes of a link within limits give.

@@ -1,8 +1,7 @@
-//! What no clause says: that symbols are listed at all, by one worker and by two, that tables and names are written at all, and a map's lines;
-//! and their bytes.
+//! What no clause says: that symbols are listed at all, by one worker and by two, that tables and names are written, their bytes, a map's lines.
 
 use super::links::{Asked, PLAIN, Written, inputs_of, run_passes};
-use elf_bytes::{Object, Section, Symbol, object, section, symbol};
+use elf_bytes::{Object, Section, Symbol, object, record, section, symbol};
 use link_driver::Options;
 use lk_base::LinkStop;
 use std::alloc::Global;
@@ -42,24 +41,15 @@ const FUNCTION: &[Section] = &[section!(b".text", 1, 6, 4; b""; zeros: 8)];
 const F: Symbol = symbol!(b"f", 2, 2, 1, 0, 8);
 
 /// A function, and a number that has the name of the image's end.
-const OF_F: Object = Object {
-    flags: 1,
-    sections: FUNCTION,
-    symbols: &[symbol!(b"_end", 1, 0, 0xfff1, 0x12345, 0), F],
-};
+const OF_F: Object =
+    record!(Object; flags: 1, sections: FUNCTION, symbols: &[symbol!(b"_end", 1, 0, 0xfff1, 0x12345, 0), F]);
 
-const FROM_F: Asked = Asked {
-    entry: "f",
-    ..PLAIN
-};
+const FROM_F: Asked = record!(Asked, PLAIN => entry: "f");
 
 /// Symbols that are numbers.
-const NUMBERS: Object = object!(1; []; [
-    symbol!(b"end", 1, 0, 0xfff1, 1, 0),
-    symbol!(b"b", 1, 0, 0xfff1, 2, 0),
-    symbol!(b"_end", 1, 0, 0, 0, 0),
-    symbol!(b"a_long_name", 1, 0, 0xfff1, 4, 0),
-]);
+const NUMBERS: Object =
+    object!(1; []; [symbol!(b"end", 1, 0, 0xfff1, 1, 0), symbol!(b"b", 1, 0, 0xfff1, 2, 0), symbol!(b"_end", 1, 0, 0, 0, 0),
+    symbol!(b"a_long_name", 1, 0, 0xfff1, 4, 0)]);
 
 /// What asks for a symbol of the linker's, as the other object does, and for one of that object's, and offers one that is there already.
 const ASKER: Object =
@@ -77,14 +67,8 @@ symbol 9876543210001004 f%20%25
 ";
 
 /// No symbol table is written.
-const STRIPPED: Options = Options {
-    gc: false,
-    icf: false,
-    relax: true,
-    strip: true,
-    map: false,
-    generated: None,
-};
+const STRIPPED: Options =
+    record!(Options; gc: false, icf: false, relax: true, strip: true, map: false, generated: None);
 
 /// The null symbol, the number and the function.
 const ENTRIES: &[u8] = b"\0\0\0\0\0\0\0\0\0\0\0\0\0\0\0\0\0\0\0\0\0\0\0\0\

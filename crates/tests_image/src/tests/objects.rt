@@ -1,6 +1,6 @@
 //! What the objects of the rows share.
 
-use elf_bytes::{Object, Reloc, Section, Symbol, reloc, section, symbol};
+use elf_bytes::{Object, Reloc, Section, Symbol, record, reloc, section, symbol};
 
 /// Code of no bytes.
 pub const CODE: Section = section!(b".text", 1, 6, 4; b"");
@@ -17,9 +17,5 @@ const STARTS: &[Symbol] = &[START];
 
 /// An object of these sections, with compressed instructions, and a start.
 pub fn object_with<'a>(sections: &'a [Section<'a>]) -> Object<'a> {
-    Object {
-        flags: 1,
-        sections,
-        symbols: STARTS,
-    }
+    record!(Object; flags: 1, sections: sections, symbols: STARTS)
 }

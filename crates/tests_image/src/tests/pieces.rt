@@ -93,8 +93,8 @@ fn no_files_no_pools(rt: HostRuntime) -> Result<(), Fail> {
     let mut objects = Vec::new(alloc);
     objects.push(None)?;
     let tables = Tables::of(alloc, heads, objects)?;
+    assert!(rt; piece_count(&tables) == 0);
     let pools = merge(&rt, alloc, &tables, &[], 2, &OpenGate)?;
     assert!(rt; pools.pools().is_empty());
-    assert_eq!(rt; piece_count(&tables), 0);
     Ok(())
 }

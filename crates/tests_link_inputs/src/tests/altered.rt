@@ -11,7 +11,6 @@ use std::thread::Threads;
 
 const WORKERS: &[&[&str]] = &[&["--threads", "1"], &["--threads", "64"]];
 
-/// The generated object.
 pub fn object(alloc: Global) -> Result<Vec<u8>, AllocError> {
     let mut list = objects(alloc, 1)?;
     match list.pop() {
@@ -39,7 +38,6 @@ fn bytes_of(alloc: Global, name: &str) -> Result<Vec<u8>, AllocError> {
     }
 }
 
-/// Links one file alone.
 pub fn link_alone<R: Threads + Sync>(
     rt: &R,
     alloc: Global,
@@ -53,7 +51,6 @@ pub fn link_alone<R: Threads + Sync>(
     run_over(rt, alloc, words.as_slice(), files, &SOUND, &OpenGate)
 }
 
-/// Whether a file was linked.
 pub fn is_linked(left: &Left) -> bool {
     left.status == 0
         && left.err.calls() == 0
@@ -181,7 +178,6 @@ const CONTENTS: &[Altered] = &[
     altered!(856, 856, 64; Answer::Linked),
 ];
 
-/// The object with its bytes altered.
 fn altered_bytes(alloc: Global, altered: &Altered) -> Result<Vec<u8>, AllocError> {
     let mut bytes = object(alloc)?;
     for place in altered.first..altered.last.saturating_add(1) {

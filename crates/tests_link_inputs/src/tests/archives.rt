@@ -46,8 +46,7 @@ const NUMBER: Library =
 const LOCAL: Library =
     library!("lib.a"; member!(b"local.o", object!([RETURN]; [symbol!(b"n", 0, 2, 1, 0, 4)])));
 
-/// Members that the command asks for: the first that offers the name, weak or not, and what that one pulls. Of one that offers a number there
-/// is nothing to keep.
+/// Members that the command asks for: the first that offers the name, weak or not, and what it pulls; one that offers a number keeps nothing.
 pub const BY_NAME: &[Link] = &[
     link!("-s", "--undefined", "n", "a.o", "lib.a" => ASKED_BY_NAME; libraries: &[ONE_MEMBER]),
     // The same, the member first.
@@ -61,8 +60,7 @@ pub const BY_NAME: &[Link] = &[
     link!("-s", "--gc-sections", "--undefined", "n", "a.o", "lib.a" => FIRST; libraries: &[NUMBER]),
 ];
 
-/// Names that the command asks for in vain: an object offers them, weak or COMMON, or a member has them for itself. The room of the COMMON
-/// symbol stays.
+/// Names that pull no member: an object offers them, weak or COMMON, or a member has them as local symbols. The room of a COMMON symbol stays.
 pub const BY_NAME_IN_VAIN: &[Link] = &[
     // A jump to the function behind it, and an `ebreak` of another file.
     link!("-s", "--undefined", "n", "a.o", "n.o", "lib.a" => code!(12 => 0x1020; b"\xef\0\x40\0\x67\x80\0\0\x73\0\x10\0"); libraries: &[ONE_MEMBER]),

@@ -2,6 +2,7 @@
 
 use super::OwnStores;
 use super::generated::{FOUR_THOUSAND, executable};
+use elf_bytes::record;
 use link_driver::OpenGate;
 use link_examples::{Outside, SOUND, Store, call};
 use link_runs::{Left, run_with};
@@ -10,16 +11,10 @@ use std::test::Fail;
 use std::thread::Threads;
 
 /// A block is added by one append.
-const AT_ONCE: Outside = Outside {
-    most: 65536,
-    ..SOUND
-};
+const AT_ONCE: Outside = record!(Outside, SOUND => most: 65536);
 
 /// The second append fails: the begin is call 0.
-const BROKEN: Outside = Outside {
-    fails: &[2],
-    ..AT_ONCE
-};
+const BROKEN: Outside = record!(Outside, AT_ONCE => fails: &[2]);
 
 /// Links four thousand generated objects.
 fn link_over<R: Threads + Sync>(

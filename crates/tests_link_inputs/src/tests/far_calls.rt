@@ -2,7 +2,7 @@
 
 use super::altered::is_linked;
 use elf_bytes::{
-    Image, Object, Reloc, Symbol, image, image_of, object_of, reloc, section, symbol, text,
+    Image, Object, Reloc, Symbol, image, image_of, object_of, record, reloc, section, symbol, text,
 };
 use link_driver::OpenGate;
 use link_examples::images::{NAMES, READ, STACK};
@@ -45,11 +45,8 @@ fn code_with(alloc: Global, first: &[u8], second: &[u8]) -> Result<Vec<u8>, Allo
 fn far(alloc: Global) -> Result<Vec<u8>, AllocError> {
     let code = code_with(alloc, CALL, CALL)?;
     let section = text!(code.as_slice());
-    let object = Object {
-        flags: 0,
-        sections: &[section!(section => relocs: CALLS)],
-        symbols: BOTH_ENDS,
-    };
+    let object =
+        record!(Object; flags: 0, sections: &[section!(section => relocs: CALLS)], symbols: BOTH_ENDS);
     object_of(alloc, &object)
 }
 
@@ -68,11 +65,7 @@ fn far_image<'x>(contents: &'x [(usize, &'x [u8])]) -> Image<'x> {
 }
 
 /// Room for the executable.
-const WIDE: Outside = Outside {
-    most: 65536,
-    room: 2_000_000,
-    ..SOUND
-};
+const WIDE: Outside = record!(Outside, SOUND => most: 65536, room: 2_000_000);
 
 fn link_far<R: Threads + Sync>(
     rt: &R,

@@ -2,7 +2,7 @@
 
 use super::OwnStores;
 use super::generated::{TWO_ALONE, TWO_EXPLAINED, TWO_MAPPED};
-use elf_bytes::image_of;
+use elf_bytes::{image_of, record};
 use link_driver::OpenGate;
 use link_examples::lines::FIRST_LINES;
 use link_examples::{FIRST_LINK, Link, Outside, SOUND, Stream, WORKERS, call, link, text_of};
@@ -77,10 +77,7 @@ const WITH_MAP: &[Fault] = &[
 ];
 
 /// The first put of a stream fails.
-const BROKEN: Stream = Stream {
-    fails: &[0],
-    room: 1000,
-};
+const BROKEN: Stream = record!(Stream; fails: &[0], room: 1000);
 
 /// An executable of 8,928 bytes, a begin and nine appends, and a report of 57.
 const UNREPORTED: Fault =
@@ -117,7 +114,7 @@ const LINES: &[Fault] = &[
 ];
 
 /// Whether a file was begun as this kind and has so many of these bytes, or was not begun.
-fn has_front(
+fn has_prefix(
     depot: &MemDepot,
     name: &str,
     kind: FileKind,
@@ -137,13 +134,13 @@ fn has_files(alloc: Global, fault: &Fault, depot: &MemDepot) -> Result<bool, All
     let image = image_of(alloc, &link.image)?;
     let text = text_of(alloc, link.lines)?;
     Ok(
-        has_front(
+        has_prefix(
             depot,
             link.output,
             FileKind::Executable,
             &image,
             fault.executable,
-        ) && has_front(depot, link.map, FileKind::Plain, &text, fault.map),
+        ) && has_prefix(depot, link.map, FileKind::Plain, &text, fault.map),
     )
 }
 

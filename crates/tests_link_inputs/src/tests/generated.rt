@@ -13,49 +13,39 @@ use std::thread::Threads;
 /// One object: a call, which is shortened, a string, and its address.
 const ONE: Image = image!(FIRST => flags: 5, table: 0x2028,
     segments: &[[1, 4, 0, 0x10000, 0x123, 0x123, 4096], [1, 5, 0x1000, 0x11000, 20, 20, 4096], [1, 6, 0x2000, 0x12000, 8, 8, 4096], STACK],
-    contents: &[
-        (0x120, b"s0"), (0x1000, b"\xef\0\x80\0\x67\x80\0\0\x13\x05\0\0\x67\x80\0\0\x67\x80\0\0"), (0x2000, b"\x20\x01\x01\0\0\0\0\0"),
-        (0x2008, b"\0.rodata\0.text\0.data\0.shstrtab\0"),
-    ],
+    contents: &[(0x120, b"s0"), (0x1000, b"\xef\0\x80\0\x67\x80\0\0\x13\x05\0\0\x67\x80\0\0\x67\x80\0\0"), (0x2000, b"\x20\x01\x01\0\0\0\0\0"),
+        (0x2008, b"\0.rodata\0.text\0.data\0.shstrtab\0")],
     sections: &[[1, 1, 2, 0x10120, 0x120, 3, 1], [9, 1, 6, 0x11000, 0x1000, 20, 4], [15, 1, 3, 0x12000, 0x2000, 8, 8], [21, 3, 0, 0, 0x2008, 31, 1]]);
 
 /// Two objects, of which the first calls the second.
 const TWO: Image = image!(ONE => table: 0x2030,
     segments: &[[1, 4, 0, 0x10000, 0x126, 0x126, 4096], [1, 5, 0x1000, 0x11000, 44, 44, 4096], [1, 6, 0x2000, 0x12000, 16, 16, 4096], STACK],
-    contents: &[
-        (0x120, b"s0\0s1"), (0x1000, b"\xef\0\xc0\0\xef\0\x40\x01\x67\x80\0\0\x13\x05\0\0\x67\x80\0\0\x67\x80\0\0"),
+    contents: &[(0x120, b"s0\0s1"), (0x1000, b"\xef\0\xc0\0\xef\0\x40\x01\x67\x80\0\0\x13\x05\0\0\x67\x80\0\0\x67\x80\0\0"),
         (0x1018, b"\xef\0\x80\0\x67\x80\0\0\x13\x05\x10\0\x67\x80\0\0\x67\x80\0\0"), (0x2000, b"\x20\x01\x01\0\0\0\0\0\x23\x01\x01\0\0\0\0\0"),
-        (0x2010, b"\0.rodata\0.text\0.data\0.shstrtab\0"),
-    ],
+        (0x2010, b"\0.rodata\0.text\0.data\0.shstrtab\0")],
     sections: &[[1, 1, 2, 0x10120, 0x120, 6, 1], [9, 1, 6, 0x11000, 0x1000, 44, 4], [15, 1, 3, 0x12000, 0x2000, 16, 8], [21, 3, 0, 0, 0x2010, 31, 1]]);
 
 /// The same with its symbols.
 const TWO_LISTED: Image = image!(TWO => table: 0x2120,
-    contents: &[
-        (0x120, b"s0\0s1"), (0x1000, b"\xef\0\xc0\0\xef\0\x40\x01\x67\x80\0\0\x13\x05\0\0\x67\x80\0\0\x67\x80\0\0"),
-        (0x1018, b"\xef\0\x80\0\x67\x80\0\0\x13\x05\x10\0\x67\x80\0\0\x67\x80\0\0"), (0x2000, b"\x20\x01\x01\0\0\0\0\0\x23\x01\x01\0\0\0\0\0"),
-    ],
+    contents: &[(0x120, b"s0\0s1"), (0x1000, b"\xef\0\xc0\0\xef\0\x40\x01\x67\x80\0\0\x13\x05\0\0\x67\x80\0\0\x67\x80\0\0"),
+        (0x1018, b"\xef\0\x80\0\x67\x80\0\0\x13\x05\x10\0\x67\x80\0\0\x67\x80\0\0"), (0x2000, b"\x20\x01\x01\0\0\0\0\0\x23\x01\x01\0\0\0\0\0")],
     listed: listed!(0x2010, b"\0_start\0d0\0d1\0f0\0f1\0g0\0g1\0", b"\0.rodata\0.text\0.data\0.symtab\0.strtab\0.shstrtab\0";
         [1, 0x12, 2, 0x11000, 12], [8, 0x12, 2, 0x11014, 4], [11, 0x12, 2, 0x11028, 4], [14, 0x12, 2, 0x11000, 12], [17, 0x12, 2, 0x11018, 8],
         [20, 0x12, 2, 0x1100c, 8], [23, 0x12, 2, 0x11020, 8]),
-    sections: &[
-        [1, 1, 2, 0x10120, 0x120, 6, 1], [9, 1, 6, 0x11000, 0x1000, 44, 4], [15, 1, 3, 0x12000, 0x2000, 16, 8], [21, 2, 0, 0, 0x2010, 192, 8],
-        [29, 3, 0, 0, 0x20d0, 26, 1], [37, 3, 0, 0, 0x20ea, 47, 1],
-    ]);
+    sections: &[[1, 1, 2, 0x10120, 0x120, 6, 1], [9, 1, 6, 0x11000, 0x1000, 44, 4], [15, 1, 3, 0x12000, 0x2000, 16, 8],
+        [21, 2, 0, 0, 0x2010, 192, 8], [29, 3, 0, 0, 0x20d0, 26, 1], [37, 3, 0, 0, 0x20ea, 47, 1]]);
 
 /// Two objects and their map.
-pub const TWO_MAPPED: Link = link!("-s", "--Map", "m", "--self-input", "2" => TWO; lines: &[
-    "rvld map 1", "entry 0000000000011000",
-    "section 0000000000010120 0000000000000006 .rodata", "pool 0000000000010120 0000000000000006",
-    "section 0000000000011000 000000000000002c .text", "input 0000000000011000 000000000000000c gen0.o 1 .text.f",
-    "input 000000000001100c 0000000000000008 gen0.o 3 .text.g", "input 0000000000011014 0000000000000004 gen0.o 4 .text.d",
-    "input 0000000000011018 0000000000000008 gen1.o 1 .text.f", "input 0000000000011020 0000000000000008 gen1.o 3 .text.g",
-    "input 0000000000011028 0000000000000004 gen1.o 4 .text.d",
+pub const TWO_MAPPED: Link =
+    link!("-s", "--Map", "m", "--self-input", "2" => TWO; lines: &["rvld map 1", "entry 0000000000011000",
+    "section 0000000000010120 0000000000000006 .rodata", "pool 0000000000010120 0000000000000006", "section 0000000000011000 000000000000002c .text",
+    "input 0000000000011000 000000000000000c gen0.o 1 .text.f", "input 000000000001100c 0000000000000008 gen0.o 3 .text.g",
+    "input 0000000000011014 0000000000000004 gen0.o 4 .text.d", "input 0000000000011018 0000000000000008 gen1.o 1 .text.f",
+    "input 0000000000011020 0000000000000008 gen1.o 3 .text.g", "input 0000000000011028 0000000000000004 gen1.o 4 .text.d",
     "section 0000000000012000 0000000000000010 .data", "input 0000000000012000 0000000000000008 gen0.o 6 .data",
-    "input 0000000000012008 0000000000000008 gen1.o 6 .data",
-    "symbol 0000000000011000 _start", "symbol 0000000000011014 d0", "symbol 0000000000011028 d1", "symbol 0000000000011000 f0",
-    "symbol 0000000000011018 f1", "symbol 000000000001100c g0", "symbol 0000000000011020 g1",
-], said: "objects 2 kept 10 folded 0 relaxed 3 pieces 2 image 8208\n");
+    "input 0000000000012008 0000000000000008 gen1.o 6 .data", "symbol 0000000000011000 _start", "symbol 0000000000011014 d0",
+    "symbol 0000000000011028 d1", "symbol 0000000000011000 f0", "symbol 0000000000011018 f1", "symbol 000000000001100c g0",
+    "symbol 0000000000011020 g1"], said: "objects 2 kept 10 folded 0 relaxed 3 pieces 2 image 8208\n");
 
 /// Two objects alone.
 pub const TWO_ALONE: Link =
@@ -75,10 +65,8 @@ pub const FEW: &[Link] = &[
     // The call as it is.
     link!("-s", "--no-relax", "--self-input=1" => image!(ONE =>
         segments: &[[1, 4, 0, 0x10000, 0x123, 0x123, 4096], [1, 5, 0x1000, 0x11000, 24, 24, 4096], [1, 6, 0x2000, 0x12000, 8, 8, 4096], STACK],
-        contents: &[
-            (0x120, b"s0"), (0x1000, b"\x97\0\0\0\xe7\x80\xc0\0\x67\x80\0\0\x13\x05\0\0\x67\x80\0\0\x67\x80\0\0"), (0x2000, b"\x20\x01\x01\0\0\0\0\0"),
-            (0x2008, b"\0.rodata\0.text\0.data\0.shstrtab\0"),
-        ],
+        contents: &[(0x120, b"s0"), (0x1000, b"\x97\0\0\0\xe7\x80\xc0\0\x67\x80\0\0\x13\x05\0\0\x67\x80\0\0\x67\x80\0\0"),
+            (0x2000, b"\x20\x01\x01\0\0\0\0\0"), (0x2008, b"\0.rodata\0.text\0.data\0.shstrtab\0")],
         sections: &[[1, 1, 2, 0x10120, 0x120, 3, 1], [9, 1, 6, 0x11000, 0x1000, 24, 4], [15, 1, 3, 0x12000, 0x2000, 8, 8], [21, 3, 0, 0, 0x2008, 31, 1]]); said: "objects 1 kept 5 folded 0 relaxed 0 pieces 1 image 8200\n"),
 ];
 

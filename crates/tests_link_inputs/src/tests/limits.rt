@@ -3,7 +3,7 @@
 ghost use Rattle.lk_base.specs.Limits.{IsWithinStandard};
 
 use super::OwnStores;
-use elf_bytes::{Image, image_of};
+use elf_bytes::{Image, image_of, record};
 use link_command::command_of;
 use link_driver::{Inputs, Linked, OpenGate, link};
 use link_examples::images::{COMMON_OF_8, FIRST, FOUR_ALONE, TWO_FILES};
@@ -18,18 +18,12 @@ use std::test::Fail;
 use std::thread::Threads;
 
 macro_rules! defect {
-    (; $($field:ident: $value:expr),+) => {
-        Defect { $($field: $value),+ }
-    };
     ($base:expr => $($field:ident: $value:expr),+) => {
         Defect { $($field: $value,)+ ..$base }
     };
 }
 
 macro_rules! limits {
-    (; $($field:ident: $value:expr),+) => {
-        Limits { $($field: $value),+ }
-    };
     ($base:expr => $($field:ident: $value:expr),+) => {
         Limits { $($field: $value,)+ ..$base }
     };
@@ -47,9 +41,6 @@ struct Bounded<'a> {
 }
 
 macro_rules! bounded {
-    (; $($field:ident: $value:expr),+) => {
-        Bounded { $($field: $value),+ }
-    };
     ($base:expr => $($field:ident: $value:expr),+) => {
         Bounded { $($field: $value,)+ ..$base }
     };
@@ -57,14 +48,14 @@ macro_rules! bounded {
 
 /// A number past a limit that is no file's own.
 const PASSED: Defect =
-    defect!(; kind: LIMIT, file: NO_FILE, section: 0, place: 0, symbol: 0, other: 0);
+    record!(Defect; kind: LIMIT, file: NO_FILE, section: 0, place: 0, symbol: 0, other: 0);
 
 /// What two objects, of 576 and 456 bytes, with 3 and 2 symbols and 6 and 5 section headers, just keep.
 const OF_OBJECTS: Limits =
-    limits!(; file: 576, files: 2, symbols: 5, sections: 11, pieces: 0, outputs: 1, image: 0x100d);
+    record!(Limits; file: 576, files: 2, symbols: 5, sections: 11, pieces: 0, outputs: 1, image: 0x100d);
 
 const TWO_OBJECTS: Bounded =
-    bounded!(; words: &["rvld", "-s", "a.o", "h.o"], store: Store::Objects, libraries: &[], limits: OF_OBJECTS, defect: None, image: TWO_FILES);
+    record!(Bounded; words: &["rvld", "-s", "a.o", "h.o"], store: Store::Objects, libraries: &[], limits: OF_OBJECTS, defect: None, image: TWO_FILES);
 
 /// Each limit, kept and passed by one.
 const OBJECTS: &[Bounded] = &[
@@ -105,7 +96,7 @@ const COUNTED: &[Bounded] = &[
 
 /// What an object with four constants just keeps.
 const OF_PIECES: Limits =
-    limits!(; file: 1000, files: 2, symbols: 5, sections: 12, pieces: 4, outputs: 2, image: 0x1005);
+    record!(Limits; file: 1000, files: 2, symbols: 5, sections: 12, pieces: 4, outputs: 2, image: 0x1005);
 
 const WITH_PIECES: Bounded =
     bounded!(TWO_OBJECTS => words: &["rvld", "-s", "four.o"], limits: OF_PIECES, image: FOUR_ALONE);

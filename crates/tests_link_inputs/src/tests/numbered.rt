@@ -1,8 +1,9 @@
-//! Numbers that a field has no room for: those that stand in section 0, and objects of 70,000 sections, with relocations and a group by such
-//! numbers.
+//! Numbers that a field has no room for: those in section 0, and objects of 70,000 sections, with relocations and a group by such numbers.
 
 use super::altered::{is_linked, link_alone, object};
-use elf_bytes::{ELSEWHERE, Object, Section, Symbol, object, object_of, reloc, section, symbol};
+use elf_bytes::{
+    ELSEWHERE, Object, Section, Symbol, object, object_of, record, reloc, section, symbol,
+};
 use link_driver::OpenGate;
 use link_examples::groups::GROUP;
 use link_examples::objects::START;
@@ -12,8 +13,7 @@ use std::alloc::{AllocError, Global};
 use std::test::Fail;
 use std::thread::Threads;
 
-/// Bytes of the object and what they become: the number of its sections, and then that of the section of their names too, stand
-/// in section 0.
+/// Bytes of the object and what they become: the number of sections, and then that of the section of names too, stand in section 0.
 const NUMBERED: &[&[(usize, u8)]] = &[
     &[(60, 0), (61, 0), (480, 11)],
     &[(60, 0), (61, 0), (480, 11), (62, 255), (63, 255), (488, 10)],
@@ -56,11 +56,7 @@ fn object_with(
     sections: &[Section],
     symbols: &[Symbol],
 ) -> Result<Vec<u8>, AllocError> {
-    let object = Object {
-        flags: 0,
-        sections,
-        symbols,
-    };
+    let object = record!(Object; flags: 0, sections: sections, symbols: symbols);
     object_of(alloc, &object)
 }
 

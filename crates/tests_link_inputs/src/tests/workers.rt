@@ -2,6 +2,7 @@
 
 use super::OwnStores;
 use super::generated::{executable, link_many};
+use elf_bytes::record;
 use link_driver::{Gate, OpenGate};
 use link_examples::images::{TWO_BLOCKS, TWO_FILES};
 use link_examples::lines::{TWO_FILES_LINES, TWO_FILES_LISTED};
@@ -45,12 +46,7 @@ fn count_up(count: &AtomicU64) -> u64 {
 
 impl Holder {
     fn of(held: u32) -> Holder {
-        Holder {
-            held,
-            met: AtomicU64::new(0),
-            passed: AtomicU64::new(0),
-            late: AtomicBool::new(false),
-        }
+        record!(Holder; held: held, met: AtomicU64::new(0), passed: AtomicU64::new(0), late: AtomicBool::new(false))
     }
 
     /// How many tasks the held worker stood before, if the other was past as many and each time soon enough.
@@ -123,12 +119,10 @@ fn workers_in_either_order(rt: HostRuntime) -> Result<(), Fail> {
     Ok(())
 }
 
-/// A command that links generated objects, so many that two workers share each pass that few symbols, sections or members of output sections
-/// leave to one, and in how many passes they do.
+/// A command that links generated objects, so many that two workers share passes that a small link leaves to one, and how many passes they share.
 type Large<'a> = (&'a [&'a str], u64);
 
-/// Beside what small links share, both list the calls that may be shortened, find addresses, and make the blocks of the executable; and what
-/// sections lose by calls is found by two.
+/// Beside what small links share: calls that may be shortened, what sections lose by them, addresses, and the blocks of the executable.
 const RELAXED: Large = (&["rvld", "-s", "--self-input", "2048"], 12);
 
 /// The same with alignments alone.

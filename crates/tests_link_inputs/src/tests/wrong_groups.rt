@@ -33,7 +33,6 @@ const OTHER_INPUTS: &[Input] = inputs!(
     "start.o" => A,
 );
 
-/// The files that are at hand.
 pub fn files(alloc: Global) -> Result<Files, AllocError> {
     let mut files = objects_of(alloc, FIRST_INPUTS)?;
     push_objects(&mut files, alloc, OTHER_INPUTS)?;

@@ -1,5 +1,4 @@
-//! Bytes that keep an alignment (RISC-V ELF psABI, R_RISCV_ALIGN): how many stay, what moves with them, and where they do not suffice;
-//! and a call that goes nowhere, which keeps its eight bytes.
+//! Nops of an alignment (RISC-V ELF psABI, R_RISCV_ALIGN): how many stay, what moves, where they are too few; and a call without a target.
 
 use elf_bytes::{Object, Reloc, Section, data, image, object, reloc, section, symbol, text};
 use link_examples::images::{FIRST, NAMES, READ, READ_OF_FOUR, STACK, WEAK_CALL};
@@ -29,8 +28,7 @@ const INPUTS: &[Input] = inputs!(
     "returns.o" => object!([RETURN]; [START]),
     // The same with an `ebreak`, in a section that may stand at a multiple of 4.
     "some.o" => object!([text!(b"\xff\xff\xff\xff\xff\xff\x73\0\x10\0"; TO_8)]; []),
-    // `f` after six bytes, `g` after six more, which jumps to `f`; and words of both, of places in the section and behind it, and of
-    // their distance.
+    // `f` after six bytes, `g` after six more, which jumps to `f`; and words of both, of places in the section and after it, and of distances.
     "moved.o" => object!([
         section!(b".text", 1, 6, 8; b"\xff\xff\xff\xff\xff\xff\x67\x80\0\0\xff\xff\xff\xff\xff\xff\xef\0\0\0\x73\0\x10\0";
             relocs: &[TO_8, reloc!(10, 43, 0, 6), reloc!(16, 17, 2, 0)]),
@@ -49,10 +47,8 @@ const WRONG_INPUTS: &[Input] = inputs!(
     // Six bytes where five are needed.
     "uneven.o" => object!(ALL_STAY => sections: &[section!(b".text", 1, 6, 8; b"\x01\0\x01\xff\xff\xff\xff\xff\xff"; relocs: &[reloc!(3, 43, 0, 6)])]),
     // Both, in no order.
-    "both.o" => object!(ALL_STAY => sections: &[
-        section!(RETURN => name: b".text.z"),
-        section!(b".text", 1, 6, 8; b"\x01\0\x01\xff\xff\xff\xff\xff\xff\xff\xff"; relocs: &[reloc!(9, 43, 0, 2), reloc!(3, 43, 0, 6)]),
-    ]),
+    "both.o" => object!(ALL_STAY => sections: &[section!(RETURN => name: b".text.z"),
+        section!(b".text", 1, 6, 8; b"\x01\0\x01\xff\xff\xff\xff\xff\xff\xff\xff"; relocs: &[reloc!(9, 43, 0, 2), reloc!(3, 43, 0, 6)])]),
     "odd.o" => object!(ALL_STAY => sections: &[section!(EIGHT => relocs: &[reloc!(0, 43, 0, 5)])]),
     "less.o" => object!(ALL_STAY => sections: &[section!(EIGHT => relocs: &[reloc!(0, 43, 0, -2)])]),
     "behind.o" => object!(ALL_STAY => sections: &[section!(EIGHT => relocs: &[reloc!(4, 43, 0, 6)])]),
@@ -60,7 +56,6 @@ const WRONG_INPUTS: &[Input] = inputs!(
     "within.o" => object!(ALL_STAY => sections: &[section!(EIGHT => relocs: &[TO_8, reloc!(4, 17, 1, 0)])]),
 );
 
-/// The files that are at hand.
 pub fn files(alloc: Global) -> Result<Files, AllocError> {
     let mut files = objects_of(alloc, INPUTS)?;
     push_objects(&mut files, alloc, WRONG_INPUTS)?;
@@ -81,11 +76,10 @@ pub const STAYING: &[Link] = &[
     link!("-s", "returns.o", "some.o" => code!(12 => 0x1020; b"\x67\x80\0\0\x13\0\0\0\x73\0\x10\0"); store: Store::Aligned),
     link!("-s", "moved.o" => image!(FIRST => table: 0x2058,
         segments: &[READ_OF_FOUR, [1, 5, 0x1000, 0x11000, 16, 16, 4096], [1, 6, 0x2000, 0x12000, 64, 64, 4096], STACK],
-        contents: &[
-            (0x1000, b"\x67\x80\0\0\x13\0\0\0\xef\xf0\x9f\xff\x73\0\x10\0"),
+        contents: &[(0x1000, b"\x67\x80\0\0\x13\0\0\0\xef\xf0\x9f\xff\x73\0\x10\0"),
             (0x2000, b"\0\x10\x01\0\0\0\0\0\x08\x10\x01\0\0\0\0\0\x08\x10\x01\0\0\0\0\0\x10\x10\x01\0\0\0\0\0"),
-            (0x2020, b"\x06\x10\x01\0\0\0\0\0\x08\x10\x01\0\0\0\0\0\x16\x10\x01\0\0\0\0\0\x08\0\0\0\0\0\0\0"), (0x2040, b"\0.text\0.data\0.shstrtab\0"),
-        ],
+            (0x2020, b"\x06\x10\x01\0\0\0\0\0\x08\x10\x01\0\0\0\0\0\x16\x10\x01\0\0\0\0\0\x08\0\0\0\0\0\0\0"),
+            (0x2040, b"\0.text\0.data\0.shstrtab\0")],
         sections: &[[1, 1, 6, 0x11000, 0x1000, 16, 8], [7, 1, 3, 0x12000, 0x2000, 64, 8], [13, 3, 0, 0, 0x2040, 23, 1]]); store: Store::Aligned),
     link!("-s", "called.o", "lib.a" => WEAK_CALL; store: Store::Aligned, libraries: LIBRARIES),
 ];

@@ -1,7 +1,7 @@
 //! Functions that are folded (`--icf all` and `safe`): those whose bytes are equal and whose targets are equal, or are folded in their turn.
 
 use elf_bytes::{
-    Image, Object, Reloc, Section, Symbol, data, image, image_of, object, object_of, reloc,
+    Image, Object, Reloc, Section, Symbol, data, image, image_of, object, object_of, record, reloc,
     section, symbol, text,
 };
 use link_driver::OpenGate;
@@ -34,11 +34,9 @@ const F_IN_2: Symbol = symbol!(b"f1", 1, 2, 2, 0, 8);
 const G_IN_3: Symbol = symbol!(b"g", 1, 2, 3, 0, 8);
 
 /// Two functions that call the first of them, and a jump to the second.
-const BOTH_TO_FIRST: Object = object!([
-    section!(GOES => relocs: &[TO_SECOND]),
-    section!(JUMPS => name: b".text.f", relocs: &[TO_FIRST]),
-    section!(JUMPS => name: b".text.g", relocs: &[TO_FIRST]),
-]; [F_IN_2, G_IN_3, START]);
+const BOTH_TO_FIRST: Object =
+    object!([section!(GOES => relocs: &[TO_SECOND]), section!(JUMPS => name: b".text.f", relocs: &[TO_FIRST]),
+    section!(JUMPS => name: b".text.g", relocs: &[TO_FIRST])]; [F_IN_2, G_IN_3, START]);
 
 /// The address of a string in two halves; the function is weak.
 const SAYS: Object = object!([
@@ -69,27 +67,19 @@ const INPUTS: &[Input] = inputs!(
     "taken.o" => ADDRESSED,
     // Two pairs of functions that call each other, and a jump to the second pair.
     "pairs.o" => object!([
-        section!(GOES => relocs: &[TO_THIRD]),
-        section!(JUMPS => name: b".text.f1", relocs: &[TO_SECOND]),
-        section!(JUMPS_AND_BREAKS => name: b".text.g1", relocs: &[TO_FIRST]),
-        section!(JUMPS => name: b".text.f2", relocs: &[TO_FOURTH]),
+        section!(GOES => relocs: &[TO_THIRD]), section!(JUMPS => name: b".text.f1", relocs: &[TO_SECOND]),
+        section!(JUMPS_AND_BREAKS => name: b".text.g1", relocs: &[TO_FIRST]), section!(JUMPS => name: b".text.f2", relocs: &[TO_FOURTH]),
         section!(JUMPS_AND_BREAKS => name: b".text.g2", relocs: &[TO_THIRD]),
     ]; [F_IN_2, symbol!(b"g1", 1, 2, 3, 0, 8), symbol!(b"f2", 1, 2, 4, 0, 8), symbol!(b"g2", 1, 2, 5, 0, 8), START]),
     // One such pair under names of its own file.
-    "pair.o" => object!([
-        section!(JUMPS => name: b".text.f", relocs: &[TO_SECOND]),
-        section!(JUMPS_AND_BREAKS => name: b".text.g", relocs: &[TO_FIRST]),
-    ]; [symbol!(b"f", 0, 2, 1, 0, 8), symbol!(b"g", 0, 2, 2, 0, 8)]),
+    "pair.o" => object!([section!(JUMPS => name: b".text.f", relocs: &[TO_SECOND]),
+        section!(JUMPS_AND_BREAKS => name: b".text.g", relocs: &[TO_FIRST])]; [symbol!(b"f", 0, 2, 1, 0, 8), symbol!(b"g", 0, 2, 2, 0, 8)]),
     "returns.o" => object!([RETURN]; [START]),
     "first.o" => BOTH_TO_FIRST,
     // Two functions that call themselves.
-    "itself.o" => object!(BOTH_TO_FIRST => sections: &[
-        section!(GOES => relocs: &[TO_SECOND]),
-        section!(JUMPS => name: b".text.f", relocs: &[TO_FIRST]),
-        section!(JUMPS => name: b".text.g", relocs: &[TO_SECOND]),
-    ]),
-    // The same function fourteen times, of which two are folded: the others differ in alignment, name, flags or relocations, may not be
-    // folded, or are empty.
+    "itself.o" => object!(BOTH_TO_FIRST => sections: &[section!(GOES => relocs: &[TO_SECOND]),
+        section!(JUMPS => name: b".text.f", relocs: &[TO_FIRST]), section!(JUMPS => name: b".text.g", relocs: &[TO_SECOND])]),
+    // A function fourteen times, of which two are folded: the others differ in alignment, name, flags or relocations, may not be folded, or are empty.
     "apart.o" => object!([
         RETURN, section!(RETURN => name: b".text.a", align: 8), section!(RETURN => name: b"code"), section!(RETURN => name: b"code"),
         section!(RETURN => name: b".text.r", flags: 0x200006), section!(RETURN => name: b".fini"), section!(RETURN => name: b".fini"),
@@ -98,22 +88,17 @@ const INPUTS: &[Input] = inputs!(
         section!(RETURN => name: b".text.d", flags: 0x206), section!(RETURN => name: b".text.o", flags: 0x86), section!(b".text.n", 1, 6, 4; b""),
     ]; [START]),
     // Jumps to `h`: to its beginning by two names, to 4 behind it by two names, by its section, and by an addend.
-    "named.o" => object!([
-        section!(JUMPS => relocs: &[reloc!(0, 17, 6, 0)]), section!(b".text.h", 1, 6, 4; b"\x67\x80\0\0\x73\0\x10\0"),
+    "named.o" => object!([section!(JUMPS => relocs: &[reloc!(0, 17, 6, 0)]), section!(b".text.h", 1, 6, 4; b"\x67\x80\0\0\x73\0\x10\0"),
         section!(GOES => name: b".text.a", relocs: &[TO_SECOND]), section!(GOES => name: b".text.b", relocs: &[TO_THIRD]),
         section!(GOES => name: b".text.c", relocs: &[TO_FIRST]), section!(GOES => name: b".text.d", relocs: &[TO_FOURTH]),
-        section!(GOES => name: b".text.e", relocs: &[reloc!(0, 17, 2, 4)]),
-        section!(GOES => name: b".text.f", relocs: &[reloc!(0, 17, 5, 0)]),
-    ]; [
-        symbol!(b"", 0, 3, 2, 0, 4), symbol!(b"h", 1, 2, 2, 0, 4), symbol!(b"h4", 1, 2, 2, 4, 4), symbol!(b"also_h", 1, 2, 2, 0, 4),
-        symbol!(b"also_h4", 1, 2, 2, 4, 4), symbol!(b"d", 1, 2, 6, 0, 4), START,
-    ]),
+        section!(GOES => name: b".text.e", relocs: &[reloc!(0, 17, 2, 4)]), section!(GOES => name: b".text.f", relocs: &[reloc!(0, 17, 5, 0)])]; [
+            symbol!(b"", 0, 3, 2, 0, 4), symbol!(b"h", 1, 2, 2, 0, 4), symbol!(b"h4", 1, 2, 2, 4, 4), symbol!(b"also_h", 1, 2, 2, 0, 4),
+            symbol!(b"also_h4", 1, 2, 2, 4, 4), symbol!(b"d", 1, 2, 6, 0, 4), START]),
     "say.o" => SAYS,
     // The same with another string.
     "sing.o" => object!(SAYS => sections: &[
         section!(b".text.say", 1, 6, 4; b"\x17\x05\0\0\x13\x05\x05\0\x67\x80\0\0"; relocs: &[reloc!(0, 23, 2, 0), reloc!(4, 24, 1, 0)]),
-        section!(b".rodata.str1.1", 1, 0x32, 1; b"ho\0"; entsize: 1),
-    ]),
+        section!(b".rodata.str1.1", 1, 0x32, 1; b"ho\0"; entsize: 1)]),
 );
 
 const TAKING_INPUTS: &[Input] = inputs!(
@@ -123,29 +108,18 @@ const TAKING_INPUTS: &[Input] = inputs!(
     // is not in memory; and the distance of the second from the first.
     "none.o" => beside!(section!(DATA => relocs: &[reloc!(0, 0, 2, 0)])),
     "distance.o" => beside!(section!(DATA => relocs: &[reloc!(0, 59, 2, 0)])),
-    "table.o" => beside!(
-        section!(b".text.c", 1, 6, 4; b"\x17\x05\0\0"; relocs: &[reloc!(0, 20, 2, 0)])
-    ),
-    "branch.o" => beside!(
-        section!(b".text.c", 1, 6, 4; b"\x63\0\0\0"; relocs: &[reloc!(0, 16, 2, 0)])
-    ),
-    "notes.o" => beside!(
-        section!(DATA => name: b".debug", flags: 0, relocs: &[reloc!(0, 2, 2, 0)])
-    ),
-    "uleb.o" => beside!(
-        section!(DATA => relocs: &[reloc!(0, 60, 2, 0), reloc!(0, 61, 1, 0)])
-    ),
+    "table.o" => beside!(section!(b".text.c", 1, 6, 4; b"\x17\x05\0\0"; relocs: &[reloc!(0, 20, 2, 0)])),
+    "branch.o" => beside!(section!(b".text.c", 1, 6, 4; b"\x63\0\0\0"; relocs: &[reloc!(0, 16, 2, 0)])),
+    "notes.o" => beside!(section!(DATA => name: b".debug", flags: 0, relocs: &[reloc!(0, 2, 2, 0)])),
+    "uleb.o" => beside!(section!(DATA => relocs: &[reloc!(0, 60, 2, 0), reloc!(0, 61, 1, 0)])),
     // The address of the second function in two halves, twice, where each lower half names the function that it stands in.
     "halves.o" => object!([
-        RETURN,
-        G_RETURNS,
-        section!(b".text.c", 1, 6, 4; b"\x17\x05\0\0\x13\x05\x05\0"; relocs: &[reloc!(0, 23, 4, 0), reloc!(4, 24, 1, 0)]),
+        RETURN, G_RETURNS, section!(b".text.c", 1, 6, 4; b"\x17\x05\0\0\x13\x05\x05\0"; relocs: &[reloc!(0, 23, 4, 0), reloc!(4, 24, 1, 0)]),
         section!(b".text.d", 1, 6, 4; b"\x17\x05\0\0\x13\x05\x05\0"; relocs: &[reloc!(0, 23, 4, 0), reloc!(4, 24, 2, 0)]),
     ]; [symbol!(b".L0", 0, 0, 3, 0, 0), symbol!(b".L1", 0, 0, 4, 0, 0), START, symbol!(b"g", 1, 2, 2, 0, 4)]),
     // Jumps to both of two equal functions, and data with the address of the second, for which nothing asks.
-    "idle.o" => object!([
-        text!(b"\xef\0\0\0\xef\0\0\0"; TO_SECOND, reloc!(4, 17, 3, 0)), G_RETURNS, H_RETURNS, section!(DATA => relocs: &[reloc!(0, 2, 3, 0)]),
-    ]; [START, symbol!(b"g", 1, 2, 2, 0, 4), symbol!(b"h", 1, 2, 3, 0, 4)]),
+    "idle.o" => object!([text!(b"\xef\0\0\0\xef\0\0\0"; TO_SECOND, reloc!(4, 17, 3, 0)), G_RETURNS, H_RETURNS,
+        section!(DATA => relocs: &[reloc!(0, 2, 3, 0)])]; [START, symbol!(b"g", 1, 2, 2, 0, 4), symbol!(b"h", 1, 2, 3, 0, 4)]),
 );
 
 /// The files that are at hand. Each list has a function of its own, since what a function holds is proved in one go.
@@ -170,10 +144,8 @@ const RETURN_AND_PAIR: Image =
 /// A jump, and two pairs.
 const TWO_PAIRS: Image = image!(FIRST => table: 0x1038,
     segments: &[READ, [1, 5, 0x1000, 0x11000, 36, 36, 4096], STACK],
-    contents: &[
-        (0x1000, b"\xef\0\x40\x01\xef\0\x80\0\x67\x80\0\0\xef\xf0\x9f\xff\x73\0\x10\0"), (0x1014, b"\xef\0\x80\0\x67\x80\0\0\xef\xf0\x9f\xff\x73\0\x10\0"),
-        (0x1024, NAMES),
-    ],
+    contents: &[(0x1000, b"\xef\0\x40\x01\xef\0\x80\0\x67\x80\0\0\xef\xf0\x9f\xff\x73\0\x10\0"),
+        (0x1014, b"\xef\0\x80\0\x67\x80\0\0\xef\xf0\x9f\xff\x73\0\x10\0"), (0x1024, NAMES)],
     sections: &[[1, 1, 6, 0x11000, 0x1000, 36, 4], [7, 3, 0, 0, 0x1024, 17, 1]]);
 
 /// A jump to a function that calls itself.
@@ -262,14 +234,11 @@ pub const EQUAL: &[Link] = &[
     // Eleven of the fourteen.
     link!("-s", "--icf", "all", "apart.o" => image!(FIRST => table: 0x1058,
         segments: &[READ, [1, 5, 0x1000, 0x11000, 48, 48, 4096], STACK],
-        contents: &[
-            (0x1000, b"\x67\x80\0\0"), (0x1008, b"\x67\x80\0\0\x67\x80\0\0\x67\x80\0\0\x67\x80\0\0\x67\x80\0\0"), (0x101c, b"\x67\x80\0\0\x67\x80\0\0"),
-            (0x1024, b"\x67\x80\0\0\x67\x80\0\0"), (0x102c, b"\x67\x80\0\0"), (0x1030, b"\0.text\0.fini\0code\0.other\0.shstrtab\0"),
-        ],
-        sections: &[
-            [1, 1, 6, 0x11000, 0x1000, 28, 8], [7, 1, 6, 0x1101c, 0x101c, 8, 4], [13, 1, 6, 0x11024, 0x1024, 8, 4], [18, 1, 6, 0x1102c, 0x102c, 4, 4],
-            [25, 3, 0, 0, 0x1030, 35, 1],
-        ]); store: Store::Folded),
+        contents: &[(0x1000, b"\x67\x80\0\0"), (0x1008, b"\x67\x80\0\0\x67\x80\0\0\x67\x80\0\0\x67\x80\0\0\x67\x80\0\0"),
+            (0x101c, b"\x67\x80\0\0\x67\x80\0\0"), (0x1024, b"\x67\x80\0\0\x67\x80\0\0"), (0x102c, b"\x67\x80\0\0"),
+            (0x1030, b"\0.text\0.fini\0code\0.other\0.shstrtab\0")],
+        sections: &[[1, 1, 6, 0x11000, 0x1000, 28, 8], [7, 1, 6, 0x1101c, 0x101c, 8, 4], [13, 1, 6, 0x11024, 0x1024, 8, 4],
+            [18, 1, 6, 0x1102c, 0x102c, 4, 4], [25, 3, 0, 0, 0x1030, 35, 1]]); store: Store::Folded),
     // Four of the six jumps.
     link!("-s", "--icf", "all", "named.o" =>
         code!(32 => 0x1038; b"\xef\0\0\x01\x67\x80\0\0\x67\x80\0\0\x73\0\x10\0\xef\xf0\x9f\xff\xef\xf0\x9f\xff\xef\xf0\x1f\xff\xef\xf0\x1f\xff");
@@ -282,10 +251,8 @@ pub const EQUAL: &[Link] = &[
     // Two strings, and a function with the address of each.
     link!("-s", "--icf", "all", "ask.o", "say.o", "sing.o" => image!(FIRST => table: 0x1038,
         segments: &[[1, 4, 0, 0x10000, 0xee, 0xee, 4096], [1, 5, 0x1000, 0x11000, 28, 28, 4096], STACK],
-        contents: &[
-            (0xe8, b"hi\0ho"), (0x1000, b"\xef\0\x40\0\x17\xf5\xff\xff\x13\x05\x45\x0e\x67\x80\0\0"), (0x1010, b"\x17\xf5\xff\xff\x13\x05\xb5\x0d\x67\x80\0\0"),
-            (0x101c, b"\0.rodata\0.text\0.shstrtab\0"),
-        ],
+        contents: &[(0xe8, b"hi\0ho"), (0x1000, b"\xef\0\x40\0\x17\xf5\xff\xff\x13\x05\x45\x0e\x67\x80\0\0"),
+            (0x1010, b"\x17\xf5\xff\xff\x13\x05\xb5\x0d\x67\x80\0\0"), (0x101c, b"\0.rodata\0.text\0.shstrtab\0")],
         sections: &[[1, 1, 2, 0x100e8, 0xe8, 6, 1], [9, 1, 6, 0x11000, 0x1000, 28, 4], [15, 3, 0, 0, 0x101c, 25, 1]]); store: Store::Folded),
 ];
 
@@ -326,11 +293,7 @@ fn caller_of<'n>(alloc: Global, own: &'n [u8], other: &'n [u8]) -> Result<Vec<u8
         symbol!(START => name: own),
         symbol!(START => name: other, sort: 0, section: 0, size: 0),
     ];
-    let object = Object {
-        flags: 0,
-        sections: &[CALLER],
-        symbols: &symbols,
-    };
+    let object = record!(Object; flags: 0, sections: &[CALLER], symbols: &symbols);
     object_of(alloc, &object)
 }
 
@@ -338,11 +301,7 @@ fn caller_of<'n>(alloc: Global, own: &'n [u8], other: &'n [u8]) -> Result<Vec<u8
 fn push_last(files: &mut Files, alloc: Global, number: usize) -> Result<(), AllocError> {
     let own = name_of(alloc, number)?;
     let symbols = [symbol!(START => name: own.as_bytes())];
-    let object = Object {
-        flags: 0,
-        sections: &[RETURN],
-        symbols: &symbols,
-    };
+    let object = record!(Object; flags: 0, sections: &[RETURN], symbols: &symbols);
     let bytes = object_of(alloc, &object)?;
     files.push((own, bytes))?;
     Ok(())

@@ -2,9 +2,10 @@
 
 ghost use Rattle.std.specs.Prelude.{◌≡◌};
 
+use elf_bytes::record;
 use link_driver::{Gate, run_piped};
 use link_examples::{Store, shared_files, words_of};
-use lk_depot::{Depot, Failed, FileKind, LoadAllStop, LoadStop, MemDepot, MemSink};
+use lk_depot::{Depot, Failed, FileKind, LoadStop, MemDepot, MemSink};
 use std::alloc::{AllocError, Global};
 use std::hint;
 use std::sync::Wait;
@@ -69,16 +70,6 @@ impl<D: Depot> Depot for Held<'_, D> {
         self.store.load(alloc, name)
     }
 
-    fn load_files<R: Threads + Sync>(
-        &mut self,
-        rt: &R,
-        alloc: Global,
-        names: &[String],
-        workers: u32,
-    ) -> Result<Vec<Vec<u8>>, LoadAllStop> {
-        self.store.load_files(rt, alloc, names, workers)
-    }
-
     fn begin(&mut self, name: &str, kind: FileKind) -> Result<(), Failed> {
         self.store.begin(name, kind)
     }
@@ -90,16 +81,10 @@ impl<D: Depot> Depot for Held<'_, D> {
 
 /// The status of a link by one parser, and whether this was there in time.
 fn held_link<R: Threads + Wait + Sync>(rt: &R, alloc: Global) -> Result<(u8, bool), AllocError> {
-    let gate = Passing {
-        passed: AtomicBool::new(false),
-    };
+    let gate = record!(Passing; passed: AtomicBool::new(false));
     let files = shared_files(alloc, Store::Objects)?;
-    let mut depot = Held {
-        store: MemDepot::new(alloc, files, Vec::new(alloc), 1000, 200_000)?,
-        gate: &gate,
-        loads: 0,
-        late: false,
-    };
+    let mut depot =
+        record!(Held; store: MemDepot::new(alloc, files, Vec::new(alloc), 1000, 200_000)?, gate: &gate, loads: 0, late: false);
     let mut say = MemSink::new(alloc, Vec::new(alloc), 1000)?;
     let mut err = MemSink::new(alloc, Vec::new(alloc), 1000)?;
     let words = words_of(alloc, &["rvld", "-s", "a.o", "h.o"], &["--threads", "1"])?;

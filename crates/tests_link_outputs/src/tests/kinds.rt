@@ -57,16 +57,14 @@ pub const WRITTEN: &[Link] = &[
         segments: &[READ_OF_FOUR, [1, 5, 0x1000, 0x11000, 52, 52, 4096], [1, 6, 0x2000, 0x12000, 8, 8, 4096], STACK],
         contents: &[
             (0x1000, b"\x63\0\xb5\x02\xe3\x1e\xb5\xfe\x01\xcd\xfd\xf9\x11\xa8\xcd\xbf\x37\x65\x34\x12\x13\x05\xf5\xff\xa3\x2f\xb5\xfe\xef\0\x40\0"),
-            (0x1020, b"\x17\x25\0\0\x13\x05\xf5\xfd\xa3\x2f\xb5\xfc\x97\0\0\0\xe7\x80\x40\xfd"), (0x2000, b"dddddddd"), (0x2008, NAMES_WITH_DATA),
-        ],
+            (0x1020, b"\x17\x25\0\0\x13\x05\xf5\xfd\xa3\x2f\xb5\xfc\x97\0\0\0\xe7\x80\x40\xfd"), (0x2000, b"dddddddd"), (0x2008, NAMES_WITH_DATA)],
         sections: &[[1, 1, 6, 0x11000, 0x1000, 52, 4], [7, 1, 3, 0x12000, 0x2000, 8, 8], [13, 3, 0, 0, 0x2008, 23, 1]]); store: Store::Kinds),
     link!("-s", "halves.o" => code!(8 => 0x1020; b"\x37\x15\0\0\x13\x05\x05\x80"); store: Store::Kinds),
     link!("-s", "numbers.o" => image!(FIRST => table: 0x2050,
         segments: &[READ_OF_FOUR, [1, 5, 0x1000, 0x11000, 8, 8, 4096], [1, 6, 0x2000, 0x12000, 51, 51, 4096], STACK],
-        contents: &[
-            (0x1000, b"\x67\x80\0\0\x73\0\x10\0"), (0x2000, b"\xaa\x0e\0\0\0\x07\0\x88\xbb\x07\0\0\0\0\0\0\0\xc6\x08\x08\x10\x08\x10\x01\0\xef\xef\xff\xff"),
-            (0x201d, b"\x08\x11\x01\0\x08\x18\xcc\x08\x10\x08\x10\x01\0\0\0w\x10\x08\xd9\xef\xff\xff"), (0x2033, NAMES_WITH_DATA),
-        ],
+        contents: &[(0x1000, b"\x67\x80\0\0\x73\0\x10\0"),
+            (0x2000, b"\xaa\x0e\0\0\0\x07\0\x88\xbb\x07\0\0\0\0\0\0\0\xc6\x08\x08\x10\x08\x10\x01\0\xef\xef\xff\xff"),
+            (0x201d, b"\x08\x11\x01\0\x08\x18\xcc\x08\x10\x08\x10\x01\0\0\0w\x10\x08\xd9\xef\xff\xff"), (0x2033, NAMES_WITH_DATA)],
         sections: &[[1, 1, 6, 0x11000, 0x1000, 8, 4], [7, 1, 3, 0x12000, 0x2000, 51, 8], [13, 3, 0, 0, 0x2033, 23, 1]]); store: Store::Kinds),
     link!("-s", "ends.o" =>
         code_and_data!(32, 16 => 0x2028; b"\xe3\x0f\xb5\x7e\x63\0\xb5\x80\x7d\xcd\x01\xd1\xfd\xaf\x01\xb0\xef\xf0\xff\x7f\xef\0\0\x80\x37\xf5\xff\x7f\x37\x05\0\x80"; b"\xff\xff\xff\xff\0\0\0\x80\xff\xff\xff\x7f\0\0\0\x80");
@@ -97,10 +95,8 @@ const WRONG_INPUTS: &[Input] = inputs!(
     // A kind that is none.
     "unknown.o" => object!(BEYOND => sections: &[section!(EIGHT => relocs: &[reloc!(0, 58, 3, 0)])]),
     // The low half of an address whose label stands in another section.
-    "elsewhere.o" => object!([
-        text!(b"\x17\x05\0\0\x13\x05\x05\0"; reloc!(0, 23, 1, 0), reloc!(4, 24, 1, 0)),
-        section!(b".text.a", 1, 6, 4; b"\x17\x05\0\0"; relocs: &[reloc!(0, 23, 1, 0)]),
-    ]; [symbol!(b".L0", 0, 0, 2, 0, 0), START]),
+    "elsewhere.o" => object!([text!(b"\x17\x05\0\0\x13\x05\x05\0"; reloc!(0, 23, 1, 0), reloc!(4, 24, 1, 0)),
+        section!(b".text.a", 1, 6, 4; b"\x17\x05\0\0"; relocs: &[reloc!(0, 23, 1, 0)])]; [symbol!(b".L0", 0, 0, 2, 0, 0), START]),
     // The low half of an address whose label has the half of a number.
     "unlike.o" => object!([text!(b"\x37\x05\0\0\x23\x20\xb5\0"; reloc!(0, 26, 1, 0), reloc!(4, 25, 1, 0))]; [symbol!(b".L0", 0, 0, 1, 0, 0), START]),
     // The low half of an address of a label that is a number.
@@ -111,7 +107,6 @@ const WRONG_INPUTS: &[Input] = inputs!(
     "added.o" => object!([text!(b"\x17\x05\0\0\x23\x20\xb5\0"; reloc!(0, 23, 1, 0), reloc!(4, 25, 1, 4))]; [symbol!(b".L0", 0, 0, 1, 0, 0), START]),
 );
 
-/// The files that are at hand.
 pub fn files(alloc: Global) -> Result<Files, AllocError> {
     let mut files = objects_of(alloc, INPUTS)?;
     push_objects(&mut files, alloc, BEYOND_INPUTS)?;

@@ -1,6 +1,5 @@
-//! Distances as ULEB128 numbers, each of a pair of relocations (RISC-V ELF psABI, `R_RISCV_SET_ULEB128` and `R_RISCV_SUB_ULEB128`), and
-//! distances to functions: over a call that is shortened, of all lengths, after and before other values at the same place, over the end of
-//! a block of the writer, and refused.
+//! Distances as ULEB128 numbers, each of a pair of relocations (RISC-V ELF psABI, `R_RISCV_SET_ULEB128` and `R_RISCV_SUB_ULEB128`), and distances
+//! to functions: over a shortened call, of all lengths, after and before other values at the same place, over the end of a block, and refused.
 
 use elf_bytes::{Image, Section, Symbol, image, object, reloc, section, symbol, text};
 use link_examples::images::{FIRST, READ, STACK};
@@ -33,8 +32,7 @@ const INPUTS: &[Input] = inputs!(
     "unended.o" => object!([CALLED, read_only!(b"\x80"; reloc!(0, 60, 2, 0), reloc!(0, 61, 1, 0))]; [START, F]),
     // The distance to the function.
     "plt32.o" => object!([CALLED, section!(b".rodata", 1, 2, 4; b"\0\0\0\0"; relocs: &[reloc!(0, 59, 2, 0)])]; [START, F]),
-    // Two bytes alone, after a byte and before a sum at the same place; ten bytes; the greatest number of one, of nine and of ten bytes; and
-    // two pairs at one place.
+    // Two bytes alone, after a byte and before a sum at one place; ten bytes; the greatest number of one, nine and ten bytes; two pairs at one place.
     "many.o" => object!([
         CALLED,
         read_only!(
@@ -43,19 +41,15 @@ const INPUTS: &[Input] = inputs!(
                 reloc!(4, 33, 4, 0), reloc!(6, 60, 2, 0), reloc!(6, 61, 1, 0), reloc!(16, 60, 5, 0), reloc!(16, 61, 6, 0), reloc!(17, 60, 7, 0),
                 reloc!(17, 61, 6, 0), reloc!(26, 60, 8, 0), reloc!(26, 61, 6, 0), reloc!(36, 60, 2, 0), reloc!(36, 61, 1, 0), reloc!(36, 60, 5, 0),
                 reloc!(36, 61, 6, 0)),
-    ]; [
-        START, F, symbol!(b"five", 1, 0, 0xfff1, 5, 0), symbol!(b"one", 1, 0, 0xfff1, 1, 0), symbol!(b"most", 1, 0, 0xfff1, 127, 0), NUMBER,
-        symbol!(b"half", 1, 0, 0xfff1, 0x7fff_ffff_ffff_ffff, 0), symbol!(b"all", 1, 0, 0xfff1, 0xffff_ffff_ffff_ffff, 0),
-    ]),
+    ]; [START, F, symbol!(b"five", 1, 0, 0xfff1, 5, 0), symbol!(b"one", 1, 0, 0xfff1, 1, 0), symbol!(b"most", 1, 0, 0xfff1, 127, 0), NUMBER,
+        symbol!(b"half", 1, 0, 0xfff1, 0x7fff_ffff_ffff_ffff, 0), symbol!(b"all", 1, 0, 0xfff1, 0xffff_ffff_ffff_ffff, 0)]),
     // One more than a byte has room for.
     "too-many.o" => object!([
-        CALLED,
-        read_only!(b"\0"; reloc!(0, 60, 3, 0), reloc!(0, 61, 4, 0)),
+        CALLED, read_only!(b"\0"; reloc!(0, 60, 3, 0), reloc!(0, 61, 4, 0)),
     ]; [START, F, symbol!(b"n", 1, 0, 0xfff1, 128, 0), symbol!(b"nil", 1, 0, 0xfff1, 0, 0)]),
     // One more than 64 bits have, in ten bytes.
     "beyond.o" => object!([
-        CALLED,
-        read_only!(b"\x80\x80\x80\x80\x80\x80\x80\x80\x80\0"; reloc!(0, 60, 3, 1), reloc!(0, 61, 4, 0)),
+        CALLED, read_only!(b"\x80\x80\x80\x80\x80\x80\x80\x80\x80\0"; reloc!(0, 60, 3, 1), reloc!(0, 61, 4, 0)),
     ]; [START, F, symbol!(b"n", 1, 0, 0xfff1, 0xffff_ffff_ffff_ffff, 0), symbol!(b"nil", 1, 0, 0xfff1, 0, 0)]),
     // The first part of a pair alone.
     "alone.o" => object!([CALLED, read_only!(b"\x80\0"; reloc!(0, 60, 2, 0))]; [START, F]),
@@ -76,14 +70,12 @@ const PLACED_INPUTS: &[Input] = inputs!(
     "long.o" => object!([CALLED, read_only!(b"\x80\x80\x80\x80\x80\x80\x80\x80\x80\x80\0"; reloc!(0, 60, 2, 0), reloc!(0, 61, 1, 0))]; [START, F]),
     // Ten bytes, of which the first five are the last of the first block of 65,536 bytes.
     "over.o" => object!([
-        CALLED,
-        section!(b".rodata", 8, 2, 1; b""; size: 65299),
+        CALLED, section!(b".rodata", 8, 2, 1; b""; size: 65299),
         read_only!(b"\x80\x80\x80\x80\x80\x80\x80\x80\x80\0"; reloc!(0, 60, 3, 0), reloc!(0, 61, 4, 0)),
     ]; [START, F, symbol!(b"large", 1, 0, 0xfff1, 0xfedc_ba98_7654_3210, 0), symbol!(b"nil", 1, 0, 0xfff1, 0, 0)]),
     // Two pairs whose entries stand in no order but for those of one place.
     "unsorted.o" => object!([
-        CALLED,
-        read_only!(b"\x80\0\x80\0"; reloc!(2, 60, 3, 0), reloc!(0, 60, 2, 0), reloc!(2, 61, 4, 0), reloc!(0, 61, 1, 0)),
+        CALLED, read_only!(b"\x80\0\x80\0"; reloc!(2, 60, 3, 0), reloc!(0, 60, 2, 0), reloc!(2, 61, 4, 0), reloc!(0, 61, 1, 0)),
     ]; [START, F, symbol!(b"five", 1, 0, 0xfff1, 5, 0), symbol!(b"nil", 1, 0, 0xfff1, 0, 0)]),
     // A number of two bytes, and a call behind it.
     "beside.o" => object!([
@@ -159,8 +151,7 @@ pub const WRITTEN: &[Link] = &[
         segments: &[[1, 4, 0, 0x10000, 270, 270, 4096], [1, 5, 0x1000, 0x11000, 8, 8, 4096], STACK],
         contents: &[
             (0xe8, b"\x84\0\x04\0\x85\0\x84\x80\x80\x80\x80\x80\x80\x80\x80\0\x7f\xff\xff\xff\xff\xff\xff\xff\xff\x7f\xff\xff\xff\xff\xff\xff\xff\xff\xff\x01\xff\0"),
-            (0x1000, b"\xef\0\x40\0\x67\x80\0\0"), (0x1008, NAMES),
-        ],
+            (0x1000, b"\xef\0\x40\0\x67\x80\0\0"), (0x1008, NAMES)],
         sections: &[[1, 1, 2, 0x100e8, 0xe8, 38, 1], [9, 1, 6, 0x11000, 0x1000, 8, 4], [15, 3, 0, 0, 0x1008, 25, 1]]); store: Store::Kinds),
     // A number in the last five bytes of the first block and the first five of the second.
     link!("-s", "over.o" => image!(SHORT => entry: 0x21000, table: 0x11028,

@@ -1,6 +1,7 @@
 //! Commands by `run_piped`, and what each has to leave, whatever the number of parsers.
 
 use super::OwnStores;
+use elf_bytes::record;
 use link_driver::OpenGate;
 use link_examples::images::{ASKED, FIRST};
 use link_examples::libraries::{
@@ -24,8 +25,7 @@ const LINKS: &[Link] = &[
     link!("-s", "a.o", "lib.a" => FIRST; libraries: &[EMPTY]),
 ];
 
-/// A name that is defined twice, one file twice; what is wrong with an archive and with a member; and a file that is not there, as the last and as
-/// the first.
+/// A name that is defined twice; one file twice; a broken archive and a broken member; and a file that is not there, as the last and as the first.
 const REFUSALS: &[Refusal] = &[
     refusal!("-s", "p.o", "q.o" => 1, 2, "F20 Duplicate file=p.o section=0 place=1 name=x other=q.o"),
     refusal!("-s", "a.o", "a.o" => 1, 2, "F20 Duplicate file=a.o section=0 place=1 name=_start other=a.o"),
@@ -88,16 +88,10 @@ fn what_is_wrong_with_them_is_refused(rt: HostRuntime) -> Result<(), Fail> {
 }
 
 /// The first load fails.
-const FIRST_FAILS: Outside = Outside {
-    fails: &[0],
-    ..SOUND
-};
+const FIRST_FAILS: Outside = record!(Outside, SOUND => fails: &[0]);
 
 /// The second one does.
-const SECOND_FAILS: Outside = Outside {
-    fails: &[1],
-    ..SOUND
-};
+const SECOND_FAILS: Outside = record!(Outside, SOUND => fails: &[1]);
 
 /// Whether two files can't be read, with each number of parsers: this is told after so many loads, and nothing begun.
 fn is_unread<R: Threads + Wait + Sync>(
@@ -131,10 +125,7 @@ fn a_load_that_fails_is_the_last(rt: HostRuntime) -> Result<(), Fail> {
 const MANY: u32 = 40;
 
 /// Room for their executable.
-const WIDE: Outside = Outside {
-    most: 65536,
-    ..SOUND
-};
+const WIDE: Outside = record!(Outside, SOUND => most: 65536);
 
 fn executable(left: &Left) -> &[u8] {
     left.depot.bytes("a.out").unwrap_or(b"".as_slice())

@@ -48,13 +48,10 @@ const INPUTS: &[Input] = inputs!(
                 reloc!(0, 20, 11, 0), reloc!(4, 24, 1, 0), reloc!(8, 20, 12, 0), reloc!(12, 24, 2, 0), reloc!(16, 20, 11, 0), reloc!(20, 24, 3, 0),
                 reloc!(24, 21, 13, 0), reloc!(28, 24, 4, 0), reloc!(32, 22, 13, 0), reloc!(36, 24, 5, 0), reloc!(40, 21, 14, 0), reloc!(44, 24, 6, 0),
                 reloc!(48, 22, 14, 0), reloc!(52, 24, 7, 0), reloc!(56, 20, 1, 0), reloc!(60, 24, 8, 0), reloc!(64, 20, 10, 8), reloc!(68, 24, 9, 0)),
-        section!(THREAD_DATA => align: 8),
-        data!(b"dddddddddddddddd"),
-    ]; [
-        LABEL, symbol!(b".L0", 0, 0, 1, 8, 0), symbol!(b".L0", 0, 0, 1, 16, 0), symbol!(b".L0", 0, 0, 1, 24, 0), symbol!(b".L0", 0, 0, 1, 32, 0),
+        section!(THREAD_DATA => align: 8), data!(b"dddddddddddddddd"),
+    ]; [LABEL, symbol!(b".L0", 0, 0, 1, 8, 0), symbol!(b".L0", 0, 0, 1, 16, 0), symbol!(b".L0", 0, 0, 1, 24, 0), symbol!(b".L0", 0, 0, 1, 32, 0),
         symbol!(b".L0", 0, 0, 1, 40, 0), symbol!(b".L0", 0, 0, 1, 48, 0), symbol!(b".L0", 0, 0, 1, 56, 0), symbol!(b".L0", 0, 0, 1, 64, 0),
-        symbol!(b"", 0, 3, 3, 0, 0), symbol!(b"d", 1, 1, 3, 0, 8), WEAKLY, V_IN_2, symbol!(b"w2", 2, 6, 0, 0, 0), START,
-    ]),
+        symbol!(b"", 0, 3, 3, 0, 0), symbol!(b"d", 1, 1, 3, 0, 8), WEAKLY, V_IN_2, symbol!(b"w2", 2, 6, 0, 0, 0), START]),
     "returns.o" => object!([RETURN]; [START]),
     // A use of data that only its file knows.
     "own.o" => object!([text!(b"\x17\x05\0\0\x03\x35\x05\0"; UPPER, LOWER), data!(b"dddddddd")]; [LABEL, symbol!(b"d", 0, 0, 2, 0, 0)]),
@@ -68,12 +65,10 @@ const INPUTS: &[Input] = inputs!(
     "apart.o" => object!(DIRECT => sections: &[OFFSETS, THREAD_DATA, section!(THREAD_ZEROS => align: 0x4000)]),
     // Zeros alone.
     "zeros.o" => object!([
-        text!(b"\x37\x05\0\0\x13\x05\x05\0"; reloc!(0, 29, 1, 0), reloc!(4, 30, 1, 0)),
-        THREAD_ZEROS,
+        text!(b"\x37\x05\0\0\x13\x05\x05\0"; reloc!(0, 29, 1, 0), reloc!(4, 30, 1, 0)), THREAD_ZEROS,
     ]; [symbol!(b"b", 1, 6, 2, 8, 4), START]),
 );
 
-/// The files that are at hand.
 pub fn files(alloc: Global) -> Result<Files, AllocError> {
     objects_of(alloc, INPUTS)
 }
@@ -83,42 +78,33 @@ const ENTRIES_IMAGE: Image = image!(FIRST => table: 0x2090,
     segments: &[READ_OF_FIVE, [1, 5, 0x1000, 0x11000, 72, 72, 4096], [1, 6, 0x2000, 0x12000, 0x68, 0x68, 4096], [7, 4, 0x2000, 0x12000, 8, 8, 8], STACK],
     contents: &[
         (0x1000, b"\x17\x15\0\0\x03\x35\x85\0\x17\x15\0\0\x03\x35\x85\0\x17\x15\0\0\x03\x35\x85\xff\x17\x15\0\0\x03\x35\x05\0\x17\x15\0\0\x03\x35\x05\0"),
-        (0x1028, b"\x17\x15\0\0\x03\x35\x85\0\x17\x15\0\0\x03\x35\x85\0\x17\x15\0\0\x03\x35\x05\x01\x17\x15\0\0\x03\x35\x85\x01"), (0x2000, b"tttttttt"),
-        (0x2008, b"X\x20\x01\0\0\0\0\0"), (0x2018, b"\x04\0\0\0\0\0\0\0"), (0x2020, b"\x01\0\0\0\0\0\0\0\x04\xf8\xff\xff\xff\xff\xff\xff"),
-        (0x2038, b"\x01\0\0\0\0\0\0\0"), (0x2048, b"\0\x10\x01\0\0\0\0\0"), (0x2050, b"X\x20\x01\0\0\0\0\0"), (0x2058, b"dddddddddddddddd"),
-        (0x2068, b"\0.text\0.tdata\0.got\0.data\0.shstrtab\0"),
-    ],
-    sections: &[
-        [1, 1, 6, 0x11000, 0x1000, 72, 4], [7, 1, 0x403, 0x12000, 0x2000, 8, 8], [14, 1, 3, 0x12008, 0x2008, 80, 8], [19, 1, 3, 0x12058, 0x2058, 16, 8],
-        [25, 3, 0, 0, 0x2068, 35, 1],
-    ]);
+        (0x1028, b"\x17\x15\0\0\x03\x35\x85\0\x17\x15\0\0\x03\x35\x85\0\x17\x15\0\0\x03\x35\x05\x01\x17\x15\0\0\x03\x35\x85\x01"),
+        (0x2000, b"tttttttt"), (0x2008, b"X\x20\x01\0\0\0\0\0"), (0x2018, b"\x04\0\0\0\0\0\0\0"),
+        (0x2020, b"\x01\0\0\0\0\0\0\0\x04\xf8\xff\xff\xff\xff\xff\xff"), (0x2038, b"\x01\0\0\0\0\0\0\0"), (0x2048, b"\0\x10\x01\0\0\0\0\0"),
+        (0x2050, b"X\x20\x01\0\0\0\0\0"), (0x2058, b"dddddddddddddddd"),
+        (0x2068, b"\0.text\0.tdata\0.got\0.data\0.shstrtab\0")], sections: &[ [1, 1, 6, 0x11000, 0x1000, 72, 4],
+        [7, 1, 0x403, 0x12000, 0x2000, 8, 8], [14, 1, 3, 0x12008, 0x2008, 80, 8], [19, 1, 3, 0x12058, 0x2058, 16, 8], [25, 3, 0, 0, 0x2068, 35, 1]]);
 
 /// Entries of the global offset table.
 pub const TABLES: &[Link] = &[
     // Thread-local data at 0x12000, and the entry after it.
     link!("-s", "dynamic.o" => image!(FIRST => table: 0x2038,
         segments: &[READ_OF_FIVE, [1, 5, 0x1000, 0x11000, 12, 12, 4096], [1, 6, 0x2000, 0x12000, 24, 24, 4096], [7, 4, 0x2000, 0x12000, 8, 8, 4], STACK],
-        contents: &[
-            (0x1000, b"\x17\x15\0\0\x13\x05\x85\0\x67\x80\0\0"), (0x2000, b"tttttttt"), (0x2008, b"\x01\0\0\0\0\0\0\0\x04\xf8\xff\xff\xff\xff\xff\xff"),
-            (0x2018, b"\0.text\0.tdata\0.got\0.shstrtab\0"),
-        ],
+        contents: &[(0x1000, b"\x17\x15\0\0\x13\x05\x85\0\x67\x80\0\0"), (0x2000, b"tttttttt"),
+            (0x2008, b"\x01\0\0\0\0\0\0\0\x04\xf8\xff\xff\xff\xff\xff\xff"), (0x2018, b"\0.text\0.tdata\0.got\0.shstrtab\0")],
         sections: &[[1, 1, 6, 0x11000, 0x1000, 12, 4], [7, 1, 0x403, 0x12000, 0x2000, 8, 4], [14, 1, 3, 0x12008, 0x2008, 16, 8], [19, 3, 0, 0, 0x2018, 29, 1]]); store: Store::Threads),
     link!("-s", "entries.o" => ENTRIES_IMAGE; store: Store::Threads),
     // Two entries for two of one name.
     link!("-s", "returns.o", "own.o", "own.o" => image!(FIRST => table: 0x2040,
         segments: &[READ_OF_FOUR, [1, 5, 0x1000, 0x11000, 20, 20, 4096], [1, 6, 0x2000, 0x12000, 32, 32, 4096], STACK],
-        contents: &[
-            (0x1000, b"\x67\x80\0\0\x17\x15\0\0\x03\x35\xc5\xff\x17\x15\0\0\x03\x35\xc5\xff"), (0x2000, b"\x10\x20\x01"), (0x2008, b"\x18\x20\x01"),
-            (0x2010, b"dddddddddddddddd"), (0x2020, b"\0.text\0.got\0.data\0.shstrtab\0"),
-        ],
+        contents: &[(0x1000, b"\x67\x80\0\0\x17\x15\0\0\x03\x35\xc5\xff\x17\x15\0\0\x03\x35\xc5\xff"), (0x2000, b"\x10\x20\x01"),
+            (0x2008, b"\x18\x20\x01"), (0x2010, b"dddddddddddddddd"), (0x2020, b"\0.text\0.got\0.data\0.shstrtab\0")],
         sections: &[[1, 1, 6, 0x11000, 0x1000, 20, 4], [7, 1, 3, 0x12000, 0x2000, 16, 8], [12, 1, 3, 0x12010, 0x2010, 16, 8], [18, 3, 0, 0, 0x2020, 28, 1]]); store: Store::Threads),
     // Entries in order of the inputs, and not of the output.
     link!("-s", "order.o" => image!(FIRST => entry: 0x11008, table: 0x2030,
         segments: &[READ_OF_FOUR, [1, 5, 0x1000, 0x11000, 16, 16, 4096], [1, 6, 0x2000, 0x12000, 16, 16, 4096], STACK],
-        contents: &[
-            (0x1000, b"\x17\x15\0\0\x03\x35\x85\0\x17\x15\0\0\x03\x35\x85\xff"), (0x2000, b"\0\x01"), (0x2008, b"\0\x02"),
-            (0x2010, b"\0.init\0.text\0.got\0.shstrtab\0"),
-        ],
+        contents: &[(0x1000, b"\x17\x15\0\0\x03\x35\x85\0\x17\x15\0\0\x03\x35\x85\xff"), (0x2000, b"\0\x01"), (0x2008, b"\0\x02"),
+            (0x2010, b"\0.init\0.text\0.got\0.shstrtab\0")],
         sections: &[[1, 1, 6, 0x11000, 0x1000, 8, 4], [7, 1, 6, 0x11008, 0x1008, 8, 4], [13, 1, 3, 0x12000, 0x2000, 16, 8], [18, 3, 0, 0, 0x2010, 28, 1]]); store: Store::Threads),
 ];
 
@@ -126,23 +112,17 @@ pub const TABLES: &[Link] = &[
 pub const OFFSETS_OF_THREADS: &[Link] = &[
     link!("-s", "direct.o" => image!(FIRST => table: 0x2028,
         segments: &[READ_OF_FIVE, [1, 5, 0x1000, 0x11000, 24, 24, 4096], [1, 6, 0x2000, 0x12000, 8, 8, 4096], [7, 4, 0x2000, 0x12000, 8, 24, 8], STACK],
-        contents: &[
-            (0x1000, b"\x37\x15\0\0\x33\x05\x45\0\x13\x05\x05\x01\x23\x22\xb5\0\x13\x05\x55\0\x67\x80\0\0"), (0x2000, b"tttttttt"),
-            (0x2008, b"\0.text\0.tdata\0.tbss\0.shstrtab\0"),
-        ],
+        contents: &[(0x1000, b"\x37\x15\0\0\x33\x05\x45\0\x13\x05\x05\x01\x23\x22\xb5\0\x13\x05\x55\0\x67\x80\0\0"), (0x2000, b"tttttttt"),
+            (0x2008, b"\0.text\0.tdata\0.tbss\0.shstrtab\0")],
         sections: &[[1, 1, 6, 0x11000, 0x1000, 24, 4], [7, 1, 0x403, 0x12000, 0x2000, 8, 4], [14, 8, 0x403, 0x12008, 0x2008, 16, 8], [20, 3, 0, 0, 0x2008, 30, 1]]); store: Store::Threads),
     // The block begins at the greatest alignment of all that is thread-local.
     link!("-s", "apart.o" => image!(FIRST => table: 0x4028,
-        segments: &[
-            READ_OF_FIVE, [1, 5, 0x1000, 0x11000, 24, 24, 4096], [1, 6, 0x2000, 0x12000, 0x2008, 0x2008, 4096], [7, 4, 0x4000, 0x14000, 8, 0x4010, 0x4000], STACK,
-        ],
-        contents: &[
-            (0x1000, b"\x37\x55\0\0\x33\x05\x45\0\x13\x05\x85\0\x23\x22\xb5\0\x13\x05\x55\0\x67\x80\0\0"), (0x4000, b"tttttttt"),
-            (0x4008, b"\0.text\0.tdata\0.tbss\0.shstrtab\0"),
-        ],
-        sections: &[
-            [1, 1, 6, 0x11000, 0x1000, 24, 4], [7, 1, 0x403, 0x14000, 0x4000, 8, 4], [14, 8, 0x403, 0x18000, 0x8000, 16, 0x4000], [20, 3, 0, 0, 0x4008, 30, 1],
-        ]); store: Store::Threads),
+        segments: &[READ_OF_FIVE, [1, 5, 0x1000, 0x11000, 24, 24, 4096], [1, 6, 0x2000, 0x12000, 0x2008, 0x2008, 4096],
+            [7, 4, 0x4000, 0x14000, 8, 0x4010, 0x4000], STACK],
+        contents: &[(0x1000, b"\x37\x55\0\0\x33\x05\x45\0\x13\x05\x85\0\x23\x22\xb5\0\x13\x05\x55\0\x67\x80\0\0"), (0x4000, b"tttttttt"),
+            (0x4008, b"\0.text\0.tdata\0.tbss\0.shstrtab\0")],
+        sections: &[[1, 1, 6, 0x11000, 0x1000, 24, 4], [7, 1, 0x403, 0x14000, 0x4000, 8, 4], [14, 8, 0x403, 0x18000, 0x8000, 16, 0x4000],
+            [20, 3, 0, 0, 0x4008, 30, 1]]); store: Store::Threads),
     // No segment that may be written.
     link!("-s", "zeros.o" => image!(FIRST => table: 0x1020,
         segments: &[READ_OF_FOUR, [1, 5, 0x1000, 0x11000, 8, 8, 4096], [7, 4, 0x2000, 0x12000, 0, 16, 8], STACK],
@@ -152,12 +132,10 @@ pub const OFFSETS_OF_THREADS: &[Link] = &[
 
 /// The map has the global offset table.
 pub const MAPPED: &[Link] = &[
-    link!("-s", "--Map", "m", "entries.o" => ENTRIES_IMAGE; store: Store::Threads, lines: &[
-        "rvld map 1", "entry 0000000000011000",
+    link!("-s", "--Map", "m", "entries.o" => ENTRIES_IMAGE; store: Store::Threads, lines: &["rvld map 1", "entry 0000000000011000",
         "section 0000000000011000 0000000000000048 .text", "input 0000000000011000 0000000000000048 entries.o 1 .text",
         "section 0000000000012000 0000000000000008 .tdata", "input 0000000000012000 0000000000000008 entries.o 2 .tdata",
-        "section 0000000000012008 0000000000000050 .got", "got 0000000000012008 0000000000000050",
-        "section 0000000000012058 0000000000000010 .data", "input 0000000000012058 0000000000000010 entries.o 3 .data",
-        "symbol 0000000000011000 _start", "symbol 0000000000012058 d", "symbol 0000000000000004 v",
-    ]),
+        "section 0000000000012008 0000000000000050 .got", "got 0000000000012008 0000000000000050", "section 0000000000012058 0000000000000010 .data",
+        "input 0000000000012058 0000000000000010 entries.o 3 .data", "symbol 0000000000011000 _start", "symbol 0000000000012058 d",
+        "symbol 0000000000000004 v"]),
 ];

@@ -21,17 +21,11 @@ macro_rules! frames {
 macro_rules! unwound {
     ($size:literal, $end:literal => $headers:literal; $table_size:literal, $at:literal, $records_size:literal; $table:expr; $records:expr; $code:expr) => {
         image!(FIRST => table: $headers,
-            segments: &[
-                [1, 4, 0, 0x10000, $end, $end, 4096], [1, 5, 0x1000, 0x11000, $size, $size, 4096],
-                [0x6474_e550, 4, 0x120, 0x10120, $table_size, $table_size, 4], STACK,
-            ],
-            contents: &[
-                (0x120, $table), ($at, $records), (0x1000, $code), (0x1000 + $size, b"\0.eh_frame_hdr\0.eh_frame\0.text\0.shstrtab\0"),
-            ],
-            sections: &[
-                [1, 1, 2, 0x10120, 0x120, $table_size, 4], [15, 1, 2, 0x10000 + $at, $at, $records_size, 8],
-                [25, 1, 6, 0x11000, 0x1000, $size, 4], [31, 3, 0, 0, 0x1000 + $size, 41, 1],
-            ])
+            segments: &[[1, 4, 0, 0x10000, $end, $end, 4096], [1, 5, 0x1000, 0x11000, $size, $size, 4096],
+                [0x6474_e550, 4, 0x120, 0x10120, $table_size, $table_size, 4], STACK],
+            contents: &[(0x120, $table), ($at, $records), (0x1000, $code), (0x1000 + $size, b"\0.eh_frame_hdr\0.eh_frame\0.text\0.shstrtab\0")],
+            sections: &[[1, 1, 2, 0x10120, 0x120, $table_size, 4], [15, 1, 2, 0x10000 + $at, $at, $records_size, 8],
+                [25, 1, 6, 0x11000, 0x1000, $size, 4], [31, 3, 0, 0, 0x1000 + $size, 41, 1]])
     };
 }
 
@@ -53,15 +47,12 @@ const OF_ONE: Section = frames!(RECORDS; reloc!(28, 57, 1, 0));
 const WRITTEN_INPUTS: &[Input] = inputs!(
     // A CIE and an FDE of the first link's function.
     "e.o" => object!([
-        text!(b"\xef\0\0\0g\x80\0\0"; reloc!(0, 17, 2, 0)),
-        frames!(LONGER_RECORDS; reloc!(28, 57, 1, 0)),
+        text!(b"\xef\0\0\0g\x80\0\0"; reloc!(0, 17, 2, 0)), frames!(LONGER_RECORDS; reloc!(28, 57, 1, 0)),
     ]; [START, symbol!(b"f", 1, 2, 1, 4, 4)]),
     // An FDE that is longer than its section.
     "long.o" => object!([
         text!(b"\xef\0\0\0g\x80\0\0"; reloc!(0, 17, 2, 0)),
-        frames!(
-            b"\x10\0\0\0\0\0\0\0\x01zR\0\x01|\x01\x01\x1b\x0c\x02\0 \0\0\0\x18\0\0\0\0\0\0\0\x08\0\0\0\0\0\0\0";
-            reloc!(28, 57, 1, 0)),
+        frames!(b"\x10\0\0\0\0\0\0\0\x01zR\0\x01|\x01\x01\x1b\x0c\x02\0 \0\0\0\x18\0\0\0\0\0\0\0\x08\0\0\0\0\0\0\0"; reloc!(28, 57, 1, 0)),
     ]; [START, symbol!(b"f", 1, 2, 1, 4, 4)]),
     // A CIE and an FDE of `_start`.
     "one.o" => object!([RETURN, OF_ONE]; [START]),
@@ -70,17 +61,11 @@ const WRITTEN_INPUTS: &[Input] = inputs!(
     // The same of a function that stands behind all others.
     "fini.o" => object!([section!(b".fini", 1, 6, 4; b"g\x80\0\0"), OF_ONE]; [symbol!(b"g", 1, 2, 1, 0, 4)]),
     // The address of the section of unwind records.
-    "start.o" => object!([
-        text!(b"\xef\0\0\0g\x80\0\0"; reloc!(0, 17, 3, 0)),
-        frames!(LONGER_RECORDS; reloc!(28, 57, 2, 0)),
-        data!(b"\0\0\0\0\0\0\0\0"; reloc!(0, 2, 1, 0)),
-    ]; [symbol!(b"", 0, 3, 2, 0, 0), START, symbol!(b"f", 1, 2, 1, 4, 4)]),
+    "start.o" => object!([text!(b"\xef\0\0\0g\x80\0\0"; reloc!(0, 17, 3, 0)), frames!(LONGER_RECORDS; reloc!(28, 57, 2, 0)),
+        data!(b"\0\0\0\0\0\0\0\0"; reloc!(0, 2, 1, 0))]; [symbol!(b"", 0, 3, 2, 0, 0), START, symbol!(b"f", 1, 2, 1, 4, 4)]),
     // A symbol at 4 in that section: a number.
-    "later.o" => object!([
-        text!(b"\xef\0\0\0g\x80\0\0"; reloc!(0, 17, 3, 0)),
-        frames!(LONGER_RECORDS; reloc!(28, 57, 2, 0)),
-        data!(b"\0\0\0\0\0\0\0\0"; reloc!(0, 2, 1, 0)),
-    ]; [symbol!(b".L0", 0, 0, 2, 4, 0), START, symbol!(b"f", 1, 2, 1, 4, 4)]),
+    "later.o" => object!([text!(b"\xef\0\0\0g\x80\0\0"; reloc!(0, 17, 3, 0)), frames!(LONGER_RECORDS; reloc!(28, 57, 2, 0)),
+        data!(b"\0\0\0\0\0\0\0\0"; reloc!(0, 2, 1, 0))]; [symbol!(b".L0", 0, 0, 2, 4, 0), START, symbol!(b"f", 1, 2, 1, 4, 4)]),
     // A section that has nothing but the end of its list, and its address.
     "none.o" => object!([RETURN, frames!(b"\0\0\0\0"), data!(b"\0\0\0\0\0\0\0\0"; reloc!(0, 2, 1, 0))]; [symbol!(b"", 0, 3, 2, 0, 0), START]),
     // A name for the start of the records.
@@ -98,14 +83,11 @@ const KEPT_INPUTS: &[Input] = inputs!(
         frames!(
             b"\x14\0\0\0\0\0\0\0\x01zPLR\0\x01x\x01\x07\x9b\x1b\0\0\0\0\x14\0\0\0\x1c\0\0\0\0\0\0\0\x04\0\0\0\0\0\0\0\0\0\0\0\x14\0\0\04\0\0\0\0\0\0\0\x04\0\0\0\0\0\0\0\0\0\0\0";
             reloc!(20, 57, 5, 0), reloc!(32, 57, 3, 0), reloc!(40, 57, 1, 0), reloc!(56, 57, 4, 0), reloc!(64, 57, 2, 0)),
-    ]; [
-        symbol!(b"", 0, 3, 4, 0, 0), symbol!(b"", 0, 3, 5, 0, 0), symbol!(b"g", 1, 2, 2, 0, 4), symbol!(b"h", 1, 2, 3, 0, 4),
-        symbol!(b"p", 1, 2, 6, 0, 4), START,
-    ]),
+    ]; [symbol!(b"", 0, 3, 4, 0, 0), symbol!(b"", 0, 3, 5, 0, 0), symbol!(b"g", 1, 2, 2, 0, 4), symbol!(b"h", 1, 2, 3, 0, 4),
+        symbol!(b"p", 1, 2, 6, 0, 4), START]),
     // An FDE of `h`, which nothing refers to, and its CIE refer to what is not defined.
     "lost.o" => object!([
-        RETURN,
-        section!(b".text.h", 1, 6, 4; b"s\0\x10\0"),
+        RETURN, section!(b".text.h", 1, 6, 4; b"s\0\x10\0"),
         frames!(RECORDS_WITH_TABLE; reloc!(20, 57, 3, 0), reloc!(32, 57, 2, 0), reloc!(40, 57, 3, 0)),
     ]; [START, symbol!(b"h", 1, 2, 2, 0, 4), symbol!(b"k", 1, 0, 0, 0, 0)]),
     // An FDE of `_start` does.
@@ -121,8 +103,7 @@ const KEPT_INPUTS: &[Input] = inputs!(
     ]; [START, symbol!(b"k", 1, 0, 0, 0, 0)]),
     // A distance that is too long, in the first section, and a jump that is, in the second.
     "wide.o" => object!([
-        frames!(RECORDS; reloc!(28, 57, 1, 0x80000000)),
-        text!(b"\xef\0\0\0"; reloc!(0, 17, 1, 0x200000)),
+        frames!(RECORDS; reloc!(28, 57, 1, 0x80000000)), text!(b"\xef\0\0\0"; reloc!(0, 17, 1, 0x200000)),
     ]; [symbol!(b"_start", 1, 2, 2, 0, 4)]),
     // The two the other way round.
     "far.o" => object!([text!(b"\xef\0\0\0"; reloc!(0, 17, 1, 0x200000)), frames!(RECORDS; reloc!(28, 57, 1, 0x80000000))]; [START]),
@@ -133,8 +114,7 @@ const KEPT_INPUTS: &[Input] = inputs!(
 const FOLDED_INPUTS: &[Input] = inputs!(
     // Two functions of the same bytes, with FDEs of the same bytes.
     "same.o" => object!([
-        text!(b"\xef\0\0\0\xef\0\0\0"; reloc!(0, 17, 1, 0), reloc!(4, 17, 2, 0)),
-        section!(b".text.f", 1, 6, 4; b"g\x80\0\0"),
+        text!(b"\xef\0\0\0\xef\0\0\0"; reloc!(0, 17, 1, 0), reloc!(4, 17, 2, 0)), section!(b".text.f", 1, 6, 4; b"g\x80\0\0"),
         section!(b".text.g", 1, 6, 4; b"g\x80\0\0"),
         frames!(
             b"\x10\0\0\0\0\0\0\0\x01zR\0\x01|\x01\x01\x1b\x0c\x02\0\x10\0\0\0\x18\0\0\0\0\0\0\0\x04\0\0\0\0\0\0\0\x10\0\0\0,\0\0\0\0\0\0\0\x04\0\0\0\0\0\0\0";
@@ -142,8 +122,7 @@ const FOLDED_INPUTS: &[Input] = inputs!(
     ]; [symbol!(b"f", 1, 2, 2, 0, 4), symbol!(b"g", 1, 2, 3, 0, 4), START]),
     // With FDEs of different bytes.
     "unlike.o" => object!([
-        text!(b"\xef\0\0\0\xef\0\0\0"; reloc!(0, 17, 1, 0), reloc!(4, 17, 2, 0)),
-        section!(b".text.f", 1, 6, 4; b"g\x80\0\0"),
+        text!(b"\xef\0\0\0\xef\0\0\0"; reloc!(0, 17, 1, 0), reloc!(4, 17, 2, 0)), section!(b".text.f", 1, 6, 4; b"g\x80\0\0"),
         section!(b".text.g", 1, 6, 4; b"g\x80\0\0"),
         frames!(
             b"\x10\0\0\0\0\0\0\0\x01zR\0\x01|\x01\x01\x1b\x0c\x02\0\x10\0\0\0\x18\0\0\0\0\0\0\0\x04\0\0\0\0\0\0\0\x10\0\0\0,\0\0\0\0\0\0\0\x04\0\0\0\x01\0\0\0";
@@ -151,19 +130,15 @@ const FOLDED_INPUTS: &[Input] = inputs!(
     ]; [symbol!(b"f", 1, 2, 2, 0, 4), symbol!(b"g", 1, 2, 3, 0, 4), START]),
     // With CIEs that refer to different bytes.
     "cies.o" => object!([
-        text!(b"\xef\0\0\0\xef\0\0\0"; reloc!(0, 17, 1, 0), reloc!(4, 17, 2, 0)),
-        section!(b".text.f", 1, 6, 4; b"g\x80\0\0"),
+        text!(b"\xef\0\0\0\xef\0\0\0"; reloc!(0, 17, 1, 0), reloc!(4, 17, 2, 0)), section!(b".text.f", 1, 6, 4; b"g\x80\0\0"),
         section!(b".text.g", 1, 6, 4; b"g\x80\0\0"),
         frames!(
             b"\x14\0\0\0\0\0\0\0\x01zPLR\0\x01x\x01\x07\x9b\x1b\0\0\0\0\x10\0\0\0\x1c\0\0\0\0\0\0\0\x04\0\0\0\0\0\0\0\x14\0\0\0\0\0\0\0\x01zPLR\0\x01x\x01\x07\x9b\x1b\0\0\0\0\x10\0\0\0\x1c\0\0\0\0\0\0\0\x04\0\0\0\0\0\0\0";
             reloc!(20, 57, 3, 0), reloc!(32, 57, 1, 0), reloc!(64, 57, 3, 1), reloc!(76, 57, 2, 0)),
     ]; [symbol!(b"f", 1, 2, 2, 0, 4), symbol!(b"g", 1, 2, 3, 0, 4), START]),
     // A function with its records, and a call of another.
-    "first.o" => object!([
-        text!(b"\xef\0\0\0\xef\0\0\0"; reloc!(0, 17, 1, 0), reloc!(4, 17, 2, 0)),
-        section!(b".text.f", 1, 6, 4; b"g\x80\0\0"),
-        OF_ONE,
-    ]; [symbol!(b"f", 1, 2, 2, 0, 4), symbol!(b"g", 1, 0, 0, 0, 0), START]),
+    "first.o" => object!([text!(b"\xef\0\0\0\xef\0\0\0"; reloc!(0, 17, 1, 0), reloc!(4, 17, 2, 0)), section!(b".text.f", 1, 6, 4; b"g\x80\0\0"),
+        OF_ONE]; [symbol!(b"f", 1, 2, 2, 0, 4), symbol!(b"g", 1, 0, 0, 0, 0), START]),
     // The other, of the same bytes.
     "second.o" => object!([section!(b".text.g", 1, 6, 4; b"g\x80\0\0"), OF_ONE]; [symbol!(b"g", 1, 2, 1, 0, 4)]),
 );
@@ -201,10 +176,7 @@ const REFUSED_INPUTS: &[Input] = inputs!(
     "kind.o" => object!([RETURN, frames!(RECORDS; reloc!(28, 2, 1, 0))]; [START]),
     // An FDE that leads to no CIE.
     "back.o" => object!([
-        RETURN,
-        frames!(
-            b"\x10\0\0\0\0\0\0\0\x01zR\0\x01|\x01\x01\x1b\x0c\x02\0\x10\0\0\0\x14\0\0\0\0\0\0\0\x04\0\0\0\0\0\0\0";
-            reloc!(28, 57, 1, 0)),
+        RETURN, frames!(b"\x10\0\0\0\0\0\0\0\x01zR\0\x01|\x01\x01\x1b\x0c\x02\0\x10\0\0\0\x14\0\0\0\0\0\0\0\x04\0\0\0\0\0\0\0"; reloc!(28, 57, 1, 0)),
     ]; [START]),
 );
 
@@ -237,19 +209,13 @@ const UNWOUND: Image = unwound!(8, 356 => 0x1038; 20, 0x138, 44;
 
 /// A word of the start of the records.
 const START_MEANT: Image = image!(FIRST => table: 0x2038,
-    segments: &[
-        [1, 4, 0, 0x10000, 412, 412, 4096], [1, 5, 0x1000, 0x11000, 8, 8, 4096], [1, 6, 0x2000, 0x12000, 8, 8, 4096],
-        [0x6474_e550, 4, 0x158, 0x10158, 20, 20, 4], STACK,
-    ],
-    contents: &[
-        (0x158, b"\x01\x1b\x03;\x14\0\0\0\x01\0\0\0\xa8\x0e\0\0,\0\0\0"),
+    segments: &[[1, 4, 0, 0x10000, 412, 412, 4096], [1, 5, 0x1000, 0x11000, 8, 8, 4096], [1, 6, 0x2000, 0x12000, 8, 8, 4096],
+        [0x6474_e550, 4, 0x158, 0x10158, 20, 20, 4], STACK],
+    contents: &[(0x158, b"\x01\x1b\x03;\x14\0\0\0\x01\0\0\0\xa8\x0e\0\0,\0\0\0"),
         (0x170, b"\x10\0\0\0\0\0\0\0\x01zR\0\x01|\x01\x01\x1b\x0c\x02\0\x10\0\0\0\x18\0\0\0t\x0e\0\0\x08\0\0\0\0\0\0\0\0\0\0\0"),
-        (0x1000, b"\xef\0@\0g\x80\0\0"), (0x2000, b"p\x01\x01\0\0\0\0\0"), (0x2008, b"\0.eh_frame_hdr\0.eh_frame\0.text\0.data\0.shstrtab\0"),
-    ],
-    sections: &[
-        [1, 1, 2, 0x10158, 0x158, 20, 4], [15, 1, 2, 0x10170, 0x170, 44, 8], [25, 1, 6, 0x11000, 0x1000, 8, 4], [31, 1, 3, 0x12000, 0x2000, 8, 8],
-        [37, 3, 0, 0, 0x2008, 47, 1],
-    ]);
+        (0x1000, b"\xef\0@\0g\x80\0\0"), (0x2000, b"p\x01\x01\0\0\0\0\0"), (0x2008, b"\0.eh_frame_hdr\0.eh_frame\0.text\0.data\0.shstrtab\0")],
+    sections: &[[1, 1, 2, 0x10158, 0x158, 20, 4], [15, 1, 2, 0x10170, 0x170, 44, 8], [25, 1, 6, 0x11000, 0x1000, 8, 4],
+        [31, 1, 3, 0x12000, 0x2000, 8, 8], [37, 3, 0, 0, 0x2008, 47, 1]]);
 
 /// One function, with one FDE.
 const FOLDED_UNWOUND: Image = unwound!(12, 356 => 0x1038; 20, 0x138, 44;
@@ -272,39 +238,27 @@ pub const WRITTEN: &[Link] = &[
             (0x140, b"\x10\0\0\0\0\0\0\0\x01zR\0\x01|\x01\x01\x1b\x0c\x02\0\x10\0\0\0\x18\0\0\0\xa8\x0e\0\0\x04\0\0\0\0\0\0\0\x10\0\0\0,\0\0\0\x90\x0e\0\0\x04\0\0\0\0\0\0\0\0\0\0\0"),
             (0x1000, b"g\x80\0\0"), (0x1004, b"g\x80\0\0"), (0x1008, b"\0.eh_frame_hdr\0.eh_frame\0.text\0.fini\0.shstrtab\0"),
         ],
-        sections: &[
-            [1, 1, 2, 0x10120, 0x120, 28, 4], [15, 1, 2, 0x10140, 0x140, 64, 8], [25, 1, 6, 0x11000, 0x1000, 4, 4], [31, 1, 6, 0x11004, 0x1004, 4, 4],
-            [37, 3, 0, 0, 0x1008, 47, 1],
-        ]); store: Store::Unwound),
+        sections: &[[1, 1, 2, 0x10120, 0x120, 28, 4], [15, 1, 2, 0x10140, 0x140, 64, 8], [25, 1, 6, 0x11000, 0x1000, 4, 4],
+            [31, 1, 6, 0x11004, 0x1004, 4, 4], [37, 3, 0, 0, 0x1008, 47, 1]]); store: Store::Unwound),
     link!("-s", "start.o" => START_MEANT; store: Store::Unwound),
     // A word of 4.
     link!("-s", "later.o" => image!(FIRST => table: 0x2038,
-        segments: &[
-            [1, 4, 0, 0x10000, 412, 412, 4096], [1, 5, 0x1000, 0x11000, 8, 8, 4096], [1, 6, 0x2000, 0x12000, 8, 8, 4096],
-            [0x6474_e550, 4, 0x158, 0x10158, 20, 20, 4], STACK,
-        ],
-        contents: &[
-            (0x158, b"\x01\x1b\x03;\x14\0\0\0\x01\0\0\0\xa8\x0e\0\0,\0\0\0"),
+        segments: &[[1, 4, 0, 0x10000, 412, 412, 4096], [1, 5, 0x1000, 0x11000, 8, 8, 4096], [1, 6, 0x2000, 0x12000, 8, 8, 4096],
+            [0x6474_e550, 4, 0x158, 0x10158, 20, 20, 4], STACK],
+        contents: &[(0x158, b"\x01\x1b\x03;\x14\0\0\0\x01\0\0\0\xa8\x0e\0\0,\0\0\0"),
             (0x170, b"\x10\0\0\0\0\0\0\0\x01zR\0\x01|\x01\x01\x1b\x0c\x02\0\x10\0\0\0\x18\0\0\0t\x0e\0\0\x08\0\0\0\0\0\0\0\0\0\0\0"),
-            (0x1000, b"\xef\0@\0g\x80\0\0"), (0x2000, b"\x04\0\0\0\0\0\0\0"), (0x2008, b"\0.eh_frame_hdr\0.eh_frame\0.text\0.data\0.shstrtab\0"),
-        ],
-        sections: &[
-            [1, 1, 2, 0x10158, 0x158, 20, 4], [15, 1, 2, 0x10170, 0x170, 44, 8], [25, 1, 6, 0x11000, 0x1000, 8, 4], [31, 1, 3, 0x12000, 0x2000, 8, 8],
-            [37, 3, 0, 0, 0x2008, 47, 1],
-        ]); store: Store::Unwound),
+            (0x1000, b"\xef\0@\0g\x80\0\0"), (0x2000, b"\x04\0\0\0\0\0\0\0"), (0x2008, b"\0.eh_frame_hdr\0.eh_frame\0.text\0.data\0.shstrtab\0")],
+        sections: &[[1, 1, 2, 0x10158, 0x158, 20, 4], [15, 1, 2, 0x10170, 0x170, 44, 8], [25, 1, 6, 0x11000, 0x1000, 8, 4],
+            [31, 1, 3, 0x12000, 0x2000, 8, 8], [37, 3, 0, 0, 0x2008, 47, 1]]); store: Store::Unwound),
     // Without an FDE the start is that of the image.
     link!("-s", "none.o" => code_and_data!(4, 8 => 0x2020; b"g\x80\0\0"; b"\0\0\x01\0\0\0\0\0"); store: Store::Unwound),
     // A name for the start of the records is one symbol, and no section's.
     link!("named.o", "asks.o" => image!(START_MEANT => table: 0x20a0,
-        segments: &[
-            [1, 4, 0, 0x10000, 412, 412, 4096], [1, 5, 0x1000, 0x11000, 4, 4, 4096], [1, 6, 0x2000, 0x12000, 8, 8, 4096],
-            [0x6474_e550, 4, 0x158, 0x10158, 20, 20, 4], STACK,
-        ],
-        contents: &[
-            (0x158, b"\x01\x1b\x03;\x14\0\0\0\x01\0\0\0\xa8\x0e\0\0,\0\0\0"),
-            (0x170, b"\x10\0\0\0\0\0\0\0\x01zR\0\x01|\x01\x01\x1b\x0c\x02\0\x10\0\0\0\x18\0\0\0t\x0e\0\0\x04\0\0\0\0\0\0\0\0\0\0\0"), (0x1000, b"g\x80\0\0"),
-            (0x2000, b"p\x01\x01\0\0\0\0\0"),
-        ],
+        segments: &[[1, 4, 0, 0x10000, 412, 412, 4096], [1, 5, 0x1000, 0x11000, 4, 4, 4096], [1, 6, 0x2000, 0x12000, 8, 8, 4096],
+            [0x6474_e550, 4, 0x158, 0x10158, 20, 20, 4], STACK],
+        contents: &[(0x158, b"\x01\x1b\x03;\x14\0\0\0\x01\0\0\0\xa8\x0e\0\0,\0\0\0"),
+            (0x170, b"\x10\0\0\0\0\0\0\0\x01zR\0\x01|\x01\x01\x1b\x0c\x02\0\x10\0\0\0\x18\0\0\0t\x0e\0\0\x04\0\0\0\0\0\0\0\0\0\0\0"),
+            (0x1000, b"g\x80\0\0"), (0x2000, b"p\x01\x01\0\0\0\0\0")],
         listed: listed!(0x2008, b"\0_start\0all\0", b"\0.eh_frame_hdr\0.eh_frame\0.text\0.data\0.symtab\0.strtab\0.shstrtab\0";
             [1, 0x12, 3, 0x11000, 4], [8, 0x11, 0xfff1, 0x10170, 40]),
         sections: &[
@@ -316,13 +270,10 @@ pub const WRITTEN: &[Link] = &[
         b"\x01\x1b\x03;\x14\0\0\0\x01\0\0\0\xe0\x0e\0\0,\0\0\0";
         b"\x10\0\0\0\0\0\0\0\x01zR\0\x01|\x01\x01\x1b\x0c\x02\0\x10\0\0\0\x18\0\0\0\xac\x0e\0\0\x04\0\0\0\0\0\0\0\0\0\0\0";
         b"g\x80\0\0"); store: Store::Unwound),
-    link!("-s", "e.o", "--Map", "m" => UNWOUND; store: Store::Unwound, lines: &[
-        "rvld map 1", "entry 0000000000011000",
-        "section 0000000000010120 0000000000000014 .eh_frame_hdr",
-        "section 0000000000010138 000000000000002c .eh_frame",
-        "section 0000000000011000 0000000000000008 .text", "input 0000000000011000 0000000000000008 e.o 1 .text",
-        "symbol 0000000000011000 _start", "symbol 0000000000011004 f",
-    ]),
+    link!("-s", "e.o", "--Map", "m" => UNWOUND; store: Store::Unwound, lines: &["rvld map 1", "entry 0000000000011000",
+        "section 0000000000010120 0000000000000014 .eh_frame_hdr", "section 0000000000010138 000000000000002c .eh_frame",
+        "section 0000000000011000 0000000000000008 .text", "input 0000000000011000 0000000000000008 e.o 1 .text", "symbol 0000000000011000 _start",
+        "symbol 0000000000011004 f"]),
 ];
 
 /// What records keep, and what they do not.
@@ -335,22 +286,16 @@ pub const COLLECTED: &[Link] = &[
             (0x148, b"\x14\0\0\0\0\0\0\0\x01zPLR\0\x01x\x01\x07\x9b\x1b\xb0\x0e\0\0\x14\0\0\0\x1c\0\0\0\x9c\x0e\0\0\x04\0\0\0\xb0\xff\xff\xff\0\0\0\0\x14\0\0\04\0\0\0\x88\x0e\0\0\x04\0\0\0\x9c\xff\xff\xff\0\0\0\0\0\0\0\0"),
             (0x1000, b"\xef\0@\0g\x80\0\0s\0\x10\0\x01\0\x82\x80"), (0x1010, b"\0.gcc_except_table\0.eh_frame_hdr\0.eh_frame\0.text\0.shstrtab\0"),
         ],
-        sections: &[
-            [1, 1, 2, 0x10120, 0x120, 8, 1], [19, 1, 2, 0x10128, 0x128, 28, 4], [33, 1, 2, 0x10148, 0x148, 76, 8], [43, 1, 6, 0x11000, 0x1000, 16, 4],
-            [49, 3, 0, 0, 0x1010, 59, 1],
-        ]); store: Store::Unwound),
+        sections: &[[1, 1, 2, 0x10120, 0x120, 8, 1], [19, 1, 2, 0x10128, 0x128, 28, 4], [33, 1, 2, 0x10148, 0x148, 76, 8],
+            [43, 1, 6, 0x11000, 0x1000, 16, 4], [49, 3, 0, 0, 0x1010, 59, 1]]); store: Store::Unwound),
     // What is kept has its table, and the routine that reads it; the other function and its table are dropped.
     link!("-s", "--gc-sections", "gc.o" => image!(FIRST => table: 0x1048,
         segments: &[[1, 4, 0, 0x10000, 364, 364, 4096], [1, 5, 0x1000, 0x11000, 12, 12, 4096], [0x6474_e550, 4, 0x124, 0x10124, 20, 20, 4], STACK],
-        contents: &[
-            (0x120, b"gggg"), (0x124, b"\x01\x1b\x03;\x10\0\0\0\x01\0\0\0\xe0\x0e\0\0,\0\0\0"),
+        contents: &[(0x120, b"gggg"), (0x124, b"\x01\x1b\x03;\x10\0\0\0\x01\0\0\0\xe0\x0e\0\0,\0\0\0"),
             (0x138, b"\x14\0\0\0\0\0\0\0\x01zPLR\0\x01x\x01\x07\x9b\x1b\xbc\x0e\0\0\x14\0\0\0\x1c\0\0\0\xac\x0e\0\0\x04\0\0\0\xc0\xff\xff\xff\0\0\0\0\0\0\0\0"),
-            (0x1000, b"\xef\0@\0g\x80\0\0\x01\0\x82\x80"), (0x100c, b"\0.gcc_except_table\0.eh_frame_hdr\0.eh_frame\0.text\0.shstrtab\0"),
-        ],
-        sections: &[
-            [1, 1, 2, 0x10120, 0x120, 4, 1], [19, 1, 2, 0x10124, 0x124, 20, 4], [33, 1, 2, 0x10138, 0x138, 52, 8], [43, 1, 6, 0x11000, 0x1000, 12, 4],
-            [49, 3, 0, 0, 0x100c, 59, 1],
-        ]); store: Store::Unwound),
+            (0x1000, b"\xef\0@\0g\x80\0\0\x01\0\x82\x80"), (0x100c, b"\0.gcc_except_table\0.eh_frame_hdr\0.eh_frame\0.text\0.shstrtab\0")],
+        sections: &[[1, 1, 2, 0x10120, 0x120, 4, 1], [19, 1, 2, 0x10124, 0x124, 20, 4], [33, 1, 2, 0x10138, 0x138, 52, 8],
+            [43, 1, 6, 0x11000, 0x1000, 12, 4], [49, 3, 0, 0, 0x100c, 59, 1]]); store: Store::Unwound),
     link!("-s", "--gc-sections", "lost.o" => RETURN_ALONE; store: Store::Unwound),
 ];
 

@@ -1,5 +1,4 @@
-//! An archive as `riscv64-linux-gnu-ar` writes it, but for a last byte of padding, and what altered ones are answered by:
-//! the expected answers are worked out from the format.
+//! An archive of `riscv64-linux-gnu-ar` without its last byte of padding, and the answers to altered ones, worked out from the format.
 
 use ar_read::{ArHead, Member, header_at, members};
 use lk_base::DefectKind::{self, F06, F07, F18};
@@ -38,11 +37,7 @@ fn altered(alloc: Global, from: usize, text: &[u8]) -> Result<Vec<u8>, AllocErro
 }
 
 fn span(from: u64, len: u64) -> Span {
-    Span {
-        file: NO_FILE,
-        from,
-        len,
-    }
+    record!(Span; file: NO_FILE, from: from, len: len)
 }
 
 macro_rules! member {
@@ -52,12 +47,7 @@ macro_rules! member {
 }
 
 fn flaw(kind: DefectKind, place: u64) -> Flaw {
-    Flaw {
-        kind,
-        section: 0,
-        place,
-        other: 0,
-    }
+    record!(Flaw; kind: kind, section: 0, place: place, other: 0)
 }
 
 fn flaw_in(alloc: Global, bytes: &[u8]) -> Option<Flaw> {
@@ -104,9 +94,7 @@ const ROWS: &[(usize, &[u8], DefectKind, u64)] = table![
 ];
 
 /// A length, and the place of what is reported of the archive cut there.
-const CUT: &[(usize, u64)] = table![
-    (0, 0); (7, 0); (67, 8); (77, 8); (318 + 59, 318); (380, 318);
-];
+const CUT: &[(usize, u64)] = table![(0, 0); (7, 0); (67, 8); (77, 8); (318 + 59, 318); (380, 318);];
 
 #[test]
 fn tells_the_first_broken_check(rt: HostRuntime) -> Result<(), Fail> {
@@ -128,10 +116,7 @@ fn tells_the_first_broken_check(rt: HostRuntime) -> Result<(), Fail> {
 #[test]
 fn reads_one_header(rt: HostRuntime) -> Result<(), Fail> {
     let bytes = altered(rt.alloc(), 0, b"")?;
-    let head = ArHead {
-        name: span(252, 3),
-        body: span(312, 6),
-    };
+    let head = record!(ArHead; name: span(252, 3), body: span(312, 6));
     assert_eq!(rt; header_at(bytes.as_slice(), 252), Ok(head));
     for off in [185, 322, 381, 0xffff_ffff_ffff_ffff] {
         let found = header_at(bytes.as_slice(), off);

@@ -10,8 +10,7 @@ macro_rules! accepted {
     };
 }
 
-/// The words after the program's name; and the names of the executable and of the entry, the number of workers, what
-/// else is asked for, and the inputs.
+/// The words after the program's name; the names of executable and entry, the number of workers, what else is asked for, and the inputs.
 const ACCEPTED: &[(&str, &str)] = accepted![
     "" => "a.out|_start|4|"; "a.o" => "a.out|_start|4|a.o"; "-o|x|-e|g|a.o" => "x|g|4|a.o"; "--|-s" => "a.out|_start|4|-s";
     "--Map|m|a.o" => "a.out|_start|4 map m|a.o"; "--Map=m|-s|a.o" => "a.out|_start|4 stripped map m|a.o";

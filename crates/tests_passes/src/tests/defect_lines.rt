@@ -44,11 +44,6 @@ fn lines_of_defects(rt: HostRuntime) -> Result<(), Fail> {
 fn sizes_at_the_limit(rt: HostRuntime) {
     let limits = Limits::standard();
     assert_eq!(rt; check_file_size(2147483647, &limits), Ok(()));
-    let flaw = Flaw {
-        kind: LIMIT,
-        section: 0,
-        place: 2147483648,
-        other: 0,
-    };
+    let flaw = record!(Flaw; kind: LIMIT, section: 0, place: 2147483648, other: 0);
     assert_eq!(rt; check_file_size(2147483648, &limits), Err(flaw));
 }

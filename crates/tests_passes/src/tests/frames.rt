@@ -116,14 +116,9 @@ fn holds(alloc: Global, row: &Row) -> Result<bool, AllocError> {
     match count(alloc, bytes.as_slice()) {
         Ok(count) => Ok(row.4.is_none() && count == row.3),
         Err(ReadFault::Bad(flaw)) => match row.4 {
-            Some((section, place)) => Ok(
-                flaw == Flaw {
-                    kind: BAD_FRAME,
-                    section,
-                    place,
-                    other: 0,
-                },
-            ),
+            Some((section, place)) => {
+                Ok(flaw == record!(Flaw; kind: BAD_FRAME, section: section, place: place, other: 0))
+            }
             None => Ok(false),
         },
         Err(ReadFault::Memory) => Err(AllocError),

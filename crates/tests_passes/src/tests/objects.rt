@@ -1,5 +1,4 @@
-//! An object built by hand, and the answer for each altered byte of it: the expected answers are worked out from
-//! the format.
+//! An object built by hand, and the answer for each altered byte of it: the expected answers are worked out from the format.
 
 use elf_read::{read_body, read_head};
 use lk_base::kinds::{
@@ -80,12 +79,7 @@ fn flaw(kind: DefectKind, section: u32, place: u64) -> Flaw {
 }
 
 fn flaw_with(kind: DefectKind, section: u32, place: u64, other: u64) -> Flaw {
-    Flaw {
-        kind,
-        section,
-        place,
-        other,
-    }
+    record!(Flaw; kind: kind, section: section, place: place, other: other)
 }
 
 /// A byte, what it becomes, and the answer's kind, section, place and other number.
@@ -173,9 +167,8 @@ fn is_in_a_run(kind: u32) -> bool {
         .any(|(first, last)| *first <= kind && kind <= *last)
 }
 
-/// A value at the section's end; visibility; a relocation section of one that is not written; .text is excluded, or ordered
-/// by section 0, or made of strings that may be merged, or thread-local, or a note or an array of functions; fields of the
-/// file header that an object does not use.
+/// A value at the section's end; visibility; relocations of a section that is not written; .text is excluded, or ordered by section 0, or made of
+/// strings that may be merged, or thread-local, or a note or an array of functions; fields of the file header that an object does not use.
 const NOT_CHECKED: &[Change] = table![
     (160, 16); (157, 2); (428, 3); (331, 0x80); (328, 0x86); (328, 0x16); (328, 0x36); (329, 4); (324, 7); (324, 14); (324, 15); (324, 16); (7, 3);
     (24, 1); (32, 1); (48, 5); (52, 0); (56, 1);
@@ -312,9 +305,8 @@ fn reports_what_two_bytes_break(rt: HostRuntime) -> Result<(), Fail> {
 }
 
 /// A length, and the kind and the place of what is reported of the object cut there.
-const CUT: &[(usize, DefectKind, u64)] = table![
-    (0, NOT_OBJECT, 0); (3, NOT_OBJECT, 0); (63, BAD_HEADER, 63); (639, OUTSIDE, 40);
-];
+const CUT: &[(usize, DefectKind, u64)] =
+    table![(0, NOT_OBJECT, 0); (3, NOT_OBJECT, 0); (63, BAD_HEADER, 63); (639, OUTSIDE, 40);];
 
 #[test]
 fn cut_files_have_no_head(rt: HostRuntime) -> Result<(), Fail> {
@@ -335,27 +327,12 @@ macro_rules! span {
 }
 
 /// .text.
-const TEXT: Section = Section {
-    name: span!(211, 5),
-    sh_type: 1,
-    flags: 6,
-    offset: 64,
-    size: 16,
-    link: 0,
-    info: 0,
-    align: 4,
-    entsize: 0,
-};
+const TEXT: Section =
+    record!(Section; name: span!(211, 5), sh_type: 1, flags: 6, offset: 64, size: 16, link: 0, info: 0, align: 4, entsize: 0);
 
 /// `_start`.
-const START: Symbol = Symbol {
-    name: span!(201, 6),
-    binding: 1,
-    sort: 2,
-    place: Place::Within(1),
-    value: 0,
-    size: 8,
-};
+const START: Symbol =
+    record!(Symbol; name: span!(201, 6), binding: 1, sort: 2, place: Place::Within(1), value: 0, size: 8);
 
 /// A jump to symbol 2: its offset, and its addend.
 macro_rules! jump {
@@ -388,9 +365,8 @@ fn reads_each_field(rt: HostRuntime) -> Result<(), Fail> {
 const GROUP: &[Change] = &[(388, 17), (440, 4), (416, 8), (80, 1), (84, 1)];
 
 /// .text becomes a group of .strtab.
-const EARLIER: &[Change] = table![
-    (324, 17); (328, 0); (376, 4); (352, 8); (360, 3); (364, 1); (64, 1); (68, 4); (84, 5);
-];
+const EARLIER: &[Change] =
+    table![(324, 17); (328, 0); (376, 4); (352, 8); (360, 3); (364, 1); (64, 1); (68, 4); (84, 5);];
 
 /// The object with a group, and with some more bytes changed.
 fn grouped(alloc: Global, changes: &[Change]) -> Result<Vec<u8>, AllocError> {
@@ -399,11 +375,9 @@ fn grouped(alloc: Global, changes: &[Change]) -> Result<Vec<u8>, AllocError> {
     Ok(bytes)
 }
 
-/// A change of the group that cannot be: entries of 8 bytes; no bytes, and 6; a flag word of 2; another symbol table; symbol 3;
-/// the member 0, the section count, and the group itself.
-const BAD_GROUPS: &[Change] = table![
-    (440, 8); (416, 0); (416, 6); (80, 2); (424, 4); (428, 3); (84, 0); (84, 6); (84, 2);
-];
+/// Wrong groups: entries of 8 bytes; no bytes, and 6; a flag word of 2; another symbol table; symbol 3; the member 0, the count, and itself.
+const BAD_GROUPS: &[Change] =
+    table![(440, 8); (416, 0); (416, 6); (80, 2); (424, 4); (428, 3); (84, 0); (84, 6); (84, 2);];
 
 #[test]
 fn reports_groups_that_cannot_be(rt: HostRuntime) -> Result<(), Fail> {
@@ -421,8 +395,7 @@ fn reports_groups_that_cannot_be(rt: HostRuntime) -> Result<(), Fail> {
     Ok(())
 }
 
-/// Changes of the group, whether it is COMDAT then, how many members it has, and the start and the length of its
-/// signature.
+/// Changes of the group, whether it is COMDAT then, how many members it has, and the start and the length of its signature.
 type GroupRow = (&'static [Change], bool, usize, u64, u64);
 
 const GROUPS: &[GroupRow] = table![

@@ -3,7 +3,7 @@ use Rattle.std.specs.Prelude.{All}
 use Rattle.std.proofs.lemmas.List.{length-map, nil_from_length}
 use Rattle.lk_tables.specs.Files.{section_total}
 use Rattle.lk_tables.specs.TablesView.{files_of}
-use Rattle.name_numbers.specs.Texts.{lent_texts, text_numbers}
+use Rattle.name_numbers.specs.Texts.{text_numbers}
 use Rattle.comdat.specs.declared.groups.ComdatGroup.{ComdatGroup}
 use Rattle.comdat.specs.Comdats.{comdat_view, comdat_views}
 use Rattle.comdat.specs.Discarded.{Comdat, comdats, rank}
@@ -34,7 +34,7 @@ are_few-requires g c = c.in_ok-groups.ensures ∙ ap comdats c.files.ensures
 pub mark_beaten-requires-clause-files : goal.mark_beaten-requires-clause-files
 mark_beaten-requires-clause-files g c =
     let files = files_of c.args.tables.now in
-    let are = ap comdat_views c.as_slice-3.ensures.value ∙ c.in_ok-groups.ensures ∙ ap comdats c.files.ensures in
+    let are = ap comdat_views c.as_slice-2.ensures.value ∙ c.in_ok-groups.ensures ∙ ap comdats c.files.ensures in
     let P : List Comdat → Type 0 = All (IsOfFiles files) in
     subst P (sym are) (comdats_of_files files)
 
@@ -42,9 +42,9 @@ pub mark_beaten-requires-clause-numbers : goal.mark_beaten-requires-clause-numbe
 mark_beaten-requires-clause-numbers g c =
     let groups = c.in_ok-groups.groups.items in
     let named = c.in_ok-numbers.ensures
-    ∙ ap text_numbers (ap lent_texts c.as_slice-2.ensures.value ∙ c.in_ok-signatures.ensures ∙ ap (λ (l : List ComdatGroup). signatures (comdat_views l)) c.as_slice.ensures.value) in
-    ap length c.as_slice-4.ensures.value ∙ length_numbers (comdat_views groups) c.in_ok-numbers.numbers.items named
-    ∙ length-map groups comdat_view ∙ sym (ap length c.as_slice-3.ensures.value)
+    ∙ ap text_numbers (c.of-signatures.ensures ∙ c.in_ok-list.ensures ∙ ap (λ (l : List ComdatGroup). signatures (comdat_views l)) c.as_slice.ensures.value) in
+    ap length c.as_slice-3.ensures.value ∙ length_numbers (comdat_views groups) c.in_ok-numbers.numbers.items named
+    ∙ length-map groups comdat_view ∙ sym (ap length c.as_slice-2.ensures.value)
 
 pub returns-clause-discarded : goal.returns-clause-discarded
 returns-clause-discarded g c =
@@ -54,12 +54,12 @@ returns-clause-discarded g c =
     let ns = c.in_ok-numbers.numbers.items in
     let are : views ≡ comdats files = c.in_ok-groups.ensures ∙ ap comdats c.files.ensures in
     let named = c.in_ok-numbers.ensures
-    ∙ ap text_numbers (ap lent_texts c.as_slice-2.ensures.value ∙ c.in_ok-signatures.ensures ∙ ap (λ (l : List ComdatGroup). signatures (comdat_views l)) c.as_slice.ensures.value) in
+    ∙ ap text_numbers (c.of-signatures.ensures ∙ c.in_ok-list.ensures ∙ ap (λ (l : List ComdatGroup). signatures (comdat_views l)) c.as_slice.ensures.value) in
     let was : c.in_ok-marks.marks.items ≡ replicate (section_total files) false =
     c.in_ok-marks.ensures.items_if_clones_equal (λ y h. h) ∙ ap (λ n. replicate n false) c.section_count.ensures in
     let is : c.mark_beaten.new.marks.items ≡ marked c.in_ok-marks.marks.items (beaten_members files views ns) = c.mark_beaten.ensures
-    ∙ ap (λ (l : List ComdatGroup). marked c.in_ok-marks.marks.items (beaten_members files (comdat_views l) c.as_slice-4.result.now)) c.as_slice-3.ensures.value
-    ∙ ap (λ l. marked c.in_ok-marks.marks.items (beaten_members files views l)) c.as_slice-4.ensures.value in
+    ∙ ap (λ (l : List ComdatGroup). marked c.in_ok-marks.marks.items (beaten_members files (comdat_views l) c.as_slice-3.result.now)) c.as_slice-2.ensures.value
+    ∙ ap (λ l. marked c.in_ok-marks.marks.items (beaten_members files views l)) c.as_slice-3.ensures.value in
     let Rises : List Comdat → Type 0 = λ l. (i j : ℕ) → i < j → j < length l → rank (group_at l i) < rank (group_at l j) in
     some_discarded files views ns c.in_ok-marks.marks.items c.mark_beaten.new.marks.items are
     (beaten_goes views ns named (subst Rises (sym are) (ranks_rise c.args.tables.now)))

@@ -1,7 +1,8 @@
 use Rattle.std.proofs.Common.{◌+◌, ◌++◌, ◌∷◌, [], ◌∙◌, ap, flat_map}
 use Rattle.std.specs.Prelude.{if◌then◌else◌}
 use Rattle.lk_base.specs.declared.abi.TheConstants.{IMAGE_BASE, PF_R, PF_W, PF_X}
-use Rattle.elf_out.specs.Headers.{frame_segment, loaded, program_header, program_headers, stack_segment, tls_segment}
+use Rattle.elf_fields.specs.Headers.{program_header}
+use Rattle.elf_out.specs.Headers.{frame_segment, loaded, program_headers, stack_segment, tls_segment}
 use Rattle.elf_out.proofs.Appends.{six}
 use Rattle.elf_out.proofs.segments.push_program_headers.Goals as goal
 

@@ -8,7 +8,7 @@ use Rattle.icf_part.proofs.folding.fold.Goals as goal
 
 pub shared_items-requires-clause-few : goal.shared_items-requires-clause-few
 shared_items-requires-clause-few g c =
-    omega (arith, all_numbers bytes_of (item_views c.args.items.now) c.as_slice.result.now (c.as_slice.ensures.value ∙ c.in_ok-bytes.ensures), views_wide c.args.items.now)
+    omega (arith, c.requires.few, all_numbers bytes_of (item_views c.args.items.now) c.as_slice.result.now (c.as_slice.ensures.value ∙ c.in_ok-bytes.ensures), views_wide c.args.items.now)
 
 pub shared_items-requires-clause-within : goal.shared_items-requires-clause-within
 shared_items-requires-clause-within g c = numbers_inside c.args.items.now c.as_slice.result.now (c.as_slice.ensures.value ∙ c.in_ok-bytes.ensures)

@@ -1,5 +1,4 @@
-use Rattle.std.proofs.Common.{ℕ, List, length, ap, arith}
-use Rattle.std.specs.Borrow.{Bor}
+use Rattle.std.proofs.Common.{length, ap, arith}
 use Rattle.std.proofs.lemmas.List.{length-map}
 use Rattle.link_sections.specs.FoldItems.{item_views}
 use Rattle.icf_part.specs.Chosen.{views_at}
@@ -9,12 +8,10 @@ use Rattle.icf_part.proofs.numbering.number_outputs.Goals as goal
 
 pub number_texts-requires-after_bounds : goal.number_texts-requires-after_bounds
 number_texts-requires-after_bounds g c κs within =
-    let lent : Bor (List ℕ) → List ℕ = λ t. t.now in
     omega (
       arith,
       c.requires.few,
-      ap length c.as_slice.ensures.value,
-      length-map c.in_ok-texts.texts.items lent,
+      ap length c.of.ensures,
       ap length c.in_ok-texts.ensures,
       length-map (views_at c.args.items.now c.args.chosen.now) output_of,
       items_wide (item_views c.args.items.now) c.args.chosen.now,

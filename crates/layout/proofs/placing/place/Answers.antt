@@ -1,14 +1,18 @@
-use Rattle.std.proofs.Common.{refl, ap, sym, ◌∙◌, subst}
+use Rattle.std.proofs.Common.{◌≡◌, length, refl, ap, sym, ◌∙◌, subst, arith}
+use Rattle.std.proofs.lemmas.List.{length-map}
 use Rattle.std.proofs.lemmas.Result.{err_from_is_err_and}
 use Rattle.lk_tables.specs.BindingView.{binding_view}
 use Rattle.lk_tables.specs.TablesView.{files_of}
 use Rattle.link_sections.specs.GotEntries.{word_count}
 use Rattle.link_sections.specs.GotView.{entries_of}
 use Rattle.link_sections.specs.SizesView.{sizes_of}
+use Rattle.output_sections.specs.Items.{items}
+use Rattle.output_sections.specs.ItemViews.{item_view}
 use Rattle.layout.specs.Layout.{frame_sizes, layout_of, limit_defects}
 use Rattle.link_sections.specs.LaidOut.{with_contents}
 use Rattle.link_sections.specs.PoolViews.{pools_view}
 use Rattle.link_sections.specs.Sound.{IsSound}
+use Rattle.layout.proofs.AllHeld.{held_seen}
 use Rattle.layout.proofs.Laying.{stops_first, then_limits}
 use Rattle.layout.proofs.PoolSizes.{pools_seen, sizes_seen}
 use Rattle.layout.proofs.Seen.{laws_seen}
@@ -95,3 +99,14 @@ returns-in-Ok-clause-framed c =
     (laws_seen c.in_ok-layout.layout (files_of c.args.tables.now) (binding_view c.args.binding.now) c.args.pools.now.pools.items (word_count (entries_of c.args.got.now)) c.args.leaders.now
     (sizes_of c.args.sizes.now) (frame_sizes c.args.frames.now) c.requires.leaders c.requires.sizes (all_apart c.args.sizes.now.rows c.args.sizes.now.sound) c.in_ok-layout.ensures.sized
     c.in_ok-layout.ensures.room c.requires.small c.in_ok-layout.ensures.found).framed
+
+pub returns-in-Ok-clause-held : goal.returns-in-Ok-clause-held
+returns-in-Ok-clause-held c =
+    let files = files_of c.args.tables.now in
+    let b = binding_view c.args.binding.now in
+    let pools = c.args.pools.now in
+    let words = word_count (entries_of c.args.got.now) in
+    let same = ap length c.requires.items in
+    held_seen c.in_ok-layout.layout files b pools.pools.items words c.args.leaders.now (sizes_of c.args.sizes.now) (frame_sizes c.args.frames.now) c.requires.leaders c.requires.sizes
+    (all_apart c.args.sizes.now.rows c.args.sizes.now.sound) c.in_ok-layout.ensures.sized (omega (arith, c.args.sections.now.few, length-map c.args.sections.now.items.items item_view, same))
+    pools.rising c.requires.pools c.in_ok-layout.ensures.found

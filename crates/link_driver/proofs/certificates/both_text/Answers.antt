@@ -1,4 +1,4 @@
-use Rattle.std.proofs.Common.{◌≡◌, ◌<◌, ◌∙◌, All, List, ap, sym, subst}
+use Rattle.std.proofs.Common.{◌≡◌, ◌<◌, ◌∙◌, All, List, length, ap, sym, subst, arith}
 use Rattle.std.specs.List.Sorted.{IsStrictlyIncreasing}
 use Rattle.lk_tables.specs.BindingView.{binding_view}
 use Rattle.lk_tables.specs.Files.{section_total}
@@ -10,6 +10,7 @@ use Rattle.link_sections.specs.PoolViews.{merged_views}
 use Rattle.sec_graph.specs.Foldable.{items}
 use Rattle.link_driver.specs.Contents.{names_of}
 use Rattle.link_driver.proofs.Certifying.{both_are, first_unknown, items_are, items_within, second_unknown}
+use Rattle.link_driver.proofs.FewPieces.{kept_written}
 use Rattle.link_driver.proofs.Handing.{on_each}
 use Rattle.link_driver.proofs.certificates.both_text.Goals as goal
 
@@ -24,6 +25,14 @@ returns-in_default-second g c =
     on_each c.name_line-in_default-second.result (λ text is.
     is ∙ second_unknown (names_of c.args.names.now) (files_of c.args.tables.now) (binding_view c.args.binding.now) c.args.kept.now c.args.barred.now c.args.one.now c.args.two.now
     c.in-Some.s (sym c.in-Some.is ∙ c.in_ok-first.ensures.section) (sym c.in_default-second.is ∙ c.in_ok-second.ensures.section)) c.name_line-in_default-second.ensures
+
+pub merge-requires-clause-written : goal.merge-requires-clause-written
+merge-requires-clause-written g c κs bound = kept_written (files_of c.args.tables.now) (binding_view c.args.binding.now) c.args.kept.now c.requires.stay
+
+pub apart_lines-requires-clause-few : goal.apart_lines-requires-clause-few
+apart_lines-requires-clause-few g c = λ κs bound.
+    let few = c.in_ok-items.ensures.few in
+    omega (arith, few, ap length c.as_slice.ensures.value)
 
 pub apart_lines-requires-clause-order : goal.apart_lines-requires-clause-order
 apart_lines-requires-clause-order g c = λ κs bound.

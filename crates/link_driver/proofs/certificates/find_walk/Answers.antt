@@ -1,36 +1,12 @@
-use Rattle.std.proofs.Common.{◌<◌, ◌∙◌, All, List, ℕ, ap₂, arith, length, sym, subst}
-use Rattle.std.specs.Prelude.{IfOk, IfSome}
+use Rattle.std.proofs.Common.{◌∙◌, List, ℕ, ap}
 use Rattle.lk_tables.specs.BindingView.{binding_view}
 use Rattle.lk_tables.specs.TablesView.{files_of}
-use Rattle.link_sections.specs.Edges.{ends_of}
-use Rattle.why_chain.specs.Walks.{live_chain, sections_in}
-use Rattle.link_driver.proofs.Certifying.{walks_count}
+use Rattle.sec_graph.specs.WalkEdges.{walk_edges}
+use Rattle.why_chain.specs.Walks.{live_chain}
 use Rattle.link_driver.proofs.Handing.{on_each}
 use Rattle.link_driver.proofs.certificates.find_walk.Goals as goal
 
-pub why_live-requires-clause-roots : goal.why_live-requires-clause-roots
-why_live-requires-clause-roots g c =
-    let files = files_of c.args.tables.now in
-    let ends = ends_of c.in_ok-walks.walks in
-    let count = walks_count files (binding_view c.args.binding.now) ends c.in_ok-walks.ensures.value in
-    let P : List ℕ → Type 0 = λ l. All (λ r. r < length ends) l in
-    let Q : ℕ → Type 0 = λ n. All (λ r. r < n) c.in_ok-roots.roots.items in
-    subst P (sym c.as_slice.ensures.value) (subst Q (sym count) c.in_ok-roots.ensures.within)
-
-pub why_live-requires-clause-target : goal.why_live-requires-clause-target
-why_live-requires-clause-target g c =
-    let ends = ends_of c.in_ok-walks.walks in
-    let count = walks_count (files_of c.args.tables.now) (binding_view c.args.binding.now) ends c.in_ok-walks.ensures.value in
-    omega (arith, c.requires.target, count)
-
 pub returns-clause-walk : goal.returns-clause-walk
 returns-clause-walk g c =
-    on_each c.why_live.result (λ chain is.
-    is ∙ ap₂ (λ (roots : List ℕ) (ends : List (List ℕ)). live_chain roots ends c.args.target) (c.as_slice.ensures.value ∙ c.in_ok-roots.ensures.roots) c.in_ok-walks.ensures.value)
-    c.why_live.ensures.chain
-
-pub returns-clause-within : goal.returns-clause-within
-returns-clause-within g c =
-    let ends = ends_of c.in_ok-walks.walks in
-    let P : ℕ → Type 0 = λ n. IfOk c.why_live.result (λ chain. IfSome chain (λ w. All (λ s. s < n) (sections_in w))) in
-    subst P (walks_count (files_of c.args.tables.now) (binding_view c.args.binding.now) ends c.in_ok-walks.ensures.value) c.why_live.ensures.within
+    let ends = walk_edges (files_of c.args.tables.now) (binding_view c.args.binding.now) in
+    on_each c.walk_in.result (λ chain is. is ∙ ap (λ (roots : List ℕ). live_chain roots ends c.args.target) c.in_ok-graph.ensures.roots) c.walk_in.ensures.walk

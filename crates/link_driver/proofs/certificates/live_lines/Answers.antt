@@ -17,8 +17,8 @@ returns-in_default g c =
     is ∙ no_target (names_of c.args.names.now) (files_of c.args.tables.now) (binding_view c.args.binding.now) c.args.name.now (lists_of c.args.undefined.now)
     (sym c.in_default.is ∙ c.in_ok-section.ensures.section)) c.name_line.ensures
 
-pub find_walk-requires-clause-target : goal.find_walk-requires-clause-target
-find_walk-requires-clause-target g c = λ κs bound.
+pub find_walk_by-requires-clause-target : goal.find_walk_by-requires-clause-target
+find_walk_by-requires-clause-target g c = λ κs bound.
     let P : Option ℕ → Type 0 = λ o. IfSome o (λ s. s < section_total (files_of c.args.tables.now)) in
     subst P c.in-Some.is c.in_ok-section.ensures.within
 

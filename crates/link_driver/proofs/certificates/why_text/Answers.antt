@@ -1,11 +1,18 @@
-use Rattle.std.proofs.Common.{◌∙◌, ap, sym}
+use Rattle.std.proofs.Common.{◌∙◌, List, ℕ, ap, subst, sym}
+use Rattle.std.specs.Prelude.{IfSome}
 use Rattle.link_command.specs.Command.{asks, lists_of}
 use Rattle.lk_tables.specs.BindingView.{binding_view}
 use Rattle.lk_tables.specs.TablesView.{files_of}
 use Rattle.link_driver.specs.Certificates.{apart_text, live_text}
 use Rattle.link_driver.specs.Contents.{names_of}
+use Rattle.link_driver.specs.Tables.{IsGraph}
 use Rattle.link_driver.proofs.Certifying.{why_is}
 use Rattle.link_driver.proofs.certificates.why_text.Goals as goal
+
+pub live_text-requires-clause-graph : goal.live_text-requires-clause-graph
+live_text-requires-clause-graph g c = λ κs bound.
+    let P : List (List ℕ) → Type 0 = λ u. IfSome c.args.graph.now (IsGraph (files_of c.args.tables.now) (binding_view c.args.binding.now) u) in
+    subst P (sym (ap lists_of c.as_slice.ensures.value)) c.requires.graph
 
 pub returns : goal.returns
 returns g c =

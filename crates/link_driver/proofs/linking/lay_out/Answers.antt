@@ -2,6 +2,7 @@ use Rattle.std.proofs.Common.{List, ap, sym, subst, ◌∙◌}
 use Rattle.output_sections.specs.Items.{HaveFirsts}
 use Rattle.layout.specs.Layout.{layout_defects}
 use Rattle.link_sections.specs.declared.pools.Pool.{Pool}
+use Rattle.link_sections.specs.GotEntries.{word_count}
 use Rattle.link_sections.specs.GotView.{entries_of}
 use Rattle.link_sections.specs.PoolViews.{pool_heads}
 use Rattle.link_sections.specs.SizesView.{sizes_of}
@@ -15,6 +16,7 @@ use Rattle.link_sections.specs.LaidOut.{layout_view}
 use Rattle.link_driver.specs.Tables.{wished}
 use Rattle.link_driver.proofs.Fitting.{firsts_stay, sizes_fit}
 use Rattle.link_driver.proofs.Leading.{defects_are, laid_are}
+use Rattle.link_driver.proofs.SymbolPlaces.{laid_symbols}
 use Rattle.link_driver.proofs.Whole.{header_room}
 use Rattle.link_driver.proofs.linking.lay_out.Goals as goal
 
@@ -78,3 +80,9 @@ calls_reach-requires-clause-room g c =
 
 pub returns-in-Ok-clause-room : goal.returns-in-Ok-clause-room
 returns-in-Ok-clause-room g c = header_room c.in-Ok.layout.bounds c.in-Ok.ensures.segments c.in-Ok.ensures.rising
+
+pub returns-in-Ok-clause-symbols : goal.returns-in-Ok-clause-symbols
+returns-in-Ok-clause-symbols g c =
+    laid_symbols c.args.tables.now (binding_view c.args.binding.now) c.args.kept.now c.args.pools.now (word_count (entries_of c.args.got.now)) c.args.leaders.now
+    (layout_view c.in-Ok.layout) (entries_of c.args.got.now) c.requires.bound c.requires.lead c.requires.alike c.requires.outputs (c.in-Ok.ensures.sound c.requires.limits)
+    c.in-Ok.ensures.held

@@ -1,6 +1,6 @@
 use Rattle.std.proofs.Common.{◌≡◌, ◌∙◌, List, [], ◌∷◌, ◌++◌, true, refl, ap, ap₂, sym, subst, ℕ, IfOk, Bool}
 use Rattle.std.specs.Global.{Vec}
-use Rattle.std.specs.Prelude.{Result, Ok, Err}
+use Rattle.std.specs.Prelude.{Result, Ok, Err, IfSome}
 use Rattle.std.proofs.lemmas.Bool.{or_left, or_right}
 use Rattle.comdat.specs.Discarded.{discarded}
 use Rattle.elf_out.specs.Executable.{own_tables}
@@ -23,10 +23,11 @@ use Rattle.link_driver.specs.Contents.{input_contents, input_names, names_of, so
 use Rattle.link_driver.specs.Link.{Wishes, barred_of, bound_in, bound_names, defects_in, kept_in, kept_of, last_phases, linked_files, piece_defects, placing_defects, placing_phases, wishes_for, wishes_in, wishes_of}
 use Rattle.link_driver.specs.Phases.{HoldsAtStop, HoldsPast, LinkStands, Links, Makes, ShortenedCallsReach, Stops}
 use Rattle.link_driver.specs.Sources.{Source, files_in, heads_in, live_in, shown_files}
-use Rattle.link_driver.specs.Tables.{IsCollected, wished}
+use Rattle.link_driver.specs.Tables.{IsCollected, IsGraph, wished}
 use Rattle.link_driver.specs.Defects.{opening_defects, reading_defects}
 use Rattle.lk_tables.specs.Binding.{first_phase}
 use Rattle.link_driver.proofs.Chain.{at_reading, at_binding, at_last, at_pieces, no_defects}
+use Rattle.link_driver.proofs.FewPieces.{few_pieces}
 use Rattle.link_driver.proofs.FirstLeast.{least_stop}
 use Rattle.link_driver.proofs.Handing.{binding_is, bound_are, gives_all, holds_in, made_as, why_as}
 use Rattle.link_driver.proofs.Passing.{early_binding, early_pieces, early_reading, not_past, past_on, placing_left}
@@ -97,8 +98,8 @@ returns-in-Err-bound g c =
     (at_binding limits asked ss read files are few stop at)
     (early_binding limits asked ss read files are few stop at)
 
-pub find_kept-requires-clause-bound : goal.find_kept-requires-clause-bound
-find_kept-requires-clause-bound g c = λ κs within.
+pub find_kept_by-requires-clause-bound : goal.find_kept_by-requires-clause-bound
+find_kept_by-requires-clause-bound g c = λ κs within.
     let files = files_of c.in-Ok.both.0 in
     binding_is c.as_str-entry.result.now files (binding_view c.in-Ok-bound.binding)
     (told_of (λ binding. binding_view binding ≡ bound_names files c.as_str-entry.result.now) c.bind_beside-few.result.1 c.in-Ok-bound.binding c.in-Ok-bound.is c.bind_beside-few.ensures.names)
@@ -108,6 +109,18 @@ link_beside-made-requires-clause-bound g c = λ κs within.
     let files = files_of c.in-Ok.both.0 in
     binding_is c.as_str-entry.result.now files (binding_view c.in-Ok-bound.binding)
     (told_of (λ binding. binding_view binding ≡ bound_names files c.as_str-entry.result.now) c.bind_beside-few.result.1 c.in-Ok-bound.binding c.in-Ok-bound.is c.bind_beside-few.ensures.names)
+
+pub link_beside-made-requires-clause-pieces : goal.link_beside-made-requires-clause-pieces
+link_beside-made-requires-clause-pieces g c = λ κs within.
+    let files = files_of c.in-Ok.both.0 in
+    few_pieces c.args.limits.now files c.requires.limits
+    (found (piece_defects c.args.limits.now files) c.bind_beside-few.result.0 (Ok c.in-Ok-few.field-0) c.in-Ok-few.is c.bind_beside-few.ensures.few)
+
+pub link_beside-made-requires-clause-graph : goal.link_beside-made-requires-clause-graph
+link_beside-made-requires-clause-graph g c = λ κs within.
+    let files = files_of c.in-Ok.both.0 in
+    let P : List (List ℕ) → Type 0 = λ u. IfSome c.in_ok-kept.graph (IsGraph files (binding_view c.in-Ok-bound.binding) u) in
+    subst P (ap lists_of c.as_slice-undefined.ensures.value) c.in_ok-kept.ensures.graph
 
 pub find_barred-requires : goal.find_barred-requires
 find_barred-requires g c =

@@ -3,7 +3,7 @@ use Rattle.std.specs.Prelude.{if◌then◌else◌}
 use Rattle.lk_base.specs.declared.defects.Defect.{Defect}
 use Rattle.lk_base.specs.Firsts.{Goes, StopsAt}
 use Rattle.lk_base.specs.declared.defects.LinkStop.{LinkStop}
-use Rattle.call_reach.specs.Code.{HaveOwnCuts}
+use Rattle.link_driver.specs.Code.{HaveOwnCuts}
 use Rattle.got_tls.specs.GotList.{HasAllUses}
 use Rattle.elf_out.specs.Executable.{FrameContents, executable, own_tables}
 use Rattle.elf_out.specs.Prepared.{IsPrepared}
@@ -29,6 +29,7 @@ use Rattle.link_driver.specs.Link.{report_by}
 use Rattle.link_driver.specs.Phases.{StandsWhole}
 use Rattle.link_driver.specs.Placing.{laid_by}
 use Rattle.link_driver.specs.Tables.{wished}
+use Rattle.link_driver.specs.Symbols.{SymbolsStand}
 use Rattle.link_driver.specs.Unwound.{Unwinds}
 use Rattle.link_driver.specs.Values.{Leaves, contents_with, value_defects}
 use Rattle.link_driver.proofs.Counting.{table_is}
@@ -149,9 +150,11 @@ returns-clause-stands g c =
     let fit = subst F c.in-Ok.is c.make_beside-framed.ensures.fit in
     let S : List (Option ℕ) → Type 0 = λ l. HasAllUses files l (entries_of c.args.placement.now.got) in
     let T : List GotEntry → Type 0 = λ t. HasAllUses files leaders t in
+    let Y : List (Option ℕ) → Type 0 = λ l. SymbolsStand files b kept l laid in
     let table = table_is (layout_view c.args.placement.now.layout) (pools_view files c.args.placement.now.pools) (entries_of c.args.placement.now.got) in
     subst P c.as_slice-leaders.ensures.value
     (stands_so w files b kept leaders laid plan (exe leaders) (exe leaders) refl
     (told.headers c.requires.room fit) (subst Q contents (told.frames fit)) told.pieces told.sections
     (subst R contents (subst U c.in-Ok.is c.make_beside-framed.ensures.records)) (subst H c.in-Ok-made.is c.make_beside-framed.ensures.tested)
-    c.code_stands.ensures (subst T (sym table) (subst S (sym c.as_slice-leaders.ensures.value) c.requires.uses)))
+    c.code_stands.ensures (subst T (sym table) (subst S (sym c.as_slice-leaders.ensures.value) c.requires.uses))
+    (subst Y (sym c.as_slice-leaders.ensures.value) c.requires.symbols))

@@ -1,6 +1,6 @@
 use Rattle.std.proofs.Common.{◌≡◌, ◌++◌, map, drop, flat_map}
+use Rattle.elf_fields.specs.Symbols.{zero_ended}
 use Rattle.link_gen.specs.Contents.{row_name, section_names}
-use Rattle.link_gen.specs.Elf.{zero_ended}
 use Rattle.link_gen.proofs.sections.push_section_names.Given as goal
 
 abbrev pub invariant-loop-section : goal.invariant-loop-section

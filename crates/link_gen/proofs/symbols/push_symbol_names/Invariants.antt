@@ -1,6 +1,6 @@
 use Rattle.std.proofs.Common.{◌≡◌, ◌++◌, map, drop, flat_map}
+use Rattle.elf_fields.specs.Symbols.{zero_ended}
 use Rattle.link_gen.specs.Contents.{symbol_names, symbol_view}
-use Rattle.link_gen.specs.Elf.{zero_ended}
 use Rattle.link_gen.proofs.symbols.push_symbol_names.Given as goal
 
 abbrev pub invariant-loop-symbol : goal.invariant-loop-symbol

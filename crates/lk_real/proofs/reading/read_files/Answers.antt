@@ -1,6 +1,8 @@
 use Rattle.std.proofs.Common.{ℕ, List, Option, Result, sym, subst, arith, length}
+use Rattle.std.proofs.Crossing.{crosses}
 use Rattle.std.specs.Global.{Vec}
 use Rattle.std.specs.declared.ops.Range.{Range}
+use denote.Param.Send.{sendable}
 use Rattle.lk_base.specs.declared.defects.LinkStop.{LinkStop}
 use Rattle.work_split.specs.Pieces.{Tiles}
 use Rattle.work_split.specs.Shares.{IsShare}
@@ -18,7 +20,7 @@ over_shares-list-requires-clause-accepts g c κs bound = λ w p lt at.
     let in_row = tiles_within 0 n c.as_slice.result.now w p tiles lt at in
     let some = in_row.some in
     let last = in_row.end_in in
-    (omega arith, omega arith)
+    (omega arith, (omega arith, search (sendable, crosses) depth 40))
 
 pub returns-in-Ok-list : goal.returns-in-Ok-list
 returns-in-Ok-list g c =

@@ -3,4 +3,4 @@ use Rattle.name_numbers.proofs.keys.push_key.Goals as goal
 
 pub returns : goal.returns
 returns c =
-    appends_one c.args.text c.spread_tag_of.result c.args.symbol c.args.keys.now _ c.spread_tag_of.ensures c.in_ok-push.ensures.items c.in_ok-push-2.ensures.items c.in_ok-push-3.ensures.items
+    appends_one c.args.text c.args.symbol c.args.keys.now _ c.in_ok-push.ensures.items c.in_ok-push-2.ensures.items

@@ -14,7 +14,7 @@ loop-at-preserved c =
     let files = files_of c.args.tables.now in
     each_pushed (IsCutAt files (site_views c.args.sites.now)) c.args.share.start c.loop-at.at c.loop-at.cuts.items c.push.new.self.items c.in_ok-cut.cut
     c.in_ok-push.ensures.items c.loop-at.invariant
-    (c.in_ok-cut.ensures.pieces ∙ ap (site_pieces files) (sym (site_read c.args.sites.now c.loop-at.at (omega arith))), c.in_ok-cut.ensures.file)
+    (c.in_ok-cut.ensures.pieces ∙ ap (site_pieces files) (sym (site_read c.args.sites.now c.loop-at.at (omega arith))), c.in_ok-cut.ensures.file, c.in_ok-cut.ensures.near)
 
 pub returns : goal.returns
 returns c =

@@ -1,3 +1,5 @@
+use Rattle.std.proofs.Common.{ℕ, ◌≡◌, length, subst, arith}
+use Rattle.str_merge.specs.Filling.{IsFilledTo}
 use Rattle.str_merge.proofs.ReadySteps.{left_first, left_next}
 use Rattle.str_merge.proofs.filling.fill.Goals as goal
 
@@ -9,3 +11,12 @@ loop-pool-preserved g c = record {
   filled = c.in_ok-filled-2.ensures;
   left = left_next c.args.work.now c.loop-pool.pool c.loop-pool.ready.items c.take-known.new.self c.loop-pool.invariant.left;
 }
+
+pub returns : goal.returns
+returns g c =
+    let few = c.requires.work.few in
+    let past = c.loop-pool-test.false in
+    let within = c.loop-pool.auto.pool-end in
+    let all : c.loop-pool.pool ≡ length c.args.work.now.firsts.now = omega (arith, few, past, within) in
+    let P : ℕ → Type 0 = λ n. IsFilledTo c.args.work.now n c.loop-pool.filled in
+    subst P all c.loop-pool.invariant.filled

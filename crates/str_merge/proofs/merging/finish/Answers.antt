@@ -6,14 +6,17 @@ use Rattle.str_merge.specs.Spreading.{spread}
 use Rattle.str_merge.specs.Works.{nth_site}
 use Rattle.std.proofs.lemmas.List.{length-map}
 use Rattle.str_merge.proofs.PoolOrder.{filled_rises, pools_are_of, spread_is}
+use Rattle.str_merge.proofs.PoolRooms.{rooms_most}
 use Rattle.str_merge.proofs.merging.finish.Goals as goal
 
 pub of-requires : goal.of-requires
 of-requires c =
-    let small = c.requires.filled.small in
+    let w = c.args.work.now in
+    let room = c.requires.filled.room in
+    let bytes = c.requires.work.small.bytes in
     record {
       rising = filled_rises c.args.work.now c.args.filled c.requires.work c.requires.filled;
-      small = omega (arith, small, c.requires.filled.bytes_are);
+      small = omega (arith, room, bytes, rooms_most (files_of w.tables.now) w.kept.now (length w.firsts.now));
       ordered = c.requires.filled.ordered;
       piled = c.requires.filled.piled;
     }

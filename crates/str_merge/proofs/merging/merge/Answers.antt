@@ -10,14 +10,22 @@ use Rattle.str_merge.specs.Keys.{key_numbers, key_view, key_views}
 use Rattle.str_merge.specs.Members.{AreMembers}
 use Rattle.str_merge.specs.Orders.{IsFirstOf, firsts, ranks}
 use Rattle.str_merge.specs.Sites.{IsIn, cut_views, site_view, site_views}
+use Rattle.str_merge.specs.Small.{IsNear, IsShort}
 use Rattle.str_merge.proofs.PoolOrder.{keys_numbered, ranks_within, site_numbers, site_numbers_first, count_ranks, works}
-use Rattle.str_merge.proofs.SiteFacts.{held_of_files}
+use Rattle.str_merge.proofs.SiteFacts.{held_all, held_of_files}
 use Rattle.str_merge.proofs.merging.merge.Goals as goal
 
 pub cut_sites-requires-clause-files : goal.cut_sites-requires-clause-files
 cut_sites-requires-clause-files g c κs bound =
     let P : List HeldSite → Type 0 = All (λ (s : HeldSite). s.file < length (files_of c.args.tables.now)) in
     subst P (sym c.as_slice.ensures.value) (held_of_files (files_of c.args.tables.now) c.args.kept.now c.in_ok-sites.sites.items c.in_ok-sites.ensures)
+
+pub cut_sites-requires-clause-short : goal.cut_sites-requires-clause-short
+cut_sites-requires-clause-short g c κs bound =
+    let files = files_of c.args.tables.now in
+    let P : List HeldSite → Type 0 = All (λ (s : HeldSite). IsShort files (site_view s)) in
+    subst P (sym c.as_slice.ensures.value)
+    (held_all (IsShort files) (sites files c.args.kept.now) c.in_ok-sites.sites.items c.in_ok-sites.ensures c.are_small.ensures.short)
 
 pub keys_of-requires : goal.keys_of-requires
 keys_of-requires g c =
@@ -27,16 +35,12 @@ keys_of-requires g c =
 pub number_keys-requires : goal.number_keys-requires
 number_keys-requires g c =
     let files = files_of c.args.tables.now in
-    let few = c.if-len-ge-SITE_END.false in
+    let few = c.are_small.ensures.sections in
     let keyed : key_views c.in_ok-keys.keys.items ≡ map (site_key files) (sites files c.args.kept.now) =
     c.in_ok-keys.ensures ∙ ap (λ (l : List HeldSite). map (site_key files) (site_views l)) c.as_slice-2.ensures.value ∙ ap (map (site_key files)) c.in_ok-sites.ensures in
     omega (
       arith,
       few,
-      c.len.ensures,
-      c.in_ok-sites.sites.ok,
-      length-map c.in_ok-sites.sites.items site_view,
-      ap length c.in_ok-sites.ensures,
       ap length c.as_slice-3.ensures.value,
       length-map c.in_ok-keys.keys.items key_view,
       ap length keyed,
@@ -47,8 +51,7 @@ pub order_of-requires : goal.order_of-requires
 order_of-requires g c =
     let files = files_of c.args.tables.now in
     let kept = c.args.kept.now in
-    let low = c.if-len-ge-SITE_END.false in
-    let few : length (sites files kept) < 2 ^ 31 = omega (arith, low, c.len.ensures, c.in_ok-sites.sites.ok, length-map c.in_ok-sites.sites.items site_view, ap length c.in_ok-sites.ensures) in
+    let few = c.are_small.ensures.sections in
     let keyed : key_views c.in_ok-keys.keys.items ≡ map (site_key files) (sites files kept) =
     c.in_ok-keys.ensures ∙ ap (λ (l : List HeldSite). map (site_key files) (site_views l)) c.as_slice-2.ensures.value ∙ ap (map (site_key files)) c.in_ok-sites.ensures in
     let numbered : c.as_slice-4.result.now ≡ site_numbers files kept =
@@ -64,8 +67,8 @@ members_of-requires-clause-within g c =
     let numbered : c.as_slice-4.result.now ≡ site_numbers files kept =
     c.as_slice-4.ensures.value ∙ c.in_ok-numbers.ensures ∙ ap key_numbers c.as_slice-3.ensures.value ∙ keys_numbered files (sites files kept) c.in_ok-keys.keys.items keyed in
     let ranked : c.as_slice-5.result.now ≡ ranks (site_numbers files kept) = c.as_slice-5.ensures.value ∙ c.in_ok-order.ensures.ranks ∙ ap ranks numbered in
-    let counted : c.len-2.result ≡ length (firsts (site_numbers files kept)) = c.len-2.ensures ∙ c.in_ok-order.order.firsts.ok.0 ∙ ap length (c.in_ok-order.ensures.firsts ∙ ap firsts numbered) in
-    let P : List ℕ → Type 0 = All (λ n. n < c.len-2.result) in
+    let counted : c.len.result ≡ length (firsts (site_numbers files kept)) = c.len.ensures ∙ c.in_ok-order.order.firsts.ok.0 ∙ ap length (c.in_ok-order.ensures.firsts ∙ ap firsts numbered) in
+    let P : List ℕ → Type 0 = All (λ n. n < c.len.result) in
     let Q : ℕ → Type 0 = λ m. All (λ n. n < m) (ranks (site_numbers files kept)) in
     subst P (sym ranked) (subst Q (sym counted) (ranks_within files kept))
 
@@ -73,8 +76,7 @@ pub members_of-requires-clause-few : goal.members_of-requires-clause-few
 members_of-requires-clause-few g c =
     let files = files_of c.args.tables.now in
     let kept = c.args.kept.now in
-    let low = c.if-len-ge-SITE_END.false in
-    let few : length (sites files kept) < 2 ^ 31 = omega (arith, low, c.len.ensures, c.in_ok-sites.sites.ok, length-map c.in_ok-sites.sites.items site_view, ap length c.in_ok-sites.ensures) in
+    let few = c.are_small.ensures.sections in
     let keyed : key_views c.in_ok-keys.keys.items ≡ map (site_key files) (sites files kept) =
     c.in_ok-keys.ensures ∙ ap (λ (l : List HeldSite). map (site_key files) (site_views l)) c.as_slice-2.ensures.value ∙ ap (map (site_key files)) c.in_ok-sites.ensures in
     let numbered : c.as_slice-4.result.now ≡ site_numbers files kept =
@@ -87,43 +89,43 @@ fill-requires-clause-work g c = λ κs bound.
     let files = files_of c.args.tables.now in
     let kept = c.args.kept.now in
     let all = sites files kept in
-    let low = c.if-len-ge-SITE_END.false in
-    let few : length all < 2 ^ 31 = omega (arith, low, c.len.ensures, c.in_ok-sites.sites.ok, length-map c.in_ok-sites.sites.items site_view, ap length c.in_ok-sites.ensures) in
     let keyed : key_views c.in_ok-keys.keys.items ≡ map (site_key files) all =
     c.in_ok-keys.ensures ∙ ap (λ (l : List HeldSite). map (site_key files) (site_views l)) c.as_slice-2.ensures.value ∙ ap (map (site_key files)) c.in_ok-sites.ensures in
     let numbered : c.as_slice-4.result.now ≡ site_numbers files kept =
     c.as_slice-4.ensures.value ∙ c.in_ok-numbers.ensures ∙ ap key_numbers c.as_slice-3.ensures.value ∙ keys_numbered files all c.in_ok-keys.keys.items keyed in
     let ranked : c.as_slice-5.result.now ≡ ranks c.as_slice-4.result.now = c.as_slice-5.ensures.value ∙ c.in_ok-order.ensures.ranks in
-    let counted : c.len-2.result ≡ length c.as_slice-9.result.now = c.len-2.ensures ∙ c.in_ok-order.order.firsts.ok.0 ∙ ap length (sym c.as_slice-9.ensures.value) in
+    let counted : c.len.result ≡ length c.as_slice-9.result.now = c.len.ensures ∙ c.in_ok-order.order.firsts.ok.0 ∙ ap length (sym c.as_slice-9.ensures.value) in
     let In : List Cut → Type 0 = All (IsIn files) in
-    let P : List (Vec ℕ) → Type 0 = AreMembers c.as_slice-5.result.now c.len-2.result (length c.as_slice-5.result.now) in
-    works _ c.as_slice-4.result.now c.as_slice-5.result.now c.len-2.result
+    let Near : List Cut → Type 0 = All IsNear in
+    let P : List (Vec ℕ) → Type 0 = AreMembers c.as_slice-5.result.now c.len.result (length c.as_slice-5.result.now) in
+    works _ c.as_slice-4.result.now c.as_slice-5.result.now c.len.result
     (ap site_views c.as_slice-6.ensures.value ∙ c.in_ok-sites.ensures)
     (subst In (sym c.as_slice-7.ensures.value) c.in_ok-cuts.ensures.files)
+    (subst Near (sym c.as_slice-7.ensures.value) c.in_ok-cuts.ensures.near)
     (ap cut_views c.as_slice-7.ensures.value ∙ c.in_ok-cuts.ensures.pieces
     ∙ ap (λ (l : List HeldSite). map (site_pieces files) (site_views l)) c.as_slice.ensures.value ∙ ap (map (site_pieces files)) c.in_ok-sites.ensures)
     (ap key_views c.as_slice-8.ensures.value ∙ keyed)
-    numbered (c.as_slice-9.ensures.value ∙ c.in_ok-order.ensures.firsts) ranked (subst P (sym c.as_slice-10.ensures.value) c.in_ok-members.ensures) counted few
+    numbered (c.as_slice-9.ensures.value ∙ c.in_ok-order.ensures.firsts) ranked (subst P (sym c.as_slice-10.ensures.value) c.in_ok-members.ensures) counted c.are_small.ensures
 
 pub finish-requires-clause-work : goal.finish-requires-clause-work
 finish-requires-clause-work g c =
     let files = files_of c.args.tables.now in
     let kept = c.args.kept.now in
     let all = sites files kept in
-    let low = c.if-len-ge-SITE_END.false in
-    let few : length all < 2 ^ 31 = omega (arith, low, c.len.ensures, c.in_ok-sites.sites.ok, length-map c.in_ok-sites.sites.items site_view, ap length c.in_ok-sites.ensures) in
     let keyed : key_views c.in_ok-keys.keys.items ≡ map (site_key files) all =
     c.in_ok-keys.ensures ∙ ap (λ (l : List HeldSite). map (site_key files) (site_views l)) c.as_slice-2.ensures.value ∙ ap (map (site_key files)) c.in_ok-sites.ensures in
     let numbered : c.as_slice-4.result.now ≡ site_numbers files kept =
     c.as_slice-4.ensures.value ∙ c.in_ok-numbers.ensures ∙ ap key_numbers c.as_slice-3.ensures.value ∙ keys_numbered files all c.in_ok-keys.keys.items keyed in
     let ranked : c.as_slice-5.result.now ≡ ranks c.as_slice-4.result.now = c.as_slice-5.ensures.value ∙ c.in_ok-order.ensures.ranks in
-    let counted : c.len-2.result ≡ length c.as_slice-9.result.now = c.len-2.ensures ∙ c.in_ok-order.order.firsts.ok.0 ∙ ap length (sym c.as_slice-9.ensures.value) in
+    let counted : c.len.result ≡ length c.as_slice-9.result.now = c.len.ensures ∙ c.in_ok-order.order.firsts.ok.0 ∙ ap length (sym c.as_slice-9.ensures.value) in
     let In : List Cut → Type 0 = All (IsIn files) in
-    let P : List (Vec ℕ) → Type 0 = AreMembers c.as_slice-5.result.now c.len-2.result (length c.as_slice-5.result.now) in
-    works _ c.as_slice-4.result.now c.as_slice-5.result.now c.len-2.result
+    let Near : List Cut → Type 0 = All IsNear in
+    let P : List (Vec ℕ) → Type 0 = AreMembers c.as_slice-5.result.now c.len.result (length c.as_slice-5.result.now) in
+    works _ c.as_slice-4.result.now c.as_slice-5.result.now c.len.result
     (ap site_views c.as_slice-6.ensures.value ∙ c.in_ok-sites.ensures)
     (subst In (sym c.as_slice-7.ensures.value) c.in_ok-cuts.ensures.files)
+    (subst Near (sym c.as_slice-7.ensures.value) c.in_ok-cuts.ensures.near)
     (ap cut_views c.as_slice-7.ensures.value ∙ c.in_ok-cuts.ensures.pieces
     ∙ ap (λ (l : List HeldSite). map (site_pieces files) (site_views l)) c.as_slice.ensures.value ∙ ap (map (site_pieces files)) c.in_ok-sites.ensures)
     (ap key_views c.as_slice-8.ensures.value ∙ keyed)
-    numbered (c.as_slice-9.ensures.value ∙ c.in_ok-order.ensures.firsts) ranked (subst P (sym c.as_slice-10.ensures.value) c.in_ok-members.ensures) counted few
+    numbered (c.as_slice-9.ensures.value ∙ c.in_ok-order.ensures.firsts) ranked (subst P (sym c.as_slice-10.ensures.value) c.in_ok-members.ensures) counted c.are_small.ensures

@@ -21,20 +21,30 @@ part-requires-clause-within c =
     let long = c.len.ensures ∙ cut.ends.ok.0 ∙ sym (pieces_count cut) in
     let wide = ap length c.as_slice-ranks.ensures.value ∙ c.in_ok-ranks.ensures.len ∙ c.requires.wide in
     let next = counted_next lists c.args.members.now c.loop-n.n (length (gathered lists c.args.members.now)) c.loop-n.at (c.loop-n.at + c.len.result) (pieces_of cut)
-    (omega arith) c.loop-n.invariant.count c.cut_at-cut.ensures (ap (λ k. c.loop-n.at + k) long) in
+    (omega arith) c.loop-n.invariant.count c.cut_at-cut.ensures.pieces (ap (λ k. c.loop-n.at + k) long) in
     omega (arith, next, wide)
 
-pub parts_of-requires : goal.parts_of-requires
-parts_of-requires c =
+pub parts_of-requires-clause-wide : goal.parts_of-requires-clause-wide
+parts_of-requires-clause-wide c =
     let lists = piece_lists c.args.cuts.now in
     let cut = c.cut_at-cut.result.now in
     let at = c.loop-n.at in
     let own = c.len.ensures ∙ cut.ends.ok.0 in
     let wide = ap length c.as_slice-ranks.ensures.value ∙ c.in_ok-ranks.ensures.len ∙ c.requires.wide in
     let next = counted_next lists c.args.members.now c.loop-n.n (length (gathered lists c.args.members.now)) at (at + c.len.result) (pieces_of cut)
-    (omega arith) c.loop-n.invariant.count c.cut_at-cut.ensures (ap (λ k. at + k) (own ∙ sym (pieces_count cut))) in
+    (omega arith) c.loop-n.invariant.count c.cut_at-cut.ensures.pieces (ap (λ k. at + k) (own ∙ sym (pieces_count cut))) in
     let taken = ap length c.part.ensures ∙ length-take (at + c.len.result - at) (drop at c.as_slice-ranks.result.now) in
     omega (arith, own, next, wide, taken, length-drop at c.as_slice-ranks.result.now)
+
+pub parts_of-requires-clause-few : goal.parts_of-requires-clause-few
+parts_of-requires-clause-few c =
+    let at = c.loop-n.at in
+    let wide = ap length c.as_slice-ranks.ensures.value ∙ c.in_ok-ranks.ensures.len in
+    let taken = ap length c.part.ensures ∙ length-take (at + c.len.result - at) (drop at c.as_slice-ranks.result.now) in
+    omega (arith, wide, taken, length-drop at c.as_slice-ranks.result.now, c.requires.few)
+
+pub parts_of-requires-clause-near : goal.parts_of-requires-clause-near
+parts_of-requires-clause-near c = c.cut_at-cut.ensures.near c.requires.near
 
 pub loop-n-preserved : goal.loop-n-preserved
 loop-n-preserved c =
@@ -48,9 +58,9 @@ loop-n-preserved c =
     let whole = part_lists (lists_at views c.args.members.now) c.as_slice-ranks.result.now in
     record {
       count = counted_next lists c.args.members.now c.loop-n.n (length (gathered lists c.args.members.now)) at end (pieces_of cut)
-          (omega arith) c.loop-n.invariant.count c.cut_at-cut.ensures (ap (λ k. at + k) (long ∙ sym (pieces_count cut)));
+          (omega arith) c.loop-n.invariant.count c.cut_at-cut.ensures.pieces (ap (λ k. at + k) (long ∙ sym (pieces_count cut)));
       rows = lists_next views c.args.members.now c.loop-n.n at end (texts_of (pieces_of cut)) c.as_slice-ranks.result.now c.loop-n.rows c.push_vec.new.self whole c.in_ok-parts.parts.items
-          (omega arith) (ap texts_of c.cut_at-cut.ensures ∙ texts_at cuts (get_or c.args.members.now c.loop-n.n 0)) (ap (λ k. at + k) (long ∙ sym (texts_count cut)))
+          (omega arith) (ap texts_of c.cut_at-cut.ensures.pieces ∙ texts_at cuts (get_or c.args.members.now c.loop-n.n 0)) (ap (λ k. at + k) (long ∙ sym (texts_count cut)))
           c.loop-n.invariant.rows c.in_ok-push_vec.ensures.ok
           (c.in_ok-parts.ensures ∙ ap (parts_by 0 (texts_of (pieces_of cut))) c.part.ensures);
     }

@@ -2,7 +2,7 @@ use Rattle.std.proofs.Common.{ap, arith}
 use Rattle.lk_tables.specs.TablesView.{files_of}
 use Rattle.link_sections.specs.MergeSections.{PoolKey}
 use Rattle.link_sections.specs.Merging.{pool_site}
-use Rattle.str_merge.proofs.WorkFacts.{key_at}
+use Rattle.str_merge.proofs.WorkFacts.{align_most, key_at}
 use Rattle.str_merge.proofs.PoolFacts.{align_some}
 use Rattle.str_merge.proofs.pooling.align_of.Goals as goal
 
@@ -16,3 +16,10 @@ returns-clause-some c =
     let is = ap (λ (k : PoolKey). k.align) (key_at w c.args.pool c.requires.work c.requires.pool) in
     let some = align_some files (pool_site files w.kept.now c.args.pool) in
     omega (arith, is, some)
+
+pub returns-clause-most : goal.returns-clause-most
+returns-clause-most c =
+    let w = c.args.work.now in
+    let is = ap (λ (k : PoolKey). k.align) (key_at w c.args.pool c.requires.work c.requires.pool) in
+    let most = align_most w c.args.pool c.requires.work c.requires.pool in
+    omega (arith, is, most)

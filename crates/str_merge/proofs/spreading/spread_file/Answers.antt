@@ -5,6 +5,7 @@ use Rattle.lk_tables.specs.TablesView.{files_of}
 use Rattle.lk_tables.proofs.FirstNumbers.{section_within}
 use Rattle.str_merge.specs.Spreading.{answer_in, sites_upto}
 use Rattle.str_merge.proofs.ListSteps.{row_step}
+use Rattle.str_merge.proofs.SiteRows.{upto_most}
 use Rattle.str_merge.proofs.SpreadSteps.{answer_is, upto_all, upto_more, upto_none}
 use Rattle.str_merge.proofs.spreading.spread_file.Goals as goal
 
@@ -21,6 +22,20 @@ overflow_cast-index c =
       section_within (files_of c.args.tables.now) c.args.file c.requires.file,
     )
 
+pub after-next-requires : goal.after-next-requires
+after-next-requires c =
+    let files = files_of c.args.tables.now in
+    let next = c.loop-index.invariant.next in
+    omega (
+      arith,
+      next,
+      upto_most files c.args.kept.now c.args.file c.loop-index.index c.requires.file,
+      c.section_count-index-end.ensures,
+      ap section_count c.file.ensures,
+      c.is_few.ensures.section_count_is,
+      section_within files c.args.file c.requires.file,
+    )
+
 pub loop-index-preserved : goal.loop-index-preserved
 loop-index-preserved c =
     let files = files_of c.args.tables.now in
@@ -31,7 +46,7 @@ loop-index-preserved c =
       list = row_step (answer_in files kept c.args.answers.now f) k c.args.list.now.items c.loop-index.list.items c.push.new.self.items c.answer.result
           c.loop-index.invariant.list c.in_ok-push.ensures.items
           (c.answer.ensures ∙ answer_is files kept c.args.answers.now f k c.loop-index.next c.is_merge-merges.result c.is_merge-merges.ensures c.loop-index.invariant.next);
-      next = c.in_ok-next.ensures ∙ ap (λ n. n + (if c.is_merge-merges.result then 1 else 0)) c.loop-index.invariant.next
+      next = c.after-next.ensures ∙ ap (λ n. n + (if c.is_merge-merges.result then 1 else 0)) c.loop-index.invariant.next
           ∙ ap (λ (b : Bool). sites_upto files kept f k + (if b then 1 else 0)) c.is_merge-merges.ensures ∙ sym (upto_more files kept f k);
     }
 

@@ -1,7 +1,7 @@
 use Rattle.std.proofs.Common.{ℕ, ◌≡◌, ◌+◌, List, ap, sym, ◌∙◌, arith, length, subst}
 use Rattle.std.proofs.lemmas.Bool.{both_ways}
 use Rattle.std.proofs.lemmas.Slice.Eq.{bytes_eq-Decides}
-use Rattle.intern_race.specs.Hash.{hash_of}
+use Rattle.intern_race.specs.Hash.{hash_of, tag_of}
 use Rattle.intern_race.specs.Interning.{TableView}
 use Rattle.intern_race.specs.Texts.{text_at}
 use Rattle.intern_race.proofs.Seats.{slot_within}
@@ -39,6 +39,9 @@ is_text-requires-clause-number c =
     let texts = ap (λ (l : List (List ℕ)). length l) c.requires.texts in
     let number = visit_number t c.args.i c.loop-far.slot c.visit-holder.result c.loop-far.seat c.visit-holder.new.seat c.visit-holder.ensures.visit c.visit-holder.ensures.apart in
     omega (arith, texts, number)
+
+pub is_text-requires-clause-tag : goal.is_text-requires-clause-tag
+is_text-requires-clause-tag c = c.tag_of-tag.ensures ∙ ap tag_of c.requires.hash
 
 pub lower-requires-clause-held : goal.lower-requires-clause-held
 lower-requires-clause-held c = visit_seen c.args.i c.loop-far.slot c.visit-holder.result c.loop-far.seat c.visit-holder.new.seat c.visit-holder.ensures.visit

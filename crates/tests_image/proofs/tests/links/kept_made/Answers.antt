@@ -1,5 +1,6 @@
 use Rattle.std.proofs.Common.{◌∙◌, List, [], subst}
 use Rattle.link_driver.specs.Tables.{wished}
+use Rattle.link_driver.proofs.FewPieces.{kept_written}
 use Rattle.link_driver.proofs.Leading.{planned_laid}
 use Rattle.link_sections.specs.GotView.{entries_of}
 use Rattle.link_sections.specs.LaidOut.{layout_view, with_contents}
@@ -9,6 +10,9 @@ use Rattle.lk_tables.specs.FramePlans.{plan_view}
 use Rattle.lk_tables.specs.Frames.{AreListsWithin, RecordList}
 use Rattle.lk_tables.specs.TablesView.{files_of}
 use Rattle.tests_image.proofs.tests.links.kept_made.Goals as goal
+
+pub merge-requires-clause-written : goal.merge-requires-clause-written
+merge-requires-clause-written g c κs bound = kept_written (files_of c.args.tables.now) (binding_view c.args.binding.now) c.args.kept.now c.requires.stay
 
 pub answers_of-requires-clause-within : goal.answers_of-requires-clause-within
 answers_of-requires-clause-within g c = λ κs bound.

@@ -1,9 +1,0 @@
-use Rattle.std.proofs.Common.{append_assoc}
-use Rattle.elf_out.specs.Headers.{file_header}
-use Rattle.elf_out.proofs.header_bytes.push_file_header.Goals as goal
-
-pub returns : goal.returns
-unfolding file_header
-returns c =
-    rw (c.in_ok-push_half-8.ensures, c.in_ok-push_half-7.ensures, c.in_ok-push_half-6.ensures, c.in_ok-push_half-5.ensures, c.in_ok-push_half-4.ensures, c.in_ok-push_half-3.ensures, c.in_ok-push_word-2.ensures, c.in_ok-push_long-3.ensures, c.in_ok-push_long-2.ensures, c.in_ok-push_long.ensures, c.in_ok-push_word.ensures, c.in_ok-push_half-2.ensures, c.in_ok-push_half.ensures, c.in_ok-push_identification.ensures)
-    (simp append_assoc)

@@ -1,0 +1,45 @@
+-- The symbols of an executable stand in the sections that its symbol table names (System V gABI, "Symbol Table": st_shndx and st_value; "Sections":
+-- sh_addr and sh_size).
+use Rattle.std.specs.Prelude.{◌≡◌, ℕ, ◌+◌, ◌-◌, ◌<◌, ◌≤◌, Bool, true, false, Option, Some, List, [], ◌∷◌, length}
+use Rattle.std.specs.List.{slice_get}
+use Rattle.lk_tables.specs.declared.bounds.Bound.TheVariants.{InSection}
+use Rattle.lk_tables.specs.Binding.{Bindings}
+use Rattle.lk_tables.specs.Files.{File, file_at}
+use Rattle.lk_tables.specs.OutputNames.{output_name}
+use Rattle.lk_tables.specs.Targets.{bound}
+use Rattle.link_sections.specs.Addresses.{symbol_address}
+use Rattle.link_sections.specs.InputSections.{input_at}
+use Rattle.link_sections.specs.LaidOut.{LaidOut, OutputSection}
+use Rattle.link_sections.specs.Leaders.{is_kept, leader_at}
+use Rattle.link_sections.specs.PoolViews.{Merged, is_merged}
+use Rattle.symbol_table.specs.declared.symbols.TablePlace.TheVariants.{Output}
+use Rattle.symbol_table.specs.SymbolTable.{TableSymbol, entry_of, table_value}
+
+-- what decides to which output section a section goes is that of the one which is written in its place; each that is kept and not merged has one
+pub record GoWithLeaders (files : List File) (b : Bindings) (kept : List Bool) (merged : List (Option Merged)) (leaders : List (Option ℕ)) : Type 0 where
+  pub led : (n : ℕ) → is_kept kept n ≡ true → is_merged merged n ≡ false → (m : ℕ) × (leader_at leaders n ≡ Some m)
+  pub output : (n m : ℕ) → leader_at leaders n ≡ Some m → output_name (input_at files b n).name ≡ output_name (input_at files b m).name
+  pub sh_type : (n m : ℕ) → leader_at leaders n ≡ Some m → (input_at files b n).sh_type ≡ (input_at files b m).sh_type
+  pub flags : (n m : ℕ) → leader_at leaders n ≡ Some m → (input_at files b n).flags ≡ (input_at files b m).flags
+
+-- the section header of this number is that of an output section; unless it is one of the linker's own unwind records, which have no members, the
+-- address lies in it or at its end
+pub record StandsIn (laid : LaidOut) (number address : ℕ) : Type 0 where
+  pub output : OutputSection
+  pub counted : 1 ≤ number
+  pub header : slice_get laid.outputs (number - 1) ≡ Some output
+  pub from : 0 < output.count → output.address ≤ address
+  pub to : 0 < output.count → address ≤ output.address + output.size
+
+-- an entry of the symbol table for a symbol in a section that is not merged, with the number of a section: its address lies in that section, and its
+-- value is the address (of a thread-local one what the address is past the start of thread-local storage)
+pub record HasItsSection (files : List File) (b : Bindings) (kept : List Bool) (leaders : List (Option ℕ)) (laid : LaidOut) (f i number : ℕ) (t : TableSymbol) : Type 0 where
+  pub value : t.value ≡ table_value files b kept leaders laid f i
+  pub stands : StandsIn laid number (symbol_address files b leaders laid f i)
+
+-- of each symbol i of each file f that takes part
+abbrev pub SymbolsStand : List File → Bindings → (kept : List Bool) → (leaders : List (Option ℕ)) → LaidOut → Type 0
+SymbolsStand files b kept leaders laid =
+    (f i n offset number : ℕ) (t : TableSymbol) → f < length files → i < length (file_at files f).head.symbols → (file_at files f).live ≡ true
+    → bound files b f i ≡ InSection n offset → is_merged laid.merging.merged n ≡ false → entry_of files b kept leaders laid f i ≡ t ∷ [] → t.section ≡ Output number
+    → HasItsSection files b kept leaders laid f i number t

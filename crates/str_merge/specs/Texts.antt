@@ -1,2 +1,0 @@
--- Texts that are lent.
-pub use Rattle.name_numbers.specs.Texts.{lent_texts}
