@@ -11,7 +11,8 @@ That a goal stays open shows only that the tactics find no proof of it.
 `scripts/wrong-bodies/NAME/` has edits of the crate, in the form of those in `crates/NAME/must-fail`, which the gate does not try: `rt must-fail` tries
 them on the same copy, each in a check of its own (half a minute of a processor each; three to five minutes in link_driver).
 
-Usage: scripts/wrong-bodies.py [--jobs N] [--lists | --edits] [NAME ..]   (no names: all crates that have a list or a folder; --lists and --edits try one of the two alone).
+Usage: scripts/wrong-bodies.py [--jobs N] [--in CLONE] [--lists | --edits] [NAME ..]   (no names: all crates that have a list or a folder; --lists and --edits try one of the two alone).
+CLONE stands in the place of the copy: a clone of the same text that nothing else uses. What was proved in it is taken over, where kit 13b proves the libraries of a copy from nothing.
 The last line is `N refused, M let through`, where those that are meant to be are not counted; the status is 0 if none is. What the checks print is kept
 in the folder that is named on stderr.
 """
@@ -90,9 +91,9 @@ def open_goals(said):
     return notes
 
 
-def judge(name, top, jobs):
+def judge(name, tree, top, jobs):
     """Gives how many bodies of a crate are refused, and how many are let through that are not meant to be."""
-    folder = os.path.join(top, 'crates', name)
+    folder = os.path.join(tree, 'crates', name)
     total, refused, through = 0, 0, 0
     for n, calls in enumerate(copies_of(bodies_in(os.path.join(LISTS, f'{name}.txt'))), 1):
         places = put_in(folder, calls)
@@ -116,14 +117,17 @@ def judge(name, top, jobs):
     return refused, through
 
 
-def judge_edits(name, top):
+def judge_edits(name, tree, top):
     """Gives how many edits of a crate are refused, and how many are not or could not be tried."""
-    own = os.path.join(LISTS, name)
+    own, gates = os.path.join(LISTS, name), os.path.join(ROOT, 'crates', name, 'must-fail')
     edits = sorted(it for it in os.listdir(own) if it.endswith('.edit'))
-    tried = os.path.join(top, 'crates', name, 'must-fail')
+    tried = os.path.join(tree, 'crates', name, 'must-fail')
     shutil.rmtree(tried, ignore_errors=True)
     shutil.copytree(own, tried)
-    said = subprocess.run(['rt', 'must-fail', name], cwd=top, stdin=subprocess.DEVNULL, stdout=subprocess.PIPE, stderr=subprocess.STDOUT, text=True).stdout
+    said = subprocess.run(['rt', 'must-fail', name], cwd=tree, stdin=subprocess.DEVNULL, stdout=subprocess.PIPE, stderr=subprocess.STDOUT, text=True).stdout
+    shutil.rmtree(tried)
+    if os.path.isdir(gates):
+        shutil.copytree(gates, tried)
     with open(os.path.join(top, f'{name}.edits.out'), 'w', encoding='utf-8') as it:
         it.write(said)
     # (a refusal that stands on a name that is gone shows nothing of a contract)
@@ -141,6 +145,9 @@ def main():
     jobs, parts = '2', ['--lists', '--edits']
     if words[:1] == ['--jobs']:
         jobs, words = words[1], words[2:]
+    clone = None
+    if words[:1] == ['--in']:
+        clone, words = os.path.realpath(words[1]), words[2:]
     if words[:1] in (['--lists'], ['--edits']):
         parts, words = words[:1], words[1:]
     lists = [it[:-4] for it in os.listdir(LISTS) if it.endswith('.txt')] if '--lists' in parts else []
@@ -151,13 +158,16 @@ def main():
         sys.exit(f'scripts/wrong-bodies has nothing of that kind for {lacking[0]}')
     top = tempfile.mkdtemp(prefix='wrong-bodies-')
     print(f'in {top}', file=sys.stderr)
-    for it in ('crates.txt', 'HANDLES'):
-        shutil.copy(os.path.join(ROOT, it), top)
-    shutil.copytree(os.path.join(ROOT, 'crates'), os.path.join(top, 'crates'), ignore=shutil.ignore_patterns('out'))
+    if not clone:
+        for it in ('crates.txt', 'HANDLES'):
+            shutil.copy(os.path.join(ROOT, it), top)
+        shutil.copytree(os.path.join(ROOT, 'crates'), os.path.join(top, 'crates'), ignore=shutil.ignore_patterns('out'))
+    tree = clone or top
     try:
-        found = [judge(it, top, jobs) for it in names if it in lists] + [judge_edits(it, top) for it in names if it in edits]
+        found = [judge(it, tree, top, jobs) for it in names if it in lists] + [judge_edits(it, tree, top) for it in names if it in edits]
     finally:
-        shutil.rmtree(os.path.join(top, 'crates'))
+        if not clone:
+            shutil.rmtree(os.path.join(top, 'crates'))
     through = sum(it for _, it in found)
     print(f'{sum(it for it, _ in found)} refused, {through} let through')
     return 1 if through else 0

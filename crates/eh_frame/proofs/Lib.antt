@@ -24,10 +24,13 @@ pub mod Planned
 pub mod Pointers
 pub mod PutSteps
 pub mod RecordBytes
+pub mod RecordRuns
 pub mod RelocParts
+pub mod SharedBytes
 pub mod StrayChecks
 pub mod TableOrder
 pub mod TableRows
 pub mod Totals
 pub mod Walk
+pub mod WholeNumbers
 pub mod Within

@@ -8,8 +8,8 @@ use Rattle.lk_base.specs.declared.abi.TheConstants.{STB_WEAK}
 use Rattle.lk_base.specs.RelocKinds.{goes_by_got}
 use Rattle.lk_tables.specs.declared.bounds.Bound.{Bound}
 use Rattle.lk_tables.specs.declared.bounds.Bound.TheVariants.{InSection, Number, Linker, Nobody}
-use Rattle.lk_tables.specs.declared.bounds.Target.{Target as Spot}
-use Rattle.lk_tables.specs.declared.bounds.Target.TheVariants as spots
+use Rattle.lk_tables.specs.declared.bounds.Spot.{Spot}
+use Rattle.lk_tables.specs.declared.bounds.Spot.TheVariants as spots
 use Rattle.lk_tables.specs.declared.heads.Symbol.{Symbol}
 use Rattle.lk_tables.specs.declared.objects.Reloc.{Reloc}
 use Rattle.lk_tables.specs.Binding.{Bindings}
@@ -17,7 +17,7 @@ use Rattle.lk_tables.specs.Files.{File, file_at, is_section_symbol, symbol_at}
 use Rattle.lk_tables.specs.Frames.{RecordList}
 use Rattle.lk_tables.specs.Records.{first_of, has_width}
 use Rattle.lk_tables.specs.Sites.{place_of}
-use Rattle.lk_tables.specs.Targets.{bound, clamped, in_section_of, size_of, target_by, target_of}
+use Rattle.lk_tables.specs.Targets.{bound, clamped, in_section_of, size_of, spot_by, spot_of}
 use Rattle.link_sections.specs.LaidOut.{LaidOut}
 use Rattle.link_sections.specs.PieceTargets.{in_section, piece_target}
 use Rattle.link_sections.specs.PoolViews.{Merged, merged_at}
@@ -54,14 +54,14 @@ in_low file s r section offset low =
     cond_both (is_section_symbol s && not (goes_by_got r.kind)) (spots.Section section (clamped (size_of file s.place) r.addend) (r.addend -ℤ pos (clamped (size_of file s.place) r.addend)))
     (spots.Section section offset r.addend) RestLow (λ e. rest_low (size_of file s.place) r.addend low) (λ e. low)
 
-by_low : (x : Bound) (file : File) (s : Symbol) (r : Reloc) → IsLow r.addend → RestLow (target_by x file s r)
+by_low : (x : Bound) (file : File) (s : Symbol) (r : Reloc) → IsLow r.addend → RestLow (spot_by x file s r)
 by_low (InSection section offset) file s r low = in_low file s r section offset low
 by_low (Number n) file s r low = tt
 by_low (Linker n) file s r low = tt
 by_low Nobody file s r low = cond_both (s.binding == STB_WEAK) spots.Zero spots.Unbound RestLow (λ e. tt) (λ e. tt)
 
-spot_low : (files : List File) (b : Bindings) (f : ℕ) (r : Reloc) → IsLow r.addend → RestLow (target_of files b f r)
-unfolding target_of
+spot_low : (files : List File) (b : Bindings) (f : ℕ) (r : Reloc) → IsLow r.addend → RestLow (spot_of files b f r)
+unfolding spot_of
 spot_low files b f r low = by_low (bound files b f r.symbol) (file_at files f) (symbol_at (file_at files f) r.symbol) r low
 
 -- of a section or a piece it is what is added
@@ -83,7 +83,7 @@ sum_low n a low = omega (arith, ints, low)
 module _ (files : List File) (b : Bindings) (leaders : List (Option ℕ)) (laid : LaidOut) where
   reloc_low : (f : ℕ) (r : Reloc) → IsLow r.addend → IsLow (sum_in files b leaders laid f r)
   unfolding sum_in reloc_target
-  reloc_low f r low = sum_low _ _ (target_low laid.merging.merged (target_of files b f r) r (spot_low files b f r low) low)
+  reloc_low f r low = sum_low _ _ (target_low laid.merging.merged (spot_of files b f r) r (spot_low files b f r low) low)
 
   begin_low : (lists : List RecordList) (f from : ℕ) (relocs : List Reloc) → All (IsPlain from) relocs → IsLow (begin_of files b leaders laid lists f (first_of relocs))
   unfolding first_of

@@ -14,7 +14,7 @@ use Rattle.lk_tables.specs.Frames.{RecordList, all_frames, frame_no, frames_at, 
 use Rattle.lk_tables.specs.RecordViews.{record_view, record_views}
 use Rattle.lk_tables.specs.Sites.{place_of}
 use Rattle.lk_tables.specs.Targets.{is_gone}
-use Rattle.eh_frame.specs.Owners.{lists_after, with_frame, with_records}
+use Rattle.eh_frame.specs.Owners.{lists_after, owners_in, with_frame, with_records}
 
 abbrev pub one_if : Bool → FrameNo → List FrameNo
 one_if test frame = cond test (frame ∷ []) []
@@ -136,13 +136,18 @@ module _ (files : List File) (b : Bindings) where
   unfolding lists_after
   gone_list l ls gone = sym (ap (λ g. cond g ls (with_records files b l (range_with_len 0 (length l.records)) ls)) gone)
 
-  -- the records of a section, as they are held
-  pub owner_is : (list : ℕ × Vec Record) (slice : List Record) (at : ℕ) (x d : Record) (f : ℕ) → slice ≡ list.1.items → at < length slice → x ≡ get_or slice at d →
-      f ≡ (place_of files list.0).file → owner_in files b f (record_view x) ≡ owner_at files b (list_view list) at
-  owner_is list slice at x d f same lt is file =
-      ap (λ n. owner_in files b n (record_view x)) file
-      ∙ ap (owner_in files b (place_of files list.0).file)
-      (ap record_view is ∙ sym (get_or-map record_view slice at d no_record lt) ∙ ap (λ (l : List Record). get_or (record_views l) at no_record) same)
+  -- what was found for the lists, and for the records of one
+  pub owners_read : (slice : List (ℕ × Vec Record)) (all : List (List (Option ℕ))) (n : ℕ) (x d : ℕ × Vec Record) (own : List (Option ℕ)) → n < length slice → x ≡ get_or slice n d →
+      all ≡ map (owners_in files b) (list_views slice) → own ≡ get_or all n [] → own ≡ owners_in files b (list_view x)
+  owners_read slice all n x d own lt is all_is own_is =
+      own_is ∙ ap (λ l. get_or l n []) all_is
+      ∙ get_or-map (owners_in files b) (list_views slice) n (list_view d) [] (omega (arith, lt, length-map slice list_view))
+      ∙ ap (owners_in files b) (get_or-map list_view slice n d (list_view d) lt ∙ ap list_view (sym is))
+
+  pub owner_read : (l : RecordList) (owners : List (Option ℕ)) (at : ℕ) (o : Option ℕ) → at < length l.records → owners ≡ owners_in files b l → o ≡ get_or owners at None →
+      o ≡ owner_at files b l at
+  owner_read l owners at o lt are is =
+      is ∙ ap (λ os. get_or os at None) are ∙ get_or-map (owner_in files b (place_of files l.section).file) l.records at no_record None lt
 
   pub whole_list : (list : ℕ × Vec Record) (slice : List Record) (at : ℕ) (start now : List (List FrameNo)) → slice ≡ list.1.items → at ≤ length slice → length slice ≤ at →
       is_gone b list.0 ≡ false → now ≡ with_records files b (list_view list) (range_with_len 0 at) start → now ≡ lists_after files b (list_view list) start
@@ -186,3 +191,6 @@ pub few_records : (held slice : List (ℕ × Vec Record)) (n : ℕ) (x d : ℕ �
 few_records held slice n x d same lt all is =
     let few = list_holds (λ (l : RecordList). length l.records < 2 ^ 32) held slice n x d same lt all is in
     omega (arith, few, length-map x.1.items record_view)
+
+pub each_holds : (P : RecordList → Type 0) (lists : List (ℕ × Vec Record)) → All P (list_views lists) → All (λ (list : ℕ × Vec Record). P (list_view list)) lists
+each_holds P lists all = λ k d lt. list_holds P lists lists k (get_or lists k d) d refl lt all refl

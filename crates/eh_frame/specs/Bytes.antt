@@ -21,7 +21,7 @@ use Rattle.lk_tables.specs.Files.{File, section_total}
 use Rattle.lk_tables.specs.FramePlans.{PlanView}
 use Rattle.lk_tables.specs.Frames.{IsRecordWithin, RecordList, record_at}
 use Rattle.lk_tables.specs.Sites.{contents_at, place_of}
-use Rattle.lk_tables.specs.Targets.{target_of}
+use Rattle.lk_tables.specs.Targets.{spot_of}
 pub use Rattle.lk_tables.specs.Walks.{reloc_defect}
 use Rattle.link_sections.specs.declared.targets.Target.{Target}
 use Rattle.link_sections.specs.Addresses.{target_address}
@@ -79,7 +79,7 @@ pub record IsKnown (files : List File) (lists : List RecordList) (number : Frame
 
 module _ (files : List File) (b : Bindings) (leaders : List (Option ℕ)) (laid : LaidOut) where
   unfoldable pub reloc_target : (f : ℕ) → Reloc → Target
-  reloc_target f r = piece_target laid.merging.merged (target_of files b f r)
+  reloc_target f r = piece_target laid.merging.merged (spot_of files b f r)
 
   -- S + A of relocation r of file f
   unfoldable pub sum_in : (f : ℕ) → Reloc → ℤ

@@ -6,5 +6,6 @@ pub mod Owners
 pub mod Plan
 pub mod RecordChecks
 pub mod Sections
+pub mod Shares
 pub mod TableLaws
 pub mod Uses

@@ -1,11 +1,12 @@
--- The lists of FDEs by section, one record and one list more.
-use Rattle.std.specs.Prelude.{ℕ, Option, Some, None, List, [], ◌∷◌, ◌++◌, length, if◌then◌else◌, slice_index_or, slice_set}
+-- The functions of the records of a list, and the lists of FDEs by section, one record and one list more.
+use Rattle.std.specs.Prelude.{ℕ, Option, Some, None, List, [], ◌∷◌, ◌++◌, length, map, if◌then◌else◌, slice_index_or, slice_set}
 use Rattle.std.specs.List.{range_with_len}
 use Rattle.lk_tables.specs.Binding.{Bindings}
 use Rattle.lk_tables.specs.Files.{File}
 use Rattle.lk_tables.specs.Targets.{is_gone}
 use Rattle.lk_tables.specs.declared.records.FrameNo.{FrameNo}
-use Rattle.lk_tables.specs.Frames.{RecordList, frame_no, owner_at}
+use Rattle.lk_tables.specs.Frames.{RecordList, frame_no, owner_at, owner_in}
+use Rattle.lk_tables.specs.Sites.{place_of}
 
 -- an FDE added to the list of a section
 abbrev pub with_frame : Option ℕ → FrameNo → List (List FrameNo) → List (List FrameNo)
@@ -13,6 +14,10 @@ with_frame None frame lists = lists
 with_frame (Some a) frame lists = slice_set lists a (slice_index_or lists a [] ++ (frame ∷ []))
 
 module _ (files : List File) (b : Bindings) where
+  -- the sections whose functions the records of a list are for, record by record
+  abbrev pub owners_in : RecordList → List (Option ℕ)
+  owners_in l = map (owner_in files b (place_of files l.section).file) l.records
+
   -- the records of these numbers of a list added
   abbrev pub with_records : RecordList → List ℕ → List (List FrameNo) → List (List FrameNo)
   with_records l [] lists = lists

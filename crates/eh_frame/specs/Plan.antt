@@ -12,7 +12,7 @@ use Rattle.lk_tables.specs.Binding.{Bindings}
 use Rattle.lk_tables.specs.Files.{File}
 use Rattle.lk_tables.specs.FramePlans.{PlanView}
 use Rattle.lk_tables.specs.Sites.{contents_at, place_of}
-use Rattle.lk_tables.specs.Targets.{target_of}
+use Rattle.lk_tables.specs.Targets.{spot_of}
 use Rattle.link_sections.specs.declared.targets.Target.{Target}
 use Rattle.link_sections.specs.declared.targets.Target.TheVariants as targets
 use Rattle.link_sections.specs.Leaders.{leads}
@@ -83,7 +83,7 @@ module _ (files : List File) (b : Bindings) (merged : List (Option Merged)) wher
 
   -- a relocation of a CIE of file f that starts at an offset; RELAX names no symbol
   unfoldable pub reloc_in : (f from : ℕ) → Reloc → CieReloc
-  reloc_in f from r = if names_a_symbol r.kind then with_target from r (piece_target merged (target_of files b f r))
+  reloc_in f from r = if names_a_symbol r.kind then with_target from r (piece_target merged (spot_of files b f r))
       else record { offset = r.offset - from; kind = r.kind; target = None; addend = pos 0 }
 
   -- a CIE of a section

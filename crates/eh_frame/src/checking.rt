@@ -1,6 +1,6 @@
 //! What is wrong with the values of the relocations of records.
 
-ghost use Rattle.std.specs.Prelude.{◌≡◌, ◌+◌, ◌^◌, ◌≤◌, ◌<◌, ◌≤ℤ◌, true, length, pos, [], ◌∷◌, Some, flat_map, IfOk};
+ghost use Rattle.std.specs.Prelude.{◌≡◌, ◌+◌, ◌-◌, ◌^◌, ◌≤◌, ◌<◌, ◌≤ℤ◌, true, length, pos, [], ◌∷◌, Some, take, drop, flat_map, IfOk};
 ghost use Rattle.std.specs.List.{All};
 ghost use Rattle.lk_base.specs.Firsts.{IsFirst};
 ghost use Rattle.lk_base.specs.Reaches.{any};
@@ -13,18 +13,108 @@ ghost use Rattle.eh_frame.specs.declared.placing.Placed.{Placed as PlacedOf};
 
 use crate::lookups::{list_near, record_near};
 use crate::placing::Placed;
+use crate::sharing::{pieces_of, run_of};
 use crate::values::value_in;
 use link_sections::View;
 use lk_base::kinds::{ODD, RANGE};
 use lk_base::relocations::{Rule, kind_of};
-use lk_base::{Defect, DefectKind, Misfit, low_bits};
+use lk_base::{Defect, DefectKind, LinkStop, Misfit, low_bits};
 use lk_tables::{Frames, Reloc, SectionPlace};
 use rv_code::fits;
 use std::alloc::{AllocError, Global};
+use std::ops::Range;
+use std::thread::Threads;
+use work_split::{Gate, over_shares};
 
-/// The first defect of a relocation of some records, in order of file, section and offset, if `.eh_frame` stands at an address. Only where
-/// there is one the records are put into this order.
-pub fn first_defect(
+/// The first defect of a relocation of some records, in order of file, section and offset, if `.eh_frame` stands at an address. The records
+/// are shared among so many workers; only where there is a defect they are put into this order.
+pub fn first_defect<R: Threads + Sync, G: Gate>(
+    rt: &R,
+    alloc: Global,
+    view: &View,
+    frames: &Frames,
+    start: u64,
+    placed: &[Placed],
+    workers: u32,
+    gate: &G,
+) -> Result<Option<Defect>, AllocError>
+    requires some { 1 ≤ workers }
+    requires most { workers ≤ 64 }
+    requires order { AreInOrder (lists_of frames.now) }
+    requires known { All (λ (p : PlacedOf). spec.IsKnown (files_in view.now) (lists_of frames.now) p.number) placed.now }
+    ensures { IfOk result (IsFirst (flat_map (spec.placed_defects (files_in view.now) (binding_in view.now) (leaders_in view.now) (laid_in view.now) (lists_of frames.now) start) (spec.placed_order placed.now))) }
+{
+    let fit = all_fit(rt, alloc, view, frames, start, placed, workers, gate)?;
+    if fit {
+        return Ok(None);
+    }
+    first_by_place(alloc, view, frames, start, placed)
+}
+
+/// Whether it is known that all values of some records fit. Each worker tests those of a run of them, and stops at the first that does not.
+fn all_fit<R: Threads + Sync, G: Gate>(
+    rt: &R,
+    alloc: Global,
+    view: &View,
+    frames: &Frames,
+    start: u64,
+    placed: &[Placed],
+    workers: u32,
+    gate: &G,
+) -> Result<bool, AllocError>
+    requires some { 1 ≤ workers }
+    requires most { workers ≤ 64 }
+    requires order { AreInOrder (lists_of frames.now) }
+    requires known { All (λ (p : PlacedOf). spec.IsKnown (files_in view.now) (lists_of frames.now) p.number) placed.now }
+    ensures { IfOk result (λ fit. fit ≡ true → flat_map (spec.placed_defects (files_in view.now) (binding_in view.now) (leaders_in view.now) (laid_in view.now) (lists_of frames.now) start) placed.now ≡ []) }
+{
+    let pieces = pieces_of(alloc, placed.len(), workers)?;
+    let checked = over_shares(
+        rt,
+        alloc,
+        gate,
+        pieces.as_slice(),
+        |piece: Range<usize>| -> Result<Vec<()>, LinkStop>
+            requires ordered { piece.start ≤ piece.end }
+            requires within { piece.end ≤ length placed.now }
+            requires order { AreInOrder (lists_of frames.now) }
+            requires known { All (λ (p : PlacedOf). spec.IsKnown (files_in view.now) (lists_of frames.now) p.number) placed.now }
+            ensures { IfOk result (λ _. flat_map (spec.placed_defects (files_in view.entry.now) (binding_in view.entry.now) (leaders_in view.entry.now) (laid_in view.entry.now) (lists_of frames.entry.now) start) (take (piece.end - piece.start) (drop piece.start placed.entry.now)) ≡ []) }
+        { check_run(alloc, view, frames, start, placed, piece) },
+    );
+    match checked {
+        Ok(_) => Ok(true),
+        Err(stop) => match stop {
+            LinkStop::Defect(_) => Ok(false),
+            LinkStop::Memory => Err(AllocError),
+        },
+    }
+}
+
+/// Nothing, or the first defect of a run of records.
+fn check_run(
+    alloc: Global,
+    view: &View,
+    frames: &Frames,
+    start: u64,
+    placed: &[Placed],
+    piece: Range<usize>,
+) -> Result<Vec<()>, LinkStop>
+    requires ordered { piece.start ≤ piece.end }
+    requires within { piece.end ≤ length placed.now }
+    requires order { AreInOrder (lists_of frames.now) }
+    requires known { All (λ (p : PlacedOf). spec.IsKnown (files_in view.now) (lists_of frames.now) p.number) placed.now }
+    ensures { IfOk result (λ _. flat_map (spec.placed_defects (files_in view.now) (binding_in view.now) (leaders_in view.now) (laid_in view.now) (lists_of frames.now) start) (take (piece.end - piece.start) (drop piece.start placed.now)) ≡ []) }
+{
+    let own = run_of(placed, piece.start, piece.end);
+    if let Some(defect) = first_in(view, frames, start, own) {
+        return Err(LinkStop::Defect(defect));
+    }
+    Ok(Vec::new(alloc))
+}
+
+/// The first defect of a relocation of some records, which are put in order of file, section and offset.
+fn first_by_place(
     alloc: Global,
     view: &View,
     frames: &Frames,
@@ -35,11 +125,8 @@ pub fn first_defect(
     requires known { All (λ (p : PlacedOf). spec.IsKnown (files_in view.now) (lists_of frames.now) p.number) placed.now }
     ensures { IfOk result (IsFirst (flat_map (spec.placed_defects (files_in view.now) (binding_in view.now) (leaders_in view.now) (laid_in view.now) (lists_of frames.now) start) (spec.placed_order placed.now))) }
 {
-    let Some(_) = first_in(view, frames, start, placed) else {
-        return Ok(None);
-    };
     let mut ordered = placed.to_vec(alloc)?;
-    ordered.sort_by_key(|record| order_of(record))?;
+    ordered.sort_by_key(|unwind_record| order_of(unwind_record))?;
     Ok(first_in(view, frames, start, ordered.as_slice()))
 }
 

@@ -13,7 +13,7 @@ ghost use Rattle.lk_tables.specs.RecordViews.{record_view};
 use link_sections::{Pools, Target};
 use lk_base::relocations::names_a_symbol;
 use lk_base::{FileNo, SecNo};
-use lk_tables::{Binding, Record, Reloc, Tables, contents_of, target_in};
+use lk_tables::{Binding, Record, Reloc, Tables, contents_of, spot_in};
 use std::alloc::{AllocError, Global};
 
 /// A relocation of a CIE.
@@ -62,15 +62,15 @@ fn first_bytes(bytes: &[u8], count: u64) -> &[u8]
 }
 
 /// All bytes of a record.
-pub fn record_bytes<'a>(tables: &Tables<'a>, section: SecNo, record: &Record) -> &'a [u8]
+pub fn record_bytes<'a>(tables: &Tables<'a>, section: SecNo, unwind_record: &Record) -> &'a [u8]
     requires section { section < section_total (files_of tables.now) }
-    requires small { record.now.len + 4 < 2 ^ 64 }
-    ensures { result.now ≡ take (4 + record.now.len) (drop record.now.from (contents_at (files_of tables.now) section)) }
+    requires small { unwind_record.now.len + 4 < 2 ^ 64 }
+    ensures { result.now ≡ take (4 + unwind_record.now.len) (drop unwind_record.now.from (contents_at (files_of tables.now) section)) }
 {
     part(
         section_bytes(tables, section),
-        record.from,
-        record.len.saturating_add(4),
+        unwind_record.from,
+        unwind_record.len.saturating_add(4),
     )
 }
 
@@ -96,7 +96,7 @@ fn cie_reloc(
             addend: 0,
         };
     }
-    let target = pools.piece_target(target_in(tables, binding, file, reloc));
+    let target = pools.piece_target(spot_in(tables, binding, file, reloc));
     CieReloc {
         offset,
         kind: reloc.kind,

@@ -1,7 +1,7 @@
 //! What `.eh_frame` and `.eh_frame_hdr` hold.
 
-ghost use Rattle.std.specs.Prelude.{◌≡◌, ◌+◌, ◌-◌, ◌^◌, ◌<◌, ◌≤◌, ◌++◌, true, length, map, slice_index, take, drop, flat_map, vec_len, IfOk, OnOk};
-ghost use Rattle.std.specs.List.{All};
+ghost use Rattle.std.specs.Prelude.{◌≡◌, ◌==◌, ◌+◌, ◌-◌, ◌^◌, ◌<◌, ◌≤◌, ◌++◌, [], true, if◌then◌else◌, length, map, slice_index, take, drop, flat_map, vec_len, IfOk, OnOk};
+ghost use Rattle.std.specs.List.{All, range_with_len};
 ghost use Rattle.byteorder.specs.Endian.{little_bytes};
 ghost use Rattle.lk_base.specs.Firsts.{Goes};
 ghost use Rattle.lk_tables.specs.FramePlans.{plan_view};
@@ -10,7 +10,9 @@ ghost use Rattle.link_sections.specs.Views.{binding_in, files_in, laid_in, leade
 ghost use Rattle.eh_frame.specs.Bytes as spec;
 ghost use Rattle.eh_frame.specs.Header as headers;
 ghost use Rattle.eh_frame.specs.Plan.{plan_of};
+ghost use Rattle.eh_frame.specs.Shares as shares;
 ghost use Rattle.eh_frame.specs.declared.placing.Placed.{Placed as PlacedOf};
+ghost use Rattle.work_split.specs.Runs.{IsRun};
 
 use crate::checking::first_defect;
 use crate::cies::record_bytes;
@@ -18,16 +20,29 @@ use crate::header::header_bytes;
 use crate::lookups::{list_near, record_near};
 use crate::placing::{Placed, place};
 use crate::relocating::relocate_from;
+use crate::sharing::{pieces_of, run_of};
 use link_sections::View;
 use lk_base::LinkStop;
 use lk_tables::{FrameBytes, FramePlan, Frames};
 use std::alloc::{AllocError, Global};
+use std::ops::Range;
+use std::thread::Threads;
+use work_split::{Gate, over_shares};
 
 /// What `.eh_frame` and `.eh_frame_hdr` hold (LSB Core, "Exception Frames"), as long as the plan says: the CIEs, the FDEs, each with the distance
 /// to its CIE written anew, with their relocations done, and a Length of 0; and the table of the functions that have FDEs, in order of address.
-/// Both are empty where no FDE is written. A value that its relocation's field does not take is a defect, of kind Range; the first in order of
-/// file, section and offset is the answer. Else the only error is out of memory.
-pub fn write(alloc: Global, view: &View, plan: &FramePlan) -> Result<FrameBytes, LinkStop>
+/// Both are empty where no FDE is written. The records are shared among so many workers. A value that its relocation's field does not take is a
+/// defect, of kind Range; the first in order of file, section and offset is the answer. Else the only error is out of memory.
+pub fn write<R: Threads + Sync, G: Gate>(
+    rt: &R,
+    alloc: Global,
+    view: &View,
+    plan: &FramePlan,
+    workers: u32,
+    gate: &G,
+) -> Result<FrameBytes, LinkStop>
+    requires some { 1 ≤ workers }
+    requires most { workers ≤ 64 }
     requires lists { AreListsWithin (files_in view.now) (lists_of plan.now.frames.now) }
     requires plan { plan_view plan.now ≡ plan_of (files_in view.now) (binding_in view.now) (laid_in view.now).merging.merged (lists_of plan.now.frames.now) (leaders_in view.now) }
     ensures goes { Goes result (spec.frame_defects (files_in view.now) (binding_in view.now) (leaders_in view.now) (laid_in view.now) (lists_of plan.now.frames.now) (plan_view plan.now) (laid_in view.now).bounds.frames) }
@@ -37,13 +52,32 @@ pub fn write(alloc: Global, view: &View, plan: &FramePlan) -> Result<FrameBytes,
 {
     let starts = starts_of(view);
     let placed = place(alloc, plan, plan.frame_len)?;
-    let found = first_defect(alloc, view, plan.frames, starts.frames, placed.as_slice())?;
+    let found = first_defect(
+        rt,
+        alloc,
+        view,
+        plan.frames,
+        starts.frames,
+        placed.as_slice(),
+        workers,
+        gate,
+    )?;
     if let Some(defect) = found {
         return Err(LinkStop::Defect(defect));
     }
     let (cies, fdes) = placed.as_slice().split_at(plan.cies.len());
-    let frame = frame_bytes(alloc, view, plan, starts.frames, cies, fdes)?;
-    let header = header_bytes(alloc, view, plan.frames, starts, fdes)?;
+    let frame = frame_bytes(
+        rt,
+        alloc,
+        view,
+        plan,
+        starts.frames,
+        cies,
+        fdes,
+        workers,
+        gate,
+    )?;
+    let header = header_bytes(rt, alloc, view, plan.frames, starts, fdes, workers, gate)?;
     Ok(FrameBytes { frame, header })
 }
 
@@ -70,14 +104,19 @@ fn starts_of(view: &View) -> Starts
 
 /// What `.eh_frame` holds, if it stands at an address; nothing if there is no FDE.
 #[tactic(auto, unfolding(crate::specs::Bytes::frame_bytes))]
-fn frame_bytes(
+fn frame_bytes<R: Threads + Sync, G: Gate>(
+    rt: &R,
     alloc: Global,
     view: &View,
     plan: &FramePlan,
     start: u64,
     cies: &[Placed],
     fdes: &[Placed],
+    workers: u32,
+    gate: &G,
 ) -> Result<Vec<u8>, AllocError>
+    requires some { 1 ≤ workers }
+    requires most { workers ≤ 64 }
     requires order { AreInOrder (lists_of plan.now.frames.now) }
     requires cies_are { cies.now ≡ spec.placed_cies (lists_of plan.now.frames.now) (plan_view plan.now) }
     requires fdes_are { fdes.now ≡ spec.placed_fdes (lists_of plan.now.frames.now) (plan_view plan.now) }
@@ -86,22 +125,125 @@ fn frame_bytes(
     requires uses { length plan.now.uses.items ≡ length fdes.now }
     ensures { IfOk result (λ out. out.items ≡ spec.frame_bytes (files_in view.now) (binding_in view.now) (leaders_in view.now) (laid_in view.now) (lists_of plan.now.frames.now) (plan_view plan.now) start) }
 {
-    let mut out = Vec::with_capacity(alloc, plan.frame_len as usize)?;
     if plan.fdes.len() == 0 {
-        return Ok(out);
+        return Ok(Vec::new(alloc));
     }
-    push_cies(&mut out, view, plan.frames, start, cies)?;
-    push_fdes(
-        &mut out,
+    let mut out = records_bytes(
+        rt,
+        alloc,
         view,
         plan.frames,
         start,
         cies,
         fdes,
         plan.uses.as_slice(),
+        workers,
+        gate,
     )?;
     out.extend_from_slice(&[0, 0, 0, 0])?;
     Ok(out)
+}
+
+/// The bytes of some CIEs and, after them, of some FDEs, each with the number of its CIE. Each worker makes those of a run of the FDEs, and the
+/// first those of the CIEs, too.
+fn records_bytes<R: Threads + Sync, G: Gate>(
+    rt: &R,
+    alloc: Global,
+    view: &View,
+    frames: &Frames,
+    start: u64,
+    cies: &[Placed],
+    fdes: &[Placed],
+    uses: &[usize],
+    workers: u32,
+    gate: &G,
+) -> Result<Vec<u8>, AllocError>
+    requires some { 1 ≤ workers }
+    requires most { workers ≤ 64 }
+    requires order { AreInOrder (lists_of frames.now) }
+    requires known_cies { All (λ (p : PlacedOf). spec.IsKnown (files_in view.now) (lists_of frames.now) p.number) cies.now }
+    requires known_fdes { All (λ (p : PlacedOf). spec.IsKnown (files_in view.now) (lists_of frames.now) p.number) fdes.now }
+    requires count { length uses.now ≡ length fdes.now }
+    requires first { 0 < length fdes.now }
+    ensures { IfOk result (λ out. out.items ≡ flat_map (spec.cie_bytes (files_in view.now) (binding_in view.now) (leaders_in view.now) (laid_in view.now) (lists_of frames.now) start) cies.now ++ spec.fdes_bytes (files_in view.now) (binding_in view.now) (leaders_in view.now) (laid_in view.now) (lists_of frames.now) start cies.now fdes.now uses.now) }
+{
+    let pieces = pieces_of(alloc, fdes.len(), workers)?;
+    let made = over_shares(
+        rt,
+        alloc,
+        gate,
+        pieces.as_slice(),
+        |piece: Range<usize>| -> Result<Vec<u8>, LinkStop>
+            requires some { piece.start < piece.end }
+            requires within { piece.end ≤ length fdes.now }
+            requires order { AreInOrder (lists_of frames.now) }
+            requires known_cies { All (λ (p : PlacedOf). spec.IsKnown (files_in view.now) (lists_of frames.now) p.number) cies.now }
+            requires known_fdes { All (λ (p : PlacedOf). spec.IsKnown (files_in view.now) (lists_of frames.now) p.number) fdes.now }
+            requires count { length uses.now ≡ length fdes.now }
+            ensures { IsRun (shares.bytes_at (files_in view.entry.now) (binding_in view.entry.now) (leaders_in view.entry.now) (laid_in view.entry.now) (lists_of frames.entry.now) start cies.entry.now fdes.entry.now uses.entry.now) piece result }
+        { Ok(bytes_in(alloc, view, frames, start, cies, fdes, uses, piece)?) },
+    );
+    match made {
+        Ok(out) => Ok(out),
+        Err(_) => Err(AllocError),
+    }
+}
+
+/// The bytes of a run of FDEs, and of the CIEs before the first of all.
+fn bytes_in(
+    alloc: Global,
+    view: &View,
+    frames: &Frames,
+    start: u64,
+    cies: &[Placed],
+    fdes: &[Placed],
+    uses: &[usize],
+    piece: Range<usize>,
+) -> Result<Vec<u8>, AllocError>
+    requires some { piece.start < piece.end }
+    requires within { piece.end ≤ length fdes.now }
+    requires order { AreInOrder (lists_of frames.now) }
+    requires known_cies { All (λ (p : PlacedOf). spec.IsKnown (files_in view.now) (lists_of frames.now) p.number) cies.now }
+    requires known_fdes { All (λ (p : PlacedOf). spec.IsKnown (files_in view.now) (lists_of frames.now) p.number) fdes.now }
+    requires count { length uses.now ≡ length fdes.now }
+    ensures { IfOk result (λ out. out.items ≡ flat_map (shares.bytes_at (files_in view.now) (binding_in view.now) (leaders_in view.now) (laid_in view.now) (lists_of frames.now) start cies.now fdes.now uses.now) (range_with_len piece.start (piece.end - piece.start))) }
+{
+    let room = room_for(fdes, piece.start, piece.end);
+    let mut out = Vec::with_capacity(alloc, room)?;
+    let own = run_of(fdes, piece.start, piece.end);
+    let own_uses = run_of(uses, piece.start, piece.end);
+    push_first(&mut out, piece.start, view, frames, start, cies)?;
+    push_fdes(&mut out, view, frames, start, cies, own, own_uses)?;
+    Ok(out)
+}
+
+/// About how many bytes a run of FDEs has, with all that stands before it if it is the first.
+fn room_for(fdes: &[Placed], from: usize, to: usize) -> usize {
+    let mut first = 0;
+    if from != 0 {
+        first = offset_of(fdes, from);
+    }
+    let last = offset_of(fdes, to.saturating_sub(1));
+    (last.saturating_sub(first) as usize).saturating_add(256)
+}
+
+/// Adds the bytes of some CIEs, if a run of FDEs begins with the first.
+fn push_first(
+    out: &mut Vec<u8>,
+    from: usize,
+    view: &View,
+    frames: &Frames,
+    start: u64,
+    cies: &[Placed],
+) -> Result<(), AllocError>
+    requires order { AreInOrder (lists_of frames.now) }
+    requires known { All (λ (p : PlacedOf). spec.IsKnown (files_in view.now) (lists_of frames.now) p.number) cies.now }
+    ensures { OnOk result (out.new.items ≡ out.old.items ++ (if from == 0 then flat_map (spec.cie_bytes (files_in view.now) (binding_in view.now) (leaders_in view.now) (laid_in view.now) (lists_of frames.now) start) cies.now else [])) }
+{
+    if from == 0 {
+        push_cies(out, view, frames, start, cies)?;
+    }
+    Ok(())
 }
 
 /// Adds the bytes of some CIEs.

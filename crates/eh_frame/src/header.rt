@@ -1,6 +1,6 @@
 //! What `.eh_frame_hdr` holds: a table of the functions that have FDEs, in order of address.
 
-ghost use Rattle.std.specs.Prelude.{◌≡◌, ◌+◌, ◌^◌, ◌<◌, ◌≤ℤ◌, ◌+ℤ◌, ◌-ℤ◌, ◌++◌, pos, negsuc, unsigned_abs, length, map, flat_map, IfOk, OnOk};
+ghost use Rattle.std.specs.Prelude.{◌≡◌, ◌+◌, ◌-◌, ◌^◌, ◌<◌, ◌≤◌, ◌≤ℤ◌, ◌+ℤ◌, ◌-ℤ◌, ◌++◌, pos, negsuc, unsigned_abs, length, map, take, drop, flat_map, IfOk, OnOk};
 ghost use Rattle.std.specs.List.{All};
 ghost use Rattle.byteorder.specs.Endian.{little_bytes};
 ghost use Rattle.lk_base.specs.Order.{stable_order};
@@ -17,11 +17,15 @@ use crate::format::{
 use crate::lookups::{list_near, record_near};
 use crate::placing::Placed;
 use crate::reading::first_of;
+use crate::sharing::{pieces_of, run_of};
 use crate::values::sum_in;
 use link_sections::View;
-use lk_base::low_bits;
+use lk_base::{LinkStop, low_bits};
 use lk_tables::Frames;
 use std::alloc::{AllocError, Global};
+use std::ops::Range;
+use std::thread::Threads;
+use work_split::{Gate, over_shares};
 
 /// A line of the table.
 #[derive(Clone, Copy)]
@@ -30,18 +34,23 @@ struct Row {
     key: u128,
     /// The low 4 bytes of its address from the header's start on.
     function: u32,
-    /// Those of the address of its FDE.
+    /// The low 4 bytes of the address of its FDE from the header's start on.
     fde: u32,
 }
 
 /// The table of these FDEs; nothing if there is none.
-pub fn header_bytes(
+pub fn header_bytes<R: Threads + Sync, G: Gate>(
+    rt: &R,
     alloc: Global,
     view: &View,
     frames: &Frames,
     starts: Starts,
     fdes: &[Placed],
+    workers: u32,
+    gate: &G,
 ) -> Result<Vec<u8>, AllocError>
+    requires some { 1 ≤ workers }
+    requires most { workers ≤ 64 }
     requires order { AreInOrder (lists_of frames.now) }
     requires known { All (λ (p : PlacedOf). IsKnown (files_in view.now) (lists_of frames.now) p.number) fdes.now }
     ensures { IfOk result (λ out. out.items ≡ spec.table_of (files_in view.now) (binding_in view.now) (leaders_in view.now) (laid_in view.now) (lists_of frames.now) starts.header starts.frames fdes.now) }
@@ -51,7 +60,7 @@ pub fn header_bytes(
     }
     let mut out = Vec::with_capacity(alloc, fdes.len().saturating_mul(8).saturating_add(12))?;
     push_head(&mut out, starts, fdes.len())?;
-    let rows = rows_of(alloc, view, frames, starts, fdes)?;
+    let rows = rows_of(rt, alloc, view, frames, starts, fdes, workers, gate)?;
     push_rows(&mut out, rows.as_slice())?;
     Ok(out)
 }
@@ -83,20 +92,82 @@ fn push_rows(out: &mut Vec<u8>, rows: &[Row]) -> Result<(), AllocError>
 }
 
 /// The lines of some FDEs, in order of address and then of FDE.
-fn rows_of(
+fn rows_of<R: Threads + Sync, G: Gate>(
+    rt: &R,
     alloc: Global,
     view: &View,
     frames: &Frames,
     starts: Starts,
     fdes: &[Placed],
+    workers: u32,
+    gate: &G,
 ) -> Result<Vec<Row>, AllocError>
+    requires some { 1 ≤ workers }
+    requires most { workers ≤ 64 }
     requires order { AreInOrder (lists_of frames.now) }
     requires known { All (λ (p : PlacedOf). IsKnown (files_in view.now) (lists_of frames.now) p.number) fdes.now }
     ensures { IfOk result (λ rows. rows.items ≡ stable_order spec.row_key (map (spec.row_of (files_in view.now) (binding_in view.now) (leaders_in view.now) (laid_in view.now) (lists_of frames.now) starts.header starts.frames) fdes.now)) }
 {
-    let mut rows = Vec::with_capacity(alloc, fdes.len())?;
-    push_all(&mut rows, view, frames, starts, fdes)?;
+    let mut rows = all_rows(rt, alloc, view, frames, starts, fdes, workers, gate)?;
     rows.sort_by_key(|row| row.key)?;
+    Ok(rows)
+}
+
+/// The lines of some FDEs, in the order in which they are given. Each worker lists those of a run of them.
+fn all_rows<R: Threads + Sync, G: Gate>(
+    rt: &R,
+    alloc: Global,
+    view: &View,
+    frames: &Frames,
+    starts: Starts,
+    fdes: &[Placed],
+    workers: u32,
+    gate: &G,
+) -> Result<Vec<Row>, AllocError>
+    requires some { 1 ≤ workers }
+    requires most { workers ≤ 64 }
+    requires order { AreInOrder (lists_of frames.now) }
+    requires known { All (λ (p : PlacedOf). IsKnown (files_in view.now) (lists_of frames.now) p.number) fdes.now }
+    ensures { IfOk result (λ rows. rows.items ≡ map (spec.row_of (files_in view.now) (binding_in view.now) (leaders_in view.now) (laid_in view.now) (lists_of frames.now) starts.header starts.frames) fdes.now) }
+{
+    let pieces = pieces_of(alloc, fdes.len(), workers)?;
+    let listed = over_shares(
+        rt,
+        alloc,
+        gate,
+        pieces.as_slice(),
+        |piece: Range<usize>| -> Result<Vec<Row>, LinkStop>
+            requires ordered { piece.start ≤ piece.end }
+            requires within { piece.end ≤ length fdes.now }
+            requires order { AreInOrder (lists_of frames.now) }
+            requires known { All (λ (p : PlacedOf). IsKnown (files_in view.now) (lists_of frames.now) p.number) fdes.now }
+            ensures { IfOk result (λ rows. rows.items ≡ map (spec.row_of (files_in view.entry.now) (binding_in view.entry.now) (leaders_in view.entry.now) (laid_in view.entry.now) (lists_of frames.entry.now) starts.header starts.frames) (take (piece.end - piece.start) (drop piece.start fdes.entry.now))) }
+        { Ok(rows_in(alloc, view, frames, starts, fdes, piece)?) },
+    );
+    match listed {
+        Ok(rows) => Ok(rows),
+        Err(_) => Err(AllocError),
+    }
+}
+
+/// The lines of a run of FDEs.
+fn rows_in(
+    alloc: Global,
+    view: &View,
+    frames: &Frames,
+    starts: Starts,
+    fdes: &[Placed],
+    piece: Range<usize>,
+) -> Result<Vec<Row>, AllocError>
+    requires ordered { piece.start ≤ piece.end }
+    requires within { piece.end ≤ length fdes.now }
+    requires order { AreInOrder (lists_of frames.now) }
+    requires known { All (λ (p : PlacedOf). IsKnown (files_in view.now) (lists_of frames.now) p.number) fdes.now }
+    ensures { IfOk result (λ rows. rows.items ≡ map (spec.row_of (files_in view.now) (binding_in view.now) (leaders_in view.now) (laid_in view.now) (lists_of frames.now) starts.header starts.frames) (take (piece.end - piece.start) (drop piece.start fdes.now))) }
+{
+    let own = run_of(fdes, piece.start, piece.end);
+    let mut rows = Vec::with_capacity(alloc, own.len())?;
+    push_all(&mut rows, view, frames, starts, own)?;
     Ok(rows)
 }
 

@@ -5,17 +5,19 @@
 //! `format` has the names of the format, `numbers` reads numbers, `parts` finds parts of lists in order, `reading` reads one record after
 //! another, `strays` finds relocations that lie in none, and `sections` reads those of a section. `owners` finds the functions of the records
 //! of a link, `cies` what tells CIEs apart, and `planning` which records are written. `lookups` finds a record by its numbers, `placing` says
-//! where those that are written stand, `values` what their relocations put into their places, `checking` what is wrong with these values,
-//! `relocating` does the relocations of a record, `contents` and `header` give the bytes, and `standing` says what of all this stands in them.
+//! where those that are written stand, `sharing` cuts these into runs for workers, `values` has what their relocations put into their places,
+//! `checking` what is wrong with these values, `relocating` does the relocations of a record, `contents` and `header` give the bytes, and
+//! `standing` says what of all this stands in them.
 //!
 //! The records of a file are read by the worker that reads its body (`records` of link_driver). `checking` and `strays` find the first that
-//! is broken; the lists of all files come in order of section number, since workers read runs of files. Once names are bound, one walk
-//! notes each FDE under the section of its function (`owners`). Whoever follows the relocations of a section (`sec_graph`) follows those of
-//! its FDEs and their CIEs too. Once leaders are known, one walk takes the FDEs of leaders, and the CIE of each as a row of bytes in a
-//! table of those that came before, so that equal ones are one (`planning`, `cies`). The layout asks for no more than how many bytes they
-//! have. After the layout the values of their relocations are tested (`checking`), and their bytes are made in one go (`contents`,
-//! `header`), before those of the executable, which copies them. Where a value of theirs does not fit, the values of all relocations are
-//! tested too, and the first by section is reported (`frames` of link_driver). `records_stand` does nothing while a program runs: its
+//! is broken; the lists of all files come in order of section number, since workers read runs of files. Once names are bound, workers find
+//! which section each record's function is in, and one walk notes each FDE under that (`owners`). Whoever follows the relocations of a
+//! section (`sec_graph`) follows those of its FDEs and their CIEs too. Once leaders are known, one walk takes the FDEs of leaders, whose
+//! functions workers find again, and the CIE of each as a row of bytes in a table of those that came before, so that equal ones are one
+//! (`planning`, `cies`). The layout asks for no more than how many bytes they have. After the layout workers test the values of their
+//! relocations (`checking`), make their bytes (`contents`) and list their functions (`header`), each those of a run of the records that
+//! are written, before the bytes of the executable, which copies them. Where a value of theirs does not fit, the values of all relocations
+//! are tested too, and the first by section is reported (`frames` of link_driver). `records_stand` does nothing while a program runs: its
 //! clause says that the FDEs stand so in what was made (`standing`).
 #![tactic(auto)]
 
@@ -33,6 +35,7 @@ mod planning;
 mod reading;
 mod relocating;
 mod sections;
+mod sharing;
 mod standing;
 mod strays;
 mod values;

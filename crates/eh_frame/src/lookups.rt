@@ -40,7 +40,7 @@ pub fn record_near(frames: &Frames, number: FrameNo, list: usize) -> &Record
     record_of(frames, number)
 }
 
-/// The same, if the list at a place is its section's.
+/// The record of a number in the list at a place, if that list is its section's.
 #[tactic(auto, unfolding(lk_tables::specs::Frames::record_at))]
 fn record_of_list(frames: &Frames, number: FrameNo, list: usize) -> Option<&Record>
     requires { AreInOrder (lists_of frames.now) }

@@ -26,7 +26,7 @@ pub fn records_before(records: &[Record], offset: u64) -> usize
     ensures before { (k : ℕ) (d : RecordOf) → k < result → (slice_index_or records.now k d).from < offset }
     ensures next { (k : ℕ) (d : RecordOf) → result ≤ k → k < length records.now → offset ≤ (slice_index_or records.now k d).from }
 {
-    records.partition_point(|record| record.from < offset)
+    records.partition_point(|unwind_record| unwind_record.from < offset)
 }
 
 /// The relocations whose offsets lie in so many bytes, of relocations in order of offset.

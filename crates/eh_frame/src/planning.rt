@@ -1,26 +1,28 @@
 //! Which unwind records are written, and in which order.
 
-ghost use Rattle.std.specs.Prelude.{◌≡◌, ℕ, ◌+◌, ◌-◌, ◌*◌, ◌^◌, ◌<◌, ◌≤◌, ◌==◌, ◌++◌, [], ◌∷◌, None, not, if◌then◌else◌, length, min, slice_index_or, IfOk, OnOk};
+ghost use Rattle.std.specs.Prelude.{◌≡◌, ℕ, ◌+◌, ◌-◌, ◌*◌, ◌^◌, ◌<◌, ◌≤◌, ◌==◌, ◌++◌, [], ◌∷◌, None, not, if◌then◌else◌, length, map, min, slice_index_or, IfOk, OnOk};
 ghost use Rattle.std.specs.List.{list_any, position_or_len, sum_by};
 ghost use Rattle.lk_tables.specs.BindingView.{binding_view};
 ghost use Rattle.lk_tables.specs.FramePlans.{plan_view};
-ghost use Rattle.lk_tables.specs.Files.{section_total};
 ghost use Rattle.lk_tables.specs.Frames as frame_lists;
 ghost use Rattle.lk_tables.specs.RecordViews.{record_view};
 ghost use Rattle.lk_tables.specs.Sites.{place_of};
 ghost use Rattle.lk_tables.specs.TablesView.{files_of};
 ghost use Rattle.link_sections.specs.PoolViews.{merged_views};
 ghost use Rattle.eh_frame.specs.Laws.{IsPlanned, IsSmall};
+ghost use Rattle.eh_frame.specs.Owners.{owners_in};
 ghost use Rattle.eh_frame.specs.Plan as spec;
 ghost use Rattle.eh_frame.specs.Uses as steps;
 
 use crate::cies::cie_text;
-use crate::owners::owner_of;
+use crate::owners::{find_owners, owner_by, owners_at};
 use indexmap::IndexSet;
 use link_sections::{Pools, leads};
 use lk_base::SecNo;
 use lk_tables::{Binding, FrameNo, FramePlan, Frames, Record, Tables};
 use std::alloc::{AllocError, Global};
+use std::thread::Threads;
+use work_split::Gate;
 
 /// CIEs of which no two say the same, and the bytes that tell each from others.
 #[derive(Drop)]
@@ -38,16 +40,22 @@ struct Uses {
 }
 
 /// Which unwind records of a link are written, and in which order: the FDEs of functions in sections whose own bytes are written, and
-/// before them their CIEs, of which those that have the same bytes and stand for the same are one. The only error is out of memory.
+/// before them their CIEs, of which those that have the same bytes and stand for the same are one. So many workers find which functions the
+/// FDEs are for. The only error is out of memory.
 #[tactic(auto, unfolding(crate::specs::Plan::plan_of, crate::specs::Plan::written_cies))]
-pub fn plan<'t>(
+pub fn plan<'t, R: Threads + Sync, G: Gate>(
+    rt: &R,
     alloc: Global,
     tables: &Tables,
     binding: &Binding,
     pools: &Pools,
     frames: &'t Frames,
     leaders: &[Option<SecNo>],
+    workers: u32,
+    gate: &G,
 ) -> Result<FramePlan<'t>, AllocError>
+    requires some { 1 ≤ workers }
+    requires most { workers ≤ 64 }
     requires lists { frame_lists.lists_of frames.now ≡ frame_lists.all_lists (files_of tables.now) }
     requires within { frame_lists.AreListsWithin (files_of tables.now) (frame_lists.lists_of frames.now) }
     ensures plan { IfOk result (λ plan. plan_view plan ≡ spec.plan_of (files_of tables.now) (binding_view binding.now) (merged_views pools.now) (frame_lists.lists_of frames.now) leaders.now) }
@@ -56,7 +64,9 @@ pub fn plan<'t>(
     ensures small { IfOk result (λ plan. IsSmall (plan_view plan)) }
 {
     tables.is_few();
-    let Uses { fdes, uses, firsts } = find_uses(alloc, tables, binding, pools, frames, leaders)?;
+    let Uses { fdes, uses, firsts } = shared_uses(
+        rt, alloc, tables, binding, pools, frames, leaders, workers, gate,
+    )?;
     let Firsts {
         cies,
         texts: _texts,
@@ -73,7 +83,30 @@ pub fn plan<'t>(
     })
 }
 
-/// The FDEs that are written and the CIEs that they use.
+/// The FDEs that are written and the CIEs that they use. The workers find which functions the FDEs are for.
+fn shared_uses<R: Threads + Sync, G: Gate>(
+    rt: &R,
+    alloc: Global,
+    tables: &Tables,
+    binding: &Binding,
+    pools: &Pools,
+    frames: &Frames,
+    leaders: &[Option<SecNo>],
+    workers: u32,
+    gate: &G,
+) -> Result<Uses, AllocError>
+    requires some { 1 ≤ workers }
+    requires most { workers ≤ 64 }
+    requires within { frame_lists.AreListsWithin (files_of tables.now) (frame_lists.lists_of frames.now) }
+    ensures { IfOk result (steps.AreUses (spec.cie_key (files_of tables.now) (binding_view binding.now) (merged_views pools.now) (frame_lists.lists_of frames.now)) (spec.cie_no (frame_lists.lists_of frames.now)) (spec.written_fdes (files_of tables.now) (binding_view binding.now) (merged_views pools.now) (frame_lists.lists_of frames.now) leaders.now)) }
+{
+    let lists = frames.records.as_slice();
+    let found = find_owners(rt, alloc, tables, binding, lists, workers, gate)?;
+    let owners = found.as_slice();
+    find_uses(alloc, tables, binding, pools, frames, leaders, owners)
+}
+
+/// The FDEs that are written and the CIEs that they use, where it is known which functions the records of each list are for.
 fn find_uses(
     alloc: Global,
     tables: &Tables,
@@ -81,8 +114,10 @@ fn find_uses(
     pools: &Pools,
     frames: &Frames,
     leaders: &[Option<SecNo>],
+    owners: &[Vec<Option<SecNo>>],
 ) -> Result<Uses, AllocError>
-    requires { frame_lists.AreListsWithin (files_of tables.now) (frame_lists.lists_of frames.now) }
+    requires within { frame_lists.AreListsWithin (files_of tables.now) (frame_lists.lists_of frames.now) }
+    requires owners { map (λ (list : _). list.items) owners.now ≡ map (owners_in (files_of tables.now) (binding_view binding.now)) (frame_lists.lists_of frames.now) }
     ensures { IfOk result (steps.AreUses (spec.cie_key (files_of tables.now) (binding_view binding.now) (merged_views pools.now) (frame_lists.lists_of frames.now)) (spec.cie_no (frame_lists.lists_of frames.now)) (spec.written_fdes (files_of tables.now) (binding_view binding.now) (merged_views pools.now) (frame_lists.lists_of frames.now) leaders.now)) }
 {
     let mut found = no_uses(alloc);
@@ -96,6 +131,7 @@ fn find_uses(
             leaders,
             list.0,
             list.1.as_slice(),
+            owners_at(owners, number),
             &mut found,
         )?;
     }
@@ -125,9 +161,11 @@ fn push_section(
     leaders: &[Option<SecNo>],
     section: SecNo,
     records: &[Record],
+    owners: &[Option<SecNo>],
     found: &mut Uses,
 ) -> Result<(), AllocError>
-    requires { frame_lists.IsListWithin (files_of tables.now) (steps.list_in section records.now) }
+    requires list { frame_lists.IsListWithin (files_of tables.now) (steps.list_in section records.now) }
+    requires owners { owners.now ≡ owners_in (files_of tables.now) (binding_view binding.now) (steps.list_in section records.now) }
     ensures { OnOk result (steps.AddsList (files_of tables.now) (binding_view binding.now) (merged_views pools.now) leaders.now (steps.list_in section records.now) found.old found.new) }
 {
     if binding.is_discarded(section as usize) {
@@ -143,6 +181,7 @@ fn push_section(
             leaders,
             section,
             records,
+            owners,
             at,
             known.as_mut_slice(),
             found,
@@ -170,16 +209,26 @@ fn push_record(
     leaders: &[Option<SecNo>],
     section: SecNo,
     records: &[Record],
+    owners: &[Option<SecNo>],
     at: usize,
     known: &mut [Option<usize>],
     found: &mut Uses,
 ) -> Result<(), AllocError>
+    requires owners { owners.now ≡ owners_in (files_of tables.now) (binding_view binding.now) (steps.list_in section records.now) }
     requires list { frame_lists.IsListWithin (files_of tables.now) (steps.list_in section records.now) }
     requires at { at < length records.now }
     requires known { length known.old ≡ length records.now }
     ensures { OnOk result (steps.AddsRecord (files_of tables.now) (binding_view binding.now) (merged_views pools.now) leaders.now (steps.list_in section records.now) at known.old known.new found.old found.new) }
 {
-    let Some(cie) = used_cie(tables, binding, pools, leaders, section, &records[at]) else {
+    let Some(cie) = used_cie(
+        tables,
+        binding,
+        pools,
+        leaders,
+        section,
+        &records[at],
+        owner_by(owners, at),
+    ) else {
         return Ok(());
     };
     let number = number_of(
@@ -201,26 +250,26 @@ fn push_record(
     Ok(())
 }
 
-/// The number of the CIE of a record of a section, if that is an FDE that is written.
+/// The number of the CIE of a record of a section, which is for a function of a section, if that is an FDE that is written.
 fn used_cie(
     tables: &Tables,
     binding: &Binding,
     pools: &Pools,
     leaders: &[Option<SecNo>],
     section: SecNo,
-    record: &Record,
+    unwind_record: &Record,
+    owner: Option<SecNo>,
 ) -> Option<u32>
-    requires { section < section_total (files_of tables.now) }
-    ensures { result ≡ steps.used_cie (files_of tables.now) (binding_view binding.now) (merged_views pools.now) leaders.now (place_of (files_of tables.now) section).file (record_view record.now) }
+    requires { owner ≡ frame_lists.owner_in (files_of tables.now) (binding_view binding.now) (place_of (files_of tables.now) section).file (record_view unwind_record.now) }
+    ensures { result ≡ steps.used_cie (files_of tables.now) (binding_view binding.now) (merged_views pools.now) leaders.now (place_of (files_of tables.now) section).file (record_view unwind_record.now) }
 {
-    let file = tables.place_of(section).file;
-    let Some(owner) = owner_of(tables, binding, file, record) else {
+    let Some(owner) = owner else {
         return None;
     };
     if !is_in_place(pools, leaders, owner) {
         return None;
     }
-    record.cie
+    unwind_record.cie
 }
 
 /// Whether a section's own bytes are written: it leads itself, or it is merged, and they stand in a pool.

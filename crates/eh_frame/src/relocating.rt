@@ -2,19 +2,21 @@
 
 ghost use Rattle.std.specs.Prelude.{◌≡◌, ◌+◌, ◌-◌, ◌^◌, ◌≤◌, ◌<◌, ◌++◌, ◌≤ℤ◌, true, length, pos, take, drop};
 ghost use Rattle.std.specs.List.{All};
+ghost use Rattle.lk_base.specs.Formats.{field_of};
+ghost use Rattle.lk_base.specs.declared.relocations.Format.TheVariants.{Byte, Word};
 ghost use Rattle.lk_base.specs.RelocKinds.{FillsField, fills_field as spec_fills, kind_of as spec_kind};
 ghost use Rattle.lk_tables.specs.Files.{file_at};
 ghost use Rattle.lk_tables.specs.Records.{has_width};
 ghost use Rattle.lk_tables.specs.Relocations.{place_width};
 ghost use Rattle.link_sections.specs.Views.{binding_in, files_in, laid_in, leaders_in};
-ghost use Rattle.rv_code.specs.Places.{number_of};
+ghost use Rattle.rv_code.specs.Places.{number_of, patched};
 ghost use Rattle.eh_frame.specs.Bytes as spec;
 
 use crate::values::value_in;
 use byteorder::{ByteOrder, LittleEndian};
 use link_sections::View;
-use lk_base::FileNo;
-use lk_base::relocations::{fills_field, kind_of};
+use lk_base::relocations::{Format, fills_field, kind_of};
+use lk_base::{FileNo, low_bits};
 use lk_tables::{Record, Reloc};
 use rv_code::patch_bits;
 
@@ -103,5 +105,66 @@ fn fill_place(view: &View, file: FileNo, reloc: &Reloc, address: u128, place: &m
     let Some(v) = value_in(view, file, reloc, address as i128, held) else {
         return;
     };
-    patch_bits(reloc.kind, place, v);
+    put_value(reloc.kind, place, v);
+}
+
+/// Puts the bits of a value that its field has into a place. Most places are numbers that the value sets whole.
+fn put_value(kind: u32, place: &mut [u8], v: i128)
+    requires value { FillsField kind }
+    requires width { length place.old ≡ (spec_kind kind).width }
+    ensures { place.new ≡ patched (spec_kind kind).field v place.old }
+{
+    if place.len() == 4 {
+        put_word(kind, place, v);
+        return;
+    }
+    if place.len() == 1 {
+        put_byte(kind, place, v);
+        return;
+    }
+    patch_bits(kind, place, v);
+}
+
+/// Puts the bits of a value that its field has into a place of four bytes.
+fn put_word(kind: u32, place: &mut [u8], v: i128)
+    requires value { FillsField kind }
+    requires width { length place.old ≡ (spec_kind kind).width }
+    requires four { length place.old ≡ 4 }
+    ensures { place.new ≡ patched (spec_kind kind).field v place.old }
+{
+    if !is_word(kind) {
+        patch_bits(kind, place, v);
+        return;
+    }
+    let bits = low_bits(v);
+    place.copy_from_slice(&bits.to_le_bytes()[..4]);
+}
+
+/// Puts the bits of a value that its field has into a place of one byte.
+fn put_byte(kind: u32, place: &mut [u8], v: i128)
+    requires value { FillsField kind }
+    requires width { length place.old ≡ (spec_kind kind).width }
+    requires one { length place.old ≡ 1 }
+    ensures { place.new ≡ patched (spec_kind kind).field v place.old }
+{
+    if !is_byte(kind) {
+        patch_bits(kind, place, v);
+        return;
+    }
+    let bits = low_bits(v);
+    place.copy_from_slice(&bits.to_le_bytes()[..1]);
+}
+
+/// Whether the field of a kind is a number of four bytes.
+fn is_word(kind: u32) -> bool
+    ensures { result ≡ true → (spec_kind kind).field ≡ field_of Word }
+{
+    matches!(kind_of(kind).format, Format::Word)
+}
+
+/// Whether the field of a kind is a number of one byte.
+fn is_byte(kind: u32) -> bool
+    ensures { result ≡ true → (spec_kind kind).field ≡ field_of Byte }
+{
+    matches!(kind_of(kind).format, Format::Byte)
 }

@@ -221,7 +221,7 @@ fn entries_in_order(
     Ok(entries)
 }
 
-/// The same in file order.
+/// The entries of a relocation section, in file order.
 fn entries_of(
     alloc: Global,
     bytes: &[u8],

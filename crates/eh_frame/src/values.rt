@@ -8,14 +8,14 @@ ghost use Rattle.link_sections.specs.Sums.{addend_of};
 ghost use Rattle.link_sections.specs.Views.{binding_in, files_in, laid_in, leaders_in};
 ghost use Rattle.eh_frame.specs.Bytes as spec;
 
-use link_sections::{Target, View};
+use link_sections::{Target, View, piece_address, section_address, symbol_address};
 use lk_base::FileNo;
 use lk_base::relocations::{Calculation, fills_field, kind_of};
-use lk_tables::{Reloc, is_section_symbol, target_in};
-use symbol_addresses::{piece_address, section_address, symbol_address};
+use lk_tables::{Reloc, is_section_symbol, spot_in};
 
 /// S + A of a relocation of a file: the address of its symbol, and its addend. A SECTION symbol's addend chooses a byte of its section, which
-/// moves where the section loses bytes or is merged; of any other symbol the address alone is read.
+/// moves where the section loses bytes or is merged; of any other symbol the address alone is read. The first byte stands where the symbol does,
+/// so without an addend the symbol is not read.
 pub fn sum_in(view: &View, file: FileNo, reloc: &Reloc) -> i128
     requires file { file < length (files_in view.now) }
     requires live { (file_at (files_in view.now) file).live ≡ true }
@@ -23,6 +23,9 @@ pub fn sum_in(view: &View, file: FileNo, reloc: &Reloc) -> i128
     ensures low { negsuc (2 ^ 63) ≤ℤ result }
     ensures high { result ≤ℤ pos (2 ^ 67) }
 {
+    if reloc.addend == 0 {
+        return zero_sum(view, file, reloc);
+    }
     let symbol = view.tables.file(file).symbol(reloc.symbol as usize);
     if is_section_symbol(&symbol) {
         return target_sum(view, file, reloc, target_of(view, file, reloc));
@@ -30,11 +33,23 @@ pub fn sum_in(view: &View, file: FileNo, reloc: &Reloc) -> i128
     plain_sum(view, file, reloc)
 }
 
-/// The same where the symbol is no SECTION symbol.
+/// S + A of a relocation of a file whose symbol is no SECTION symbol.
 fn plain_sum(view: &View, file: FileNo, reloc: &Reloc) -> i128
     requires file { file < length (files_in view.now) }
     requires live { (file_at (files_in view.now) file).live ≡ true }
     requires plain { is_section_symbol (symbol_at (file_at (files_in view.now) file) reloc.now.symbol) ≡ false }
+    ensures value { result ≡ spec.sum_in (files_in view.now) (binding_in view.now) (leaders_in view.now) (laid_in view.now) file reloc.now }
+    ensures low { negsuc (2 ^ 63) ≤ℤ result }
+    ensures high { result ≤ℤ pos (2 ^ 67) }
+{
+    symbol_address(view, file, reloc.symbol) as i128 + reloc.addend as i128
+}
+
+/// S + A of a relocation of a file whose addend is 0, whatever its symbol is.
+fn zero_sum(view: &View, file: FileNo, reloc: &Reloc) -> i128
+    requires file { file < length (files_in view.now) }
+    requires live { (file_at (files_in view.now) file).live ≡ true }
+    requires zero { reloc.now.addend ≡ pos 0 }
     ensures value { result ≡ spec.sum_in (files_in view.now) (binding_in view.now) (leaders_in view.now) (laid_in view.now) file reloc.now }
     ensures low { negsuc (2 ^ 63) ≤ℤ result }
     ensures high { result ≤ℤ pos (2 ^ 67) }
@@ -49,7 +64,7 @@ fn target_of(view: &View, file: FileNo, reloc: &Reloc) -> Target
     ensures { result ≡ spec.reloc_target (files_in view.now) (binding_in view.now) (leaders_in view.now) (laid_in view.now) file reloc.now }
 {
     view.pools
-        .piece_target(target_in(view.tables, view.binding, file, reloc))
+        .piece_target(spot_in(view.tables, view.binding, file, reloc))
 }
 
 /// S + A by what a relocation stands for.

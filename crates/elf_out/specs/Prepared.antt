@@ -10,7 +10,7 @@ use Rattle.elf_out.specs.Ends.{AreEnds}
 use Rattle.elf_out.specs.Executable.{headers_with, names_bytes, table_bytes}
 use Rattle.elf_out.specs.Symbols.{SymbolTables}
 use Rattle.elf_out.specs.TablesView.{tables_if, tables_in}
-use Rattle.reloc_apply.specs.Image.{Piece, byte_over}
+use Rattle.reloc_apply.specs.Image.{Piece, byte_at}
 
 abbrev pub headers_in : View → Option SymbolTables → List ℕ
 headers_in view tables = headers_with (files_in view) (binding_in view) (leaders_in view) (laid_in view) tables
@@ -27,7 +27,11 @@ pub record IsPrepared (files : List File) (b : Bindings) (leaders : List (Option
 abbrev pub IsPreparedFor : View → Prepared → Type 0
 IsPreparedFor view prepared = IsPrepared (files_in view) (binding_in view) (leaders_in view) (laid_in view) (tables_in view) prepared
 
--- these pieces were laid over the part of a window from `start` on, where the window starts at the file offset `from`
-abbrev pub ShowsPart : (from start : ℕ) → (before after : List ℕ) → List Piece → Type 0
-ShowsPart from start before after pieces =
-    (k : ℕ) → k < length before → slice_index after k ≡ byte_over (slice_index before k) pieces (from + (start + k))
+-- a block that starts at the file offset `from` has the bytes of the file that these pieces make
+abbrev pub IsFilledFrom : (from : ℕ) → (before after : List ℕ) → List Piece → Type 0
+IsFilledFrom from before after pieces =
+    (length after ≡ length before) × ((i : ℕ) → i < length before → slice_index after i ≡ byte_at pieces (from + i))
+
+-- and so has the part from `start` on of a window that starts there
+abbrev pub IsPartFilled : (from start : ℕ) → (before after : List ℕ) → List Piece → Type 0
+IsPartFilled from start before after pieces = (k : ℕ) → k < length before → slice_index after k ≡ byte_at pieces (from + (start + k))

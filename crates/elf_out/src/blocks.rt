@@ -4,7 +4,7 @@ ghost use Rattle.std.specs.Prelude.{◌≡◌, ◌+◌, ◌*◌, ◌≤◌, ◌<
 ghost use Rattle.lk_base.specs.Firsts.{Passes};
 ghost use Rattle.link_sections.specs.Views.{binding_in, files_in, laid_in, leaders_in};
 ghost use Rattle.elf_out.specs.Executable as spec;
-ghost use Rattle.elf_out.specs.Prepared.{IsPreparedFor, ShowsPart};
+ghost use Rattle.elf_out.specs.Prepared.{IsFilledFrom, IsPartFilled, IsPreparedFor};
 ghost use Rattle.elf_out.specs.TablesView.{frame_contents, tables_in};
 ghost use Rattle.reloc_apply.specs.Image.{ShowsFrom};
 ghost use Rattle.reloc_apply.specs.Relocated.{relocation_defects, touching_defects};
@@ -84,13 +84,11 @@ pub fn fill_window<R: Threads + Sync, G: Gate>(
     ensures { window.new ≡ take (length window.old) (drop (65536 * k) (spec.executable (files_in view.now) (binding_in view.now) view.now.kept.now view.now.strip (leaders_in view.now) (laid_in view.now) (frame_contents frames.now))) }
 {
     is_short(view, prepared);
-    let from = BLOCK * k;
-    clear(window);
-    lay_blocks(rt, window, from, view, frames, prepared, gate);
+    fill_blocks(rt, window, BLOCK * k, view, frames, prepared, gate);
 }
 
-/// Lays everything over zeros that start at a file offset: each worker over one block of them. One block starts no thread.
-fn lay_blocks<R: Threads + Sync, G: Gate>(
+/// Fills a window that starts at a file offset: each worker one block of it. One block starts no thread.
+fn fill_blocks<R: Threads + Sync, G: Gate>(
     rt: &R,
     window: &mut [u8],
     from: u64,
@@ -101,10 +99,10 @@ fn lay_blocks<R: Threads + Sync, G: Gate>(
 )
     requires room { from + length window.old < 2 ^ 63 }
     requires prepared { IsPreparedFor view.now prepared.now }
-    ensures { ShowsFrom from window.old window.new (spec.pieces_with (files_in view.now) (binding_in view.now) (leaders_in view.now) (laid_in view.now) (frame_contents frames.now) (tables_in view.now)) }
+    ensures { IsFilledFrom from window.old window.new (spec.pieces_with (files_in view.now) (binding_in view.now) (leaders_in view.now) (laid_in view.now) (frame_contents frames.now) (tables_in view.now)) }
 {
     if window.len() <= BLOCK as usize {
-        lay(window, from, view, frames, prepared);
+        fill(window, from, view, frames, prepared);
         return;
     }
     thread::for_each_chunk_mut(
@@ -114,13 +112,13 @@ fn lay_blocks<R: Threads + Sync, G: Gate>(
         &|start: usize, part: &mut [u8]|
             requires room { from + start + length part.now < 2 ^ 63 }
             requires prepared { IsPreparedFor view.now prepared.now }
-            ensures { ShowsPart from start part.entry.now part.exit.now (spec.pieces_with (files_in view.entry.now) (binding_in view.entry.now) (leaders_in view.entry.now) (laid_in view.entry.now) (frame_contents frames.entry.now) (tables_in view.entry.now)) }
-        { lay_one(part, from, start, view, frames, prepared, gate) },
+            ensures { IsPartFilled from start part.entry.now part.exit.now (spec.pieces_with (files_in view.entry.now) (binding_in view.entry.now) (leaders_in view.entry.now) (laid_in view.entry.now) (frame_contents frames.entry.now) (tables_in view.entry.now)) }
+        { fill_part(part, from, start, view, frames, prepared, gate) },
     );
 }
 
-/// Lays one block of a window that starts at a file offset, between the two steps of its worker's gate.
-fn lay_one<G: Gate>(
+/// Fills one block of a window that starts at a file offset, between the two steps of its worker's gate.
+fn fill_part<G: Gate>(
     part: &mut [u8],
     from: u64,
     start: usize,
@@ -131,12 +129,22 @@ fn lay_one<G: Gate>(
 )
     requires room { from + start + length part.old < 2 ^ 63 }
     requires prepared { IsPreparedFor view.now prepared.now }
-    ensures { ShowsPart from start part.old part.new (spec.pieces_with (files_in view.now) (binding_in view.now) (leaders_in view.now) (laid_in view.now) (frame_contents frames.now) (tables_in view.now)) }
+    ensures { IsPartFilled from start part.old part.new (spec.pieces_with (files_in view.now) (binding_in view.now) (leaders_in view.now) (laid_in view.now) (frame_contents frames.now) (tables_in view.now)) }
 {
     let worker = (start as u64 / BLOCK % 0x1_0000_0000) as u32;
     gate.at(worker, 0);
-    lay(part, from + start as u64, view, frames, prepared);
+    fill(part, from + start as u64, view, frames, prepared);
     gate.at(worker, 1);
+}
+
+/// Fills a block that starts at a file offset: zeros, and everything laid over them.
+fn fill(block: &mut [u8], from: u64, view: &View, frames: &FrameBytes, prepared: &Prepared)
+    requires room { from + length block.old < 2 ^ 63 }
+    requires prepared { IsPreparedFor view.now prepared.now }
+    ensures { IsFilledFrom from block.old block.new (spec.pieces_with (files_in view.now) (binding_in view.now) (leaders_in view.now) (laid_in view.now) (frame_contents frames.now) (tables_in view.now)) }
+{
+    clear(block);
+    lay(block, from, view, frames, prepared);
 }
 
 /// Lays over a block that starts at a file offset the headers, over them the unwind records, over these the sections with their relocations

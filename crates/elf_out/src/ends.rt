@@ -30,7 +30,7 @@ pub struct Ends {
     pub end: u64,
 }
 
-/// Those of an executable; out of memory if no memory holds its names.
+/// Where the parts of an executable past its sections stand; out of memory if no memory holds its names.
 #[tactic(auto, unfolding(crate::specs::Executable::file_length, link_sections::specs::LaidOut::layout_view, link_sections::specs::LaidOut::with_contents))]
 pub fn ends_of(view: &View, tables: &Option<SymbolTables>) -> Result<Ends, AllocError>
     ensures { IfOk result (λ ends. AreEnds (laid_in view.now) (tables_if tables.now) ends) }

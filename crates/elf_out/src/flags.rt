@@ -22,7 +22,7 @@ fn flags_at(tables: &Tables, f: usize) -> Option<u32>
     Some(file.flags())
 }
 
-/// These flags, and those of one more file.
+/// The flags that were found, and those of one more file.
 fn with_flags(found: u32, own: Option<u32>) -> u32
     ensures { result ≡ fold (λ found own. bit_or found own) found (cons_option own []) }
 {

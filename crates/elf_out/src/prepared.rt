@@ -6,19 +6,21 @@ ghost use Rattle.lk_base.specs.Firsts.{Goes};
 ghost use Rattle.link_sections.specs.Views.{binding_in, files_in, laid_in, leaders_in};
 ghost use Rattle.elf_out.specs.Executable as spec;
 ghost use Rattle.elf_out.specs.Prepared.{IsPreparedFor, headers_in};
-ghost use Rattle.elf_out.specs.TablesView.{tables_if, tables_in};
+ghost use Rattle.elf_out.specs.TablesView.{entries_in, tables_if, tables_in};
 ghost use Rattle.reloc_apply.specs.Image.{piece, ShowsFrom};
 ghost use Rattle.reloc_apply.specs.Relocated.{relocation_defects};
+ghost use Rattle.symbol_table.specs.NamedViews.{named_views};
 
 use crate::ends::{Ends, ends_of};
 use crate::sections::{header_table, name_bytes};
 use crate::segments::headers_before;
-use crate::symbols::{SymbolTables, symtab};
+use crate::symbols::{SymbolTables, list_symbols, tables_from};
 use link_sections::View;
 use lk_base::LinkStop;
 use reloc_apply::{Piece, check_relocations, fill_piece};
 use std::alloc::{AllocError, Global};
 use std::thread::{Threads, join_mut};
+use symbol_table::Named;
 use work_split::{Gate, OpenGate};
 
 /// All that a file has beside the sections and the unwind records.
@@ -46,8 +48,9 @@ impl Prepared {
 }
 
 /// What is made of a file before its first block, or the first relocation of a section, in order of file, section and offset, that can't be
-/// done: so many workers test them all before a byte of the file is made, and find its symbols. With two workers or more another thread makes
-/// these parts meanwhile, since they do not need the test. Or it is out of memory; no block takes any.
+/// done: so many workers test them all before a byte of the file is made, and find its symbols. With two workers or more the symbols are listed
+/// first, and another thread brings them in order and makes these parts during the test, which they do not need. Or it is out of memory; no
+/// block takes any.
 pub fn prepare<R: Threads + Sync, G: Gate>(
     rt: &R,
     alloc: Global,
@@ -65,18 +68,9 @@ pub fn prepare<R: Threads + Sync, G: Gate>(
         let prepared = prepare_unchecked(rt, alloc, view, workers, gate)?;
         return Ok(prepared);
     }
-    let (checked, prepared) = join_mut(
-        rt,
-        &mut || -> Result<(), LinkStop>
-            requires { (1 ≤ workers) × (workers ≤ 64) }
-            ensures { Goes result (relocation_defects (files_in view.entry.now) (binding_in view.entry.now) (leaders_in view.entry.now) (laid_in view.entry.now)) }
-        { check_relocations(rt, alloc, view, workers, gate) },
-        &mut || -> Result<Prepared, AllocError>
-            requires { (1 ≤ workers) × (workers ≤ 64) }
-            ensures { IfOk result (IsPreparedFor view.entry.now) }
-        { prepare_unchecked(rt, alloc, view, workers, &OpenGate) },
-    );
-    // A relocation that can't be done is reported even where memory for the other parts has run out.
+    let mut entries = list_symbols(rt, alloc, view, workers, &OpenGate)?;
+    let (checked, prepared) = prepare_beside(rt, alloc, view, &mut entries, workers, gate);
+    // A relocation that can't be done is reported even where memory for the parts made meanwhile has run out.
     match checked {
         Ok(()) => {}
         Err(stop) => return Err(stop),
@@ -85,6 +79,35 @@ pub fn prepare<R: Threads + Sync, G: Gate>(
         Ok(prepared) => Ok(prepared),
         Err(_) => Err(LinkStop::Memory),
     }
+}
+
+/// Whether all relocations can be done, and what is made of a file before its first block, of the entries of its symbols. A thread each does
+/// both, since neither needs the other.
+fn prepare_beside<R: Threads + Sync, G: Gate>(
+    rt: &R,
+    alloc: Global,
+    view: &View,
+    entries: &mut Vec<Named>,
+    workers: u32,
+    gate: &G,
+) -> (Result<(), LinkStop>, Result<Prepared, AllocError>)
+    requires some { 1 ≤ workers }
+    requires most { workers ≤ 64 }
+    requires entries { named_views entries.old.items ≡ entries_in view.now }
+    ensures tested { Goes result.0 (relocation_defects (files_in view.now) (binding_in view.now) (leaders_in view.now) (laid_in view.now)) }
+    ensures prepared { IfOk result.1 (IsPreparedFor view.now) }
+{
+    join_mut(
+        rt,
+        &mut || -> Result<(), LinkStop>
+            requires { (1 ≤ workers) × (workers ≤ 64) }
+            ensures { Goes result (relocation_defects (files_in view.entry.now) (binding_in view.entry.now) (leaders_in view.entry.now) (laid_in view.entry.now)) }
+        { check_relocations(rt, alloc, view, workers, gate) },
+        &mut || -> Result<Prepared, AllocError>
+            requires { named_views entries.now.items ≡ entries_in view.now }
+            ensures { IfOk result (IsPreparedFor view.entry.now) }
+        { prepare_listed(rt, alloc, view, entries, workers) },
+    )
 }
 
 /// What is made of a file before its first block, whether its relocations can be done or not: none is tested here, and `block` then tests those
@@ -100,8 +123,23 @@ pub fn prepare_unchecked<R: Threads + Sync, G: Gate>(
     requires most { workers ≤ 64 }
     ensures { IfOk result (IsPreparedFor view.now) }
 {
+    let mut entries = list_symbols(rt, alloc, view, workers, gate)?;
+    prepare_listed(rt, alloc, view, &mut entries, workers)
+}
+
+/// What is made of a file before its first block, of the entries of its symbols, which are brought in order.
+fn prepare_listed<R: Threads + Sync>(
+    rt: &R,
+    alloc: Global,
+    view: &View,
+    entries: &mut Vec<Named>,
+    workers: u32,
+) -> Result<Prepared, AllocError>
+    requires { named_views entries.old.items ≡ entries_in view.now }
+    ensures { IfOk result (IsPreparedFor view.now) }
+{
     let outputs = view.layout.outputs.as_slice();
-    let tables = symtab(rt, alloc, view, workers, gate)?;
+    let tables = tables_from(rt, alloc, view, entries, workers)?;
     let ends = ends_of(view, &tables)?;
     let headers = headers_before(alloc, view, &tables, ends.table_at)?;
     let names = name_bytes(alloc, outputs, &tables)?;

@@ -14,10 +14,10 @@ use std::alloc::{AllocError, Global};
 
 /// The name of the section that has the names.
 const OWN_NAME: &[u8] = b".shstrtab";
-/// That of the symbol table.
+/// The name of the symbol table.
 const SYMBOLS_NAME: &[u8] = b".symtab";
 
-/// That of the names of its symbols.
+/// The name of the section that has the symbols' names.
 const STRINGS_NAME: &[u8] = b".strtab";
 /// The first section header is that of no section.
 const NULL_SECTION: SectionHeader = SectionHeader {
@@ -86,7 +86,7 @@ pub fn names_size(outputs: &[Output], tables: &Option<SymbolTables>) -> Result<u
     Ok(size)
 }
 
-/// Those beside the names of output sections.
+/// How many bytes the names beside those of output sections have.
 #[tactic(auto, unfolding(crate::specs::Headers::section_names, crate::specs::Headers::own_name, crate::specs::Headers::symbols_name, crate::specs::Headers::strings_name))]
 fn fixed_size(tables: &Option<SymbolTables>) -> u64
     ensures value { result ≡ length (spec.section_names [] (tables_if tables.now)) }
@@ -98,7 +98,7 @@ fn fixed_size(tables: &Option<SymbolTables>) -> u64
     }
 }
 
-/// These bytes, and those of one more name.
+/// How many bytes names have with one more.
 fn with_name(size: u64, name: &[u8]) -> Result<u64, AllocError>
     requires { size < 2 ^ 62 }
     ensures value { IfOk result (λ sum. sum ≡ size + (length name.now + 1)) }

@@ -13,12 +13,11 @@ use crate::flags::kept_flags;
 use crate::header_bytes::{offset_of, push_executable_header};
 use crate::symbols::SymbolTables;
 use elf_fields::{ProgramHeader, push_program_header};
-use link_sections::{Bounds, View};
+use link_sections::{Bounds, View, entry_address};
 use lk_base::abi::{
     IMAGE_BASE, PAGE, PF_R, PF_W, PF_X, PT_GNU_EH_FRAME, PT_GNU_STACK, PT_LOAD, PT_TLS,
 };
 use std::alloc::{AllocError, Global};
-use symbol_addresses::entry_address;
 
 /// The stack is read and written.
 const STACK: ProgramHeader = ProgramHeader {

@@ -11,8 +11,8 @@ use crate::numbers::word_at;
 use crate::sections::read_sections;
 use crate::symbols::read_symbols;
 use lk_base::ReadFault;
-use lk_tables::Head;
 use lk_tables::ehdr::E_FLAGS;
+use lk_tables::{Head, common_count};
 use std::alloc::Global;
 
 /// Reads the file header, the section table and the symbol table of a relocatable object for 64-bit RISC-V.
@@ -49,10 +49,12 @@ fn read(alloc: Global, bytes: &[u8]) -> Result<Head, ReadFault>
         sections.symtab,
         sections.index_table,
     )?;
+    let commons = common_count(symbols.as_slice());
     Ok(Head {
         flags: word_at(bytes, E_FLAGS),
         sections: sections.list,
         symtab: sections.symtab,
         symbols,
+        commons,
     })
 }

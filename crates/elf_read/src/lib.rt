@@ -7,9 +7,9 @@
 //! with the body, as a section's are. Of two relocations whose bytes overlap the flaw is at the later in order of offset, the least such.
 //!
 //! `numbers`, `entries` and `names` read at a place. `header` tests the file header, `sections` and `symbols` read the tables
-//! of a head, and `head` all of it; `magic` looks at its first bytes alone. `sound_file` is a file whose head is sound; `section_checks` and `symbol_checks` are what is
-//! asked of it before it is linked, `relocations` reads the entries of a relocation section, `rela_sections` one such section,
-//! `groups` one group, `section_bodies` all sections, and `body` the whole.
+//! of a head, and `head` all of it; `magic` looks at its first bytes alone. `sound_file` is a file whose head is sound; `section_checks` and
+//! `symbol_checks` are what is asked of it before it is linked, `relocations` reads the entries of a relocation section, `rela_sections` one
+//! such section, `groups` one group, `section_bodies` all sections, and `body` the whole.
 #![tactic(auto)]
 
 mod body;

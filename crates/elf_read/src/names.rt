@@ -56,7 +56,7 @@ pub fn span(from: usize, len: usize) -> Span
     }
 }
 
-/// The same by a search.
+/// How many bytes the name has that stands at an offset, by a search for its end.
 #[tactic(auto, unfolding(lk_tables::specs::Names::name_len))]
 fn search(bytes: &[u8], from: usize, size: usize, at: usize) -> Option<usize>
     requires { from + size ≤ length bytes.now }

@@ -188,7 +188,7 @@ fn linked_width(reloc: &Reloc) -> Option<u64>
     Some(place_width(reloc))
 }
 
-/// The same in a section of these contents: a ULEB128 number is as long as its bytes say.
+/// How many bytes a relocation changes in a section of these contents, if its kind is linked: a ULEB128 number is as long as its bytes say.
 #[tactic(auto, unfolding(lk_tables::specs::Relocations::width_of))]
 fn width_of(contents: &[u8], reloc: &Reloc) -> Option<u64>
     ensures { result ≡ read.width_of contents.now reloc.now }
@@ -269,7 +269,7 @@ fn check_rising(
     Err(flaw(BAD_RELOC, index, place))
 }
 
-/// The same checks of relocations in order of offset that stand in another order in the file.
+/// The checks of relocations that stand in another order in the file than that of offset, in which they are given.
 fn check_sorted(
     file: &SoundFile,
     index: u32,
@@ -313,7 +313,7 @@ fn check_rising_pairs(
     Err(flaw(BAD_ULEB, index, place))
 }
 
-/// The same checks of relocations in order of offset that stand in another order in the file.
+/// The checks of pairs among relocations that stand in another order in the file than that of offset, in which they are given.
 fn check_sorted_pairs(
     file: &SoundFile,
     index: u32,

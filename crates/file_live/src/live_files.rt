@@ -45,7 +45,7 @@ pub fn live<R: Threads + Sync, G: Gate>(
     live_by(rt, alloc, files, undefined, &names, workers, gate)
 }
 
-/// The same, by the numbers of the files' names.
+/// By number, whether a file takes part in the link, by the numbers of the files' names.
 fn live_by<R: Threads + Sync, G: Gate>(
     rt: &R,
     alloc: Global,

@@ -15,7 +15,8 @@ use Rattle.link_sections.specs.declared.got.GotUse.{GotUse}
 use Rattle.link_sections.specs.GotEntries.{AreUnlike, entry_of, key_of, use_of}
 use Rattle.link_sections.specs.Leaders.{leads}
 use Rattle.link_sections.proofs.GotSteps.{own_entry}
-use Rattle.got_tls.specs.GotList.{HasAllUses, Wanted, all_added, got_of, wanted, wanted_by, wanted_in, wanted_use}
+use Rattle.link_sections.specs.GotUses.{HasAllUses}
+use Rattle.got_tls.specs.GotList.{Wanted, all_added, got_of, wanted, wanted_by, wanted_in, wanted_use}
 use Rattle.got_tls.proofs.Adding.{added_append, all_are_added, any_append, asks}
 use Rattle.got_tls.proofs.UseKinds.{uses_are}
 

@@ -1,4 +1,5 @@
 mod Adding
 mod AllUses
 mod Keys
+mod NoUppers
 pub mod UseKinds

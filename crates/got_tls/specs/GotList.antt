@@ -1,8 +1,7 @@
 -- Which entries the linker's global offset table has (RISC-V ELF psABI, "Global Offset Table"): one for each symbol and use for which
 -- relocations ask of sections that lead themselves, in order of the first of these, and the words of each behind those of the one before.
-use Rattle.std.specs.Prelude.{◌≡◌, ℕ, ◌+◌, ◌<◌, Bool, true, Option, Some, None, is_some, if◌then◌else◌, List, [], ◌∷◌, flat_map, All}
+use Rattle.std.specs.Prelude.{ℕ, ◌+◌, Bool, Option, Some, None, if◌then◌else◌, List, [], ◌∷◌, flat_map}
 use Rattle.std.specs.List.{range_with_len}
-use Rattle.lk_base.specs.RelocKinds.{goes_by_got}
 use Rattle.lk_tables.specs.declared.objects.Reloc.{Reloc}
 use Rattle.lk_tables.specs.Files.{File, section_total}
 use Rattle.lk_tables.specs.Sites.{place_of, relocs_of}
@@ -10,7 +9,7 @@ use Rattle.link_sections.specs.declared.got.GotEntry.{GotEntry}
 use Rattle.link_sections.specs.declared.got.GotUse.{GotUse}
 use Rattle.link_sections.specs.declared.got.GotUse.TheVariants.{Address}
 use Rattle.link_sections.specs.Distinct.{distinct}
-use Rattle.link_sections.specs.GotEntries.{AreUnlike, entry_of, eq_keys, key_of, use_of, with_use, words_of}
+use Rattle.link_sections.specs.GotEntries.{eq_keys, key_of, use_of, with_use, words_of}
 use Rattle.link_sections.specs.Leaders.{leads}
 
 -- what a relocation asks of the table: the key of its symbol, and a use; and the symbol itself
@@ -55,14 +54,3 @@ got_of files leaders = numbered 0 (distinct same_wanted no_wanted (wanted files 
 abbrev pub all_added : List GotEntry → List Wanted → List GotEntry
 all_added entries [] = entries
 all_added entries (w ∷ ws) = all_added (with_use entries w.key w.usage w.file w.symbol) ws
-
--- what a relocation of section n asks for is there
-abbrev pub HasUse : List File → (n : ℕ) → List GotEntry → Reloc → Type 0
-HasUse files n entries r = (usage : GotUse) → use_of r.kind ≡ Some usage → is_some (entry_of entries (key_of files (place_of files n).file r.symbol) usage) ≡ true
-
--- each key and use has one entry at most; a kind of relocation has a use exactly if its value is computed from the table (RISC-V ELF psABI,
--- "Relocations": G); and each relocation that asks for one in a section that leads itself has its entry
-pub record HasAllUses (files : List File) (leaders : List (Option ℕ)) (entries : List GotEntry) : Type 0 where
-  pub unlike : AreUnlike entries
-  pub asked : (kind : ℕ) → is_some (use_of kind) ≡ goes_by_got kind
-  pub each : (n : ℕ) → n < section_total files → leads leaders n ≡ true → All (HasUse files n entries) (relocs_of files n)

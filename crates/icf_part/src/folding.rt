@@ -69,7 +69,8 @@ pub fn fold<R: Threads + Sync, G: Gate, L: Ledger>(
     )
 }
 
-/// The same where the numbers of all contents are known, and the items whose contents another has: these are folded among themselves.
+/// For each item the place of its leader, where the numbers of all contents are known, and the items whose contents another has: these are folded
+/// among themselves.
 fn fold_shared<R: Threads + Sync, G: Gate, L: Ledger>(
     rt: &R,
     alloc: Global,

@@ -1,10 +1,10 @@
 //! Folding of equal code: which sections can stand for one another.
 //!
-//! `sharing` sets apart the items whose contents another has; of texts it does so before there are items, so that a link makes no others. Rows of bytes are made by workers, one run of the items each (fewer than
-//! 16,384 items are one run), and numbered by a table of texts, as names are (`name_numbers`). `seeds` finds the classes
-//! that wait at first, `turns` gives a class its turn, `splitting` splits the others by it, `refining` goes on until none waits, and
-//! `steps` counts how many classes became two. A label that some of its items leave keeps its list of members, which is cleared of them in
-//! its turn: a list is read in that way once for each time that it was made.
+//! `sharing` sets apart the items whose contents another has; of texts it does so before there are items, so that a link makes no others. Rows
+//! of bytes are made by workers, one run of the items each (fewer than 16,384 items are one run), and numbered by a table of texts, as names
+//! are (`name_numbers`). `seeds` finds the classes that wait at first, `turns` gives a class its turn, `splitting` splits the others by it,
+//! `refining` goes on until none waits, and `steps` counts how many classes became two. A label that some of its items leave keeps its list of
+//! members, which is cleared of them in its turn: a list is read in that way once for each time that it was made.
 //!
 //! An item whose contents no other has leads itself, and no more of it is compared. The others are put into classes. At first a class has
 //! the items of one shape: equal bytes, headers and relocations, where a relocation that stands for another of them counts by its offset and

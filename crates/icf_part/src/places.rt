@@ -76,7 +76,7 @@ pub fn all_places<R: Threads + Sync, G: Gate>(
     }
 }
 
-/// Those of a run of items, as one part.
+/// The places for which the relocations of a run of items stand, as one part.
 fn places_of(
     alloc: Global,
     items: &[FoldItem],

@@ -15,7 +15,7 @@ pub fn sort_words(words: &mut Vec<u64>)
     sort_slice(words.as_mut_slice());
 }
 
-/// The same of a slice.
+/// Sorts the numbers of a slice.
 fn sort_slice(words: &mut [u64])
     ensures len { length words.new ≡ length words.old }
     ensures rising { IsRising words.new }

@@ -113,7 +113,7 @@ fn mark_at(shared: &[bool], a: usize) -> bool
     }
 }
 
-/// Those of some items, of a number for each.
+/// The numbers of chosen items, of a list with a number for each item.
 pub fn chosen_numbers(
     alloc: Global,
     numbers: &[u32],

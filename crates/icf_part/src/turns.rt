@@ -50,7 +50,7 @@ fn list_at(lists: &[Vec<u32>], number: u32) -> &[u32]
     lists[number as usize].as_slice()
 }
 
-/// Those of a list that have a label.
+/// The members of a list that have a label.
 fn members_of(
     alloc: Global,
     labels: &[u32],

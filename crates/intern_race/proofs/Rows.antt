@@ -80,6 +80,10 @@ row_passed rows i r lt counted from ends =
 pub row_found : (rows : List Row) (i r : ℕ) → r < length rows → AreCounted rows → length (row_texts (take r rows)) ≤ i → i - (row_at rows r).before < length (texts_in (row_at rows r).cut) → IsRowOf rows i r
 row_found rows i r lt counted from below = let before = counted r lt in record { within = lt; from = omega (arith, before, from); below = below }
 
+-- a text after text i that stands in the same row
+pub row_on : (rows : List Row) (i r k : ℕ) → IsRowOf rows i r → (i + k) - (row_at rows r).before < length (texts_in (row_at rows r).cut) → IsRowOf rows (i + k) r
+row_on rows i r k is below = let from = is.from in record { within = is.within; from = omega (arith, from); below = below }
+
 -- a text of bytes that are cut at ends
 pub cut_at : (bytes ends : List ℕ) (k : ℕ) → k < length ends → text_at (cut_texts bytes ends) k ≡ cut_text bytes ends k
 unfolding cut_texts
@@ -99,6 +103,11 @@ pub later_text : (singles : List (Bor (List ℕ))) (rows : List Row) (i : ℕ) �
 later_text singles rows i ge =
     let long = length-map singles (λ (text : Bor (List ℕ)). text.now) in
     get_or-append_right (lent_texts singles) (row_texts rows) i [] (omega (arith, long, ge)) ∙ ap (λ n. text_at (row_texts rows) (i - n)) long
+
+pub later_on : (singles : List (Bor (List ℕ))) (rows : List Row) (i k : ℕ) → length singles ≤ i → text_at (all_texts singles rows) (i + k) ≡ text_at (row_texts rows) ((i - length singles) + k)
+later_on singles rows i k ge =
+    let on : (i + k) - length singles ≡ (i - length singles) + k = omega (arith, ge) in
+    later_text singles rows (i + k) (omega (arith, ge)) ∙ ap (λ n. text_at (row_texts rows) n) on
 
 pub length-all : (singles : List (Bor (List ℕ))) (rows : List Row) → length (all_texts singles rows) ≡ length singles + length (row_texts rows)
 length-all singles rows =

@@ -81,8 +81,9 @@ impl<'a> Interner<'a> {
         open_with(alloc, texts, slots, row)
     }
 
-    /// The same. Another thread makes the row of empty slots that the table begins with, and this one meanwhile takes as much memory and gives it back, which is
-    /// where the table comes to lie: so each of both asks the system for half of what is new.
+    /// A table as of [`open`](Interner::open), made by two threads. Another thread makes the row of empty slots that the table begins with, and this
+    /// one meanwhile takes as much memory and gives it back, which is where the table comes to lie: so each of both asks the system for half of what
+    /// is new.
     pub fn open_beside<R: Threads + Sync>(
         rt: &R,
         alloc: Global,
@@ -121,8 +122,8 @@ impl<'a> Interner<'a> {
         self.place_hashed(seat, texts, i, hash_of(texts.text(i)), &[], number)
     }
 
-    /// The same, where the text's hash is known and the number of an equal text, if only its own. The bytes of a text that is met are read if it is neither of
-    /// these two and its tag is that of the hash or is not listed: `tags` are those of the first texts.
+    /// Places text `i`, where its hash is known and the number of an equal text, if only its own. The bytes of a text that is met are read if it is
+    /// neither of these two and its tag is that of the hash or is not listed: `tags` are those of the first texts.
     pub fn place_hashed(
         &self,
         seat: &mut InternSeat,

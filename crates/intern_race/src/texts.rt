@@ -1,6 +1,6 @@
 //! Texts by number.
 
-ghost use Rattle.std.specs.Prelude.{◌≡◌, ◌≢◌, ◌+◌, ◌-◌, ◌<◌, ◌≤◌, [], ◌∷◌, ◌++◌, length, take, drop, slice_index_or, IfOk, OnOk, OnErr};
+ghost use Rattle.std.specs.Prelude.{◌≡◌, ◌≢◌, ◌+◌, ◌-◌, ◌<◌, ◌≤◌, ◌^◌, [], ◌∷◌, ◌++◌, length, take, drop, slice_index_or, IfOk, OnOk, OnErr};
 ghost use Rattle.intern_race.specs.Texts.{AreCounted, cut_text, cut_texts, IsRowOf, lent_texts, row_texts, text_at, texts_in};
 ghost use Rattle.intern_race.specs.Texts as spec;
 
@@ -14,7 +14,7 @@ pub(crate) enum Cut<'a> {
     At(&'a [u8], &'a [u32]),
 }
 
-/// The same, with how many texts of rows are before them.
+/// Texts one after the other, with how many texts of rows are before them.
 #[derive(Clone, Copy, Debug)]
 pub(crate) struct Row<'a> {
     pub before: usize,
@@ -108,6 +108,39 @@ impl<'a> Texts<'a> {
         }
         text_in_rows(self.rows.as_slice(), self.notes.as_slice(), i - few)
     }
+
+    /// Texts `i` to `i + 3`. Where they stand in one row, that row is looked for once.
+    pub fn four(&self, i: usize) -> (&[u8], &[u8], &[u8], &[u8])
+        requires { i + 4 ≤ length self.now }
+        ensures first { result.0.now ≡ text_at self.now i }
+        ensures second { result.1.now ≡ text_at self.now (i + 1) }
+        ensures third { result.2.now ≡ text_at self.now (i + 2) }
+        ensures fourth { result.3.now ≡ text_at self.now (i + 3) }
+    {
+        let few = self.singles.len();
+        if i < few {
+            return (
+                self.text(i),
+                self.text(i + 1),
+                self.text(i + 2),
+                self.text(i + 3),
+            );
+        }
+        four_in_rows(self.rows.as_slice(), self.notes.as_slice(), i - few)
+    }
+
+    /// Reads where text `i` ends, if there are so many, so that this is at hand when the text is asked for. Nothing is known of the number.
+    pub fn warm(&self, i: usize) -> usize {
+        let few = self.singles.len();
+        if i < few {
+            return self.singles[i].len();
+        }
+        let at = i - few;
+        match self.notes.get(at / NOTED) {
+            Some(row) => end_in_row(self.rows.as_slice(), *row, at),
+            None => 0,
+        }
+    }
 }
 
 impl<'a> Texts<'a> {
@@ -154,7 +187,68 @@ fn text_in_rows<'a>(rows: &[Row<'a>], notes: &[usize], i: usize) -> &'a [u8]
     ensures { result.now ≡ text_at (row_texts rows.now) i }
 {
     let r = row_of(rows, notes, i);
+    text_of_row(rows, r, i)
+}
+
+// The same, if it stands in this row.
+fn text_of_row<'a>(rows: &[Row<'a>], r: usize, i: usize) -> &'a [u8]
+    requires rows { AreCounted rows.now }
+    requires row { IsRowOf rows.now i r }
+    ensures { result.now ≡ text_at (row_texts rows.now) i }
+{
     text_of(&rows[r].cut, i - rows[r].before)
+}
+
+// Texts `i` to `i + 3` of the rows.
+fn four_in_rows<'a>(
+    rows: &[Row<'a>],
+    notes: &[usize],
+    i: usize,
+) -> (&'a [u8], &'a [u8], &'a [u8], &'a [u8])
+    requires rows { AreCounted rows.now }
+    requires there { i + 4 ≤ length (row_texts rows.now) }
+    requires few { i + 4 < 2 ^ 64 }
+    ensures first { result.0.now ≡ text_at (row_texts rows.now) i }
+    ensures second { result.1.now ≡ text_at (row_texts rows.now) (i + 1) }
+    ensures third { result.2.now ≡ text_at (row_texts rows.now) (i + 2) }
+    ensures fourth { result.3.now ≡ text_at (row_texts rows.now) (i + 3) }
+{
+    let r = row_of(rows, notes, i);
+    let last = i + 3 - rows[r].before;
+    let count = texts_of(&rows[r].cut);
+    if last >= count {
+        return (
+            text_in_rows(rows, notes, i),
+            text_in_rows(rows, notes, i + 1),
+            text_in_rows(rows, notes, i + 2),
+            text_in_rows(rows, notes, i + 3),
+        );
+    }
+    (
+        text_of_row(rows, r, i),
+        text_of_row(rows, r, i + 1),
+        text_of_row(rows, r, i + 2),
+        text_of_row(rows, r, i + 3),
+    )
+}
+
+// Where text `i` of the rows ends, if it stands in this row.
+fn end_in_row(rows: &[Row], row: usize, i: usize) -> usize {
+    let Some(row) = rows.get(row) else {
+        return 0;
+    };
+    match row.cut {
+        Cut::Whole(_) => 0,
+        Cut::At(_, ends) => end_at(ends, i.wrapping_sub(row.before)),
+    }
+}
+
+// An end, if there are so many.
+fn end_at(ends: &[u32], k: usize) -> usize {
+    match ends.get(k) {
+        Some(end) => *end as usize,
+        None => 0,
+    }
 }
 
 // Text `k` of a row.

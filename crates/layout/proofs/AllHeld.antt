@@ -380,7 +380,7 @@ module _ (files : List File) (b : Bindings) (pools : List Pool) (words : ℕ) (l
       subst (λ a. IsHeld outputs_of (own it) a (new_offset (laid_cuts a (cuts_in sizes it)) (own it).size)) (sym start)
       (subst (λ c. IsHeld outputs_of (own c) m.start (new_offset (laid_cuts m.start (cuts_in sizes c)) (own c).size)) same (held k d lt)))
 
-  has_section : (n : ℕ) → n < section_total files → leads leaders n ≡ true → has_member (is_it (Section n)) (all_stands sizes (orders_of parts) bounds) ≡ true
+  pub has_section : (n : ℕ) → n < section_total files → leads leaders n ≡ true → has_member (is_it (Section n)) (all_stands sizes (orders_of parts) bounds) ≡ true
   has_section n lt leading =
       let s : InputSection = input_at files b n in
       let class : Class = kind_of s.sh_type s.flags in
@@ -388,7 +388,7 @@ module _ (files : List File) (b : Bindings) (pools : List Pool) (words : ℕ) (l
       (section_listed files b pools words leaders (item_of (is_section n) class) n lt leading
       (and_from (is_of class (section_item n s)) (n == n) (has_kind s.sh_type s.flags) (eq-eqb n n refl)))
 
-  has_pool : (p : ℕ) (d : Pool) → p < length pools → AreRising pools → (get_or pools p d).first < section_total files
+  pub has_pool : (p : ℕ) (d : Pool) → p < length pools → AreRising pools → (get_or pools p d).first < section_total files
       → has_member (is_it (IsPool p)) (all_stands sizes (orders_of parts) bounds) ≡ true
   has_pool p d below rise lt =
       let pool : Pool = get_or pools p d in
@@ -398,21 +398,21 @@ module _ (files : List File) (b : Bindings) (pools : List Pool) (words : ℕ) (l
       (pool_listed files b pools words leaders (item_of (is_pool p) class) p d below rise lt
       (and_from (is_of class (pool_item p pool.size s)) (p == p) (has_kind SHT_PROGBITS s.flags) (eq-eqb p p refl)))
 
-  has_table : has_member (is_it Got) (all_stands sizes (orders_of parts) bounds) ≡ true
+  pub has_table : has_member (is_it Got) (all_stands sizes (orders_of parts) bounds) ≡ true
   has_table =
       let class : Class = kind_of SHT_PROGBITS (SHF_WRITE + SHF_ALLOC) in
       item_stands is_table sizes parts bounds class
       (table_listed files b pools words leaders (item_of is_table class) (and_from (is_of class (got_item words)) true (has_kind SHT_PROGBITS (SHF_WRITE + SHF_ALLOC)) refl))
 
   -- what a layout has of its walk
-  record IsWalked (laid : LaidOut) : Type 0 where
-    outputs : laid.outputs ≡ outputs_of
-    starts : laid.starts ≡ final_stands.starts
-    pools_are : laid.pools ≡ final_stands.pools
-    got : laid.got ≡ final_stands.got
-    cuts : (n : ℕ) → n < section_total files → leads leaders n ≡ true → cuts_at laid n ≡ laid_cuts (start_at laid n) (get_or sizes n [])
+  pub record IsWalked (laid : LaidOut) : Type 0 where
+    pub outputs : laid.outputs ≡ outputs_of
+    pub starts : laid.starts ≡ final_stands.starts
+    pub pools_are : laid.pools ≡ final_stands.pools
+    pub got : laid.got ≡ final_stands.got
+    pub cuts : (n : ℕ) → n < section_total files → leads leaders n ≡ true → cuts_at laid n ≡ laid_cuts (start_at laid n) (get_or sizes n [])
 
-  get_any : (p : ℕ) (d : Pool) → p < length pools → get_or pools p none_at ≡ get_or pools p d
+  pub get_any : (p : ℕ) (d : Pool) → p < length pools → get_or pools p none_at ≡ get_or pools p d
   get_any p d lt = any_of pools p none_at d lt
     where
       any_of : (xs : List Pool) (i : ℕ) (c d : Pool) → i < length xs → get_or xs i c ≡ get_or xs i d
@@ -445,7 +445,7 @@ module _ (files : List File) (b : Bindings) (pools : List Pool) (words : ℕ) (l
         (subst (λ n. IsHeld outputs_of (got_item words) laid.got n) (whole_size (8 * words)) there);
   }
 
-  walked_by : IsWalked (laid_by leaders sizes (section_total files) bounds (trail_of sizes parts (orders_of parts) bounds (no_trail (section_total files) (length pools))))
+  pub walked_by : IsWalked (laid_by leaders sizes (section_total files) bounds (trail_of sizes parts (orders_of parts) bounds (no_trail (section_total files) (length pools))))
   unfolding laid_by
   walked_by =
       let total : ℕ = section_total files in

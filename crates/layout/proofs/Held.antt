@@ -190,7 +190,7 @@ from_members sizes P Q from to each c (row ∷ rows) le end fit all =
     All-cons Q (member_at sizes at row) (members_from sizes e rows) (each at row (All-head P row rows all) (omega (arith, le, here)) (omega (arith, more, end)))
     (from_members sizes P Q from to each e rows (omega (arith, le, here)) end (All-tail (RowFits sizes) row rows fit) (All-tail P row rows all))
 
-from_still : (P : Row → Type 0) (Q : Member → Type 0) → (start : ℕ) → ((row : Row) → P row → Q (still start row)) → (rows : List Row) → All P rows → All Q (members_still start rows)
+pub from_still : (P : Row → Type 0) (Q : Member → Type 0) → (start : ℕ) → ((row : Row) → P row → Q (still start row)) → (rows : List Row) → All P rows → All Q (members_still start rows)
 from_still P Q start each [] all = All-nil Q
 from_still P Q start each (row ∷ rows) all =
     All-cons Q (still start row) (members_still start rows) (each row (All-head P row rows all)) (from_still P Q start each rows (All-tail P row rows all))

@@ -36,3 +36,5 @@ pub mod OwnRows
 pub mod Groups
 pub mod Held
 pub mod AllHeld
+pub mod Powers
+pub mod AllAligned

@@ -1,15 +1,17 @@
 -- Where the output sections of a layout stand, within its bounds.
-use Rattle.std.specs.Prelude.{◌≡◌, ℕ, ◌+◌, ◌*◌, ◌%◌, ◌^◌, ◌<◌, ◌≤◌, nat_lt, IsTrue, Bool, true, false, not, List, [], ◌∷◌, ◌++◌, filter, All}
+use Rattle.std.specs.Prelude.{◌≡◌, ℕ, ◌+◌, ◌*◌, ◌%◌, ◌^◌, ◌<◌, ◌≤◌, nat_lt, IsTrue, Bool, true, false, not, Option, List, [], ◌∷◌, ◌++◌, filter, length, slice_index, slice_index_or, All}
 use Rattle.lk_base.specs.declared.abi.TheConstants.{EHDR_SIZE, IMAGE_BASE, PHDR_SIZE}
 use Rattle.lk_tables.specs.Binding.{Bindings}
-use Rattle.lk_tables.specs.Files.{File}
+use Rattle.lk_tables.specs.Files.{File, section_total}
 use Rattle.lk_tables.specs.declared.classes.Class.{Class}
 use Rattle.lk_tables.specs.declared.classes.Class.TheVariants.{R, Rx, TlsBits, TlsNobits, RwBits, RwNobits}
 use Rattle.link_sections.specs.declared.layouts.Bounds.{Bounds}
 use Rattle.link_sections.specs.declared.members.Content.TheVariants.{Section}
 use Rattle.link_sections.specs.declared.members.Member.{Member}
+use Rattle.link_sections.specs.declared.pools.Pool.{Pool}
 use Rattle.link_sections.specs.InputSections.{input_at}
-use Rattle.link_sections.specs.LaidOut.{LaidOut, OutputSection}
+use Rattle.link_sections.specs.LaidOut.{LaidOut, OutputSection, start_at}
+use Rattle.link_sections.specs.Leaders.{leads}
 use Rattle.layout.specs.Layout.{FrameSizes, count_of}
 
 -- the bounds in order: the classes one after the other, where RW bits starts with thread-local nobits; and the file and the image, which
@@ -120,3 +122,10 @@ pub record HaveZeros (laid : LaidOut) : Type 0 where
 pub record HaveAlignments (files : List File) (b : Bindings) (laid : LaidOut) : Type 0 where
   pub members : All (λ m. (n : ℕ) → m.content ≡ Section n → m.start % (input_at files b n).align ≡ 0) laid.members
   pub zeros : All (λ m. (n : ℕ) → m.content ≡ Section n → m.start % (input_at files b n).align ≡ 0) laid.zeros
+
+-- each section that leads itself starts at a multiple of its alignment, each pool at one of its first section's, and the table of words of eight
+-- bytes at one of 8; whether their output sections have bytes or not
+pub record StartAligned (files : List File) (b : Bindings) (pools : List Pool) (leaders : List (Option ℕ)) (laid : LaidOut) : Type 0 where
+  pub sections : (n : ℕ) → n < section_total files → leads leaders n ≡ true → start_at laid n % (input_at files b n).align ≡ 0
+  pub merged : (p : ℕ) (d : Pool) → p < length pools → slice_index laid.pools p % (input_at files b (slice_index_or pools p d).first).align ≡ 0
+  pub table : laid.got % 8 ≡ 0

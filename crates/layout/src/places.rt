@@ -14,11 +14,11 @@ use std::alloc::{AllocError, Global};
 /// The first addresses of the members of a link.
 #[derive(Debug, Drop)]
 pub struct Places {
-    /// Those of sections, by section number.
+    /// The addresses of sections, by section number.
     pub starts: Vec<u64>,
-    /// Those of pools.
+    /// The addresses of pools.
     pub pools: Vec<u64>,
-    /// That of the linker's global offset table.
+    /// The address of the linker's global offset table.
     pub got: u64,
     /// The cuts of the section that was placed last; they stand here for their room alone.
     pub cuts: Vec<Cut>,

@@ -15,7 +15,7 @@ ghost use Rattle.link_sections.specs.CutsView.{cut_views};
 ghost use Rattle.link_sections.specs.GotEntries.{word_count};
 ghost use Rattle.link_sections.specs.GotView.{entries_of};
 ghost use Rattle.link_sections.specs.LaidOut.{layout_view, with_contents};
-ghost use Rattle.link_sections.specs.PoolViews.{pools_view};
+ghost use Rattle.link_sections.specs.PoolViews.{pool_list, pools_view};
 ghost use Rattle.link_sections.specs.SizesView.{sizes_of};
 ghost use Rattle.link_sections.specs.Sound.{IsSound};
 ghost use Rattle.output_sections.specs.Items.{AreLeaders, HaveFirsts, IsSized, items};
@@ -23,7 +23,7 @@ ghost use Rattle.output_sections.specs.ItemViews.{items_view};
 ghost use Rattle.layout.specs.Holding.{AreHeld};
 ghost use Rattle.layout.specs.Layout as spec;
 ghost use Rattle.output_sections.specs.Order.{orders_of, rows_in};
-ghost use Rattle.layout.specs.Spots.{AreApart, AreRising, HasFrames, HaveAlignments, HaveSegments, HaveZeros, IsWithinClass, without_tls_zeros};
+ghost use Rattle.layout.specs.Spots.{AreApart, AreRising, HasFrames, HaveAlignments, HaveSegments, HaveZeros, IsWithinClass, StartAligned, without_tls_zeros};
 ghost use Rattle.layout.specs.Walk as walk;
 
 use crate::cut_rows::lay_rows;
@@ -57,20 +57,21 @@ pub fn place<'a>(
 ) -> Result<Layout<'a>, LinkStop>
     requires bound { IsBindingOf (files_of tables.now) (binding_view binding.now) }
     requires leaders { AreLeaders (files_of tables.now) (binding_view binding.now) leaders.now }
-    requires pools { HaveFirsts (files_of tables.now) (binding_view binding.now) pools.now.pools.items }
-    requires items { items_view sections.now.items.items ≡ items (files_of tables.now) (binding_view binding.now) pools.now.pools.items (word_count (entries_of got.now)) leaders.now }
+    requires pools { HaveFirsts (files_of tables.now) (binding_view binding.now) (pool_list pools.now) }
+    requires items { items_view sections.now.items.items ≡ items (files_of tables.now) (binding_view binding.now) (pool_list pools.now) (word_count (entries_of got.now)) leaders.now }
     requires sizes { spec.FitSizes (files_of tables.now) (binding_view binding.now) (sizes_of sizes.now) }
     requires small { spec.AreSmall (spec.frame_sizes frames.now) }
-    ensures goes { Goes result (spec.layout_defects limits.now (files_of tables.now) (spec.layout_of (files_of tables.now) (binding_view binding.now) pools.now.pools.items (word_count (entries_of got.now)) leaders.now (sizes_of sizes.now) (spec.frame_sizes frames.now))) }
-    ensures found { IfOk result (λ layout. layout_view layout ≡ spec.layout_of (files_of tables.now) (binding_view binding.now) pools.now.pools.items (word_count (entries_of got.now)) leaders.now (sizes_of sizes.now) (spec.frame_sizes frames.now)) }
+    ensures goes { Goes result (spec.layout_defects limits.now (files_of tables.now) (spec.layout_of (files_of tables.now) (binding_view binding.now) (pool_list pools.now) (word_count (entries_of got.now)) leaders.now (sizes_of sizes.now) (spec.frame_sizes frames.now))) }
+    ensures found { IfOk result (λ layout. layout_view layout ≡ spec.layout_of (files_of tables.now) (binding_view binding.now) (pool_list pools.now) (word_count (entries_of got.now)) leaders.now (sizes_of sizes.now) (spec.frame_sizes frames.now)) }
     ensures sound { IsWithinStandard limits.now → IfOk result (λ layout. IsSound (files_of tables.now) (binding_view binding.now) leaders.now (with_contents (layout_view layout) (pools_view (files_of tables.now) pools.now) (entries_of got.now))) }
     ensures within { IfOk result (λ layout. spec.IsWithin limits.now (layout_view layout)) }
     ensures rising { IfOk result (λ layout. AreRising layout.bounds) }
     ensures segments { IfOk result (λ layout. HaveSegments layout.bounds) }
     ensures apart { IfOk result (λ layout. AreApart layout.bounds.headers_end (without_tls_zeros (layout_view layout).outputs)) }
     ensures inside { IfOk result (λ layout. All (IsWithinClass layout.bounds) (layout_view layout).outputs) }
-    ensures held { IfOk result (λ layout. AreHeld (files_of tables.now) (binding_view binding.now) pools.now.pools.items (word_count (entries_of got.now)) leaders.now (layout_view layout)) }
+    ensures held { IfOk result (λ layout. AreHeld (files_of tables.now) (binding_view binding.now) (pool_list pools.now) (word_count (entries_of got.now)) leaders.now (layout_view layout)) }
     ensures aligned { IfOk result (λ layout. HaveAlignments (files_of tables.now) (binding_view binding.now) (layout_view layout)) }
+    ensures starts { IfOk result (λ layout. StartAligned (files_of tables.now) (binding_view binding.now) (pool_list pools.now) leaders.now (layout_view layout)) }
     ensures zeros { IfOk result (λ layout. HaveZeros (layout_view layout)) }
     ensures framed { IfOk result (λ layout. HasFrames (spec.frame_sizes frames.now) layout.bounds) }
 {
@@ -97,14 +98,14 @@ fn lay_out<'a>(
 ) -> Result<Layout<'a>, LinkStop>
     requires bound { IsBindingOf (files_of tables.now) (binding_view binding.now) }
     requires leaders { AreLeaders (files_of tables.now) (binding_view binding.now) leaders.now }
-    requires pools { HaveFirsts (files_of tables.now) (binding_view binding.now) pools.now.pools.items }
-    requires items { items_view sections.now.items.items ≡ items (files_of tables.now) (binding_view binding.now) pools.now.pools.items (word_count (entries_of got.now)) leaders.now }
+    requires pools { HaveFirsts (files_of tables.now) (binding_view binding.now) (pool_list pools.now) }
+    requires items { items_view sections.now.items.items ≡ items (files_of tables.now) (binding_view binding.now) (pool_list pools.now) (word_count (entries_of got.now)) leaders.now }
     requires sizes { spec.FitSizes (files_of tables.now) (binding_view binding.now) (sizes_of sizes.now) }
     requires small { spec.AreSmall (spec.frame_sizes frames.now) }
-    ensures goes { Goes result (spec.cut_defects (files_of tables.now) (spec.layout_of (files_of tables.now) (binding_view binding.now) pools.now.pools.items (word_count (entries_of got.now)) leaders.now (sizes_of sizes.now) (spec.frame_sizes frames.now)).cuts (section_total (files_of tables.now))) }
-    ensures found { IfOk result (λ layout. layout_view layout ≡ spec.layout_of (files_of tables.now) (binding_view binding.now) pools.now.pools.items (word_count (entries_of got.now)) leaders.now (sizes_of sizes.now) (spec.frame_sizes frames.now)) }
-    ensures sized { IfOk result (λ _. All IsSized (items (files_of tables.now) (binding_view binding.now) pools.now.pools.items (word_count (entries_of got.now)) leaders.now)) }
-    ensures room { IfOk result (λ _. spec.all_weight (orders_of (items (files_of tables.now) (binding_view binding.now) pools.now.pools.items (word_count (entries_of got.now)) leaders.now)) + 2 ^ 60 + 2 ^ 59 + 2 ^ 45 < 2 ^ 63) }
+    ensures goes { Goes result (spec.cut_defects (files_of tables.now) (spec.layout_of (files_of tables.now) (binding_view binding.now) (pool_list pools.now) (word_count (entries_of got.now)) leaders.now (sizes_of sizes.now) (spec.frame_sizes frames.now)).cuts (section_total (files_of tables.now))) }
+    ensures found { IfOk result (λ layout. layout_view layout ≡ spec.layout_of (files_of tables.now) (binding_view binding.now) (pool_list pools.now) (word_count (entries_of got.now)) leaders.now (sizes_of sizes.now) (spec.frame_sizes frames.now)) }
+    ensures sized { IfOk result (λ _. All IsSized (items (files_of tables.now) (binding_view binding.now) (pool_list pools.now) (word_count (entries_of got.now)) leaders.now)) }
+    ensures room { IfOk result (λ _. spec.all_weight (orders_of (items (files_of tables.now) (binding_view binding.now) (pool_list pools.now) (word_count (entries_of got.now)) leaders.now)) + 2 ^ 60 + 2 ^ 59 + 2 ^ 45 < 2 ^ 63) }
 {
     let (walked, bounds) = walk_sections(
         alloc,

@@ -153,7 +153,7 @@ pub(crate) fn generated_of(matches: &ArgMatches) -> Option<u32>
     matches.get_one::<u32>("self-input")
 }
 
-/// The same texts, owned.
+/// Owned copies of texts.
 fn owned(alloc: Global, texts: &[&str]) -> Result<Vec<String>, AllocError>
     ensures { IfOk result (λ strings. texts_of strings.items ≡ map (λ text. text.now) texts.now) }
 {

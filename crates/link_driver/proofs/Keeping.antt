@@ -9,7 +9,7 @@ use Rattle.lk_base.specs.RelocKinds.{goes_by_got}
 use Rattle.lk_base.specs.declared.abi.TheConstants.{STB_WEAK}
 use Rattle.lk_tables.specs.declared.bounds.Bound.{Bound}
 use Rattle.lk_tables.specs.declared.bounds.Bound.TheVariants.{InSection, Number, Linker, Nobody}
-use Rattle.lk_tables.specs.declared.bounds.Target.TheVariants as targets
+use Rattle.lk_tables.specs.declared.bounds.Spot.TheVariants as targets
 use Rattle.lk_tables.specs.declared.heads.Symbol.{Symbol}
 use Rattle.lk_tables.specs.declared.objects.Reloc.{Reloc}
 use Rattle.lk_tables.specs.declared.records.FrameNo.{FrameNo}
@@ -20,7 +20,7 @@ use Rattle.lk_tables.specs.Files.{AreFew, File, file_at, first_section, is_secti
 use Rattle.lk_tables.specs.Frames.{all_lists, frames_at}
 use Rattle.lk_tables.specs.Reach.{IsReach}
 use Rattle.lk_tables.specs.Sites.{IsPlaceOf, place_of}
-use Rattle.lk_tables.specs.Targets.{bound, entry_bound, target_by, target_of}
+use Rattle.lk_tables.specs.Targets.{bound, entry_bound, spot_by, spot_of}
 use Rattle.lk_tables.proofs.BoundHas.{each_flat, either, one_if}
 use Rattle.lk_tables.proofs.ByNumber.{length_by_section, read_by_section}
 use Rattle.lk_tables.proofs.Owners.{IsOwner, place_is, place_law}
@@ -82,7 +82,7 @@ none_stays : (files : List File) (b : Bindings) → AllStay files b []
 none_stays files b = All-nil (λ m. may_stay_at files b m ≡ true)
 
 -- that of a target
-target_stays : (files : List File) (b : Bindings) (found : Bound) (file : File) (s : Symbol) (r : Reloc) → Stays files b found → AllStay files b (section_in files b (target_by found file s r))
+target_stays : (files : List File) (b : Bindings) (found : Bound) (file : File) (s : Symbol) (r : Reloc) → Stays files b found → AllStay files b (section_in files b (spot_by found file s r))
 target_stays files b (InSection section offset) file s r stays =
     let one = one_stays files b section stays in
     either (λ t. AllStay files b (section_in files b t)) (is_section_symbol s && not (goes_by_got r.kind)) _ _ one one
@@ -101,7 +101,7 @@ live_of files f k lt = live_if (file_at files f).live k _ lt
 
 -- so what may stay is closed by the rules
 closed_stay : (files : List File) (b : Bindings) → IsBindingOf files b → AreFew files → rules.IsClosedByRules files b (may_stay_at files b)
-unfolding target_of
+unfolding spot_of
 closed_stay files b is few = record {
   targets = λ f k r section offset rest stays in_set has names target.
       let live = live_of files f k stays.index in

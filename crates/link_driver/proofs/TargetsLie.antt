@@ -7,8 +7,8 @@ use Rattle.std.proofs.lemmas.List.{get_or_past}
 use Rattle.lk_base.specs.RelocKinds.{goes_by_got}
 use Rattle.lk_tables.specs.declared.bounds.Bound.{Bound}
 use Rattle.lk_tables.specs.declared.bounds.Bound.TheVariants.{InSection, Number, Linker, Nobody}
-use Rattle.lk_tables.specs.declared.bounds.Target.{Target as Spot}
-use Rattle.lk_tables.specs.declared.bounds.Target.TheVariants as spots
+use Rattle.lk_tables.specs.declared.bounds.Spot.{Spot}
+use Rattle.lk_tables.specs.declared.bounds.Spot.TheVariants as spots
 use Rattle.lk_tables.specs.declared.commons.BoundCommon.{BoundCommon}
 use Rattle.lk_tables.specs.declared.heads.Place.{Place}
 use Rattle.lk_tables.specs.declared.heads.Place.TheVariants.{Undef, Absolute, Common, Within}
@@ -25,7 +25,7 @@ use Rattle.lk_tables.specs.Sites.{place_of}
 use Rattle.lk_tables.specs.Sites as sites
 use Rattle.lk_tables.specs.TablesView.{files_of}
 use Rattle.lk_tables.specs.FixedSymbols.{frame_start_no}
-use Rattle.lk_tables.specs.Targets.{bound, clamped, commons_at, defined_by, definition, offset_in, room_of, size_of, target_by, target_of, unwritten}
+use Rattle.lk_tables.specs.Targets.{bound, clamped, commons_at, defined_by, definition, offset_in, room_of, size_of, spot_by, spot_of, unwritten}
 use Rattle.lk_tables.proofs.BoundHas.{OfDefinitions, bound_has, either}
 use Rattle.lk_tables.proofs.FirstNumbers.{section_more}
 use Rattle.lk_tables.proofs.LiveFiles.{counted}
@@ -124,7 +124,7 @@ module _ (tables : Tables) (b : Bindings) where
   spot_same s t o p q r e = ((cc, cc), cc)
 
   byte_by : (bound_is : Bound) (file : File) (s : Symbol) (r : Reloc) (section offset : ℕ) (rest : ℤ) → LiesIn files b bound_is → r.addend ≡ pos 0
-      → target_by bound_is file s r ≡ spots.Section section offset rest → IsByte section offset rest
+      → spot_by bound_is file s r ≡ spots.Section section offset rest → IsByte section offset rest
   byte_by (InSection t o) file s r section offset rest lies zero_is is = by (is_section_symbol s && not (goes_by_got r.kind)) is
     where
       c : ℕ
@@ -151,17 +151,17 @@ module _ (tables : Tables) (b : Bindings) where
       by true is = cc
       by false is = cc
 
-  spot_of : (merged : List (Option Merged)) (spot : Spot) (section offset : ℕ) (rest : ℤ) → piece_target merged spot ≡ targets.Section section offset rest → spot ≡ spots.Section section offset rest
+  spot_is : (merged : List (Option Merged)) (spot : Spot) (section offset : ℕ) (rest : ℤ) → piece_target merged spot ≡ targets.Section section offset rest → spot ≡ spots.Section section offset rest
   unfolding piece_target
-  spot_of merged (spots.Section s o q) section offset rest is = by (merged_at merged s) is
+  spot_is merged (spots.Section s o q) section offset rest is = by (merged_at merged s) is
     where
       by : (m : Option Merged) → in_section m s o q ≡ targets.Section section offset rest → spots.Section s o q ≡ spots.Section section offset rest
       by None is = cc
       by (Some m) is = cc
-  spot_of merged (spots.Number n) section offset rest is = cc
-  spot_of merged spots.Zero section offset rest is = cc
-  spot_of merged (spots.Linker n) section offset rest is = cc
-  spot_of merged spots.Unbound section offset rest is = cc
+  spot_is merged (spots.Number n) section offset rest is = cc
+  spot_is merged spots.Zero section offset rest is = cc
+  spot_is merged (spots.Linker n) section offset rest is = cc
+  spot_is merged spots.Unbound section offset rest is = cc
 
   plain_addend : (r : Reloc) → is_plain r ≡ true → r.addend ≡ pos 0
   unfolding is_plain
@@ -171,11 +171,11 @@ module _ (tables : Tables) (b : Bindings) where
 
   pub target_lies : (merged : List (Option Merged)) (n k section offset : ℕ) (rest : ℤ) → IsBindingOf files b → AreFew files → n < section_total files → is_plain (reloc_of files n k) ≡ true
       → target_at files b merged n k ≡ targets.Section section offset rest → IsByte section offset rest
-  unfolding target_of
+  unfolding spot_of
   target_lies merged n k section offset rest is few lt plain target =
       let f : ℕ = (place_of files n).file in
       let r : Reloc = reloc_of files n k in
       let law = place_of_number files n lt in
       let live = live_from files f (place_of files n).index law.index in
       byte_by (bound files b f r.symbol) (file_at files f) (symbol_at (file_at files f) r.symbol) r section offset rest (bound_lies f r.symbol is few law.file live) (plain_addend r plain)
-      (spot_of merged (sites.target_at files b n k) section offset rest target)
+      (spot_is merged (sites.spot_at files b n k) section offset rest target)

@@ -9,7 +9,7 @@ use Rattle.link_sections.specs.declared.layouts.Bounds.{Bounds}
 use Rattle.link_sections.specs.LaidOut.{LaidOut}
 use Rattle.layout.specs.Layout.{count_of}
 use Rattle.layout.specs.Spots.{AreRising, HaveSegments}
-use Rattle.got_tls.specs.GotList.{HasAllUses}
+use Rattle.link_sections.specs.GotUses.{HasAllUses}
 use Rattle.elf_out.specs.Executable.{own_tables}
 use Rattle.elf_out.specs.Headers.{frame_segment, loaded, segments, stack_segment, tls_segment}
 use Rattle.elf_out.specs.Standing.{FramesStand, HasHeaderRoom, HeadersStand, PiecesStand, SectionsStand}

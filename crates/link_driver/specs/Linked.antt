@@ -3,7 +3,8 @@ use Rattle.std.specs.Prelude.{◌≡◌, ℕ, ◌≤◌, ◌++◌, Bool, List, O
 use Rattle.elf_out.specs.Executable.{executable, own_tables}
 use Rattle.elf_out.specs.Prepared.{IsPrepared}
 use Rattle.elf_out.specs.TablesView.{frame_contents}
-use Rattle.link_sections.specs.Addresses.{symbol_addresses}
+use Rattle.link_sections.specs.Addresses.{AreAddresses}
+use Rattle.link_sections.specs.GotUses.{HasAllUses}
 use Rattle.link_sections.specs.GotView.{entries_of}
 use Rattle.link_sections.specs.LaidOut.{LaidOut, layout_view, with_contents}
 use Rattle.link_sections.specs.PoolViews.{pools_view}
@@ -42,7 +43,7 @@ module _ (files : List File) (b : Bindings) (kept : List Bool) (strip : Bool) (l
 
   -- and blocks of its executable are made of it, in a window of one block at least
   pub record IsMade (w : Written) : Type 0 where
-    pub addresses : w.addresses.symbols.items ≡ symbol_addresses files b leaders laid
+    pub addresses : AreAddresses files b leaders laid w.addresses
     pub prepared : IsPrepared files b leaders laid (own_tables files b kept strip leaders laid) w.prepared
     pub window : 65536 ≤ length w.window.items
 
@@ -54,5 +55,6 @@ module _ (files : List File) (b : Bindings) (kept : List Bool) (strip : Bool) wh
   -- and its executable can be made
   pub record IsSettled (s : Settled) : Type 0 where
     pub listed : AreListed (section_uppers files) s.uppers
+    pub uses : HasAllUses files s.placement.leaders.items (entries_of s.placement.got)
     pub sound : IsSound files b s.placement.leaders.items (laid_by files s.placement)
     pub made : IsMade files b kept strip s.placement.leaders.items (laid_by files s.placement) s.written

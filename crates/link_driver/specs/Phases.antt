@@ -12,7 +12,7 @@ use Rattle.link_driver.specs.Reach.{CallsReach}
 use Rattle.elf_out.specs.Executable.{executable, own_tables}
 use Rattle.elf_out.specs.Standing.{AllStand, SectionsStand}
 use Rattle.file_live.specs.Live.{IsLive}
-use Rattle.got_tls.specs.GotList.{HasAllUses}
+use Rattle.link_sections.specs.GotUses.{HasAllUses}
 use Rattle.link_command.specs.Command.{Asked}
 use Rattle.link_sections.specs.LaidOut.{LaidOut}
 use Rattle.map_file.specs.MapText.{map_text}

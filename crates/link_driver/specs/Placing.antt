@@ -3,7 +3,7 @@ use Rattle.std.specs.Prelude.{◌≡◌, Bool, List}
 use Rattle.link_driver.specs.Code.{HaveOwnCuts}
 use Rattle.link_driver.specs.Reach.{CallsReach}
 use Rattle.elf_out.specs.Standing.{HasHeaderRoom}
-use Rattle.got_tls.specs.GotList.{HasAllUses}
+use Rattle.link_sections.specs.GotUses.{HasAllUses}
 use Rattle.link_sections.specs.GotView.{entries_of}
 use Rattle.link_sections.specs.LaidOut.{LaidOut, layout_view, with_contents}
 use Rattle.link_sections.specs.PoolViews.{pools_view}

@@ -205,7 +205,7 @@ fn push_end(text: &mut Vec<u8>, alloc: Global, last: ApartEnd) -> Result<(), All
     }
 }
 
-/// The same where the targets of a relocation differ.
+/// Adds that the targets of a relocation differ, as a line.
 fn push_target_end(text: &mut Vec<u8>, alloc: Global, k: u64) -> Result<(), AllocError>
     ensures { OnOk result (text.new.items ≡ text.old.items ++ (codes "differ target " ++ decimal k ++ codes "\n")) }
 {

@@ -115,7 +115,7 @@ fn find_walk<R: Threads + Sync, G: Gate>(
     walk_in(alloc, tables, binding, &graph, target)
 }
 
-/// The same, where the graph may be known.
+/// A walk from a root to a section, if one leads there, where the graph may be known.
 fn find_walk_by<R: Threads + Sync, G: Gate>(
     rt: &R,
     alloc: Global,
@@ -176,7 +176,7 @@ fn live_lines<R: Threads + Sync, G: Gate>(
     walk_text(alloc, tables, binding, names, name, &walk)
 }
 
-/// The same of a name that is asked for, if one is.
+/// Why the section of a name that is asked for is kept, if one is asked for.
 fn live_text<R: Threads + Sync, G: Gate>(
     rt: &R,
     alloc: Global,
@@ -388,7 +388,7 @@ fn both_text<R: Threads + Sync, G: Gate>(
     )
 }
 
-/// The same of two names that are asked for; nothing where not two names are asked for.
+/// Why the sections of two names that are asked for are not folded; nothing where not two names are asked for.
 fn apart_text<R: Threads + Sync, G: Gate>(
     rt: &R,
     alloc: Global,

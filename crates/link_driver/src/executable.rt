@@ -4,7 +4,8 @@ ghost use Rattle.std.specs.Prelude.{◌≡◌, true};
 ghost use Rattle.std.proofs.Props.{props};
 ghost use Rattle.elf_out.specs.Executable.{own_tables};
 ghost use Rattle.elf_out.specs.Prepared.{IsPrepared};
-ghost use Rattle.link_sections.specs.Addresses.{symbol_addresses};
+ghost use Rattle.link_sections.specs.Addresses.{AreAddresses};
+ghost use Rattle.link_sections.specs.GotUses.{HasAllUses};
 ghost use Rattle.link_sections.specs.GotView.{entries_of};
 ghost use Rattle.link_sections.specs.LaidOut.{layout_view, with_contents};
 ghost use Rattle.link_sections.specs.PoolViews.{pools_view};
@@ -39,9 +40,10 @@ pub struct Executable<'a> {
     pub frames: FrameBytes,
     pub prepared: Prepared,
 
-    ghost symbols: { addresses.symbols.items ≡ symbol_addresses (files_of tables) (binding_view binding) leaders.items (with_contents (layout_view layout) (pools_view (files_of tables) pools) (entries_of got)) } by { Prim.hlevel props },
+    ghost found: { AreAddresses (files_of tables) (binding_view binding) leaders.items (with_contents (layout_view layout) (pools_view (files_of tables) pools) (entries_of got)) addresses } by { Prim.hlevel props },
     ghost numbered: { have_numbers tables ≡ true } by { Prim.hlevel props },
     ghost listed: { AreListed (section_uppers (files_of tables)) uppers } by { Prim.hlevel props },
+    ghost uses: { HasAllUses (files_of tables) leaders.items (entries_of got) } by { Prim.hlevel props },
     ghost sound: { IsSound (files_of tables) (binding_view binding) leaders.items (with_contents (layout_view layout) (pools_view (files_of tables) pools) (entries_of got)) } by { Prim.hlevel props },
     ghost ready: { IsPrepared (files_of tables) (binding_view binding) leaders.items (with_contents (layout_view layout) (pools_view (files_of tables) pools) (entries_of got)) (own_tables (files_of tables) (binding_view binding) kept.items strip leaders.items (with_contents (layout_view layout) (pools_view (files_of tables) pools) (entries_of got))) prepared } by { Prim.hlevel props },
 }

@@ -36,21 +36,27 @@ use std::thread::Threads;
 use work_split::Gate;
 
 /// Which function each FDE is for, of the unwind records that were read of all files. The only error is out of memory.
-pub fn find_frames(
+pub fn find_frames<R: Threads + Sync, G: Gate>(
+    rt: &R,
     alloc: Global,
     tables: &Tables,
     binding: &Binding,
     records: Vec<(SecNo, Vec<Record>)>,
+    workers: u32,
+    gate: &G,
 ) -> Result<Frames, AllocError>
+    requires some { 1 ≤ workers }
+    requires most { workers ≤ 64 }
     requires records { list_views records.items ≡ all_lists (files_of tables.now) }
     requires within { AreListsWithin (files_of tables.now) (all_lists (files_of tables.now)) }
     ensures { IfOk result (AreFramesOf (files_of tables.now) (binding_view binding.now)) }
 {
-    table(alloc, tables, binding, records)
+    table(rt, alloc, tables, binding, records, workers, gate)
 }
 
 /// Which unwind records are written, of a link that keeps these sections, where these lead. The only error is out of memory.
-pub fn find_plan<'t>(
+pub fn find_plan<'t, R: Threads + Sync, G: Gate>(
+    rt: &R,
     alloc: Global,
     tables: &Tables,
     binding: &Binding,
@@ -60,7 +66,11 @@ pub fn find_plan<'t>(
     pools: &Pools,
     leaders: &[Option<SecNo>],
     options: Options,
+    workers: u32,
+    gate: &G,
 ) -> Result<FramePlan<'t>, AllocError>
+    requires some { 1 ≤ workers }
+    requires most { workers ≤ 64 }
     requires frames { AreFramesOf (files_of tables.now) (binding_view binding.now) frames.now }
     requires pools { pools_view (files_of tables.now) pools.now ≡ pools_of (files_of tables.now) kept.now }
     requires leaders { leaders.now ≡ leaders_for (wished options barred.now) (files_of tables.now) (binding_view binding.now) kept.now }
@@ -68,7 +78,9 @@ pub fn find_plan<'t>(
     ensures lists { IfOk result (λ plan. lists_of plan.frames.now ≡ all_lists (files_of tables.now)) }
     ensures small { IfOk result (λ plan. IsSmall (plan_view plan)) }
 {
-    plan(alloc, tables, binding, pools, frames, leaders)
+    plan(
+        rt, alloc, tables, binding, pools, frames, leaders, workers, gate,
+    )
 }
 
 /// What `.eh_frame` and `.eh_frame_hdr` hold. Where a value of an unwind record does not fit, the values of all relocations are tested too, since
@@ -94,7 +106,7 @@ pub fn write_frames<R: Threads + Sync, G: Gate>(
     ensures fit { IfOk result (λ frames. FitFrames view.now.layout.now.bounds (frame_contents frames)) }
     ensures records { IfOk result (λ frames. Unwinds (files_in view.now) (binding_in view.now) (leaders_in view.now) (laid_in view.now) (plan_view plan.now) (frame_contents frames)) }
 {
-    match write(alloc, view, plan) {
+    match write(rt, alloc, view, plan, workers, gate) {
         Ok(frames) => {
             records_stand(view, plan, &frames);
             Ok(frames)

@@ -3,7 +3,9 @@
 ghost use Rattle.std.specs.Prelude.{◌≡◌, ℕ, ◌≤◌, ◌<◌, ◌^◌, ◌+◌, ◌*◌, length, drop, take, true, IfOk, OnErr, OnOk};
 ghost use Rattle.elf_out.specs.Executable.{own_tables};
 ghost use Rattle.elf_out.specs.Prepared.{IsPrepared};
-ghost use Rattle.link_sections.specs.Addresses.{symbol_addresses};
+ghost use Rattle.link_sections.specs.Addresses.{AreAddresses};
+ghost use Rattle.link_sections.specs.GotUses.{HasAllUses};
+ghost use Rattle.link_sections.specs.GotView.{entries_of};
 ghost use Rattle.link_sections.specs.Sound.{IsSound};
 ghost use Rattle.link_sections.specs.Views.{binding_in, files_in, laid_in, leaders_in};
 ghost use Rattle.lk_depot.specs.Faults.{HasCause};
@@ -21,7 +23,7 @@ use crate::writing::{Settled, Written};
 use elf_out::{BLOCK, fill_window};
 use link_sections::View;
 use lk_depot::{Depot, Failed, put_all};
-use lk_tables::{Binding, Tables};
+use lk_tables::{Binding, Frames, Tables};
 use std::alloc::AllocError;
 use std::marker::Model;
 use std::thread::Threads;
@@ -38,6 +40,8 @@ pub struct Linked<'a> {
     window: Vec<u8>,
     map: Vec<u8>,
     report: Vec<u8>,
+    /// The unwind records of the files, which nothing needs any more: their many lists are freed with the rest, or never.
+    records: Option<Frames>,
 }
 
 impl<'a> Model for Linked<'a> {
@@ -206,8 +210,9 @@ impl<'a> Linked<'a> {
     ) -> Result<Linked<'a>, AllocError>
         requires numbered { have_numbers tables ≡ true }
         requires listed { AreListed (section_uppers (files_of tables)) settled.uppers }
+        requires uses { HasAllUses (files_of tables) settled.placement.leaders.items (entries_of settled.placement.got) }
         requires sound { IsSound (files_of tables) (binding_view binding) settled.placement.leaders.items (laid_by (files_of tables) settled.placement) }
-        requires addresses { settled.written.addresses.symbols.items ≡ symbol_addresses (files_of tables) (binding_view binding) settled.placement.leaders.items (laid_by (files_of tables) settled.placement) }
+        requires addresses { AreAddresses (files_of tables) (binding_view binding) settled.placement.leaders.items (laid_by (files_of tables) settled.placement) settled.written.addresses }
         requires prepared { IsPrepared (files_of tables) (binding_view binding) settled.placement.leaders.items (laid_by (files_of tables) settled.placement) (own_tables (files_of tables) (binding_view binding) kept.items strip settled.placement.leaders.items (laid_by (files_of tables) settled.placement)) settled.written.prepared }
         requires window { 65536 ≤ length settled.written.window.items }
         ensures { IfOk result (λ linked. linked ≡ with_why why.now (settled_view (files_of tables.entry) (binding_view binding) kept.items strip settled.entry)) }
@@ -253,7 +258,15 @@ impl<'a> Linked<'a> {
             window,
             map,
             report,
+            records: None,
         })
+    }
+
+    /// Holds the unwind records of the files until it is freed itself.
+    pub(crate) fn hold(&mut self, records: Frames)
+        ensures { self.new ≡ self.old }
+    {
+        self.records = Some(records);
     }
 
     /// How many bytes the executable has.

@@ -210,7 +210,7 @@ fn generated_of(inputs: &Wanted) -> Option<u32>
     }
 }
 
-/// Those of a command.
+/// The options of a command.
 fn options_of(command: &Command) -> Options
     ensures { (barred : List Bool) → wished result barred ≡ wishes_of (asks command.now) barred }
 {
@@ -617,7 +617,7 @@ pub fn link_sources<'a, R: Threads + Sync, G: Gate>(
         Err(stop) => return Err(stop),
     };
     // Each FDE has its function from here on.
-    let frames = find_frames(alloc, &tables, &binding, records)?;
+    let frames = find_frames(rt, alloc, &tables, &binding, records, workers, gate)?;
     // What nothing refers to is left out from here on.
     let (kept, graph) = find_kept_by(
         rt,
@@ -675,6 +675,9 @@ pub fn link_sources<'a, R: Threads + Sync, G: Gate>(
     ) else {
         return Err(LinkStop::Memory);
     };
+    // To free the many lists of records takes longer than to hand them on.
+    let mut linked = linked;
+    linked.hold(frames);
     Ok(linked)
 }
 

@@ -7,7 +7,7 @@ ghost use Rattle.lk_tables.specs.TablesView.{files_of};
 ghost use Rattle.link_sections.specs.GotEntries.{word_count};
 ghost use Rattle.link_sections.specs.GotView.{entries_of};
 ghost use Rattle.link_sections.specs.LaidOut.{layout_view, with_contents};
-ghost use Rattle.link_sections.specs.PoolViews.{merged_views, pools_view};
+ghost use Rattle.link_sections.specs.PoolViews.{merged_views, pool_list, pools_view};
 ghost use Rattle.output_sections.specs.Order.{members_in, orders_of};
 ghost use Rattle.link_sections.specs.SizesView.{sizes_of};
 ghost use Rattle.link_sections.specs.Sound.{IsSound};
@@ -43,11 +43,11 @@ pub fn calls_reach(
     requires bound { IsBindingOf (files_of tables.now) (binding_view binding.now) }
     requires leaders { AreLeaders (files_of tables.now) (binding_view binding.now) leaders.now }
     requires alike { spec.AreAlike (files_of tables.now) (binding_view binding.now) leaders.now }
-    requires pools { HaveFirsts (files_of tables.now) (binding_view binding.now) pools.now.pools.items }
-    requires order { sections.now.rows ≡ orders_of (items (files_of tables.now) (binding_view binding.now) pools.now.pools.items (word_count (entries_of got.now)) leaders.now) }
+    requires pools { HaveFirsts (files_of tables.now) (binding_view binding.now) (pool_list pools.now) }
+    requires order { sections.now.rows ≡ orders_of (items (files_of tables.now) (binding_view binding.now) (pool_list pools.now) (word_count (entries_of got.now)) leaders.now) }
     requires sizes { sizes_of sizes.now ≡ cuts_of (files_of tables.now) (binding_view binding.now) (merged_views pools.now) leaders.now (members_in sections.now.rows) on }
     requires safe { IsLeastSafe (files_of tables.now) (binding_view binding.now) (merged_views pools.now) leaders.now (members_in sections.now.rows) on }
-    requires layout { layout_view layout.now ≡ layout_of (files_of tables.now) (binding_view binding.now) pools.now.pools.items (word_count (entries_of got.now)) leaders.now (sizes_of sizes.now) (frame_sizes frames.now) }
+    requires layout { layout_view layout.now ≡ layout_of (files_of tables.now) (binding_view binding.now) (pool_list pools.now) (word_count (entries_of got.now)) leaders.now (sizes_of sizes.now) (frame_sizes frames.now) }
     requires sound { IsSound (files_of tables.now) (binding_view binding.now) leaders.now (with_contents (layout_view layout.now) (pools_view (files_of tables.now) pools.now) (entries_of got.now)) }
     requires aligned { HaveAlignments (files_of tables.now) (binding_view binding.now) (layout_view layout.now) }
     requires room { layout_defects limits.now (files_of tables.now) (layout_view layout.now) ≡ [] }

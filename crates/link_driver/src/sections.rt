@@ -1,21 +1,12 @@
 //! How many sections a link has.
 
-ghost use Rattle.std.specs.Prelude.{◌≡◌, ℕ, ◌<◌, ◌≤◌, ◌^◌, count_by, is_some, length, slice_index_or, if◌then◌else◌, true, None};
-ghost use Rattle.lk_tables.specs.Symbols.{is_common};
+ghost use Rattle.std.specs.Prelude.{◌≡◌, ℕ, ◌<◌, ◌≤◌, ◌^◌, is_some, length, slice_index_or, if◌then◌else◌, true, None};
 ghost use Rattle.lk_tables.specs.Files.{file_at, section_total};
 ghost use Rattle.lk_tables.specs.FileView.{file_view, file_views};
 ghost use Rattle.lk_tables.specs.Gathering.{with_objects};
 ghost use Rattle.link_driver.specs.Counts.{count_of};
 
-use lk_tables::{File, Object, Symbol, is_common};
-
-/// How many symbols are COMMON.
-fn count_commons(symbols: &[Symbol]) -> usize
-    ensures value { result ≡ count_by (λ s. is_common s.place) symbols.now }
-    ensures few { result ≤ length symbols.now }
-{
-    symbols.iter().filter(|symbol| is_common(symbol)).count()
-}
+use lk_tables::{File, Object};
 
 /// How many section numbers a file has if it takes part: its sections, and its COMMON symbols.
 fn count_file(file: &File, live: bool) -> u64
@@ -25,7 +16,7 @@ fn count_file(file: &File, live: bool) -> u64
     if !live {
         return 0;
     }
-    file.sections().len() as u64 + count_commons(file.symbols()) as u64
+    file.sections().len() as u64 + file.commons() as u64
 }
 
 /// How many section numbers the files have that take part, which are those with a body.

@@ -7,7 +7,7 @@ ghost use Rattle.eh_frame.specs.Plan.{plan_of};
 ghost use Rattle.elf_out.specs.Prepared.{IsPreparedFor};
 ghost use Rattle.elf_out.specs.Standing.{FitFrames, HasHeaderRoom};
 ghost use Rattle.elf_out.specs.TablesView.{frame_contents};
-ghost use Rattle.got_tls.specs.GotList.{HasAllUses};
+ghost use Rattle.link_sections.specs.GotUses.{HasAllUses};
 ghost use Rattle.layout.specs.Layout.{frame_sizes};
 ghost use Rattle.layout.specs.Spots.{HasFrames};
 ghost use Rattle.link_sections.specs.GotView.{entries_of};
@@ -110,11 +110,15 @@ fn relocations_of(file: &File) -> u64 {
 
 /// Whether the relocations of a link are so many that workers make the blocks of its file sooner than one does.
 fn are_worth_workers(tables: &Tables, blocks: u64) -> bool {
+    let least = blocks.saturating_mul(RELOCS_PER_BLOCK);
     let mut count: u64 = 0;
     for file in tables.files() {
         count = count.saturating_add(relocations_of(file));
+        if least <= count {
+            return true;
+        }
     }
-    blocks.saturating_mul(RELOCS_PER_BLOCK) <= count
+    false
 }
 
 /// Zeros for the blocks of a file that are made at the same time: one for each worker, but no more than the file has, or one alone where most of

@@ -13,7 +13,7 @@ pub const GROUP: Section =
 
 /// `.text.n` of one `ret`, in a group.
 const N_RETURNS: Section = section!(RETURN => name: b".text.n", flags: 0x206);
-/// The same of one `ebreak`.
+/// `.text.n` of one `ebreak`, in a group.
 pub const N_BREAKS: Section = section!(b".text.n", 1, 0x206, 4; b"\x73\0\x10\0");
 
 /// `n` in section 2.

@@ -51,7 +51,7 @@ pub const COMMON_OF_16: Image = image!(FIRST =>
     contents: &[(0x1000, b"\xef\0\x40\0\x67\x80\0\0"), (0x1008, NAMES_WITH_BSS)],
     sections: &[[1, 1, 6, 0x11000, 0x1000, 8, 4], [7, 8, 3, 0x12000, 0x2000, 16, 8], [12, 3, 0, 0, 0x1008, 22, 1]]);
 
-/// The same, alignment 16.
+/// A common of 16 bytes, alignment 16.
 pub const WIDE_COMMON: Image = image!(COMMON_OF_16 =>
     sections: &[[1, 1, 6, 0x11000, 0x1000, 8, 4], [7, 8, 3, 0x12000, 0x2000, 16, 16], [12, 3, 0, 0, 0x1008, 22, 1]]);
 
@@ -183,7 +183,7 @@ pub const NUMBERED: Image = image!(FIRST => table: 0x2070,
     sections: &[[1, 1, 6, 0x11000, 4096, 4, 4], [7, 16, 3, 0x12000, 0x2000, 8, 8], [22, 14, 3, 0x12008, 0x2008, 32, 8],
         [34, 15, 3, 0x12028, 0x2028, 16, 8], [46, 3, 0, 0, 0x2038, 56, 1]]);
 
-/// The same with those of a second file.
+/// Arrays of two files in order of their numbers.
 pub const NUMBERED_OF_TWO: Image = image!(FIRST => table: 0x20a0,
     segments: &[READ_OF_FOUR, [1, 5, 4096, 0x11000, 4, 4, 4096], [1, 6, 0x2000, 0x12000, 88, 88, 4096], STACK],
     contents: &[(0x1000, b"\x67\x80\0\0"), (0x2000, b"00000000"), (0x2008, b"AAAAAAAAaaaaaaaabbbbbbbbBBBBBBBBccccccccddddddddeeeeeeee"),

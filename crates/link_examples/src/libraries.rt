@@ -88,7 +88,7 @@ pub const INDEXED: Library =
 pub const OFFER_OF_WEAK: Library = library!("lib.a"; member!(b"w.o", OFFER_OF_W));
 /// `m`, and `n` that asks for it.
 pub const CHAIN: Library = library!("lib.a"; TWO, CALLER);
-/// The same in two archives.
+/// `m`, and `n` that asks for it, in two archives.
 pub const CHAIN_END: Library = library!("two.a"; TWO);
 
 pub const CHAIN_BEGIN: Library = library!("caller.a"; CALLER);

@@ -63,7 +63,7 @@ pub const ASKER_OF_BOTH: Object = object!([
 pub const STRINGS: Section =
     section!(b".rodata.str1.8", 1, 0x32, 8; b"abc\0\0\0\0\0xyz\0"; entsize: 1);
 
-/// These strings alone.
+/// `abc`, four empty strings and `xyz`, alone.
 pub const SAID_AGAIN: Object = object!([STRINGS]; []);
 
 /// Constants of 4 bytes: 1, 2 and 1.

@@ -6,5 +6,8 @@ pub mod GotSteps
 pub mod MergedAt
 mod NoCuts
 pub mod OwnLeaders
+pub mod PastSections
+mod PastSymbols
 pub mod PoolHeads
+pub mod PoolPositions
 pub mod SymbolSums

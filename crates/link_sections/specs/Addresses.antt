@@ -1,5 +1,5 @@
 -- The addresses of symbols, once everything has its place (RISC-V ELF psABI, "Relocations": S).
-use Rattle.std.specs.Prelude.{ℕ, ◌+◌, ◌&&◌, Bool, true, false, pos, Option, Some, None, find, if◌then◌else◌, List, [], codes, reverse, slice_index, slice_index_or}
+use Rattle.std.specs.Prelude.{◌≡◌, ℕ, ◌+◌, ◌&&◌, Bool, true, false, pos, Option, Some, None, find, if◌then◌else◌, List, [], codes, reverse, slice_index, slice_index_or}
 use Rattle.std.specs.Option.{option_map_or}
 use Rattle.std.specs.Str.{bytes_eq}
 use Rattle.lk_base.specs.Arithmetic.{bits_of}
@@ -14,6 +14,7 @@ use Rattle.lk_tables.specs.Binding.{Bindings}
 use Rattle.lk_tables.specs.Files.{File, file_at, by_symbol}
 use Rattle.lk_tables.specs.LinkerSymbols.{bound_section, edge_of, is_bound_no, is_stop_no}
 use Rattle.lk_tables.specs.Targets.{bound, entry_bound}
+use Rattle.link_sections.specs.declared.addresses.Addresses.{Addresses}
 use Rattle.link_sections.specs.declared.targets.Target.{Target}
 use Rattle.link_sections.specs.declared.targets.Target.TheVariants as targets
 use Rattle.link_sections.specs.InputSections.{input_at}
@@ -125,3 +126,8 @@ module _ (files : List File) (b : Bindings) (leaders : List (Option ℕ)) (laid 
   -- where the executable starts: at what the entry's name is bound to
   unfoldable pub entry_address : ℕ
   entry_address = bits_of (pos (address_of (entry_bound files b)))
+
+-- addresses that are found are these
+pub record AreAddresses (files : List File) (b : Bindings) (leaders : List (Option ℕ)) (laid : LaidOut) (found : Addresses) : Type 0 where
+  pub symbols : found.symbols.items ≡ symbol_addresses files b leaders laid
+  pub entry : found.entry ≡ entry_address files b leaders laid

@@ -1,6 +1,6 @@
 -- Which section is written in the place of each: without folding each kept section itself. The bytes of merged sections stand in pools, so
 -- these have no leader.
-use Rattle.std.specs.Prelude.{ℕ, ◌==◌, ◌&&◌, not, Bool, false, Option, Some, None, unwrap_or, if◌then◌else◌, List, [], ◌∷◌, map, length, slice_index_or, slice_set}
+use Rattle.std.specs.Prelude.{ℕ, ◌&&◌, not, Bool, false, Option, Some, None, unwrap_or, if◌then◌else◌, List, [], ◌∷◌, map, length, slice_index_or, slice_set}
 use Rattle.std.specs.List.{range_with_len}
 pub use Rattle.lk_tables.specs.Frames.{is_number}
 use Rattle.link_sections.specs.FoldItems.{FoldItem}

@@ -1,8 +1,8 @@
 -- What a relocation stands for once equal pieces of sections are merged (RISC-V ELF psABI, "Relocations": S and A).
 use Rattle.std.specs.Prelude.{ℕ, ◌-◌, nat_le, ℤ, Option, Some, None, List, slice_index_or}
 use Rattle.std.specs.List.{prefix_len}
-use Rattle.lk_tables.specs.declared.bounds.Target.{Target as Spot}
-use Rattle.lk_tables.specs.declared.bounds.Target.TheVariants as spots
+use Rattle.lk_tables.specs.declared.bounds.Spot.{Spot}
+use Rattle.lk_tables.specs.declared.bounds.Spot.TheVariants as spots
 use Rattle.lk_tables.specs.Binding.{Bindings}
 use Rattle.lk_tables.specs.Files.{File}
 use Rattle.lk_tables.specs.Sites as sites
@@ -35,4 +35,4 @@ piece_target merged spots.Unbound = targets.Unbound
 
 -- what relocation number `reloc` of a section stands for
 abbrev pub target_at : List File → Bindings → List (Option Merged) → (section reloc : ℕ) → Target
-target_at files b merged section reloc = piece_target merged (sites.target_at files b section reloc)
+target_at files b merged section reloc = piece_target merged (sites.spot_at files b section reloc)

@@ -27,6 +27,10 @@ pub record PoolsView : Type 0 where
   pub pools : List PoolView
   pub merged : List (Option Merged)
 
+-- the pools of a link, each by its first section and its bytes
+abbrev pub pool_list : Pools → List Pool
+pool_list pools = pools.pools.items
+
 abbrev pub piece_text : List File → Piece → List ℕ
 piece_text files p = text_of (file_at files p.text.file).bytes p.text
 
@@ -66,7 +70,7 @@ merged_views pools = merged_by (part_rows pools.rows) pools.merged.items
 
 unfoldable pub pools_view : List File → Pools → PoolsView
 pools_view files pools = record {
-  pools = pool_views files pools.pools.items (piece_rows pools);
+  pools = pool_views files (pool_list pools) (piece_rows pools);
   merged = merged_views pools;
 }
 

@@ -150,7 +150,7 @@ pub fn all_kept(alloc: Global, tables: &Tables, binding: &Binding) -> Result<Vec
     Ok(kept)
 }
 
-/// Those of one file.
+/// Adds for each section of one file whether it is kept by a link that collects nothing.
 fn push_file(
     kept: &mut Vec<bool>,
     tables: &Tables,

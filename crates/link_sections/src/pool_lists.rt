@@ -1,7 +1,7 @@
 //! What is read of pools.
 
 ghost use Rattle.std.specs.Prelude.{◌≡◌, ◌<◌, ◌^◌, [], None, All, IfSome, length, option_map, slice_index_or};
-ghost use Rattle.link_sections.specs.PoolViews.{is_merged, merged_at, merged_by, merged_of, merged_views, piece_rows};
+ghost use Rattle.link_sections.specs.PoolViews.{is_merged, merged_at, merged_by, merged_of, merged_views, piece_rows, pool_list};
 ghost use Rattle.link_sections.specs.declared.pools.Pool.{Pool};
 ghost use Rattle.link_sections.specs.Pools.{AreInOrder, ArePiles, AreRising, IsPile, part_rows, pool_bytes};
 
@@ -14,7 +14,7 @@ impl Pools {
     /// No pools: nothing is merged.
     #[tactic(auto, unfolding(crate::specs::PoolViews::merged_by))]
     pub fn none(alloc: Global) -> Pools
-        ensures pools { result.pools.items ≡ [] }
+        ensures pools { pool_list result ≡ [] }
         ensures pieces { piece_rows result ≡ [] }
         ensures merged { merged_views result ≡ [] }
     {
@@ -31,7 +31,7 @@ impl Pools {
         requires small { pool_bytes pools.items < 2 ^ 60 }
         requires ordered { All AreInOrder rows.parts }
         requires piled { ArePiles pools.items rows.pieces }
-        ensures pools { result.pools.items ≡ pools.items }
+        ensures pools { pool_list result ≡ pools.items }
         ensures pieces { piece_rows result ≡ rows.pieces }
         ensures merged { merged_views result ≡ merged_by rows.parts merged.items }
     {
@@ -44,7 +44,7 @@ impl Pools {
 
     /// The pools, in the order of their first sections.
     pub fn pools(&self) -> &[Pool]
-        ensures value { result.now ≡ self.now.pools.items }
+        ensures value { result.now ≡ pool_list self.now }
         ensures rising { AreRising result.now }
         ensures small { pool_bytes result.now < 2 ^ 60 }
     {
@@ -54,7 +54,7 @@ impl Pools {
     /// The pieces of a pool, by number, in order of position; none past the last pool. None stands over another, and each lies in the pool.
     pub fn pieces(&self, pool: u32) -> &[Piece]
         ensures value { result.now ≡ slice_index_or (piece_rows self.now) pool [] }
-        ensures piled { (d : Pool) → pool < length self.now.pools.items → IsPile (slice_index_or self.now.pools.items pool d) result.now }
+        ensures piled { (d : Pool) → pool < length (pool_list self.now) → IsPile (slice_index_or (pool_list self.now) pool d) result.now }
     {
         match &self.rows {
             Some(rows) => rows.pieces.row(pool as usize),

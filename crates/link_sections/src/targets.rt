@@ -60,25 +60,25 @@ pub fn target_of(
     requires reloc { reloc < length (relocs_of (files_of tables.now) section) }
     ensures { result ≡ spec.target_at (files_of tables.now) (binding_view binding.now) (merged_views pools.now) section reloc }
 {
-    pools.piece_target(lk_tables::target_of(tables, binding, section, reloc))
+    pools.piece_target(lk_tables::spot_of(tables, binding, section, reloc))
 }
 
 impl Pools {
     /// What a target in a section becomes once equal pieces are merged. Takes no memory.
     #[tactic(auto, unfolding(crate::specs::PieceTargets::piece_target))]
-    pub fn piece_target(&self, target: lk_tables::Target) -> Target
+    pub fn piece_target(&self, target: lk_tables::Spot) -> Target
         ensures { result ≡ spec.piece_target (merged_views self.now) target }
     {
         match target {
-            lk_tables::Target::Section {
+            lk_tables::Spot::Section {
                 section,
                 offset,
                 rest,
             } => self.in_section(section, offset, rest),
-            lk_tables::Target::Number(number) => Target::Number(number),
-            lk_tables::Target::Zero => Target::Zero,
-            lk_tables::Target::Linker(name) => Target::Linker(name),
-            lk_tables::Target::Unbound => Target::Unbound,
+            lk_tables::Spot::Number(number) => Target::Number(number),
+            lk_tables::Spot::Zero => Target::Zero,
+            lk_tables::Spot::Linker(name) => Target::Linker(name),
+            lk_tables::Spot::Unbound => Target::Unbound,
         }
     }
 

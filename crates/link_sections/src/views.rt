@@ -1,12 +1,12 @@
 //! All tables of a link together.
 
-ghost use Rattle.std.specs.Prelude.{◌≡◌};
 ghost use Rattle.std.proofs.Props.{props};
 ghost use Rattle.lk_tables.specs.BindingView.{binding_view};
 ghost use Rattle.lk_tables.specs.NameNumbers.{NumbersNames, heads_alone};
 ghost use Rattle.lk_tables.specs.TablesView.{files_of};
 ghost use Rattle.lk_tables.specs.Uppers.{AreListed, section_uppers};
-ghost use Rattle.link_sections.specs.Addresses.{symbol_addresses};
+ghost use Rattle.link_sections.specs.Addresses.{AreAddresses};
+ghost use Rattle.link_sections.specs.GotUses.{HasAllUses};
 ghost use Rattle.link_sections.specs.GotView.{entries_of};
 ghost use Rattle.link_sections.specs.LaidOut.{layout_view, with_contents};
 ghost use Rattle.link_sections.specs.PoolViews.{pools_view};
@@ -21,8 +21,8 @@ use lk_tables::{Binding, NameNumbers, Tables, Uppers};
 
 /// The tables of a link, lent, once its layout stands: which sections are kept, what is merged, which section is written in the place of
 /// each, the linker's global offset table, where everything stands, what each symbol stands for, and the upper parts of each section; how
-/// files are shown, and whether symbols are left out. The addresses and the upper parts are those of the tables, and the layout is one of
-/// them.
+/// files are shown, and whether symbols are left out. The addresses and the upper parts are those of the tables, the layout is one of
+/// them, and the global offset table has an entry for each use.
 #[derive(Clone, Copy)]
 pub struct View<'t, 'a> {
     /// The files, with the bodies of those that take part.
@@ -39,7 +39,7 @@ pub struct View<'t, 'a> {
     pub got: &'t Got,
     /// Where everything stands.
     pub layout: &'t Layout<'a>,
-    /// By symbol number, what it stands for: an address or a number.
+    /// By symbol number, what it stands for: an address or a number; and where the executable starts.
     pub addresses: &'t Addresses,
     /// The upper parts of each section, to which its lower parts belong.
     pub uppers: &'t Uppers,
@@ -50,8 +50,9 @@ pub struct View<'t, 'a> {
     /// Whether the executable has no symbol table.
     pub strip: bool,
 
-    ghost symbols: { addresses.now.symbols.items ≡ symbol_addresses (files_of tables.now) (binding_view binding.now) leaders.now (with_contents (layout_view layout.now) (pools_view (files_of tables.now) pools.now) (entries_of got.now)) } by { Prim.hlevel props },
+    ghost found: { AreAddresses (files_of tables.now) (binding_view binding.now) leaders.now (with_contents (layout_view layout.now) (pools_view (files_of tables.now) pools.now) (entries_of got.now)) addresses.now } by { Prim.hlevel props },
     ghost numbered: { NumbersNames (heads_alone (files_of tables.now)) numbers.now } by { Prim.hlevel props },
     ghost listed: { AreListed (section_uppers (files_of tables.now)) uppers.now } by { Prim.hlevel props },
+    ghost uses: { HasAllUses (files_of tables.now) leaders.now (entries_of got.now) } by { Prim.hlevel props },
     ghost sound: { IsSound (files_of tables.now) (binding_view binding.now) leaders.now (with_contents (layout_view layout.now) (pools_view (files_of tables.now) pools.now) (entries_of got.now)) } by { Prim.hlevel props },
 }

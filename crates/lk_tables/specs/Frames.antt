@@ -3,14 +3,14 @@ use Rattle.std.specs.Prelude.{◌≡◌, ℕ, ◌+◌, ◌^◌, ◌<◌, ◌≤�
 use Rattle.std.specs.Global.{Vec}
 use Rattle.std.specs.List.{All, filter, range_with_len}
 use Rattle.std.specs.List.Sorted.{IsStrictlyIncreasing}
-use Rattle.lk_tables.specs.declared.bounds.Target.{Target as Spot}
-use Rattle.lk_tables.specs.declared.bounds.Target.TheVariants as spots
+use Rattle.lk_tables.specs.declared.bounds.Spot.{Spot}
+use Rattle.lk_tables.specs.declared.bounds.Spot.TheVariants as spots
 use Rattle.lk_tables.specs.Binding.{Bindings}
 use Rattle.lk_tables.specs.Files.{File, file_at, is_frame_at, relocs_at, section_at, section_no, section_total}
 use Rattle.lk_tables.specs.Relocations.{place_width}
 use Rattle.lk_tables.specs.Sections.{contents_of}
 use Rattle.lk_tables.specs.Sites.{contents_at, place_of}
-use Rattle.lk_tables.specs.Targets.{is_gone, target_of}
+use Rattle.lk_tables.specs.Targets.{is_gone, spot_of}
 use Rattle.lk_tables.specs.Walks.{over_live}
 use Rattle.lk_tables.specs.declared.frames.Frames.{Frames}
 use Rattle.lk_tables.specs.declared.records.FrameNo.{FrameNo}
@@ -111,7 +111,7 @@ module _ (files : List File) where
 module _ (files : List File) (b : Bindings) where
   -- the section whose function an FDE of file f is for: that of its PC Begin, the first of its relocations that has bytes
   unfoldable pub owner_in : (f : ℕ) → RecordView → Option ℕ
-  owner_in f r = if is_some r.cie then option_and_then (λ first. section_of_spot (target_of files b f first)) (first_of r.relocs) else None
+  owner_in f r = if is_some r.cie then option_and_then (λ first. section_of_spot (spot_of files b f first)) (first_of r.relocs) else None
 
   abbrev pub owner_at : RecordList → (at : ℕ) → Option ℕ
   owner_at l at = owner_in (place_of files l.section).file (slice_index_or l.records at no_record)

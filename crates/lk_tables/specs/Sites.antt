@@ -1,13 +1,13 @@
 -- Sections by their numbers in the link.
 use Rattle.std.specs.Prelude.{◌≡◌, ℕ, ◌+◌, ◌-◌, ◌<◌, nat_lt, unwrap_or, List, length, find, slice_index_or}
 use Rattle.std.specs.List.{range_with_len}
-use Rattle.lk_tables.specs.declared.bounds.Target.{Target}
+use Rattle.lk_tables.specs.declared.bounds.Spot.{Spot}
 use Rattle.lk_tables.specs.declared.objects.Reloc.{Reloc}
 use Rattle.lk_tables.specs.declared.section_places.SectionPlace.{SectionPlace}
 use Rattle.lk_tables.specs.Binding.{Bindings}
 use Rattle.lk_tables.specs.Files.{File, file_at, relocs_at, no_reloc, section_at, section_no, section_count, first_section}
 use Rattle.lk_tables.specs.Sections.{contents_of}
-use Rattle.lk_tables.specs.Targets.{target_of}
+use Rattle.lk_tables.specs.Targets.{spot_of}
 
 -- the file of a section's number: the first of which the sections end after it
 unfoldable pub owner_of : List File → (section : ℕ) → ℕ
@@ -35,6 +35,6 @@ contents_at files section =
     contents_of (file_at files (place_of files section).file).bytes (section_at (file_at files (place_of files section).file) (place_of files section).index)
 
 -- what relocation number `reloc` of a section stands for
-abbrev pub target_at : List File → Bindings → (section reloc : ℕ) → Target
-target_at files b section reloc =
-    target_of files b (place_of files section).file (slice_index_or (relocs_of files section) reloc no_reloc)
+abbrev pub spot_at : List File → Bindings → (section reloc : ℕ) → Spot
+spot_at files b section reloc =
+    spot_of files b (place_of files section).file (slice_index_or (relocs_of files section) reloc no_reloc)

@@ -9,8 +9,8 @@ use Rattle.lk_tables.specs.declared.heads.Symbol.{Symbol}
 use Rattle.lk_tables.specs.declared.objects.Reloc.{Reloc}
 use Rattle.lk_tables.specs.declared.bounds.Bound.{Bound}
 use Rattle.lk_tables.specs.declared.bounds.Bound.TheVariants.{InSection, Number, Linker, Nobody}
-use Rattle.lk_tables.specs.declared.bounds.Target.{Target}
-use Rattle.lk_tables.specs.declared.bounds.Target.TheVariants as targets
+use Rattle.lk_tables.specs.declared.bounds.Spot.{Spot}
+use Rattle.lk_tables.specs.declared.bounds.Spot.TheVariants as targets
 use Rattle.lk_tables.specs.Binding.{Bindings, is_discarded}
 use Rattle.lk_tables.specs.Files.{File, file_at, symbol_at, section_at, writes, is_frame_at, is_section_symbol, section_no, symbol_no}
 use Rattle.lk_tables.specs.FixedSymbols.{frame_start_no}
@@ -52,20 +52,20 @@ size_of file Absolute = 0
 size_of file Common = 0
 
 -- the section with the offset and the rest of the addend; a kind that goes by the GOT means the section's start
-abbrev pub in_section_of : File → Symbol → Reloc → (section offset : ℕ) → Target
+abbrev pub in_section_of : File → Symbol → Reloc → (section offset : ℕ) → Spot
 in_section_of file s r section offset = if is_section_symbol s && not (goes_by_got r.kind)
     then targets.Section section (clamped (size_of file s.place) r.addend) (r.addend -ℤ pos (clamped (size_of file s.place) r.addend))
     else targets.Section section offset r.addend
 
 -- a symbol that nothing defines is zero if it is WEAK, and else undefined
-abbrev pub unbound : Symbol → Target
+abbrev pub unbound : Symbol → Spot
 unbound s = if s.binding == STB_WEAK then targets.Zero else targets.Unbound
 
-abbrev pub target_by : Bound → File → Symbol → Reloc → Target
-target_by (InSection section offset) file s r = in_section_of file s r section offset
-target_by (Number n) file s r = targets.Number n
-target_by (Linker n) file s r = targets.Linker n
-target_by Nobody file s r = unbound s
+abbrev pub spot_by : Bound → File → Symbol → Reloc → Spot
+spot_by (InSection section offset) file s r = in_section_of file s r section offset
+spot_by (Number n) file s r = targets.Number n
+spot_by (Linker n) file s r = targets.Linker n
+spot_by Nobody file s r = unbound s
 
 abbrev pub is_unbound : Bound → Symbol → Bool
 is_unbound Nobody s = not (s.binding == STB_WEAK)
@@ -103,8 +103,8 @@ module _ (files : List File) (b : Bindings) where
   entry_bound = bound_by b.entry
 
   -- what a relocation of file f stands for
-  unfoldable pub target_of : (f : ℕ) → Reloc → Target
-  target_of f r = target_by (bound f r.symbol) (file_at files f) (symbol_at (file_at files f) r.symbol) r
+  unfoldable pub spot_of : (f : ℕ) → Reloc → Spot
+  spot_of f r = spot_by (bound f r.symbol) (file_at files f) (symbol_at (file_at files f) r.symbol) r
 
   -- its symbol is bound to nothing, or stands in a section that was discarded, and is not WEAK
   unfoldable pub is_undefined : (f i : ℕ) → Bool

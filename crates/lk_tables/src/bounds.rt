@@ -22,7 +22,7 @@ pub enum Bound {
 
 /// What a relocation stands for.
 #[derive(Clone, Copy, Debug, PartialEq, Eq)]
-pub enum Target {
+pub enum Spot {
     /// A byte of a section that goes into the executable, or its end.
     Section {
         /// The section's number in the link.

@@ -98,5 +98,6 @@ fn head_or_none(alloc: Global, head: Option<Head>) -> Head
         sections: Vec::new(alloc),
         symtab: 0,
         symbols: Vec::new(alloc),
+        commons: 0,
     }
 }

@@ -1,5 +1,9 @@
 //! The head of an object: what is read of each file, whether it takes part in the link or not.
 
+ghost use Rattle.std.specs.Prelude.{◌≡◌, ◌≤◌, count_by, length};
+ghost use Rattle.std.proofs.Props.{props};
+ghost use Rattle.lk_tables.specs.Symbols.{is_common};
+
 use crate::spans::Span;
 
 /// One section (System V gABI, "Sections").
@@ -66,4 +70,9 @@ pub struct Head {
     pub symtab: u32,
     /// By index, symbol 0 included.
     pub symbols: Vec<Symbol>,
+    /// How many of the symbols are COMMON.
+    pub commons: usize,
+
+    ghost counted: { commons ≡ count_by (λ s. is_common s.place) symbols.items } by { Prim.hlevel props },
+    ghost few: { commons ≤ length symbols.items } by { Prim.hlevel props },
 }

@@ -40,7 +40,7 @@ mod walks;
 
 pub use alignments::{is_alignment, place_width};
 pub use binding::Binding;
-pub use bounds::{Bound, Target};
+pub use bounds::{Bound, Spot};
 pub use classes::{Class, is_in, output_rank};
 pub use commons::BoundCommon;
 pub use entries::{SectionHeader, SymbolEntry};
@@ -61,7 +61,7 @@ pub use ranks::{
     symbol_of,
 };
 pub use reading::{
-    NO_SYMBOL, is_common, is_frame, is_loaded, is_loaded_type, is_read, is_section_symbol,
+    common_count, is_common, is_frame, is_loaded, is_loaded_type, is_read, is_section_symbol,
     is_visible, is_written,
 };
 pub use records::{FrameNo, Record};
@@ -69,7 +69,7 @@ pub use section_places::SectionPlace;
 pub use spans::Span;
 pub use starts::{first_symbols, section_count};
 pub use tables::{Heads, Tables};
-pub use targets::{is_undefined, target_in, target_of};
+pub use targets::{is_undefined, spot_in, spot_of};
 pub use uleb_lengths::{contents_of, uleb_len};
 pub use uppers::Uppers;
 pub use walks::{RelocTest, first_over_relocs, reloc_defect};

@@ -1,6 +1,6 @@
 //! What passes read of a file.
 
-ghost use Rattle.std.specs.Prelude.{◌≡◌, ◌==◌, ◌&&◌, nat_lt, is_some, map};
+ghost use Rattle.std.specs.Prelude.{◌≡◌, ◌≤◌, ◌==◌, ◌&&◌, nat_lt, is_some, map, length, count_by};
 ghost use Rattle.lk_tables.specs.Files as spec;
 ghost use Rattle.lk_tables.specs.FileView.{file_view};
 ghost use Rattle.lk_tables.specs.Heads.{head_view};
@@ -91,6 +91,14 @@ impl<'a> File<'a> {
         ensures { result.now ≡ (file_view self.now).head.symbols }
     {
         self.head.symbols.as_slice()
+    }
+
+    /// How many of its symbols are COMMON.
+    pub fn commons(&self) -> usize
+        ensures count { result ≡ spec.commons_before (file_view self.now) (length (file_view self.now).head.symbols) }
+        ensures few { result ≤ length (file_view self.now).head.symbols }
+    {
+        self.head.commons
     }
 
     /// Whether the file takes part in the link.
@@ -245,4 +253,12 @@ pub fn is_common(symbol: &Symbol) -> bool
     ensures { result ≡ symbols.is_common symbol.now.place }
 {
     symbol.place == Place::Common
+}
+
+/// How many symbols are COMMON.
+pub fn common_count(list: &[Symbol]) -> usize
+    ensures count { result ≡ count_by (λ s. symbols.is_common s.place) list.now }
+    ensures few { result ≤ length list.now }
+{
+    list.iter().filter(|symbol| is_common(symbol)).count()
 }

@@ -3,10 +3,9 @@
 ghost use Rattle.std.specs.Prelude.{◌≡◌, ◌+◌, ◌<◌, ◌≤◌, ◌^◌, map, length, IfOk};
 ghost use Rattle.std.specs.List.{range_with_len};
 ghost use Rattle.lk_tables.specs.FileView.{file_view, file_views};
-ghost use Rattle.lk_tables.specs.Files.{by_section, commons_before, first_section, first_symbol, section_count, section_total, symbol_total};
+ghost use Rattle.lk_tables.specs.Files.{by_section, first_section, first_symbol, section_count, section_total, symbol_total};
 
 use crate::files::File;
-use crate::reading::is_common;
 use lk_base::FileNo;
 use std::alloc::{AllocError, Global};
 
@@ -64,16 +63,5 @@ pub fn section_count(file: &File) -> usize
     if !file.is_live() {
         return 0;
     }
-    file.sections().len() + commons_in(file)
-}
-
-/// How many COMMON symbols a file has.
-fn commons_in(file: &File) -> usize
-    ensures count { result ≡ commons_before (file_view file.now) (length (file_view file.now).head.symbols) }
-    ensures few { result ≤ length (file_view file.now).head.symbols }
-{
-    file.symbols()
-        .iter()
-        .filter(|symbol| is_common(symbol))
-        .count()
+    file.sections().len() + file.commons()
 }

@@ -6,12 +6,12 @@ ghost use Rattle.lk_tables.specs.declared.commons.BoundCommon.{BoundCommon};
 ghost use Rattle.lk_tables.specs.BindingView.{binding_view};
 ghost use Rattle.lk_tables.specs.Files.{section_total};
 ghost use Rattle.lk_tables.specs.FileView.{file_view};
-ghost use Rattle.lk_tables.specs.Sites.{relocs_of, target_at};
+ghost use Rattle.lk_tables.specs.Sites.{relocs_of, spot_at};
 ghost use Rattle.lk_tables.specs.TablesView.{files_of};
 ghost use Rattle.lk_tables.specs.Targets as spec;
 
 use crate::binding::Binding;
-use crate::bounds::{Bound, Target};
+use crate::bounds::{Bound, Spot};
 use crate::commons::BoundCommon;
 use crate::files::File;
 use crate::heads::{Place, Symbol};
@@ -188,10 +188,10 @@ fn clamped(size: u64, addend: i64) -> u64
 }
 
 /// What a relocation of a file stands for. Takes no memory.
-#[tactic(auto, unfolding(crate::specs::Targets::target_of))]
-pub fn target_in(tables: &Tables, binding: &Binding, file: FileNo, reloc: &Reloc) -> Target
+#[tactic(auto, unfolding(crate::specs::Targets::spot_of))]
+pub fn spot_in(tables: &Tables, binding: &Binding, file: FileNo, reloc: &Reloc) -> Spot
     requires { file < length (files_of tables.now) }
-    ensures { result ≡ spec.target_of (files_of tables.now) (binding_view binding.now) file reloc.now }
+    ensures { result ≡ spec.spot_of (files_of tables.now) (binding_view binding.now) file reloc.now }
 {
     let entry = &tables.files()[file as usize];
     let symbol = entry.symbol(reloc.symbol as usize);
@@ -199,25 +199,25 @@ pub fn target_in(tables: &Tables, binding: &Binding, file: FileNo, reloc: &Reloc
         Bound::InSection { section, offset } => {
             in_section(entry, &symbol, reloc, section, offset)
         }
-        Bound::Number(number) => Target::Number(number),
-        Bound::Linker(name) => Target::Linker(name),
+        Bound::Number(number) => Spot::Number(number),
+        Bound::Linker(name) => Spot::Linker(name),
         Bound::Nobody => unbound(&symbol),
     }
 }
 
 /// The section that a relocation stands for: a SECTION symbol's addend chooses the byte.
-fn in_section(entry: &File, symbol: &Symbol, reloc: &Reloc, section: SecNo, offset: u64) -> Target
+fn in_section(entry: &File, symbol: &Symbol, reloc: &Reloc, section: SecNo, offset: u64) -> Spot
     ensures { result ≡ spec.in_section_of (file_view entry.now) symbol.now reloc.now section offset }
 {
     if !is_section_symbol(symbol) || goes_by_got(reloc.kind) {
-        return Target::Section {
+        return Spot::Section {
             section,
             offset,
             rest: reloc.addend,
         };
     }
     let byte = clamped(size_at(entry, symbol.place), reloc.addend);
-    Target::Section {
+    Spot::Section {
         section,
         offset: byte,
         rest: (reloc.addend as i128 - byte as i128) as i64,
@@ -235,24 +235,24 @@ fn size_at(entry: &File, place: Place) -> u64
 }
 
 /// What a symbol stands for that nothing defines.
-fn unbound(symbol: &Symbol) -> Target
+fn unbound(symbol: &Symbol) -> Spot
     ensures { result ≡ spec.unbound symbol.now }
 {
     if symbol.binding == STB_WEAK {
-        return Target::Zero;
+        return Spot::Zero;
     }
-    Target::Unbound
+    Spot::Unbound
 }
 
 /// What a relocation stands for: `reloc` is its number in its section's stable order of offset. Takes no memory.
-pub fn target_of(tables: &Tables, binding: &Binding, section: SecNo, reloc: usize) -> Target
+pub fn spot_of(tables: &Tables, binding: &Binding, section: SecNo, reloc: usize) -> Spot
     requires section { section < section_total (files_of tables.now) }
     requires reloc { reloc < length (relocs_of (files_of tables.now) section) }
-    ensures { result ≡ target_at (files_of tables.now) (binding_view binding.now) section reloc }
+    ensures { result ≡ spot_at (files_of tables.now) (binding_view binding.now) section reloc }
 {
     let place = tables.place_of(section);
     let relocs = tables.files()[place.file as usize].relocs(place.index as usize);
-    target_in(tables, binding, place.file, &relocs[reloc])
+    spot_in(tables, binding, place.file, &relocs[reloc])
 }
 
 /// Whether a symbol of a file stands for nothing, and may not: it is not WEAK, and its name is bound to nothing, or it stands in a

@@ -120,7 +120,7 @@ fn first(list: &[Member], count: u64) -> &[Member]
     list.split_at(count as usize).0
 }
 
-/// Those after so many.
+/// The members after the first so many.
 fn rest(list: &[Member], count: u64) -> &[Member]
     ensures { result.now ≡ drop count list.now }
 {

@@ -8,14 +8,13 @@ ghost use Rattle.link_sections.specs.Views.{binding_in, files_in, laid_in, leade
 ghost use Rattle.map_file.specs.Folded.{AreFolded, one_if, own_folded};
 ghost use Rattle.map_file.specs.MapText.{is_other, is_output};
 ghost use Rattle.map_file.specs.MapView.{lists_view};
-ghost use Rattle.symbol_table.specs.Noted.{AreNoted, noted};
+ghost use Rattle.symbol_table.specs.Noted.{AreNoted, output_numbers};
 ghost use Rattle.symbol_table.specs.Outputs.{place_in};
 
 use crate::places::place_of;
-use link_sections::{View, input_in};
+use link_sections::{View, input_in, leader_of};
 use lk_base::SecNo;
 use std::alloc::{AllocError, Global};
-use symbol_addresses::leader_of;
 use symbol_table::{Outputs, TablePlace};
 
 /// By the numbers of output sections, from 1 on, the sections that are folded there, in order of file and section.
@@ -49,7 +48,7 @@ fn push_if_folded(
     outputs: &Outputs,
     section: SecNo,
 ) -> Result<(), AllocError>
-    requires noted { AreNoted 1 (laid_in view.now).outputs (noted outputs.now.known) }
+    requires noted { AreNoted 1 (laid_in view.now).outputs (output_numbers outputs.now) }
     requires section { section < section_total (files_in view.now) }
     ensures count { OnOk result (length lists.new.items ≡ length lists.old.items) }
     ensures each { OnOk result ((number : ℕ) → number < length lists.old.items → slice_index_or (lists_view lists.new.items) number [] ≡ slice_index_or (lists_view lists.old.items) number [] ++ own_folded view.now number section) }
@@ -73,7 +72,7 @@ fn is_folded(leaders: &[Option<SecNo>], section: SecNo) -> bool
 /// The output section of the section that is written in the place of one.
 #[tactic(auto, unfolding(link_sections::specs::LaidOut::with_contents))]
 fn leader_place(view: &View, outputs: &Outputs, section: SecNo) -> TablePlace
-    requires noted { AreNoted 1 (laid_in view.now).outputs (noted outputs.now.known) }
+    requires noted { AreNoted 1 (laid_in view.now).outputs (output_numbers outputs.now) }
     requires section { section < section_total (files_in view.now) }
     ensures { result ≡ place_in (laid_in view.now) (input_at (files_in view.now) (binding_in view.now) (leading.leader_of (leaders_in view.now) section)) }
 {

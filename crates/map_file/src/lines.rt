@@ -9,11 +9,10 @@ ghost use Rattle.symbol_table.specs.SymbolViews.{symbol_view};
 
 use crate::numbers::push_hex;
 use crate::places::{place_of, push_place};
-use link_sections::{Content, Member, Output, View};
+use link_sections::{Content, Member, Output, View, entry_address, leader_of, start_of};
 use lk_base::{SecNo, push_escaped};
 use lk_tables::SectionPlace;
 use std::alloc::AllocError;
-use symbol_addresses::{entry_address, leader_of, start_of};
 use symbol_table::TableSymbol;
 
 /// Adds a word, an address and a number of bytes.

@@ -14,7 +14,7 @@ pub fn room_of(view: &View, symbols: &[TableSymbol]) -> usize {
         .saturating_add(symbols_room(symbols))
 }
 
-/// That of the lines of output sections, and of pools and the linker's table.
+/// About how many bytes the lines of output sections, of pools and of the linker's table have.
 fn outputs_room(outputs: &[Output]) -> usize {
     let mut room: usize = LINE;
     for output in outputs {
@@ -23,7 +23,7 @@ fn outputs_room(outputs: &[Output]) -> usize {
     room
 }
 
-/// That of the lines of all sections.
+/// About how many bytes the lines of all sections have.
 fn files_room(view: &View) -> usize {
     let mut room: usize = 0;
     for (file, entry) in view.tables.files().iter().enumerate() {
@@ -40,14 +40,14 @@ fn shown_len(names: &[Vec<u8>], file: usize) -> usize {
     }
 }
 
-/// That of the lines of a file's sections.
+/// About how many bytes the lines of a file's sections have.
 fn file_room(file: &File, shown: usize) -> usize {
     LINE.saturating_add(shown)
         .saturating_mul(section_count(file))
         .saturating_add(names_room(file.sections()))
 }
 
-/// That of the names of sections.
+/// About how many bytes the names of sections have.
 fn names_room(sections: &[Section]) -> usize {
     let mut room: usize = 0;
     for section in sections {
@@ -56,7 +56,7 @@ fn names_room(sections: &[Section]) -> usize {
     room
 }
 
-/// That of the lines of symbols.
+/// About how many bytes the lines of symbols have.
 fn symbols_room(symbols: &[TableSymbol]) -> usize {
     let mut room: usize = 0;
     for symbol in symbols {

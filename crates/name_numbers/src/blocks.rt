@@ -11,8 +11,12 @@ ghost use Rattle.name_numbers.specs.Texts.{hash_at};
 use intern_race::{InternSeat, Interner, Texts, tag_of};
 use std::alloc::{AllocError, Global};
 
-/// So many texts are of a block: what the table has at their homes is read, and then the texts that stand there, before they are placed.
-pub const BLOCK: usize = 512;
+/// So many texts are of a block: what the table has at their homes is read, and then the texts that stand there, before they are placed. The lines of memory at
+/// the homes of so many fill half of a first cache of 32 KB.
+const BLOCK: usize = 256;
+
+/// The lists of a block have room for so many.
+pub const ROOM: usize = 512;
 
 /// The slot of a text that is not placed yet.
 const NO_SLOT: u32 = 0xffff_ffff;
@@ -42,14 +46,14 @@ pub struct Block<'t> {
 pub fn empty_block<'t>(alloc: Global) -> Result<Block<'t>, AllocError>
     ensures { IfOk result HasRoom }
 {
-    let met = vec![in alloc; 0; BLOCK]?;
-    let near = vec![in alloc; 0; BLOCK]?;
-    let rest = vec![in alloc; 0; BLOCK]?;
-    let others = Vec::with_capacity(alloc, BLOCK)?;
-    let texts = Vec::with_capacity(alloc, BLOCK)?;
-    let bytes = Vec::with_capacity(alloc, BLOCK)?;
-    let alike = vec![in alloc; 0; BLOCK]?;
-    let early = vec![in alloc; 0; BLOCK]?;
+    let met = vec![in alloc; 0; ROOM]?;
+    let near = vec![in alloc; 0; ROOM]?;
+    let rest = vec![in alloc; 0; ROOM]?;
+    let others = Vec::with_capacity(alloc, ROOM)?;
+    let texts = Vec::with_capacity(alloc, ROOM)?;
+    let bytes = Vec::with_capacity(alloc, ROOM)?;
+    let alike = vec![in alloc; 0; ROOM]?;
+    let early = vec![in alloc; 0; ROOM]?;
     Ok(Block {
         met,
         near,
@@ -144,14 +148,19 @@ fn find_near<'t>(
 {
     read_homes(table, hashes, block.met.as_mut_slice());
     own_numbers(block.alike.as_mut_slice(), hashes.len(), from);
-    let count = split_near(
+    tell_near(
         tags,
         hashes,
         block.met.as_slice(),
+        block.rest.as_mut_slice(),
+    );
+    let count = split_near(
+        hashes.len(),
         block.near.as_mut_slice(),
         block.rest.as_mut_slice(),
     );
     let near = &block.near.as_slice()[..count];
+    warm_others(texts, block.met.as_slice(), near, &mut block.bytes)?;
     list_others(
         texts,
         block.met.as_slice(),
@@ -194,21 +203,32 @@ fn own_numbers(alike: &mut [u32], count: usize, from: usize)
     }
 }
 
-/// The places of the hashes for which what stands at their homes has their tag, so many, and of the others.
-fn split_near(tags: &[u8], hashes: &[u64], met: &[u32], near: &mut [u32], rest: &mut [u32]) -> usize
-    requires most { length hashes.now ≤ 512 }
+/// Notes for each of these hashes whether what stands at its home has its tag, by 1 or 0. The loop does nothing else, so that many tags are read at once.
+fn tell_near(tags: &[u8], hashes: &[u64], met: &[u32], told: &mut [u32])
     requires met { length hashes.now ≤ length met.now }
-    requires near { length hashes.now ≤ length near.old }
-    requires rest { length hashes.now ≤ length rest.old }
-    ensures most { result ≤ length hashes.now }
+    requires told { length hashes.now ≤ length told.old }
+    ensures { length told.new ≡ length told.old }
+{
+    for k in 0..hashes.len() {
+        told[k] = has_tag(tags, met[k] as usize, tag_of(hashes[k])) as u32;
+    }
+}
+
+/// The places of so many texts for which what stands at their homes has their tag, so many, and of the others. `rest` notes before which these are.
+fn split_near(texts: usize, near: &mut [u32], rest: &mut [u32]) -> usize
+    requires most { texts ≤ 512 }
+    requires near { texts ≤ length near.old }
+    requires rest { texts ≤ length rest.old }
+    ensures most { result ≤ texts }
     ensures near { length near.new ≡ length near.old }
     ensures rest { length rest.new ≡ length rest.old }
 {
     let mut count: usize = 0;
-    for k in 0..hashes.len() {
+    for k in 0..texts {
+        let more = (rest[k] as usize).min(1);
         near[count] = k as u32;
         rest[k - count] = k as u32;
-        count += has_tag(tags, met[k] as usize, tag_of(hashes[k])) as usize;
+        count += more;
     }
     count
 }
@@ -221,6 +241,25 @@ fn has_tag(tags: &[u8], number: usize, tag: u8) -> bool {
         Some(one) => (there == number) & (*one == tag),
         None => false,
     }
+}
+
+/// Reads where the texts end that stand at the homes of the texts at these places, so that this is at hand: in a loop that does nothing else a processor
+/// has more of these reads under way.
+fn warm_others(
+    texts: &Texts,
+    met: &[u32],
+    near: &[u32],
+    bytes: &mut Vec<u8>,
+) -> Result<(), AllocError> {
+    bytes.clear();
+    for n in 0..near.len() {
+        let end = match met.get(near[n] as usize) {
+            Some(number) => texts.warm(*number as usize),
+            None => 0,
+        };
+        bytes.push((end % 256) as u8)?;
+    }
+    Ok(())
 }
 
 /// The numbers and the texts that stand at the homes of the texts at these places.
@@ -302,7 +341,7 @@ fn compare_others(
     }
 }
 
-/// The same for one text.
+/// One text of a block has the number of the other one, if that is equal.
 fn compare_other(
     texts: &Texts,
     other: u32,

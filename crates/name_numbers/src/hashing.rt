@@ -40,10 +40,7 @@ fn push_four(hashes: &mut Vec<u64>, texts: &Texts, i: usize) -> Result<(), Alloc
     requires few { length texts.now ≤ 2 ^ 31 }
     ensures { OnOk result (hashes.new.items ≡ hashes.old.items ++ map (hash_at texts.now) (range_with_len i 4)) }
 {
-    let first = texts.text(i);
-    let second = texts.text(i + 1);
-    let third = texts.text(i + 2);
-    let fourth = texts.text(i + 3);
+    let (first, second, third, fourth) = texts.four(i);
     let (of_first, of_second, of_third, of_fourth) = hash_four(first, second, third, fourth);
     hashes.push(of_first)?;
     hashes.push(of_second)?;

@@ -44,7 +44,7 @@ pub fn keys_of<'a, R: Threads + Sync>(
     Ok(listed)
 }
 
-/// The same by one worker.
+/// Lists the keys of all files by one worker.
 fn all_keys<'a>(alloc: Global, files: &[File<'a>], starts: &[u32]) -> Result<Listed<'a>, AllocError>
     requires starts { starts.now ≡ map (first_symbol (file_views files.now)) (range_with_len 0 (length files.now + 1)) }
     requires symbols { symbol_total (file_views files.now) < 2 ^ 31 }

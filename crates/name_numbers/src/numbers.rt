@@ -10,7 +10,7 @@ ghost use Rattle.name_numbers.specs.Marks.{AreMarked};
 
 use crate::keys::Keys;
 use crate::listing::keys_of;
-use crate::texts::number_texts;
+use crate::texts::number_cut;
 use intern_race::Texts;
 use lk_tables::{File, NameNumbers, first_symbols};
 use rayon::prelude::*;
@@ -38,7 +38,7 @@ pub fn number_names<R: Threads + Sync, G: Gate>(
     let Keys { texts, symbols } = listed.keys;
     let mut firsts = listed.firsts;
     let texts = Texts::of(alloc, texts);
-    let indexes = number_texts(rt, alloc, &texts, workers, gate)?;
+    let indexes = number_cut(rt, alloc, &texts, workers, false, gate)?;
     mark_firsts(
         firsts.as_mut_slice(),
         symbols.as_slice(),
@@ -76,7 +76,7 @@ fn follow<R: Threads + Sync>(
     follow_by_all(rt, alloc, firsts)
 }
 
-/// The same by one worker.
+/// By symbol, the number of its name, found by one worker.
 fn follow_by_one(alloc: Global, firsts: &[u32]) -> Result<Vec<u32>, AllocError>
     ensures { IfOk result (λ list. list.items ≡ followed firsts.now) }
 {
@@ -87,7 +87,7 @@ fn follow_by_one(alloc: Global, firsts: &[u32]) -> Result<Vec<u32>, AllocError>
     Ok(list)
 }
 
-/// The same by all processors.
+/// By symbol, the number of its name, found by all processors.
 fn follow_by_all<R: Threads + Sync>(
     rt: &R,
     alloc: Global,

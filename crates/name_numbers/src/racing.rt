@@ -9,7 +9,7 @@ ghost use Rattle.name_numbers.specs.Texts.{hash_at, number_at, text_numbers};
 ghost use Rattle.work_split.specs.Pieces.{Tiles};
 ghost use Rattle.work_split.specs.Tasks.{IsAt};
 
-use crate::blocks::{BLOCK, Block, block_of, empty_block, place_block};
+use crate::blocks::{Block, ROOM, block_of, empty_block, place_block};
 use crate::hash_lists::{Hashes, hash_all, hash_block};
 use intern_race::{InternSeat, Interner, Texts};
 use lk_base::LinkStop;
@@ -43,7 +43,8 @@ pub fn number_by_one(alloc: Global, texts: &Texts) -> Result<Option<Vec<u32>>, A
     }
 }
 
-/// The same by a table that is open. An error says that searches went past too many slots, or that there was no memory.
+/// For each text the index of the first equal one, by one seat at a table that is open. An error says that searches went past too many slots, or that
+/// there was no memory.
 fn number_run(
     alloc: Global,
     table: &Interner,
@@ -57,9 +58,9 @@ fn number_run(
 {
     let mut numbers = Vec::with_capacity(alloc, texts.len())?;
     let mut tags = Vec::with_capacity(alloc, texts.len())?;
-    let mut hashes = Vec::with_capacity(alloc, BLOCK)?;
+    let mut hashes = Vec::with_capacity(alloc, ROOM)?;
     let mut block = empty_block(alloc)?;
-    let mut slots = Vec::with_capacity(alloc, BLOCK)?;
+    let mut slots = Vec::with_capacity(alloc, ROOM)?;
     let mut left = allowed(texts.len());
     let mut done = 0;
     while done < texts.len() {
@@ -144,7 +145,8 @@ fn push_numbers(
     Ok(())
 }
 
-/// The same by several workers, each with a seat of its own. The first of equal texts is known once all seats are joined.
+/// For each text the index of the first equal one, by several workers, each with a seat of its own; none if searches went past too many slots. The
+/// first of equal texts is known once all seats are joined.
 pub fn number_by_all<R: Threads + Sync, G: Gate>(
     rt: &R,
     alloc: Global,

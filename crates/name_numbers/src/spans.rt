@@ -37,7 +37,7 @@ pub fn first_spans(alloc: Global, file: &File) -> Result<Vec<u32>, AllocError>
     }
 }
 
-/// The same, if each name that counts begins after where the one before it begins.
+/// By index, the first symbol of the file whose name is the same span, if each name that counts begins after where the one before it begins.
 fn rising_firsts(alloc: Global, file: &File) -> Result<Option<Vec<u32>>, AllocError>
     requires { length (file_view file.now).head.symbols < 2 ^ 31 }
     ensures { IfOk result (λ found. IfSome found (λ firsts. firsts.items ≡ map (first_or_none (file_view file.now).head.symbols) (range_with_len 0 (length (file_view file.now).head.symbols)))) }
@@ -76,7 +76,7 @@ fn own_or_none(symbol: &Symbol, i: u32) -> u32
     if is_named(symbol) { i } else { 0 }
 }
 
-/// The same in any order: names are sorted by their spans.
+/// By index, the first symbol of the file whose name is the same span, in whatever order names stand: they are sorted by their spans.
 fn sorted_firsts(alloc: Global, file: &File) -> Result<Vec<u32>, AllocError>
     requires { length (file_view file.now).head.symbols < 2 ^ 31 }
     ensures { IfOk result (λ firsts. firsts.items ≡ map (first_or_none (file_view file.now).head.symbols) (range_with_len 0 (length (file_view file.now).head.symbols))) }

@@ -1,6 +1,6 @@
 //! Any texts by number.
 
-ghost use Rattle.std.specs.Prelude.{◌≡◌, ◌<◌, ◌^◌, length, IfOk};
+ghost use Rattle.std.specs.Prelude.{◌≡◌, ◌<◌, ◌≤◌, ◌^◌, length, IfOk};
 ghost use Rattle.name_numbers.specs.Keys.{key_views};
 ghost use Rattle.name_numbers.specs.Texts.{text_keys, text_numbers};
 
@@ -14,8 +14,13 @@ use work_split::Gate;
 /// Fewer texts are not worth threads.
 const FEW: usize = 16_384;
 
-/// So many workers place texts, if there are more.
+/// So many pieces are placed side by side, if there are more.
 const MOST: u32 = 64;
+
+/// From so many texts on each worker may have several pieces, so many, since one processor may be slower than another.
+const MANY: usize = 262_144;
+
+const EACH: u32 = 4;
 
 /// For each text the index of the first that is equal to it. One worker does all by itself; for more, threads are started if there are many texts,
 /// and worker w passes `gate` before and after each of its two tasks.
@@ -29,13 +34,28 @@ pub fn number_texts<R: Threads + Sync, G: Gate>(
     requires { length texts.now < 2 ^ 31 }
     ensures { IfOk result (λ list. list.items ≡ text_numbers texts.now) }
 {
+    number_cut(rt, alloc, texts, workers, true, gate)
+}
+
+/// For each text the index of the first that is equal to it, where each worker may have several pieces, or one.
+pub fn number_cut<R: Threads + Sync, G: Gate>(
+    rt: &R,
+    alloc: Global,
+    texts: &Texts,
+    workers: u32,
+    several: bool,
+    gate: &G,
+) -> Result<Vec<u32>, AllocError>
+    requires { length texts.now < 2 ^ 31 }
+    ensures { IfOk result (λ list. list.items ≡ text_numbers texts.now) }
+{
     if workers == 1 || texts.len() < FEW {
         return number_alone(rt, alloc, texts);
     }
-    number_together(rt, alloc, texts, workers, gate)
+    number_together(rt, alloc, texts, workers, several, gate)
 }
 
-/// The same by one worker.
+/// For each text the index of the first equal one, by one worker.
 fn number_alone<R: Threads + Sync>(
     rt: &R,
     alloc: Global,
@@ -50,25 +70,38 @@ fn number_alone<R: Threads + Sync>(
     }
 }
 
-/// The same by several.
+/// For each text the index of the first equal one, by several workers.
 fn number_together<R: Threads + Sync, G: Gate>(
     rt: &R,
     alloc: Global,
     texts: &Texts,
     workers: u32,
+    several: bool,
     gate: &G,
 ) -> Result<Vec<u32>, AllocError>
     requires { length texts.now < 2 ^ 31 }
     ensures { IfOk result (λ list. list.items ≡ text_numbers texts.now) }
 {
-    let some = workers.max(1).min(MOST);
+    let some = pieces_for(texts.len(), workers, several);
     match number_by_all(rt, alloc, texts, some, gate)? {
         Some(numbers) => Ok(numbers),
         None => number_by_order(rt, alloc, texts, workers),
     }
 }
 
-/// The same by a sort by their hashes and their bytes: where hashes crowd the table, by design too.
+/// Into how many pieces so many texts are cut for so many workers, each of which may have several, or one.
+fn pieces_for(texts: usize, workers: u32, several: bool) -> u32
+    ensures some { 1 ≤ result }
+    ensures most { result ≤ 64 }
+{
+    let few = workers.max(1).min(MOST);
+    if !several || texts < MANY {
+        return few;
+    }
+    (few * EACH).min(MOST)
+}
+
+/// For each text the index of the first equal one, by a sort by their hashes and their bytes: where hashes crowd the table, by design too.
 fn number_by_order<R: Threads + Sync>(
     rt: &R,
     alloc: Global,

@@ -1,11 +1,14 @@
 -- The items of sound files have sizes and alignments as they can be, are few, and have few bytes together.
-use Rattle.std.proofs.Common.{◌≡◌, ℕ, zero, suc, ◌+◌, ◌-◌, ◌<◌, ◌≤◌, ◌==◌, Bool, true, false, ◌&&◌, List, [], ◌∷◌, length, flat_map, refl, sym, arith, subst, cond, inl, inr}
+use Rattle.std.proofs.Common.{◌≡◌, ℕ, zero, suc, ◌+◌, ◌-◌, ◌<◌, ◌≤◌, ◌==◌, Bool, true, false, ◌&&◌, List, [], ◌∷◌, length, flat_map, refl, sym, arith, subst, cond, inl, inr, count_ones}
 use Rattle.std.specs.Prelude.{if◌then◌else◌, max, find, is_some, Option, Some}
+use Rattle.std.specs.Int.{is_power_of_two}
+use Rattle.std.specs.Int.Count.{ones_step}
 use Rattle.std.specs.List.{All, range_with_len}
 use Rattle.std.specs.Str.{bytes_eq}
 use Rattle.std.proofs.lemmas.List.Elements.{All-nil, All-cons, All-head, All-tail, All-append}
 use Rattle.std.proofs.lemmas.List.FromFn.{get_or-map-range_with_len}
-use Rattle.std.proofs.lemmas.Bool.{and_parts, ltb-true, cases_lt}
+use Rattle.std.proofs.lemmas.Bool.{and_parts, ltb-true, cases_lt, eq-eqb}
+use Rattle.std.proofs.lemmas.Nat.{ones_le_self}
 use Rattle.lk_base.specs.declared.abi.TheConstants.{ALIGN_MAX, NOBITS_MAX}
 use Rattle.lk_tables.specs.declared.commons.BoundCommon.{BoundCommon}
 use Rattle.lk_tables.specs.declared.heads.Place.{Place}
@@ -16,7 +19,7 @@ use Rattle.lk_tables.specs.declared.tables.Tables.{Tables}
 use Rattle.lk_tables.specs.BoundNames.{IsBindingOf, bindings, with_linker}
 use Rattle.lk_tables.specs.Binding.{Bindings, Demand, offered_bindings, bound_common_at, bound_commons_in, demand_at, demands, demands_in, greatest_align, greatest_size, rank_bound}
 use Rattle.lk_tables.specs.Files.{File, IsSound, common_no, file_at, first_section, no_symbol, section_at, symbol_at, symbol_name, writes}
-use Rattle.lk_tables.specs.Inside.{IsCommonWithin, IsLinked}
+use Rattle.lk_tables.specs.Inside.{IsAlignment, IsCommonWithin, IsLinked}
 use Rattle.lk_tables.specs.Ranks.{rank_of}
 use Rattle.lk_tables.specs.Symbols.{is_common}
 use Rattle.lk_tables.specs.TablesView.{files_of}
@@ -51,8 +54,22 @@ one_if P b x one = each_if P b (x ∷ []) (λ is. All-cons P x [] (one is) (All-
 -- what may go into an executable
 pub record IsModest (s : InputSection) : Type 0 where
   pub some : 1 ≤ s.align
+  pub power : is_power_of_two s.align ≡ true
   pub aligned : s.align ≤ ALIGN_MAX
   pub sized : s.size ≤ NOBITS_MAX
+
+-- an alignment of 0 counts as 1
+one_power : is_power_of_two 1 ≡ true
+one_power = let one : count_ones 1 ≡ 1 = omega (arith, ones_step 1, ones_le_self 0) in eq-eqb (count_ones 1) 1 one
+
+power_of : (a : ℕ) → IsAlignment a → is_power_of_two (max 1 a) ≡ true
+power_of a is =
+    elim (cases_lt 0 a) [
+      | inl some ↦
+          let same : a ≡ max 1 a = omega (arith, some) in
+          subst (λ n. is_power_of_two n ≡ true) same (is.power (λ none. absurd (omega (arith, some, none))))
+      | inr none ↦ let same : 1 ≡ max 1 a = omega (arith, none) in subst (λ n. is_power_of_two n ≡ true) same one_power
+    ]
 
 -- a written section
 modest_section : (file : File) (k : ℕ) → IsSound file → writes file k ≡ true → IsModest (section_input file k)
@@ -62,6 +79,7 @@ modest_section file k sound written =
     let linked : IsLinked (length file.head.sections) (section_at file k) = (inside_body file sound).linked k _ (written_within file k written) low both.1 in
     record {
       some = omega arith;
+      power = power_of (section_at file k).align linked.align;
       aligned = omega (arith, linked.align.most);
       sized = linked.size;
     }
@@ -69,6 +87,7 @@ modest_section file k sound written =
 -- what a COMMON symbol of a sound file asks for
 record IsAsked (d : Demand) : Type 0 where
   some : 1 ≤ d.align
+  power : is_power_of_two d.align ≡ true
   aligned : d.align ≤ ALIGN_MAX
   sized : d.size ≤ NOBITS_MAX
 
@@ -79,7 +98,7 @@ common_is Common is = refl
 common_is (Within k) is = let no : ⊥ = cc in absurd no
 
 asked_symbol : (name : List ℕ) (s : Symbol) → IsCommonWithin s → IsAsked (record { name = name; size = s.size; align = max 1 s.value })
-asked_symbol name s within = record { some = omega arith; aligned = omega (arith, within.align.most); sized = within.size }
+asked_symbol name s within = record { some = omega arith; power = power_of s.value within.align; aligned = omega (arith, within.align.most); sized = within.size }
 
 asked_at : (files : List File) (f i : ℕ) → IsSound (file_at files f) → i < length (file_at files f).head.symbols → All IsAsked (demand_at files f i)
 unfolding demand_at
@@ -127,6 +146,20 @@ unfolding greatest_align
 align_least name [] = omega arith
 align_least name (d ∷ ds) = max_above (bytes_eq d.name name) d.align (greatest_align name ds) 1 (align_least name ds)
 
+max_power : (b : Bool) (m n : ℕ) → is_power_of_two m ≡ true → is_power_of_two n ≡ true → is_power_of_two (if b then max m n else n) ≡ true
+max_power true m n one other =
+    elim (cases_lt m n) [
+      | inl less ↦ let same : n ≡ max m n = omega (arith, less) in subst (λ k. is_power_of_two k ≡ true) same other
+      | inr least ↦ let same : m ≡ max m n = omega (arith, least) in subst (λ k. is_power_of_two k ≡ true) same one
+    ]
+max_power false m n one other = other
+
+align_power : (name : List ℕ) (ds : List Demand) → All IsAsked ds → is_power_of_two (greatest_align name ds) ≡ true
+unfolding greatest_align
+align_power name [] all = one_power
+align_power name (d ∷ ds) all =
+    max_power (bytes_eq d.name name) d.align (greatest_align name ds) (All-head IsAsked d ds all).power (align_power name ds (All-tail IsAsked d ds all))
+
 -- the room of COMMON symbols
 abbrev IsModestRoom : BoundCommon → Type 0
 IsModestRoom c = IsModest (room_input (Some c))
@@ -140,6 +173,7 @@ room_at files gone f i sound =
     (record { file = f; symbol = i; section = common_no files f i; size = greatest_size name (demands files); align = greatest_align name (demands files) })
     (λ is. record {
       some = align_least name (demands files);
+      power = align_power name (demands files) (asked files sound);
       aligned = align_most name (demands files) (asked files sound);
       sized = size_most name (demands files) (asked files sound);
     })

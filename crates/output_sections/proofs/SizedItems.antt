@@ -1,11 +1,14 @@
 -- The items of sound files have sizes and alignments as they can be, are few, and have few bytes together.
-use Rattle.std.proofs.Common.{◌≡◌, ℕ, zero, suc, ◌+◌, ◌*◌, ◌^◌, ◌<◌, ◌≤◌, ◌==◌, Bool, true, false, List, [], ◌∷◌, length, flat_map, refl, ap, arith, subst, inl, inr}
+use Rattle.std.proofs.Common.{◌≡◌, ℕ, zero, suc, ◌+◌, ◌*◌, ◌^◌, ◌<◌, ◌≤◌, ◌==◌, Bool, true, false, List, [], ◌∷◌, length, flat_map, refl, ap, arith, subst, inl, inr, count_ones}
 use Rattle.std.specs.Prelude.{if◌then◌else◌, Option, Some, None}
+use Rattle.std.specs.Int.{is_power_of_two}
+use Rattle.std.specs.Int.Count.{ones_step}
 use Rattle.std.specs.List.{All, range_with_len, sum_by}
 use Rattle.std.proofs.lemmas.List.{length-append}
 use Rattle.std.proofs.lemmas.List.Elements.{All-nil, All-cons, All-head, All-tail, All-append}
 use Rattle.std.proofs.lemmas.List.Sums.{sum_by-append, sum_by-cons}
 use Rattle.std.proofs.lemmas.Bool.{eqb-true, eq-eqb, ne_eqb, cases_eq}
+use Rattle.std.proofs.lemmas.Nat.{ones_le_self}
 use Rattle.lk_base.specs.declared.abi.TheConstants.{NOBITS_MAX}
 use Rattle.lk_tables.specs.Binding.{Bindings}
 use Rattle.lk_tables.specs.Files.{File, section_total}
@@ -28,7 +31,7 @@ leader_is (Some m) n is = ap Some (eqb-true m n is)
 sized_section : (n : ℕ) (s : InputSection) → IsModest s → IsSized (section_item n s)
 sized_section n s is =
     let sized : s.size ≤ NOBITS_MAX = is.sized in
-    record { some = is.some; aligned = is.aligned; sized = omega arith; small = λ m same. sized }
+    record { some = is.some; power = is.power; aligned = is.aligned; sized = omega arith; small = λ m same. sized }
 
 sized_own : (leaders : List (Option ℕ)) (n : ℕ) (s : InputSection) → (leads leaders n ≡ true → IsModest s) → All IsSized (own_item leaders n s)
 unfolding own_item
@@ -52,7 +55,7 @@ sized_pool p (pool ∷ pools) n s modest small =
         → All IsSized (if b then pool_item p pool.size s ∷ [] else pool_at (p + 1) pools n s)
     by true e low rest here =
         let is : IsModest s = here (eqb-true pool.first n e) in
-        All-cons IsSized (pool_item p pool.size s) [] (record { some = is.some; aligned = is.aligned; sized = low; small = λ m same. not_pool p pool.size m s _ same }) (All-nil IsSized)
+        All-cons IsSized (pool_item p pool.size s) [] (record { some = is.some; power = is.power; aligned = is.aligned; sized = low; small = λ m same. not_pool p pool.size m s _ same }) (All-nil IsSized)
     by false e low rest here = rest
 
 -- a sum over numbers
@@ -153,6 +156,11 @@ few_twos g from (suc n) each =
     let here = each from in
     omega (arith, here, length-append (g from) (flat_map g (range_with_len (from + 1) n)), few_twos g (from + 1) n each)
 
+eight_power : is_power_of_two 8 ≡ true
+eight_power =
+    let one : count_ones 8 ≡ 1 = omega (arith, ones_step 8, ones_step 4, ones_step 2, ones_step 1, ones_le_self 0) in
+    eq-eqb (count_ones 8) 1 one
+
 -- all of them
 module _ (files : List File) (b : Bindings) (pools : List Pool) (words : ℕ) (leaders : List (Option ℕ)) (modest : (n : ℕ) → IsStaying files b n → IsModest (input_at files b n))
     (lead : AreLeaders files b leaders) (firsts : HaveFirsts files b pools) (small : pool_bytes pools < 2 ^ 60) (few : section_total files ≤ 2 ^ 28) (room : words < 2 ^ 34) where
@@ -174,7 +182,7 @@ module _ (files : List File) (b : Bindings) (pools : List Pool) (words : ℕ) (l
       (sized_pool 0 pools n (input_at files b n) (pool_modest n pools firsts) small)
 
   got_sized : IsSized (got_item words)
-  got_sized = record { some = omega arith; aligned = omega arith; sized = omega arith; small = λ m same. not_got words m _ same }
+  got_sized = record { some = omega arith; power = eight_power; aligned = omega arith; sized = omega arith; small = λ m same. not_got words m _ same }
 
   pub sized_items : All IsSized (items files b pools words leaders)
   unfolding items

@@ -1,6 +1,7 @@
 -- What has a place of its own in an executable, in the order of the command: the sections that lead themselves, the pools of merged pieces,
 -- each at the place of its first section, and last the linker's global offset table (RISC-V ELF psABI, "Global Offset Table").
 use Rattle.std.specs.Prelude.{◌≡◌, ℕ, ◌+◌, ◌*◌, ◌^◌, ◌<◌, ◌≤◌, ◌==◌, true, if◌then◌else◌, Option, Some, List, [], ◌∷◌, ◌++◌, length, flat_map, codes, All, slice_index_or}
+use Rattle.std.specs.Int.{is_power_of_two}
 use Rattle.std.specs.List.{range_with_len}
 use Rattle.lk_base.specs.declared.abi.TheConstants.{ALIGN_MAX, NOBITS_MAX, SHF_ALLOC, SHF_WRITE, SHT_PROGBITS}
 use Rattle.lk_tables.specs.Binding.{Bindings}
@@ -70,9 +71,10 @@ pub record AreLeaders (files : List File) (b : Bindings) (leaders : List (Option
 abbrev pub HaveFirsts : List File → Bindings → List Pool → Type 0
 HaveFirsts files b pools = All (λ p. IsStaying files b p.first) pools
 
--- a size and an alignment that can be; a section is no greater than a section may be
+-- a size and an alignment that can be, which is a power of two; a section is no greater than a section may be
 pub record IsSized (item : Item) : Type 0 where
   pub some : 1 ≤ item.align
+  pub power : is_power_of_two item.align ≡ true
   pub aligned : item.align ≤ ALIGN_MAX
   pub sized : item.size < 2 ^ 60
   pub small : (n : ℕ) → item.content ≡ Section n → item.size ≤ NOBITS_MAX

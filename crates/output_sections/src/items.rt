@@ -8,6 +8,7 @@ ghost use Rattle.link_sections.specs.GotEntries.{word_count};
 ghost use Rattle.link_sections.specs.GotView.{entries_of};
 ghost use Rattle.link_sections.specs.InputSections.{input_at};
 ghost use Rattle.link_sections.specs.InputViews.{input_view};
+ghost use Rattle.link_sections.specs.PoolViews.{pool_list};
 ghost use Rattle.link_sections.specs.Pools.{AreRising};
 ghost use Rattle.lk_tables.specs.BoundNames.{IsBindingOf};
 ghost use Rattle.lk_tables.specs.BindingView.{binding_view};
@@ -49,8 +50,8 @@ pub fn items_of<'a>(
 ) -> Result<Vec<Item<'a>>, AllocError>
     requires bound { IsBindingOf (files_of tables.now) (binding_view binding.now) }
     requires leaders { spec.AreLeaders (files_of tables.now) (binding_view binding.now) leaders.now }
-    requires pools { spec.HaveFirsts (files_of tables.now) (binding_view binding.now) pools.now.pools.items }
-    ensures items { IfOk result (λ items. items_view items.items ≡ spec.items (files_of tables.now) (binding_view binding.now) pools.now.pools.items (word_count (entries_of got.now)) leaders.now) }
+    requires pools { spec.HaveFirsts (files_of tables.now) (binding_view binding.now) (pool_list pools.now) }
+    ensures items { IfOk result (λ items. items_view items.items ≡ spec.items (files_of tables.now) (binding_view binding.now) (pool_list pools.now) (word_count (entries_of got.now)) leaders.now) }
     ensures sized { IfOk result (λ items. All spec.IsSized (items_view items.items)) }
     ensures few { IfOk result (λ items. length items.items ≤ 2 ^ 30) }
     ensures bytes { IfOk result (λ items. sum_by (λ item. item.size) (items_view items.items) < 2 ^ 61 + 2 ^ 40) }

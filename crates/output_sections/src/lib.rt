@@ -2,8 +2,8 @@
 //! "Sections" and "Special Sections"): computed once, for those that shorten calls and for those that lay out.
 //!
 //! Of each class the items are noted in their output sections, by name, and then listed with the rank of theirs, which takes the type of
-//! the item that stands first in it (`heads`, `rows`); which classes have items one walk finds (`present`). A stable sort by rank, first item and priority gives their order. Workers do some
-//! classes each, if there are 16,384 items.
+//! the item that stands first in it (`heads`, `rows`); which classes have items one walk finds (`present`). A stable sort by rank, first item
+//! and priority gives their order. Workers do some classes each, if there are 16,384 items.
 #![tactic(auto)]
 
 mod heads;

@@ -5,6 +5,7 @@ ghost use Rattle.std.specs.List.{sum_by};
 ghost use Rattle.std.proofs.Props.{props};
 ghost use Rattle.link_sections.specs.GotEntries.{word_count};
 ghost use Rattle.link_sections.specs.GotView.{entries_of};
+ghost use Rattle.link_sections.specs.PoolViews.{pool_list};
 ghost use Rattle.work_split.specs.Pieces.{Tiles};
 ghost use Rattle.lk_tables.specs.BindingView.{binding_view};
 ghost use Rattle.lk_tables.specs.BoundNames.{IsBindingOf};
@@ -71,9 +72,9 @@ pub fn order_sections<'a, R: Threads + Sync, G: Gate>(
     requires most { workers ≤ 64 }
     requires bound { IsBindingOf (files_of tables.now) (binding_view binding.now) }
     requires leaders { AreLeaders (files_of tables.now) (binding_view binding.now) leaders.now }
-    requires pools { HaveFirsts (files_of tables.now) (binding_view binding.now) pools.now.pools.items }
-    ensures items { IfOk result (λ sections. items_view sections.items.items ≡ items (files_of tables.now) (binding_view binding.now) pools.now.pools.items (word_count (entries_of got.now)) leaders.now) }
-    ensures order { IfOk result (λ sections. sections.rows ≡ orders_of (items (files_of tables.now) (binding_view binding.now) pools.now.pools.items (word_count (entries_of got.now)) leaders.now)) }
+    requires pools { HaveFirsts (files_of tables.now) (binding_view binding.now) (pool_list pools.now) }
+    ensures items { IfOk result (λ sections. items_view sections.items.items ≡ items (files_of tables.now) (binding_view binding.now) (pool_list pools.now) (word_count (entries_of got.now)) leaders.now) }
+    ensures order { IfOk result (λ sections. sections.rows ≡ orders_of (items (files_of tables.now) (binding_view binding.now) (pool_list pools.now) (word_count (entries_of got.now)) leaders.now)) }
     ensures known { IfOk result (λ sections. All (IsKnown (files_of tables.now) (binding_view binding.now)) (members_in sections.rows)) }
 {
     let items = items_of(alloc, tables, binding, pools, got, leaders)?;
@@ -157,7 +158,7 @@ fn all_lists<R: Threads + Sync, G: Gate>(
     }
 }
 
-/// Those of a piece of the classes.
+/// The members of each class of a piece of the classes, in order.
 fn lists_of(
     alloc: Global,
     items: &[Item],

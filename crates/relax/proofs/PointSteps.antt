@@ -16,7 +16,7 @@ use Rattle.relax.specs.declared.jumps.Point.{Point}
 use Rattle.output_sections.specs.declared.rows.Row.{Row}
 use Rattle.relax.specs.CallSizes.{all_calls, distance, first_call, goes_forwards, member_at, room, row_at, sized, upper_offset, upper_place}
 use Rattle.relax.specs.Jumps.{IsOrdered, jump_bytes, lost_before, lost_in, lost_upto, size_at}
-use Rattle.relax.specs.Points.{AreSoundRows, Follow, depth_in, ended, ends_by, jump_of, mark_at, no_call, point_at, point_in, rooms_before, whole_room}
+use Rattle.relax.specs.Points.{AreSoundRows, Follow, depth_in, ended, ends_by, jump_of, mark_at, no_call, point_at, point_in, rooms_before, start_of, whole_room}
 use Rattle.relax.proofs.LeastSizes.{upto_more}
 
 pub ended_most : (row : List Call) (o : ℕ) → ended row o ≤ length row
@@ -336,3 +336,19 @@ jumps_step ms rows calls k d old new j lt held is own =
 pub mark_first : (ms : List Row) (rows : List (List Call)) (m : Mark) (i : ℕ) → m ≡ mark_at ms rows i → m.first ≡ first_call rows i
 unfolding mark_at
 mark_first ms rows m i is = ap (λ (x : Mark). x.first) is
+
+-- at the start of a member no call ended
+ended_none : (row : List Call) → ended row 0 ≡ 0
+ended_none [] = refl
+ended_none (c ∷ cs) = ap (λ b. cond b (1 + ended cs 0) 0) (lt-leb (c.offset + 8) 0 (omega arith))
+
+abbrev one_point : (place call depth : ℕ) → Point
+one_point place call depth = record { place = place; call = call; depth = depth }
+
+pub start_is : (row : List Call) (m : Mark) → start_of m ≡ point_in row m 0
+unfolding point_in
+start_is row m =
+    let place : m.start ≡ m.start + 0 = omega arith in
+    let call : m.first ≡ m.first + ended row 0 = omega (arith, ended_none row) in
+    let depth : 0 ≡ depth_in row (ended row 0) 0 = omega arith in
+    ap (λ n. one_point n m.first 0) place ∙ ap (λ n. one_point (m.start + 0) n 0) call ∙ ap (one_point (m.start + 0) (m.first + ended row 0)) depth

@@ -39,9 +39,9 @@ pub record IsOpenOf (count : ℕ) (o : Open) : Type 0 where
   pub call : o.call < count
   pub jump : IsJump count o.jump
 
--- twice a size that is no greater than 2 ^ 63
+-- twice a size, in a number of eight bits
 abbrev pub twice : ℕ → ℕ
-twice size = min (size + size) 18446744073709551615
+twice size = min (size + size) 255
 
 -- an open call does not allow its distance
 unfoldable pub is_late : List ℕ → Open → Bool

@@ -30,6 +30,10 @@ point_in row mark offset = record {
   depth = depth_in row (ended row offset) offset;
 }
 
+-- the start of a row
+abbrev pub start_of : Mark → Point
+start_of mark = record { place = mark.start; call = mark.first; depth = 0 }
+
 -- the most bytes of a member, and how many stand before the first of one
 abbrev pub whole_room : List Row → (i : ℕ) → ℕ
 whole_room ms i = ((member_at ms i).align - 1) + (member_at ms i).size

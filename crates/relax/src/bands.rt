@@ -7,12 +7,14 @@ ghost use Rattle.work_split.specs.Pieces.{Tiles};
 ghost use Rattle.relax.specs.declared.jumps.Jump.{Jump as JumpOf};
 ghost use Rattle.relax.specs.Bands as spec;
 ghost use Rattle.relax.specs.CallSizes.{all_calls};
-ghost use Rattle.relax.specs.Jumps.{AreBelow, AreSafe, IsJump, lost_sums as spec_sums, size_at as spec_size};
+ghost use Rattle.relax.specs.Jumps.{AreBelow, AreSafe, IsJump, jump_bytes, lost_before};
+ghost use Rattle.relax.specs.Losses.{coarse_sums};
 ghost use Rattle.relax.specs.Points as points;
 
 use crate::calls::Call;
-use crate::jumps::{Jump, Mark, count_of, jump_of, jumps_of};
-use crate::solving::{allows, bytes_of, least_sizes, lost_sums, size_at};
+use crate::jumps::{Jump, Mark, Point, count_of, jump_of, jumps_of};
+use crate::losses::{coarse_sums, lost_by};
+use crate::solving::{allows, least_sizes, size_at};
 use flat_rows::Rows;
 use lk_base::LinkStop;
 use output_sections::Row;
@@ -38,7 +40,7 @@ pub struct Open {
 #[derive(Drop)]
 pub struct Banded {
     /// By call, eight bytes if it is sure not to reach its target with fewer, and else the least that it may have.
-    pub sizes: Vec<u64>,
+    pub sizes: Vec<u8>,
     /// The calls whose sizes depend on those of others, in order.
     pub opens: Vec<Open>,
 }
@@ -52,7 +54,7 @@ pub fn call_sizes<R: Threads + Sync, G: Gate>(
     marks: &[Mark],
     workers: u32,
     gate: &G,
-) -> Result<Vec<u64>, AllocError>
+) -> Result<Vec<u8>, AllocError>
     requires some { 1 ≤ workers }
     requires most { workers ≤ 64 }
     requires few { length members.now < 2 ^ 33 }
@@ -70,13 +72,13 @@ pub fn call_sizes<R: Threads + Sync, G: Gate>(
     }
 }
 
-/// The same by looking at all calls.
+/// The sizes of all calls, by number, found by looking at all calls.
 fn all_sizes(
     alloc: Global,
     members: &[Row],
     rows: &Rows<Call>,
     marks: &[Mark],
-) -> Result<Vec<u64>, AllocError>
+) -> Result<Vec<u8>, AllocError>
     requires few { length members.now < 2 ^ 33 }
     requires sound { points.AreSoundRows members.now rows.now }
     requires marks { marks.now ≡ map (points.mark_at members.now rows.now) (range_with_len 0 (length members.now)) }
@@ -230,7 +232,7 @@ fn is_open(jump: &Jump) -> bool
 }
 
 /// The size of a call from which rounds begin: eight bytes if it is sure not to reach its target with fewer, and else the least that it may have.
-fn first_size(jump: &Jump) -> u64
+fn first_size(jump: &Jump) -> u8
     ensures { result ≡ spec.first_size jump.now }
 {
     if is_far(jump) {
@@ -262,7 +264,7 @@ fn span_of(jump: &Jump) -> u128
     jump.high.place.saturating_sub(jump.low.place)
 }
 
-/// The same if each call between them loses six.
+/// The bytes between the points of a jump if each call between them loses six.
 fn least_span(jump: &Jump) -> u128
     ensures { result ≡ spec.least_span jump.now }
 {
@@ -294,7 +296,7 @@ fn take_part(whole: &mut Banded, part: Banded) -> Result<(), AllocError>
 }
 
 /// Adds sizes; if there are no others, they are not copied.
-fn put_sizes(whole: &mut Vec<u64>, more: Vec<u64>) -> Result<(), AllocError>
+fn put_sizes(whole: &mut Vec<u8>, more: Vec<u8>) -> Result<(), AllocError>
     ensures { OnOk result (whole.new.items ≡ whole.old.items ++ more.items) }
 {
     if whole.len() == 0 {
@@ -320,19 +322,19 @@ fn put_opens(whole: &mut Vec<Open>, more: Vec<Open>) -> Result<(), AllocError>
 /// The sizes after a round, and whether one rose.
 #[derive(Drop)]
 struct Round {
-    sizes: Vec<u64>,
+    sizes: Vec<u8>,
     rises: bool,
 }
 
 /// The sizes that all calls have once none of the open ones rises, if that is so after some rounds.
-fn settled(alloc: Global, opens: &[Open], sizes: Vec<u64>) -> Result<Option<Vec<u64>>, AllocError>
+fn settled(alloc: Global, opens: &[Open], sizes: Vec<u8>) -> Result<Option<Vec<u8>>, AllocError>
     requires opens { All (spec.IsOpenOf (length sizes.items)) opens.now }
     ensures { IfOk result (λ found. IfSome found (λ z. (jumps : List JumpOf) → spec.IsBanded jumps opens.now sizes.items → AreSafe jumps z.items × AreBelow jumps z.items)) }
 {
     let mut sizes = sizes;
     for _round in 0..ROUNDS {
-        let lost = lost_sums(alloc, sizes.as_slice())?;
-        let next = next_round(alloc, opens, sizes.as_slice(), lost.as_slice())?;
+        let sums = coarse_sums(alloc, sizes.as_slice())?;
+        let next = next_round(alloc, opens, sizes.as_slice(), sums.as_slice())?;
         if !next.rises {
             return Ok(Some(sizes));
         }
@@ -345,18 +347,18 @@ fn settled(alloc: Global, opens: &[Open], sizes: Vec<u64>) -> Result<Option<Vec<
 fn next_round(
     alloc: Global,
     opens: &[Open],
-    sizes: &[u64],
-    lost: &[u128],
+    sizes: &[u8],
+    sums: &[u128],
 ) -> Result<Round, AllocError>
     requires opens { All (spec.IsOpenOf (length sizes.now)) opens.now }
-    requires lost { lost.now ≡ spec_sums sizes.now }
+    requires sums { sums.now ≡ coarse_sums sizes.now }
     ensures sizes { IfOk result (λ next. next.sizes.items ≡ spec.raised_from sizes.now opens.now sizes.now) }
     ensures rises { IfOk result (λ next. next.rises ≡ list_any (spec.is_late sizes.now) opens.now) }
 {
     let mut raised = Vec::from_slice(alloc, sizes)?;
     let mut rises = false;
     for one in opens {
-        let late = is_late(sizes, lost, one);
+        let late = is_late(sizes, sums, one);
         raise_if(&mut raised, late, one.call, size_at(sizes, one.call));
         rises = rises | late;
     }
@@ -368,20 +370,45 @@ fn next_round(
 
 /// Whether an open call does not allow its distance.
 #[tactic(auto, unfolding(crate::specs::Bands::is_late))]
-fn is_late(sizes: &[u64], lost: &[u128], one: &Open) -> bool
+fn is_late(sizes: &[u8], sums: &[u128], one: &Open) -> bool
     requires one { spec.IsOpenOf (length sizes.now) one.now }
-    requires lost { lost.now ≡ spec_sums sizes.now }
+    requires sums { sums.now ≡ coarse_sums sizes.now }
     ensures { result ≡ spec.is_late sizes.now one.now }
 {
     !allows(
         size_at(sizes, one.call),
         &one.jump,
-        bytes_of(&one.jump, sizes, lost),
+        bytes_by(&one.jump, sizes, sums),
     )
 }
 
+/// The bytes between the points of a jump.
+#[tactic(auto, unfolding(crate::specs::Jumps::jump_bytes))]
+fn bytes_by(jump: &Jump, sizes: &[u8], sums: &[u128]) -> u128
+    requires jump { IsJump (length sizes.now) jump.now }
+    requires sums { sums.now ≡ coarse_sums sizes.now }
+    ensures { result ≡ jump_bytes sizes.now jump.now }
+{
+    let high = jump.high.place + lost_at(&jump.low, sizes, sums);
+    let low = jump.low.place + lost_at(&jump.high, sizes, sums);
+    high.saturating_sub(low)
+}
+
+/// How many bytes the calls before a point lose.
+#[tactic(auto, unfolding(crate::specs::Jumps::lost_before))]
+fn lost_at(point: &Point, sizes: &[u8], sums: &[u128]) -> u128
+    requires within { point.now.call ≤ length sizes.now }
+    requires sums { sums.now ≡ coarse_sums sizes.now }
+    ensures value { result ≡ lost_before sizes.now point.now }
+    ensures few { result < 2 ^ 70 }
+{
+    let size = size_at(sizes, point.call);
+    lost_by(sizes, sums, point.call)
+        + (point.depth.min(8) - point.depth.min(size as u64).min(8)) as u128
+}
+
 /// Doubles the size of a call, if it is late.
-fn raise_if(raised: &mut Vec<u64>, late: bool, call: usize, size: u64)
+fn raise_if(raised: &mut Vec<u8>, late: bool, call: usize, size: u8)
     requires { call < length raised.old.items }
     ensures { raised.new.items ≡ (if late then set raised.old.items call (spec.twice size) else raised.old.items) }
 {

@@ -20,7 +20,7 @@ ghost use Rattle.relax.specs.Placing.{noted};
 use link_sections::{Content, Pools, Target};
 use lk_base::abi::{EF_RISCV_RVC, R_RISCV_CALL, R_RISCV_CALL_PLT, R_RISCV_NONE, R_RISCV_RELAX};
 use lk_base::{FileNo, SecNo};
-use lk_tables::{Binding, File, Reloc, Tables, target_in};
+use lk_tables::{Binding, File, Reloc, Tables, spot_in};
 use output_sections::Row;
 use std::alloc::{AllocError, Global};
 
@@ -38,7 +38,7 @@ pub struct Call {
     /// The target's offset in that section, in bytes.
     pub target: u64,
     /// The least size that it may have: 2 or 4 bytes.
-    pub least: u64,
+    pub least: u8,
 }
 
 /// The tables in which calls are found.
@@ -156,7 +156,7 @@ fn has_words(bytes: &[u8], at: u128) -> bool
 
 /// The least size that a call at a place of a file may have.
 #[tactic(auto, unfolding(crate::specs::CallSizes::least_of))]
-fn least_of(file: &File, at: u128) -> u64
+fn least_of(file: &File, at: u128) -> u8
     requires { at < 2 ^ 100 }
     ensures { result ≡ spec.least_of (file_view file.now) at }
 {
@@ -306,7 +306,7 @@ fn push_call(
 fn target_at(code: &Code, binding: &Binding, pools: &Pools, k: usize) -> Target
     ensures { result ≡ target_at (files_of code.now.tables.now) (binding_view binding.now) (merged_views pools.now) code.now.section k }
 {
-    pools.piece_target(target_in(code.tables, binding, code.number, &reloc_at(code, k)))
+    pools.piece_target(spot_in(code.tables, binding, code.number, &reloc_at(code, k)))
 }
 
 /// Whether a relocation of a section is a call that may be relaxed for what stands at its place.
@@ -377,7 +377,7 @@ fn call_of(code: &Code, from: usize, k: usize) -> Call
 }
 
 /// The least size that a call at a place of a section's file may have.
-fn least_in(code: &Code, at: u128) -> u64
+fn least_in(code: &Code, at: u128) -> u8
     requires { at < 2 ^ 100 }
     ensures { result ≡ spec.least_of (spec.file_of (files_of code.now.tables.now) code.now.section) at }
 {

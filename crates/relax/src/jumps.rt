@@ -28,12 +28,12 @@ pub struct Point {
 pub struct Jump {
     /// The one of the two that stands first.
     pub low: Point,
-    /// The other.
+    /// The one of the two that stands last.
     pub high: Point,
     /// Whether the target stands after the call.
     pub forwards: bool,
     /// The least size that the call may have: 2 or 4 bytes.
-    pub least: u64,
+    pub least: u8,
 }
 
 /// Where a member starts.
@@ -150,7 +150,22 @@ fn point_at(members: &[Row], rows: &Rows<Call>, marks: &[Mark], i: usize, offset
     ensures value { result ≡ spec.point_at members.now rows.now i offset }
     ensures low { result.place < 2 ^ 100 }
 {
-    point_in(rows.row(i), &marks[i], offset)
+    let mark = &marks[i];
+    if offset == 0 {
+        return start_of(mark);
+    }
+    point_in(rows.row(i), mark, offset)
+}
+
+/// The start of a member as a point: no call ends before it, so that none is looked at.
+fn start_of(mark: &Mark) -> Point
+    ensures { result ≡ spec.start_of mark.now }
+{
+    Point {
+        place: mark.start,
+        call: mark.first,
+        depth: 0,
+    }
 }
 
 /// Whether the target of a call stands after it, or where it stands.

@@ -1,6 +1,6 @@
 //! The bytes that sections keep before anything has a place.
 
-ghost use Rattle.std.specs.Prelude.{◌≡◌, ◌<◌, ◌≤◌, ◌^◌, length, map, flat_map, All, IfOk};
+ghost use Rattle.std.specs.Prelude.{◌≡◌, ◌+◌, ◌-◌, ◌<◌, ◌≤◌, ◌^◌, ◌++◌, length, map, flat_map, All, IfOk, OnOk};
 ghost use Rattle.std.specs.List.{range_with_len};
 ghost use Rattle.lk_tables.specs.BindingView.{binding_view};
 ghost use Rattle.lk_tables.specs.Files.{section_total};
@@ -13,7 +13,7 @@ ghost use Rattle.link_sections.specs.SizesView.{sizes_of};
 ghost use Rattle.relax.specs.CallSizes as spec;
 ghost use Rattle.relax.specs.Points.{AreSoundRows, mark_at};
 ghost use Rattle.relax.specs.CutRows.{AreCutRows};
-ghost use Rattle.relax.specs.Placing.{IsOneSize, added};
+ghost use Rattle.relax.specs.Placing.{ArePlaced, IsOneSize, added};
 ghost use Rattle.work_split.specs.Pieces.{Tiles};
 ghost use Rattle.relax.specs.Scenes.{cuts_in, rows_in};
 ghost use Rattle.relax.specs.Sizes.{FitSections};
@@ -82,7 +82,7 @@ pub fn sizes<R: Threads + Sync, G: Gate>(
     Ok(sizes)
 }
 
-/// The same, once the members are in order.
+/// By section number, where each section loses bytes, once the members are in order.
 fn sizes_in<R: Threads + Sync, G: Gate>(
     rt: &R,
     alloc: Global,
@@ -130,7 +130,7 @@ fn cut_rows<R: Threads + Sync, G: Gate>(
     scene: &Scene,
     calls: &Rows<Call>,
     marks: &[Mark],
-    sizes: &[u64],
+    sizes: &[u8],
     workers: u32,
     gate: &G,
 ) -> Result<Rows<Cut>, AllocError>
@@ -176,7 +176,7 @@ fn all_parts<R: Threads + Sync, G: Gate>(
     scene: &Scene,
     calls: &Rows<Call>,
     marks: &[Mark],
-    sizes: &[u64],
+    sizes: &[u8],
     pieces: &[Range<usize>],
     gate: &G,
 ) -> Result<Vec<Rows<Cut>>, AllocError>
@@ -215,7 +215,7 @@ fn part_of(
     scene: &Scene,
     calls: &Rows<Call>,
     marks: &[Mark],
-    sizes: &[u64],
+    sizes: &[u8],
     piece: Range<usize>,
 ) -> Result<Vec<Rows<Cut>>, AllocError>
     requires sound { AreSoundRows scene.now.members.now calls.now }
@@ -228,63 +228,80 @@ fn part_of(
 {
     scene.tables.is_few();
     let mut rows = Rows::empty(alloc)?;
+    let mut cuts = Vec::new(alloc);
     for section in piece.start..piece.end {
-        let cuts = section_cuts(alloc, scene, calls, marks, sizes, section as SecNo)?;
+        section_cuts(&mut cuts, scene, calls, marks, sizes, section as SecNo)?;
         rows.push(cuts.as_slice())?;
     }
     let parts = one_part(alloc, rows)?;
     Ok(parts)
 }
 
-/// The cuts of a section.
+/// The cuts of a section, in the place of what stood in the list.
 fn section_cuts(
-    alloc: Global,
+    cuts: &mut Vec<Cut>,
     scene: &Scene,
     calls: &Rows<Call>,
     marks: &[Mark],
-    sizes: &[u64],
+    sizes: &[u8],
     section: SecNo,
-) -> Result<Vec<Cut>, AllocError>
+) -> Result<(), AllocError>
     requires sound { AreSoundRows scene.now.members.now calls.now }
     requires marks { marks.now ≡ map (mark_at scene.now.members.now calls.now) (range_with_len 0 (length scene.now.members.now)) }
     requires sizes { All IsOneSize sizes.now }
     requires count { length sizes.now ≡ length (spec.all_calls calls.now) }
     requires section { section < section_total (files_of scene.now.tables.now) }
-    ensures views { IfOk result (λ cuts. cut_views cuts.items ≡ spec.cuts_by (spec.size_in calls.now sizes.now (spec.place_in scene.now.members.now section)) (relocs_of (files_of scene.now.tables.now) section)) }
-    ensures sound { IfOk result (λ cuts. AreCuts cuts.items) }
+    ensures views { OnOk result (cut_views cuts.new.items ≡ spec.cuts_by (spec.size_in calls.now sizes.now (spec.place_in scene.now.members.now section)) (relocs_of (files_of scene.now.tables.now) section)) }
+    ensures sound { OnOk result (AreCuts cuts.new.items) }
 {
-    let mut cuts = Vec::new(alloc);
+    cuts.clear();
     let mut lost: u128 = 0;
     let place = scene.tables.place_of(section);
     let relocs = scene.tables.relocs(place.file, place.index);
     let member = place_of(scene, section);
     for k in 0..relocs.len() {
-        let reloc = &relocs[k];
-        let size = held_size(calls, marks, sizes, scene.members, member, reloc, k);
-        lost = push_cut(&mut cuts, lost, reloc, size)?;
+        lost = keep(
+            cuts,
+            lost,
+            &relocs[k],
+            calls,
+            marks,
+            sizes,
+            scene.members,
+            member,
+            k,
+        )?;
     }
-    Ok(cuts)
+    Ok(())
 }
 
-/// The size of the call that a relocation of a member is; any size if it is neither a call nor an alignment.
-fn held_size(
+/// Adds what relocation `k` of a member keeps of its bytes, if it is an alignment, or a call of less than eight. Gives how many bytes are lost
+/// so far. Of a relocation that is neither no call is looked for.
+fn keep(
+    cuts: &mut Vec<Cut>,
+    lost: u128,
+    reloc: &Reloc,
     calls: &Rows<Call>,
     marks: &[Mark],
-    sizes: &[u64],
+    sizes: &[u8],
     members: &[Row],
     member: usize,
-    reloc: &Reloc,
     k: usize,
-) -> u64
+) -> Result<u128, AllocError>
     requires sound { AreSoundRows members.now calls.now }
     requires marks { marks.now ≡ map (mark_at members.now calls.now) (range_with_len 0 (length members.now)) }
     requires count { length sizes.now ≡ length (spec.all_calls calls.now) }
-    ensures { added result reloc.now ≡ added (spec.size_in calls.now sizes.now member k) reloc.now }
+    requires room { lost + 2 ^ 64 ≤ 2 ^ 128 }
+    ensures views { OnOk result (cut_views cuts.new.items ≡ cut_views cuts.old.items ++ added (spec.size_in calls.now sizes.now member k) reloc.now) }
+    ensures placed { IfOk result (λ after. ArePlaced cuts.old.items lost → ArePlaced cuts.new.items after) }
+    ensures few { IfOk result (λ after. after ≤ lost + (2 ^ 64 - 1)) }
 {
     if !moves_bytes(reloc.kind) {
-        return 8;
+        return Ok(lost);
     }
-    size_in(calls, marks, sizes, members, member, k)
+    let size = size_in(calls, marks, sizes, members, member, k);
+    let after = push_cut(cuts, lost, reloc, size as u64)?;
+    Ok(after)
 }
 
 /// The size of the call at a relocation of a member; eight if there is none.
@@ -292,11 +309,11 @@ fn held_size(
 fn size_in(
     calls: &Rows<Call>,
     marks: &[Mark],
-    sizes: &[u64],
+    sizes: &[u8],
     members: &[Row],
     member: usize,
     k: usize,
-) -> u64
+) -> u8
     requires sound { AreSoundRows members.now calls.now }
     requires marks { marks.now ≡ map (mark_at members.now calls.now) (range_with_len 0 (length members.now)) }
     requires count { length sizes.now ≡ length (spec.all_calls calls.now) }

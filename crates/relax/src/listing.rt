@@ -77,7 +77,7 @@ fn all_parts<R: Threads + Sync, G: Gate>(
     }
 }
 
-/// Those of a run of members, as one part.
+/// The calls of a run of members, as one part.
 fn part_of(
     alloc: Global,
     scene: &Scene,

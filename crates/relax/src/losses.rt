@@ -2,7 +2,7 @@
 
 ghost use Rattle.std.specs.Prelude.{◌≡◌, ◌/◌, ◌*◌, ◌-◌, ◌<◌, ◌≤◌, ◌^◌, length, set, slice_index_or, IfOk};
 ghost use Rattle.relax.specs.Jumps as spec;
-ghost use Rattle.relax.specs.Losses.{AreLosses, AreRuns};
+ghost use Rattle.relax.specs.Losses.{AreLosses, AreRuns, coarse_sums};
 
 use std::alloc::{AllocError, Global};
 
@@ -16,7 +16,7 @@ pub struct Losses {
 }
 
 /// What calls of these sizes lose, by the sums of what those before each lose.
-pub fn losses_of(alloc: Global, sizes: &[u64], before: &[u128]) -> Result<Losses, AllocError>
+pub fn losses_of(alloc: Global, sizes: &[u8], before: &[u128]) -> Result<Losses, AllocError>
     requires { before.now ≡ spec.lost_sums sizes.now }
     ensures { IfOk result (λ losses. AreLosses sizes.now losses) }
 {
@@ -28,7 +28,7 @@ pub fn losses_of(alloc: Global, sizes: &[u64], before: &[u128]) -> Result<Losses
 /// What calls lose, by runs of so many.
 fn runs_of(
     alloc: Global,
-    sizes: &[u64],
+    sizes: &[u8],
     before: &[u128],
     width: usize,
 ) -> Result<Vec<u128>, AllocError>
@@ -46,8 +46,32 @@ fn runs_of(
     Ok(runs)
 }
 
+/// How many bytes the calls before each 16th lose: a sum for each call would be a long list.
+pub fn coarse_sums(alloc: Global, sizes: &[u8]) -> Result<Vec<u128>, AllocError>
+    ensures { IfOk result (λ sums. sums.items ≡ coarse_sums sizes.now) }
+{
+    let mut sums = Vec::with_capacity(alloc, (sizes.len() / 16).saturating_add(1))?;
+    let mut sum: u128 = 0;
+    for j in 0..sizes.len() / 16 {
+        sums.push(sum)?;
+        sum = with_calls(sizes, sum, j * 16, j * 16 + 16);
+    }
+    sums.push(sum)?;
+    Ok(sums)
+}
+
+/// How many bytes the calls before a number lose, by these sums.
+pub fn lost_by(sizes: &[u8], sums: &[u128], call: usize) -> u128
+    requires sums { sums.now ≡ coarse_sums sizes.now }
+    requires within { call ≤ length sizes.now }
+    ensures { result ≡ spec.lost_upto sizes.now call }
+{
+    let near = call / 16;
+    with_calls(sizes, sums[near], near * 16, call)
+}
+
 /// How many bytes the calls before a number lose.
-pub fn lost_to(sizes: &[u64], losses: &Losses, call: usize) -> u128
+pub fn lost_to(sizes: &[u8], losses: &Losses, call: usize) -> u128
     requires losses { AreLosses sizes.now losses.now }
     requires within { call ≤ length sizes.now }
     ensures { result ≡ spec.lost_upto sizes.now call }
@@ -66,7 +90,7 @@ pub fn lost_to(sizes: &[u64], losses: &Losses, call: usize) -> u128
 
 /// What is lost before a run, by what is lost before an earlier one.
 fn with_runs(
-    sizes: &[u64],
+    sizes: &[u8],
     runs: &[u128],
     width: usize,
     before: u128,
@@ -87,7 +111,7 @@ fn with_runs(
 }
 
 /// What is lost before a call, by what is lost before an earlier one.
-fn with_calls(sizes: &[u64], before: u128, first: usize, last: usize) -> u128
+fn with_calls(sizes: &[u8], before: u128, first: usize, last: usize) -> u128
     requires before { before ≡ spec.lost_upto sizes.now first }
     requires first { first ≤ last }
     requires last { last ≤ length sizes.now }
@@ -95,13 +119,13 @@ fn with_calls(sizes: &[u64], before: u128, first: usize, last: usize) -> u128
 {
     let mut lost = before;
     for i in first..last {
-        lost += 8_u64.saturating_sub(sizes[i]) as u128;
+        lost += 8_u8.saturating_sub(sizes[i]) as u128;
     }
     lost
 }
 
 /// Doubles the size of a call.
-pub fn double(sizes: &mut Vec<u64>, losses: &mut Losses, call: usize, size: u64)
+pub fn double(sizes: &mut Vec<u8>, losses: &mut Losses, call: usize, size: u8)
     requires losses { AreLosses sizes.old.items losses.old }
     requires within { call < length sizes.old.items }
     requires size { size ≡ spec.size_at sizes.old.items call }
@@ -109,8 +133,8 @@ pub fn double(sizes: &mut Vec<u64>, losses: &mut Losses, call: usize, size: u64)
     ensures sizes { sizes.new.items ≡ set sizes.old.items call (2 * size) }
     ensures losses { AreLosses sizes.new.items losses.new }
 {
-    take_off(&mut losses.near, call / 64, size);
-    take_off(&mut losses.far, call / 4096, size);
+    take_off(&mut losses.near, call / 64, size as u64);
+    take_off(&mut losses.far, call / 4096, size as u64);
     sizes[call] = 2 * size;
 }
 

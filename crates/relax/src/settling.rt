@@ -12,7 +12,7 @@ use crate::watching::{Watch, next_look, note, watch_of};
 use std::alloc::{AllocError, Global};
 
 /// Raises calls that do not allow their distances any more, as long as one follows from another.
-pub fn settle(alloc: Global, jumps: &[Jump], sizes: &mut Vec<u64>) -> Result<(), AllocError>
+pub fn settle(alloc: Global, jumps: &[Jump], sizes: &mut Vec<u8>) -> Result<(), AllocError>
     requires jumps { All (spec.IsJump (length jumps.now)) jumps.now }
     requires lawful { spec.AreLawful jumps.now sizes.old.items }
     requires below { spec.AreBelow jumps.now sizes.old.items }
@@ -37,7 +37,7 @@ pub fn settle(alloc: Global, jumps: &[Jump], sizes: &mut Vec<u64>) -> Result<(),
 fn spares_of(
     alloc: Global,
     jumps: &[Jump],
-    sizes: &[u64],
+    sizes: &[u8],
     before: &[u128],
 ) -> Result<Vec<u64>, AllocError>
     requires jumps { All (spec.IsJump (length jumps.now)) jumps.now }
@@ -53,7 +53,7 @@ fn spares_of(
 }
 
 /// How many bytes may be added to a distance before a size does not allow it any more, and 0 if it does not.
-fn spare_of(size: u64, jump: &Jump, bytes: u128) -> u64 {
+fn spare_of(size: u8, jump: &Jump, bytes: u128) -> u64 {
     if size >= 8 {
         return u64::MAX;
     }
@@ -65,7 +65,7 @@ fn spare_of(size: u64, jump: &Jump, bytes: u128) -> u64 {
 }
 
 /// How many bytes a size below eight allows.
-fn most_bytes(size: u64, jump: &Jump) -> u64 {
+fn most_bytes(size: u8, jump: &Jump) -> u64 {
     if size == 2 {
         return if jump.forwards { 2_046 } else { 2_048 };
     }
@@ -75,7 +75,7 @@ fn most_bytes(size: u64, jump: &Jump) -> u64 {
 /// Raises a watched call, if it does not allow its distance, and notes it.
 fn look(
     jumps: &[Jump],
-    sizes: &mut Vec<u64>,
+    sizes: &mut Vec<u8>,
     losses: &mut Losses,
     watch: &mut Watch,
     k: usize,
@@ -89,11 +89,11 @@ fn look(
     let size = size_at(sizes.as_slice(), call);
     let spare = raise(jumps, sizes, losses, call);
     let gained = size_at(sizes.as_slice(), call).saturating_sub(size);
-    note(watch, jumps, k, spare, gained)
+    note(watch, jumps, k, spare, gained as u64)
 }
 
 /// Raises a call, if it does not allow its distance; gives how many bytes may be added before it is looked at again.
-fn raise(jumps: &[Jump], sizes: &mut Vec<u64>, losses: &mut Losses, call: usize) -> u64
+fn raise(jumps: &[Jump], sizes: &mut Vec<u8>, losses: &mut Losses, call: usize) -> u64
     requires jumps { All (spec.IsJump (length jumps.now)) jumps.now }
     requires rising { AreRising jumps.now sizes.old.items losses.old }
     ensures rising { AreRising jumps.now sizes.new.items losses.new }
@@ -114,7 +114,7 @@ fn raise(jumps: &[Jump], sizes: &mut Vec<u64>, losses: &mut Losses, call: usize)
 
 /// The bytes between the points of a jump.
 #[tactic(auto, unfolding(crate::specs::Jumps::jump_bytes))]
-fn bytes_now(jump: &Jump, sizes: &[u64], losses: &Losses) -> u128
+fn bytes_now(jump: &Jump, sizes: &[u8], losses: &Losses) -> u128
     requires jump { spec.IsJump (length sizes.now) jump.now }
     requires losses { AreLosses sizes.now losses.now }
     ensures { result ≡ spec.jump_bytes sizes.now jump.now }
@@ -126,12 +126,13 @@ fn bytes_now(jump: &Jump, sizes: &[u64], losses: &Losses) -> u128
 
 /// How many bytes the calls before a point lose.
 #[tactic(auto, unfolding(crate::specs::Jumps::lost_before))]
-fn lost_now(point: &Point, sizes: &[u64], losses: &Losses) -> u128
+fn lost_now(point: &Point, sizes: &[u8], losses: &Losses) -> u128
     requires within { point.now.call ≤ length sizes.now }
     requires losses { AreLosses sizes.now losses.now }
     ensures value { result ≡ spec.lost_before sizes.now point.now }
     ensures few { result < 2 ^ 70 }
 {
     let size = size_at(sizes, point.call);
-    lost_to(sizes, losses, point.call) + (point.depth.min(8) - point.depth.min(size).min(8)) as u128
+    lost_to(sizes, losses, point.call)
+        + (point.depth.min(8) - point.depth.min(size as u64).min(8)) as u128
 }

@@ -140,7 +140,7 @@ fn all_parts<R: Threads + Sync, G: Gate>(
     }
 }
 
-/// Those of a run of files, as one part.
+/// The cuts of the sections of a run of files, as one part.
 fn part_of(
     alloc: Global,
     tables: &Tables,

@@ -37,4 +37,4 @@ pub mod ValueKinds
 pub mod ValuePlaces
 pub mod WholeFields
 pub mod WindowSteps
-pub mod WordValues
+pub mod EveryValues

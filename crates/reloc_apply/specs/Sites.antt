@@ -2,7 +2,7 @@
 use Rattle.std.specs.Prelude.{◌≡◌, ℕ, ◌+◌, ◌-◌, ◌<◌, ◌≤◌, ◌^◌, false, Bool, Option, if◌then◌else◌, List, [], ◌∷◌, length, slice_index, slice_index_or, All}
 use Rattle.std.specs.List.Sorted.{IsNonDecreasingBy}
 use Rattle.lk_base.specs.RelocKinds.{is_among, is_uleb}
-use Rattle.lk_base.specs.declared.abi.TheConstants.{IMAGE_BASE, R_RISCV_32, R_RISCV_32_PCREL, R_RISCV_64, R_RISCV_PLT32, R_RISCV_SET16, R_RISCV_SET32, R_RISCV_SET8}
+use Rattle.lk_base.specs.declared.abi.TheConstants.{IMAGE_BASE, R_RISCV_32, R_RISCV_32_PCREL, R_RISCV_64, R_RISCV_PLT32, R_RISCV_SET16, R_RISCV_SET32, R_RISCV_SET8, R_RISCV_LO12_I, R_RISCV_LO12_S, R_RISCV_TPREL_LO12_I, R_RISCV_TPREL_LO12_S, R_RISCV_ADD8, R_RISCV_ADD16, R_RISCV_ADD32, R_RISCV_ADD64, R_RISCV_SUB8, R_RISCV_SUB16, R_RISCV_SUB32, R_RISCV_SUB64, R_RISCV_SUB6, R_RISCV_SET6}
 use Rattle.lk_base.specs.declared.defects.Defect.{Defect}
 use Rattle.lk_tables.specs.declared.objects.Reloc.{Reloc}
 use Rattle.lk_tables.specs.Binding.{Bindings}
@@ -81,6 +81,15 @@ end_by view s r = offset_by view s r + width_by view s r
 -- the kinds whose values set all bits of their places, whatever these held; and how many bytes a relocation sets so
 unfoldable pub sets_all : (kind : ℕ) → Bool
 sets_all = is_among (R_RISCV_32 ∷ R_RISCV_64 ∷ R_RISCV_SET8 ∷ R_RISCV_SET16 ∷ R_RISCV_SET32 ∷ R_RISCV_32_PCREL ∷ R_RISCV_PLT32 ∷ [])
+
+-- kinds whose places take every value, and that are no lower parts, so that they need no partner; and whether a kind is one
+abbrev pub every_kinds : List ℕ
+every_kinds =
+    R_RISCV_64 ∷ R_RISCV_LO12_I ∷ R_RISCV_LO12_S ∷ R_RISCV_TPREL_LO12_I ∷ R_RISCV_TPREL_LO12_S ∷ R_RISCV_ADD8 ∷ R_RISCV_ADD16 ∷ R_RISCV_ADD32 ∷ R_RISCV_ADD64
+    ∷ R_RISCV_SUB8 ∷ R_RISCV_SUB16 ∷ R_RISCV_SUB32 ∷ R_RISCV_SUB64 ∷ R_RISCV_SUB6 ∷ R_RISCV_SET6 ∷ R_RISCV_SET8 ∷ R_RISCV_SET16 ∷ R_RISCV_SET32 ∷ []
+
+unfoldable pub takes_every : (kind : ℕ) → Bool
+takes_every = is_among every_kinds
 
 abbrev pub set_by : View → Source → Reloc → ℕ
 set_by view s r = if sets_all r.kind then width_by view s r else 0

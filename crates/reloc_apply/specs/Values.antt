@@ -3,14 +3,14 @@ use Rattle.std.specs.Prelude.{ℕ, ◌+◌, ◌*◌, ◌==◌, ◌&&◌, ◌||�
 use Rattle.lk_base.specs.RelocKinds.{kind_of, has_value, is_lower, is_upper}
 use Rattle.lk_base.specs.declared.relocations.Calculation.{Calculation}
 use Rattle.lk_base.specs.declared.relocations.Calculation.TheVariants.{Address, Distance, GotDistance, ThreadOffset, Increase, Decrease}
-use Rattle.lk_tables.specs.declared.bounds.Target.{Target as Spot}
-use Rattle.lk_tables.specs.declared.bounds.Target.TheVariants.{Section, Number, Zero, Linker, Unbound}
+use Rattle.lk_tables.specs.declared.bounds.Spot.{Spot}
+use Rattle.lk_tables.specs.declared.bounds.Spot.TheVariants.{Section, Number, Zero, Linker, Unbound}
 use Rattle.lk_tables.specs.declared.objects.Reloc.{Reloc}
 use Rattle.lk_tables.specs.Binding.{Bindings}
 use Rattle.lk_tables.specs.Files.{File}
 use Rattle.lk_tables.specs.Sites as sites
 use Rattle.lk_tables.specs.Sites.{relocs_of}
-use Rattle.lk_tables.specs.Targets.{target_of}
+use Rattle.lk_tables.specs.Targets.{spot_of}
 use Rattle.link_sections.specs.Cuts.{new_offset}
 use Rattle.link_sections.specs.declared.got.GotEntry.{GotEntry}
 use Rattle.link_sections.specs.declared.got.GotUse.{GotUse}
@@ -61,7 +61,7 @@ held_in width at bytes = pos (number_of (take width (drop at bytes)))
 module _ (files : List File) (b : Bindings) (leaders : List (Option ℕ)) (laid : LaidOut) where
   -- what relocation r of section n stands for: where its byte was in the input, and where it is once equal pieces are merged
   abbrev pub spot_in : (n : ℕ) → Reloc → Spot
-  spot_in n r = target_of files b (sites.place_of files n).file r
+  spot_in n r = spot_of files b (sites.place_of files n).file r
 
   unfoldable pub target_in : (n : ℕ) → Reloc → Target
   target_in n r = piece_target laid.merging.merged (spot_in n r)

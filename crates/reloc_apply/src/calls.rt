@@ -33,7 +33,7 @@ pub fn acting_kind(view: &View, section: SecNo, reloc: &Reloc) -> u32
     kind_by_size(size_of(view, section, reloc.offset), reloc.kind)
 }
 
-/// The same by the size of the call.
+/// The number of the kind that fills the place of a relocation, by the size of the call.
 fn kind_by_size(size: u64, kind: u32) -> u32
     ensures { result ≡ spec.kind_by_size size kind }
 {

@@ -5,13 +5,12 @@ ghost use Rattle.std.specs.List.{range_with_len};
 ghost use Rattle.lk_base.specs.Firsts.{Goes, IsFirst};
 ghost use Rattle.lk_base.specs.Reaches.{misfit_of};
 ghost use Rattle.lk_base.specs.RelocKinds.{HasValue};
-ghost use Rattle.lk_base.specs.declared.abi.TheConstants.{R_RISCV_64};
 ghost use Rattle.lk_tables.specs.Files.{file_at, is_section_symbol, no_reloc, section_total, symbol_at};
 ghost use Rattle.lk_tables.specs.Sites.{relocs_of};
 ghost use Rattle.link_sections.specs.Leaders.{leads};
 ghost use Rattle.link_sections.specs.Views.{binding_in, files_in, laid_in, leaders_in};
 ghost use Rattle.reloc_apply.specs.Relocated as spec;
-ghost use Rattle.reloc_apply.specs.Sites.{HasSymbol, IsSite, reach_of};
+ghost use Rattle.reloc_apply.specs.Sites.{HasSymbol, IsSite, reach_of, takes_every};
 
 use crate::calls::acting_kind;
 use crate::numbered::{first_numbers, pieces_of, section_of};
@@ -20,7 +19,12 @@ use crate::plain::plain_from;
 use crate::sites::{Site, relocs_at, site_of};
 use crate::values::{is_hint, value_of};
 use link_sections::{View, leads};
-use lk_base::abi::R_RISCV_64;
+use lk_base::abi::{
+    R_RISCV_64, R_RISCV_ADD8, R_RISCV_ADD16, R_RISCV_ADD32, R_RISCV_ADD64, R_RISCV_LO12_I,
+    R_RISCV_LO12_S, R_RISCV_SET6, R_RISCV_SET8, R_RISCV_SET16, R_RISCV_SET32, R_RISCV_SUB6,
+    R_RISCV_SUB8, R_RISCV_SUB16, R_RISCV_SUB32, R_RISCV_SUB64, R_RISCV_TPREL_LO12_I,
+    R_RISCV_TPREL_LO12_S,
+};
 use lk_base::kinds::{NO_PARTNER, ODD, RANGE};
 use lk_base::relocations::is_uleb;
 use lk_base::{Defect, DefectKind, LinkStop, Misfit, SecNo, low_bits};
@@ -152,7 +156,7 @@ pub fn check_reloc(
     if is_hint(reloc.kind) {
         return None;
     }
-    if is_word(reloc.kind) {
+    if takes_every(reloc.kind) {
         return None;
     }
     let Ok(value) = value_of(view, site, reloc, plain, operand(view, site, relocs, k, 0)) else {
@@ -167,11 +171,32 @@ pub fn check_reloc(
     None
 }
 
-/// Whether a relocation is an address of eight bytes: its place takes every value.
-fn is_word(kind: u32) -> bool
-    ensures { result ≡ (kind == R_RISCV_64) }
+/// Whether the places of a kind take every value, and it is no lower part that needs a partner: there is nothing to test.
+#[tactic(auto, unfolding(crate::specs::Sites::takes_every))]
+fn takes_every(kind: u32) -> bool
+    ensures { result ≡ takes_every kind }
 {
-    kind == R_RISCV_64
+    matches!(
+        kind,
+        R_RISCV_64
+            | R_RISCV_LO12_I
+            | R_RISCV_LO12_S
+            | R_RISCV_TPREL_LO12_I
+            | R_RISCV_TPREL_LO12_S
+            | R_RISCV_ADD8
+            | R_RISCV_ADD16
+            | R_RISCV_ADD32
+            | R_RISCV_ADD64
+            | R_RISCV_SUB8
+            | R_RISCV_SUB16
+            | R_RISCV_SUB32
+            | R_RISCV_SUB64
+            | R_RISCV_SUB6
+            | R_RISCV_SET6
+            | R_RISCV_SET8
+            | R_RISCV_SET16
+            | R_RISCV_SET32
+    )
 }
 
 /// Whether the place of a relocation holds a value.

@@ -1,5 +1,5 @@
 //! Relocations done: the value of each relocation, and the bytes of a block of the executable with its relocations done (RISC-V ELF
-//! psABI, "Relocations"). The addresses of symbols, sections and pieces are those of `symbol_addresses`.
+//! psABI, "Relocations"). The addresses of symbols, sections and pieces are those of `link_sections`.
 //!
 //! Workers test relocations by their numbers, those of one section after those of the section before it; there are as many numbers as
 //! workers at least. A value costs one load for its symbol's address. Local symbols stand before all others, so a relocation's symbol from
@@ -10,10 +10,10 @@
 //! stand the bytes of the place after all relocations before it, whether or not these lie in the block.
 //!
 //! `uppers` lists the upper parts of each section, `values` computes what a relocation puts into its place, `plain` looks ahead whether
-//! relocations name SECTION symbols, `operands` reads what pairs of relocations need, `calls` says what becomes of a call that loses bytes, `numbered` numbers the relocations of all
-//! sections, `checks` finds the first that can't be done, `image` writes a piece of a file into a block of it, `staying` the bytes of a
-//! section that stay, `scanning` does the relocations of a section that reach a block, `pool_pieces` writes the merged pieces and
-//! `table_words` the global offset table, and `relocated` writes all members of the layout that meet a block.
+//! relocations name SECTION symbols, `operands` reads what pairs of relocations need, `calls` says what becomes of a call that loses bytes,
+//! `numbered` numbers the relocations of all sections, `checks` finds the first that can't be done, `image` writes a piece of a file into a
+//! block of it, `staying` the bytes of a section that stay, `scanning` does the relocations of a section that reach a block, `pool_pieces`
+//! writes the merged pieces and `table_words` the global offset table, and `relocated` writes all members of the layout that meet a block.
 #![tactic(auto)]
 
 mod calls;

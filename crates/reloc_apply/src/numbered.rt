@@ -36,7 +36,7 @@ fn reloc_counts(alloc: Global, tables: &Tables) -> Result<Vec<u64>, AllocError>
     Ok(counts)
 }
 
-/// Those of one file.
+/// Adds how many relocations each section of one file has.
 fn push_counts(counts: &mut Vec<u64>, tables: &Tables, file: FileNo) -> Result<(), AllocError>
     requires { file < length (files_of tables.now) }
     ensures { OnOk result (counts.new.items ≡ counts.old.items ++ section_row (files_of tables.now) (λ f k. length (relocs_at (file_at (files_of tables.now) f) k)) file) }

@@ -53,7 +53,7 @@ pub fn value(view: &View, section: SecNo, reloc: usize) -> Option<i128>
     value_by(view, &source_of(view, section), reloc)
 }
 
-/// The same by what the section is made from.
+/// The value of a relocation of a section by what that is made from, as [`value`] gives it.
 fn value_by(view: &View, source: &Source, reloc: usize) -> Option<i128>
     requires source { IsMadeFrom view.now source.now }
     requires reloc { reloc < length source.now.relocs.now }
@@ -144,7 +144,26 @@ fn count_below(view: &View, source: &Source, limit: u64) -> usize
     ensures before { (k : ℕ) → k < result → offset_by view.now source.now (slice_index_or source.now.relocs.now k no_reloc) < limit }
     ensures next { (k : ℕ) → result ≤ k → k < length source.now.relocs.now → limit ≤ offset_by view.now source.now (slice_index_or source.now.relocs.now k no_reloc) }
 {
+    if limit == 0 {
+        return 0;
+    }
+    if are_below(view, source, limit) {
+        return source.relocs.len();
+    }
     source.relocs.partition_point(|reloc| offset_of(view, source.site.section, reloc) < limit)
+}
+
+/// Whether the last relocation of a section, and so each, has a place that starts before an offset.
+fn are_below(view: &View, source: &Source, limit: u64) -> bool
+    requires { IsMadeFrom view.now source.now }
+    ensures { result ≡ true → (k : ℕ) → k < length source.now.relocs.now → offset_by view.now source.now (slice_index_or source.now.relocs.now k no_reloc) < limit }
+{
+    let count = source.relocs.len();
+    if count == 0 {
+        return false;
+    }
+    let offset = offset_of(view, source.site.section, &source.relocs[count - 1]);
+    offset < limit
 }
 
 /// The relocation from which those up to number k are done: no place before its own reaches past its start. If it is another one, it may

@@ -7,11 +7,10 @@ ghost use Rattle.reloc_apply.specs.Relocated.{contents_at, has_bits, is_laid};
 ghost use Rattle.reloc_apply.specs.Sites.{IsSite, IsSource};
 
 use crate::sites::{Site, relocs_at, site_of};
-use link_sections::{Cut, View, input_in};
+use link_sections::{Cut, View, input_in, start_of};
 use lk_base::SecNo;
 use lk_base::abi::{IMAGE_BASE, SHT_NOBITS};
 use lk_tables::{Reloc, contents_of};
-use symbol_addresses::start_of;
 
 /// A section with bytes in its file, which stand in the executable.
 #[derive(Clone, Copy)]
@@ -27,7 +26,7 @@ pub struct Source<'t, 'a> {
     pub relocs: &'t [Reloc],
 }
 
-/// That of a section, by its number.
+/// What a section is made from, by its number.
 pub fn source_of<'t, 'a>(view: &View<'t, 'a>, section: SecNo) -> Source<'t, 'a>
     requires { is_laid (files_in view.now) (binding_in view.now) (leaders_in view.now) (laid_in view.now) section ≡ true }
     ensures source { IsSource (files_in view.now) (binding_in view.now) (leaders_in view.now) (laid_in view.now) result }

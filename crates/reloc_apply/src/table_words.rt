@@ -11,10 +11,9 @@ ghost use Rattle.reloc_apply.specs.Relocated.{offset_word, table_bytes, words_of
 ghost use Rattle.reloc_apply.specs.Standing.{no_entry, word_pieces};
 
 use crate::image::{Piece, fill_piece};
-use link_sections::{GotEntry, GotUse, View};
+use link_sections::{GotEntry, GotUse, View, symbol_address};
 use lk_base::low_bits;
 use lk_tables::Bound;
-use symbol_addresses::symbol_address;
 
 /// Writes the words of the table that reach into the block that starts at the file offset `from`, if the table stands at the file offset
 /// `at`.
@@ -82,7 +81,7 @@ fn offset_in(view: &View, entry: &GotEntry, more: u64) -> u64
     )
 }
 
-/// The same by what the symbol stands for.
+/// The offset of an entry's symbol from the thread pointer and so many bytes more, by what the symbol stands for.
 fn offset_of(bound: Bound, address: u64, start: u64, more: u64) -> u64
     ensures { result ≡ offset_word bound address (start + more) }
 {

@@ -13,12 +13,14 @@ ghost use Rattle.reloc_apply.specs.Values as spec;
 
 use crate::sites::Site;
 use crate::uppers::uppers_of;
-use link_sections::{Target, View, key_of, use_of};
+use link_sections::{
+    Target, View, key_of, offset_in, piece_address, section_address, start_of, symbol_address,
+    use_of,
+};
 use lk_base::SecNo;
 use lk_base::abi::R_RISCV_RELAX;
 use lk_base::relocations::{Calculation, is_lower, kind_of};
-use lk_tables::{Reloc, is_section_symbol, target_in};
-use symbol_addresses::{offset_in, piece_address, section_address, start_of, symbol_address};
+use lk_tables::{Reloc, is_section_symbol, spot_in};
 
 /// The upper part that a lower part belongs to is not there.
 #[derive(Clone, Copy, Debug)]
@@ -72,7 +74,7 @@ fn direct_value(view: &View, site: Site, reloc: &Reloc, plain: bool, held: i128)
             Some(entry_of(view, site, reloc) - place_of(view, site.section, reloc))
         }
         Calculation::ThreadOffset => Some(thread_of(view, site, reloc)),
-        Calculation::Increase => Some(held + sum_of(view, site, reloc, plain)),
+        Calculation::Increase => Some(increased(held, sum_of(view, site, reloc, plain))),
         Calculation::Decrease => Some(decreased(held, sum_of(view, site, reloc, plain))),
         _ => None,
     }
@@ -83,6 +85,17 @@ pub fn is_hint(kind: u32) -> bool
     ensures { result ≡ (kind == R_RISCV_RELAX) }
 {
     kind == R_RISCV_RELAX
+}
+
+/// What V and S + A are together.
+fn increased(held: i128, sum: i128) -> i128
+    requires low { negsuc (2 ^ 63) ≤ℤ held }
+    requires high { held ≤ℤ pos (2 ^ 67) }
+    requires sum_low { negsuc (2 ^ 63) ≤ℤ sum }
+    requires sum_high { sum ≤ℤ pos (2 ^ 67) }
+    ensures { result ≡ held +ℤ sum }
+{
+    held + sum
 }
 
 /// What V is less S + A.
@@ -97,7 +110,7 @@ fn decreased(held: i128, sum: i128) -> i128
 }
 
 /// S + A: the address of a relocation's symbol, and its addend. A SECTION symbol's addend chooses a byte of its section, which moves
-/// where the section loses bytes or is merged.
+/// where the section loses bytes or is merged. The first byte stands where the symbol does, so without an addend the symbol is not read.
 pub fn sum_of(view: &View, site: Site, reloc: &Reloc, plain: bool) -> i128
     requires site { IsSite (files_in view.now) site }
     requires plain { plain ≡ true → is_section_symbol (symbol_at (file_at (files_in view.now) site.place.file) reloc.now.symbol) ≡ false }
@@ -107,6 +120,9 @@ pub fn sum_of(view: &View, site: Site, reloc: &Reloc, plain: bool) -> i128
 {
     if plain {
         return plain_sum(view, site, reloc);
+    }
+    if reloc.addend == 0 {
+        return zero_sum(view, site, reloc);
     }
     let symbol = view
         .tables
@@ -118,10 +134,21 @@ pub fn sum_of(view: &View, site: Site, reloc: &Reloc, plain: bool) -> i128
     plain_sum(view, site, reloc)
 }
 
-/// The same where the symbol is no SECTION symbol. Reads the symbol's address alone, and nothing of the symbol.
+/// S + A of a relocation whose symbol is no SECTION symbol. Reads the symbol's address alone, and nothing of the symbol.
 fn plain_sum(view: &View, site: Site, reloc: &Reloc) -> i128
     requires site { IsSite (files_in view.now) site }
     requires plain { is_section_symbol (symbol_at (file_at (files_in view.now) site.place.file) reloc.now.symbol) ≡ false }
+    ensures value { result ≡ spec.sum_of (files_in view.now) (binding_in view.now) (leaders_in view.now) (laid_in view.now) site.section reloc.now }
+    ensures low { negsuc (2 ^ 63) ≤ℤ result }
+    ensures high { result ≤ℤ pos (2 ^ 67) }
+{
+    symbol_address(view, site.place.file, reloc.symbol) as i128 + reloc.addend as i128
+}
+
+/// S + A of a relocation whose addend is 0, whatever its symbol is.
+fn zero_sum(view: &View, site: Site, reloc: &Reloc) -> i128
+    requires site { IsSite (files_in view.now) site }
+    requires zero { reloc.now.addend ≡ pos 0 }
     ensures value { result ≡ spec.sum_of (files_in view.now) (binding_in view.now) (leaders_in view.now) (laid_in view.now) site.section reloc.now }
     ensures low { negsuc (2 ^ 63) ≤ℤ result }
     ensures high { result ≤ℤ pos (2 ^ 67) }
@@ -135,7 +162,8 @@ fn target_of(view: &View, site: Site, reloc: &Reloc) -> Target
     requires { IsSite (files_in view.now) site }
     ensures { result ≡ spec.target_in (files_in view.now) (binding_in view.now) (leaders_in view.now) (laid_in view.now) site.section reloc.now }
 {
-    view.pools.piece_target(target_in(view.tables, view.binding, site.place.file, reloc))
+    view.pools
+        .piece_target(spot_in(view.tables, view.binding, site.place.file, reloc))
 }
 
 /// S + A by what a relocation stands for.
@@ -242,7 +270,7 @@ fn partner_of(view: &View, site: Site, reloc: &Reloc) -> Option<Reloc>
     ensures symbol { IfSome result (HasSymbol (files_in view.now) site) }
     ensures value { result ≡ spec.partner_of (files_in view.now) (binding_in view.now) (leaders_in view.now) (laid_in view.now) site.section reloc.now }
 {
-    let target = target_in(view.tables, view.binding, site.place.file, reloc);
+    let target = spot_in(view.tables, view.binding, site.place.file, reloc);
     let Some(offset) = label_in(site.section, target) else {
         return None;
     };
@@ -250,11 +278,11 @@ fn partner_of(view: &View, site: Site, reloc: &Reloc) -> Option<Reloc>
 }
 
 /// The offset of a label, if it stands in the section of this number.
-fn label_in(own: SecNo, target: lk_tables::Target) -> Option<u64>
+fn label_in(own: SecNo, target: lk_tables::Spot) -> Option<u64>
     ensures { result ≡ spec.label_in own target }
 {
     match target {
-        lk_tables::Target::Section {
+        lk_tables::Spot::Section {
             section,
             offset,
             rest: _,
@@ -264,10 +292,10 @@ fn label_in(own: SecNo, target: lk_tables::Target) -> Option<u64>
             }
             Some(offset)
         }
-        lk_tables::Target::Number(_) => None,
-        lk_tables::Target::Zero => None,
-        lk_tables::Target::Linker(_) => None,
-        lk_tables::Target::Unbound => None,
+        lk_tables::Spot::Number(_) => None,
+        lk_tables::Spot::Zero => None,
+        lk_tables::Spot::Linker(_) => None,
+        lk_tables::Spot::Unbound => None,
     }
 }
 

@@ -19,9 +19,9 @@ use lk_tables::{Binding, Bound, Tables, section_count};
 use std::alloc::{AllocError, Global};
 
 /// The numbers of the sections that garbage collection keeps whatever refers to them: first the entry's, if it stands in a section; then those in
-/// which names stand that the command asks for, in order of `undefined`; then, in order of number, those that may stay and are arrays of functions or notes by their type, are named `.init` or `.fini`, or are
-/// flagged GNU_RETAIN. The entry's, and a name's, may be the room of a COMMON symbol, and may stand in the list once more. The only error is out of
-/// memory.
+/// which names stand that the command asks for, in order of `undefined`; then, in order of number, those that may stay and are arrays of
+/// functions or notes by their type, are named `.init` or `.fini`, or are flagged GNU_RETAIN. The entry's, and a name's, may be the room of a
+/// COMMON symbol, and may stand in the list once more. The only error is out of memory.
 #[tactic(auto, unfolding(crate::specs::Roots::roots))]
 pub fn roots(
     alloc: Global,

@@ -10,8 +10,8 @@ use Rattle.std.proofs.lemmas.List.Elements.{All-nil, All-cons, All-head, All-tai
 use Rattle.link_sections.specs.InputSections.{input_at, input_of, is_own, may_stay, may_stay_at}
 use Rattle.lk_base.specs.RelocKinds.{names_a_symbol}
 use Rattle.lk_base.specs.declared.abi.TheConstants.{SHF_LINK_ORDER}
-use Rattle.lk_tables.specs.declared.bounds.Target.{Target}
-use Rattle.lk_tables.specs.declared.bounds.Target.TheVariants as targets
+use Rattle.lk_tables.specs.declared.bounds.Spot.{Spot}
+use Rattle.lk_tables.specs.declared.bounds.Spot.TheVariants as targets
 use Rattle.lk_tables.specs.declared.heads.Section.{Section}
 use Rattle.lk_tables.specs.declared.objects.Reloc.{Reloc}
 use Rattle.lk_tables.specs.declared.records.FrameNo.{FrameNo}
@@ -22,7 +22,7 @@ use Rattle.lk_tables.specs.Frames.{all_lists, frames_at}
 use Rattle.lk_tables.specs.LinkerSymbols.{all_named, bound_section, bound_sections, is_bound_no, is_named}
 use Rattle.lk_tables.specs.Objects.{GroupView}
 use Rattle.lk_tables.specs.Sites.{place_of}
-use Rattle.lk_tables.specs.Targets.{target_of}
+use Rattle.lk_tables.specs.Targets.{spot_of}
 use Rattle.lk_tables.proofs.BoundHas.{each_flat, each_if, one_if}
 use Rattle.lk_tables.proofs.ByNumber.{length_by_section, read_by_section}
 use Rattle.lk_tables.proofs.FirstNumbers.{section_more, section_within}
@@ -147,7 +147,7 @@ owned files n (suc h) le lt = elim (cases_lt n (first_section files h)) [
 ]
 
 -- the rules say it of each section's list
-section_all : (files : List File) (b : Bindings) (P : ℕ → Type 0) (t : Target) → ((section offset : ℕ) (rest : ℤ) → t ≡ targets.Section section offset rest → P section) →
+section_all : (files : List File) (b : Bindings) (P : ℕ → Type 0) (t : Spot) → ((section offset : ℕ) (rest : ℤ) → t ≡ targets.Section section offset rest → P section) →
     ((n : ℕ) → t ≡ targets.Linker n → All P (bound_sections files b n)) → All P (section_in files b t)
 section_all files b P (targets.Section section offset rest) each bounds = All-cons P section [] (each section offset rest refl) (All-nil P)
 section_all files b P (targets.Number n) each bounds = All-nil P
@@ -157,7 +157,7 @@ section_all files b P targets.Unbound each bounds = All-nil P
 
 -- the sections of the name whose start or end a relocation refers to
 bounds_closed : (files : List File) (b : Bindings) (s : ℕ → Bool) (f k : ℕ) (r : Reloc) (n : ℕ) → IsClosedByRules files b s → MayStay files b f k →
-    s (section_no files f k) ≡ true → Contains (relocs_at (file_at files f) k) r → names_a_symbol r.kind ≡ true → target_of files b f r ≡ targets.Linker n →
+    s (section_no files f k) ≡ true → Contains (relocs_at (file_at files f) k) r → names_a_symbol r.kind ≡ true → spot_of files b f r ≡ targets.Linker n →
     All (In s) (bound_sections files b n)
 unfolding bound_sections all_named is_named
 bounds_closed files b s f k r n rules stays is has names same =
@@ -187,8 +187,8 @@ targets_closed : (files : List File) (b : Bindings) (s : ℕ → Bool) (f k : �
 unfolding target_in
 targets_closed files b s f k rules stays is =
     each_of (In s) (target_in files b f) (relocs_at (file_at files f) k) (λ r has.
-    each_if (In s) (names_a_symbol r.kind) (section_in files b (target_of files b f r)) (λ names.
-    section_all files b (In s) (target_of files b f r) (λ section offset rest same. rules.targets f k r section offset rest stays is has names same)
+    each_if (In s) (names_a_symbol r.kind) (section_in files b (spot_of files b f r)) (λ names.
+    section_all files b (In s) (spot_of files b f r) (λ section offset rest same. rules.targets f k r section offset rest stays is has names same)
     (λ n same. bounds_closed files b s f k r n rules stays is has names same)))
 
 -- what the unwind records of a section's functions name
@@ -200,8 +200,8 @@ frames_closed files b s f k rules stays is =
     let relocs = frame_relocs (all_lists files) fde in
     let file = (place_of files fde.section).file in
     All-weaker (Contains relocs) (λ r. All (In s) (record_target files b file r)) (λ r among.
-    each_if (In s) (names_a_symbol r.kind) (section_of (target_of files b file r)) (λ names.
-    alone_all (In s) (target_of files b file r) (λ section offset rest same. rules.frames f k fde r section offset rest stays is has among names same)))
+    each_if (In s) (names_a_symbol r.kind) (section_of (spot_of files b file r)) (λ names.
+    alone_all (In s) (spot_of files b file r) (λ section offset rest same. rules.frames f k fde r section offset rest stays is has among names same)))
     relocs (All-contains_itself relocs))
 
 nonzero : (d : ℕ) → not (d == 0) ≡ true → d ≢ 0
@@ -300,38 +300,38 @@ joined_are files b s f k has stays is =
     (all_right (In s) (targets_in files b f k ++ frame_ends_in files b f k) (map (λ (p : Pair). p.to) from) (ends_are files b s f k has stays is)))
 
 targets_are : (files : List File) (b : Bindings) (s : ℕ → Bool) (f k : ℕ) (r : Reloc) → AllEnds (edges files b) s → MayStay files b f k →
-    s (section_no files f k) ≡ true → Contains (relocs_at (file_at files f) k) r → names_a_symbol r.kind ≡ true → All (In s) (section_in files b (target_of files b f r))
+    s (section_no files f k) ≡ true → Contains (relocs_at (file_at files f) k) r → names_a_symbol r.kind ≡ true → All (In s) (section_in files b (spot_of files b f r))
 unfolding target_in
 targets_are files b s f k r has stays is among names =
     let from = pairs_from (section_no files f k) (joined_in files b f) in
     let own = targets_in files b f k in
     let framed = frame_ends_in files b f k in
     let all = all_left (In s) own framed (all_left (In s) (own ++ framed) (map (λ (p : Pair). p.to) from) (ends_are files b s f k has stays is)) in
-    all_if (In s) (names_a_symbol r.kind) (section_in files b (target_of files b f r)) names
+    all_if (In s) (names_a_symbol r.kind) (section_in files b (spot_of files b f r)) names
     (part_of (In s) (target_in files b f) (relocs_at (file_at files f) k) r all among)
 
 target_follows : (files : List File) (b : Bindings) (s : ℕ → Bool) → AllEnds (edges files b) s → (f k : ℕ) (r : Reloc) (section offset : ℕ) (rest : ℤ) →
     MayStay files b f k → s (section_no files f k) ≡ true → Contains (relocs_at (file_at files f) k) r → names_a_symbol r.kind ≡ true →
-    target_of files b f r ≡ targets.Section section offset rest → s section ≡ true
+    spot_of files b f r ≡ targets.Section section offset rest → s section ≡ true
 target_follows files b s has f k r section offset rest stays is among names same =
-    let P : Target → Type 0 = λ t. All (In s) (section_in files b t) in
+    let P : Spot → Type 0 = λ t. All (In s) (section_in files b t) in
     All-head (In s) section [] (subst P same (targets_are files b s f k r has stays is among names))
 
 frame_follows : (files : List File) (b : Bindings) (s : ℕ → Bool) → AllEnds (edges files b) s → (f k : ℕ) (fde : FrameNo) (r : Reloc) (section offset : ℕ) (rest : ℤ) →
     MayStay files b f k → s (section_no files f k) ≡ true → Contains (frames_at files b (all_lists files) (section_no files f k)) fde →
-    Contains (frame_relocs (all_lists files) fde) r → names_a_symbol r.kind ≡ true → target_of files b (place_of files fde.section).file r ≡ targets.Section section offset rest →
+    Contains (frame_relocs (all_lists files) fde) r → names_a_symbol r.kind ≡ true → spot_of files b (place_of files fde.section).file r ≡ targets.Section section offset rest →
     s section ≡ true
 unfolding record_target
 frame_follows files b s has f k fde r section offset rest stays is own among names same =
     let from = pairs_from (section_no files f k) (joined_in files b f) in
     let file = (place_of files fde.section).file in
     let framed = frame_ends_in files b f k in
-    let P : Target → Type 0 = λ t. All (In s) (section_of t) in
+    let P : Spot → Type 0 = λ t. All (In s) (section_of t) in
     let all = all_right (In s) (targets_in files b f k) framed
     (all_left (In s) (targets_in files b f k ++ framed) (map (λ (p : Pair). p.to) from) (ends_are files b s f k has stays is)) in
     let each = frames_to files b (In s) (frames_at files b (all_lists files) (section_no files f k)) fde all own in
     let one = All-contains (λ q. All (In s) (record_target files b file q)) (frame_relocs (all_lists files) fde) r each among in
-    All-head (In s) section [] (subst P same (all_if (In s) (names_a_symbol r.kind) (section_of (target_of files b file r)) names one))
+    All-head (In s) section [] (subst P same (all_if (In s) (names_a_symbol r.kind) (section_of (spot_of files b file r)) names one))
 
 -- the place of a section's number
 place_at : (files : List File) (f k : ℕ) → f < length files → k < section_count (file_at files f) → place_of files (section_no files f k) ≡ record { file = f; index = k }
@@ -343,14 +343,14 @@ place_at files f k lt below =
 
 bound_follows : (files : List File) (b : Bindings) (s : ℕ → Bool) → AllEnds (edges files b) s → (f k g j : ℕ) (r : Reloc) (n : ℕ) →
     MayStay files b f k → s (section_no files f k) ≡ true → Contains (relocs_at (file_at files f) k) r → names_a_symbol r.kind ≡ true →
-    target_of files b f r ≡ targets.Linker n → is_bound_no n ≡ true → MayStay files b g j → (input_of files b g j).name ≡ (input_at files b (bound_section n)).name →
+    spot_of files b f r ≡ targets.Linker n → is_bound_no n ≡ true → MayStay files b g j → (input_of files b g j).name ≡ (input_at files b (bound_section n)).name →
     s (section_no files g j) ≡ true
 unfolding bound_sections all_named is_named
 bound_follows files b s has f k g j r n stays is among names same bounds other called =
     let text = (input_at files b (bound_section n)).name in
     let x = section_no files g j in
     let all = range_with_len 0 (section_total files) in
-    let P : Target → Type 0 = λ t. All (In s) (section_in files b t) in
+    let P : Spot → Type 0 = λ t. All (In s) (section_in files b t) in
     let own : All (In s) (filter (is_named files b text) all) =
     all_if (In s) (is_bound_no n) (filter (is_named files b text) all) bounds (subst P same (targets_are files b s f k r has stays is among names)) in
     let place = place_at files g j other.file other.index in

@@ -7,8 +7,8 @@ use Rattle.lk_base.specs.RelocKinds.{goes_by_got, names_a_symbol}
 use Rattle.lk_base.specs.declared.abi.TheConstants.{STB_WEAK}
 use Rattle.lk_tables.specs.declared.bounds.Bound.{Bound}
 use Rattle.lk_tables.specs.declared.bounds.Bound.TheVariants.{InSection, Number, Linker, Nobody}
-use Rattle.lk_tables.specs.declared.bounds.Target.{Target}
-use Rattle.lk_tables.specs.declared.bounds.Target.TheVariants as targets
+use Rattle.lk_tables.specs.declared.bounds.Spot.{Spot}
+use Rattle.lk_tables.specs.declared.bounds.Spot.TheVariants as targets
 use Rattle.lk_tables.specs.declared.heads.Symbol.{Symbol}
 use Rattle.lk_tables.specs.declared.objects.Reloc.{Reloc}
 use Rattle.lk_tables.specs.declared.records.FrameNo.{FrameNo}
@@ -19,7 +19,7 @@ use Rattle.lk_tables.specs.Frames.{RecordList, all_lists, frame_no, frames_at, f
 use Rattle.lk_tables.specs.Records.{records_of}
 use Rattle.lk_tables.specs.Sections.{contents_of}
 use Rattle.lk_tables.specs.Sites.{place_of}
-use Rattle.lk_tables.specs.Targets.{bound, is_gone, target_by, target_of}
+use Rattle.lk_tables.specs.Targets.{bound, is_gone, spot_by, spot_of}
 use Rattle.lk_tables.specs.Walks.{over_file, over_live}
 use Rattle.lk_tables.proofs.BoundWithin.{IsWithin, bound_within}
 use Rattle.lk_tables.proofs.BoundHas.{each_flat, each_if, either, one_if}
@@ -82,7 +82,7 @@ module _ (files : List File) (b : Bindings) (P : ℕ → Type 0) where
       (All-contains (λ number. C (cie_no lists number)) fdes fde (map_all C (cie_no lists) fdes cies) has)
 
 -- the section in which a target stands
-pub alone_all : (P : ℕ → Type 0) (t : Target) → ((section offset : ℕ) (rest : ℤ) → t ≡ targets.Section section offset rest → P section) → All P (section_of t)
+pub alone_all : (P : ℕ → Type 0) (t : Spot) → ((section offset : ℕ) (rest : ℤ) → t ≡ targets.Section section offset rest → P section) → All P (section_of t)
 alone_all P (targets.Section section offset rest) each = All-cons P section [] (each section offset rest refl) (All-nil P)
 alone_all P (targets.Number n) each = All-nil P
 alone_all P targets.Zero each = All-nil P
@@ -129,7 +129,7 @@ module _ (files : List File) where
       (All-weaker (λ (l : RecordList). l.section < section_total files) (λ l. All P (frames_where files b test l)) (λ l lt. where_below b test l lt) (all_lists files) lists_below)
 
 -- the sections that they name are the link's
-alone_below : (files : List File) (found : Bound) (file : File) (s : Symbol) (r : Reloc) → IsWithin files found → All (λ n. n < section_total files) (section_of (target_by found file s r))
+alone_below : (files : List File) (found : Bound) (file : File) (s : Symbol) (r : Reloc) → IsWithin files found → All (λ n. n < section_total files) (section_of (spot_by found file s r))
 alone_below files (InSection section offset) file s r lt =
     let P : ℕ → Type 0 = λ n. n < section_total files in
     let one = All-cons P section [] lt (All-nil P) in
@@ -142,7 +142,7 @@ alone_below files Nobody file s r lt =
 
 pub record_below : (files : List File) (b : Bindings) (f : ℕ) (r : Reloc) → IsBindingOf files b → AreFew files → f < length files → (file_at files f).live ≡ true →
     All (λ n. n < section_total files) (record_target files b f r)
-unfolding record_target target_of
+unfolding record_target spot_of
 record_below files b f r is few lt live =
-    each_if (λ n. n < section_total files) (names_a_symbol r.kind) (section_of (target_of files b f r)) (λ names.
+    each_if (λ n. n < section_total files) (names_a_symbol r.kind) (section_of (spot_of files b f r)) (λ names.
     alone_below files (bound files b f r.symbol) (file_at files f) (symbol_at (file_at files f) r.symbol) r (bound_within files b f r.symbol is few lt live))

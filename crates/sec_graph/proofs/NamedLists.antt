@@ -15,8 +15,8 @@ use Rattle.lk_base.specs.RelocKinds.{goes_by_got}
 use Rattle.lk_base.specs.declared.abi.TheConstants.{STB_LOCAL, STB_WEAK}
 use Rattle.lk_tables.specs.declared.bounds.Bound.{Bound}
 use Rattle.lk_tables.specs.declared.bounds.Bound.TheVariants.{InSection, Number, Linker, Nobody}
-use Rattle.lk_tables.specs.declared.bounds.Target.{Target}
-use Rattle.lk_tables.specs.declared.bounds.Target.TheVariants as targets
+use Rattle.lk_tables.specs.declared.bounds.Spot.{Spot}
+use Rattle.lk_tables.specs.declared.bounds.Spot.TheVariants as targets
 use Rattle.lk_tables.specs.declared.commons.BoundCommon.{BoundCommon}
 use Rattle.lk_tables.specs.declared.heads.Place.{Place}
 use Rattle.lk_tables.specs.declared.heads.Place.TheVariants.{Undef, Absolute, Common, Within}
@@ -27,7 +27,7 @@ use Rattle.lk_tables.specs.Binding.{Bindings, is_discarded}
 use Rattle.lk_tables.specs.Files.{AreFew, File, file_at, is_frame_at, is_section_symbol, no_symbol, section_no, section_total, symbol_at, symbol_no, writes}
 use Rattle.lk_tables.specs.InputSections.{input_at, may_stay_at}
 use Rattle.lk_tables.specs.LinkerSymbols.{all_named, bound_section, fixed_count, frame_start_no, is_bound_no, is_named, linker_no}
-use Rattle.lk_tables.specs.Targets.{bound, bound_by, clamped, commons_at, defined_by, definition, offset_in, rank_at, room_of, size_of, target_by, unwritten}
+use Rattle.lk_tables.specs.Targets.{bound, bound_by, clamped, commons_at, defined_by, definition, offset_in, rank_at, room_of, size_of, spot_by, unwritten}
 use Rattle.lk_tables.proofs.BoundHas.{OfDefinitions, bound_has, each_flat, each_if, either, one_if}
 use Rattle.lk_tables.proofs.LinkerNumbers.{IfNumber, linker_few}
 use Rattle.sec_graph.specs.declared.pairs.Pair.{Pair}
@@ -130,7 +130,7 @@ asked_known files b P f i n all lt live is named = elim (cases_lt i (length (fil
     no_linker n e = cc
 
 -- the symbol of a relocation that stands for a number of the linker's
-pub linker_bound : (found : Bound) (file : File) (s : Symbol) (r : Reloc) (n : ℕ) → target_by found file s r ≡ targets.Linker n → found ≡ Linker n
+pub linker_bound : (found : Bound) (file : File) (s : Symbol) (r : Reloc) (n : ℕ) → spot_by found file s r ≡ targets.Linker n → found ≡ Linker n
 linker_bound (InSection section offset) file s r n is = absurd (no_section (is_section_symbol s && not (goes_by_got r.kind)) is)
   where
     no_section : (d : Bool) → (if d then targets.Section section (clamped (size_of file s.place) r.addend) (r.addend -ℤ pos (clamped (size_of file s.place) r.addend))
@@ -140,7 +140,7 @@ linker_bound (InSection section offset) file s r n is = absurd (no_section (is_s
 linker_bound (Number m) file s r n is = let no : ⊥ = cc in absurd no
 linker_bound (Linker m) file s r n is = ap Linker (ap number is)
   where
-    number : Target → ℕ
+    number : Spot → ℕ
     number (targets.Linker k) = k
     number (targets.Section section offset rest) = 0
     number (targets.Number k) = 0

@@ -9,7 +9,7 @@ use Rattle.link_sections.specs.InputSections.{input_at, is_own, may_stay}
 use Rattle.lk_base.specs.RelocKinds.{goes_by_got, names_a_symbol}
 use Rattle.lk_tables.specs.declared.bounds.Bound.{Bound}
 use Rattle.lk_tables.specs.declared.bounds.Bound.TheVariants.{InSection, Number, Linker, Nobody}
-use Rattle.lk_tables.specs.declared.bounds.Target.TheVariants as targets
+use Rattle.lk_tables.specs.declared.bounds.Spot.TheVariants as targets
 use Rattle.lk_tables.specs.declared.heads.Symbol.{Symbol}
 use Rattle.lk_tables.specs.declared.objects.Reloc.{Reloc}
 use Rattle.lk_tables.specs.declared.records.FrameNo.{FrameNo}
@@ -20,7 +20,7 @@ use Rattle.lk_tables.specs.Frames.{all_lists, frames_at}
 use Rattle.lk_tables.specs.LinkerSymbols.{all_named, bound_section, bound_sections, is_bound_no, is_named}
 use Rattle.lk_tables.specs.Objects.{GroupView}
 use Rattle.lk_tables.specs.Sites.{place_of}
-use Rattle.lk_tables.specs.Targets.{bound, target_by, target_of}
+use Rattle.lk_tables.specs.Targets.{bound, spot_by, spot_of}
 use Rattle.lk_tables.proofs.BoundWithin.{IsWithin, bound_within}
 use Rattle.lk_tables.proofs.BoundHas.{each_flat, each_if, either, one_if}
 use Rattle.lk_tables.proofs.FirstNumbers.{section_within}
@@ -50,7 +50,7 @@ bounds_below files b n =
     each_passed P test 0 (section_total files) (λ k lt named. omega (arith, lt)))
 
 target_below : (files : List File) (b : Bindings) (found : Bound) (file : File) (s : Symbol) (r : Reloc) → IsWithin files found →
-    All (λ n. n < section_total files) (section_in files b (target_by found file s r))
+    All (λ n. n < section_total files) (section_in files b (spot_by found file s r))
 target_below files b (InSection section offset) file s r lt =
     let one = one_section (section_total files) section lt in
     either (λ t. All (λ n. n < section_total files) (section_in files b t)) (is_section_symbol s && not (goes_by_got r.kind)) _ _ one one
@@ -62,12 +62,12 @@ target_below files b Nobody file s r lt =
 
 targets_below : (files : List File) (b : Bindings) (f : ℕ) (rs : List Reloc) → IsBindingOf files b → AreFew files → f < length files → (file_at files f).live ≡ true →
     All (λ n. n < section_total files) (flat_map (target_in files b f) rs)
-unfolding target_in target_of
+unfolding target_in spot_of
 targets_below files b f [] is few lt live = All-nil (λ n. n < section_total files)
 targets_below files b f (r ∷ rs) is few lt live =
     let P : ℕ → Type 0 = λ n. n < section_total files in
     All-append P (target_in files b f r) (flat_map (target_in files b f) rs)
-    (each_if P (names_a_symbol r.kind) (section_in files b (target_of files b f r)) (λ names.
+    (each_if P (names_a_symbol r.kind) (section_in files b (spot_of files b f r)) (λ names.
     target_below files b (bound files b f r.symbol) (file_at files f) (symbol_at (file_at files f) r.symbol) r (bound_within files b f r.symbol is few lt live)))
     (targets_below files b f rs is few lt live)
 

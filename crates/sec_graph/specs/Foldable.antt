@@ -5,8 +5,8 @@ use Rattle.std.specs.Option.{option_map_or}
 use Rattle.std.specs.Str.{bytes_eq}
 use Rattle.lk_base.specs.RelocKinds.{names_a_symbol}
 use Rattle.lk_base.specs.declared.abi.TheConstants.{SHF_ALLOC, SHF_EXECINSTR, SHF_GNU_RETAIN, SHF_LINK_ORDER, SHF_MERGE, SHF_TLS, SHF_WRITE, SHT_PROGBITS}
-use Rattle.lk_tables.specs.declared.bounds.Target.{Target as Spot}
-use Rattle.lk_tables.specs.declared.bounds.Target.TheVariants as spots
+use Rattle.lk_tables.specs.declared.bounds.Spot.{Spot}
+use Rattle.lk_tables.specs.declared.bounds.Spot.TheVariants as spots
 use Rattle.lk_tables.specs.declared.objects.Reloc.{Reloc}
 use Rattle.lk_tables.specs.declared.records.FrameNo.{FrameNo}
 use Rattle.lk_tables.specs.Binding.{Bindings}
@@ -16,7 +16,7 @@ use Rattle.lk_tables.specs.LinkerSymbols.{is_c_identifier}
 use Rattle.lk_tables.specs.OutputNames.{output_name}
 use Rattle.lk_tables.specs.Records.{RecordView, first_of}
 use Rattle.lk_tables.specs.Sites.{place_of}
-use Rattle.lk_tables.specs.Targets.{target_of}
+use Rattle.lk_tables.specs.Targets.{spot_of}
 use Rattle.link_sections.specs.declared.fold_items.FoldReloc.{FoldReloc}
 use Rattle.link_sections.specs.declared.targets.Target.{Target}
 use Rattle.link_sections.specs.FoldItems.{FoldFrame, FoldItem}
@@ -75,8 +75,8 @@ module _ (files : List File) (b : Bindings) where
   frame_in f bytes fde cie = record {
     bytes = part bytes fde.from 4 ++ part bytes (fde.from + 8) (fde.len - 4);
     cie = part bytes cie.from (4 + cie.len);
-    offset = option_map_or (λ r. offset_of (target_of files b f r)) (first_of fde.relocs) 0;
-    rest = option_map_or (λ r. rest_of (target_of files b f r)) (first_of fde.relocs) (pos 0);
+    offset = option_map_or (λ r. offset_of (spot_of files b f r)) (first_of fde.relocs) 0;
+    rest = option_map_or (λ r. rest_of (spot_of files b f r)) (first_of fde.relocs) (pos 0);
     others = length (others fde.relocs);
     shared = length cie.relocs;
   }
@@ -102,7 +102,7 @@ contents_at files section = contents (file_at files (place_of files section).fil
 module _ (files : List File) (b : Bindings) (merged : List (Option Merged)) where
   -- relocation r of file f; RELAX and ALIGN name no symbol
   unfoldable pub fold_target : (f : ℕ) → Reloc → Option Target
-  fold_target f r = if names_a_symbol r.kind then Some (piece_target merged (target_of files b f r)) else None
+  fold_target f r = if names_a_symbol r.kind then Some (piece_target merged (spot_of files b f r)) else None
 
   abbrev pub fold_reloc : (f : ℕ) → Reloc → FoldReloc
   fold_reloc f r = record {

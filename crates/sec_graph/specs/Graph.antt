@@ -7,8 +7,8 @@ use Rattle.std.specs.List.Sorted.{IsNonDecreasingBy}
 use Rattle.link_sections.specs.InputSections.{is_own, may_stay}
 use Rattle.lk_base.specs.RelocKinds.{names_a_symbol}
 use Rattle.lk_base.specs.declared.abi.TheConstants.{SHF_LINK_ORDER}
-use Rattle.lk_tables.specs.declared.bounds.Target.{Target}
-use Rattle.lk_tables.specs.declared.bounds.Target.TheVariants as targets
+use Rattle.lk_tables.specs.declared.bounds.Spot.{Spot}
+use Rattle.lk_tables.specs.declared.bounds.Spot.TheVariants as targets
 use Rattle.lk_tables.specs.declared.heads.Section.{Section}
 use Rattle.lk_tables.specs.declared.objects.Reloc.{Reloc}
 use Rattle.lk_tables.specs.declared.records.FrameNo.{FrameNo}
@@ -18,7 +18,7 @@ use Rattle.lk_tables.specs.Frames.{all_lists, frames_at}
 use Rattle.lk_tables.specs.LinkerSymbols.{bound_sections}
 use Rattle.lk_tables.specs.Objects.{GroupView}
 use Rattle.lk_tables.specs.Sites.{place_of}
-use Rattle.lk_tables.specs.Targets.{target_of}
+use Rattle.lk_tables.specs.Targets.{spot_of}
 use Rattle.sec_graph.specs.declared.pairs.Pair.{Pair}
 use Rattle.sec_graph.specs.FrameRelocs.{cies_of, others, record_by}
 use Rattle.sec_graph.specs.Taken.{section_of}
@@ -55,7 +55,7 @@ pub record AreBySection (pairs sorted : List Pair) : Type 0 where
 
 module _ (files : List File) (b : Bindings) where
   -- the section in which a target stands, if it stands in one; the start or the end of a name means all sections of that name
-  abbrev pub section_in : Target → List ℕ
+  abbrev pub section_in : Spot → List ℕ
   section_in (targets.Section section offset rest) = section ∷ []
   section_in (targets.Number n) = []
   section_in targets.Zero = []
@@ -64,7 +64,7 @@ module _ (files : List File) (b : Bindings) where
 
   -- the sections that relocation r of file f names
   unfoldable pub target_in : (f : ℕ) → Reloc → List ℕ
-  target_in f r = if names_a_symbol r.kind then section_in (target_of files b f r) else []
+  target_in f r = if names_a_symbol r.kind then section_in (spot_of files b f r) else []
 
   abbrev pub targets_in : (f k : ℕ) → List ℕ
   targets_in f k = flat_map (target_in f) (relocs_at (file_at files f) k)
@@ -90,7 +90,7 @@ module _ (files : List File) (b : Bindings) where
 
   -- the section in which relocation r of a record of file f stands; the start or the end of a name means none here
   unfoldable pub record_target : (f : ℕ) → Reloc → List ℕ
-  record_target f r = if names_a_symbol r.kind then section_of (target_of files b f r) else []
+  record_target f r = if names_a_symbol r.kind then section_of (spot_of files b f r) else []
 
   abbrev pub record_targets : FrameNo → List Reloc → List ℕ
   record_targets number rs = flat_map (record_target (place_of files number.section).file) rs

@@ -4,7 +4,7 @@ use Rattle.std.specs.Prelude.{◌≡◌, ◌≢◌, ℕ, ◌<◌, ℤ, bit_and, 
 use Rattle.link_sections.specs.InputSections.{input_at, input_of, may_stay}
 use Rattle.lk_base.specs.RelocKinds.{names_a_symbol}
 use Rattle.lk_base.specs.declared.abi.TheConstants.{SHF_LINK_ORDER}
-use Rattle.lk_tables.specs.declared.bounds.Target.TheVariants.{Linker, Section}
+use Rattle.lk_tables.specs.declared.bounds.Spot.TheVariants.{Linker, Section}
 use Rattle.lk_tables.specs.declared.objects.Reloc.{Reloc}
 use Rattle.lk_tables.specs.declared.records.FrameNo.{FrameNo}
 use Rattle.lk_tables.specs.Binding.{Bindings}
@@ -14,7 +14,7 @@ use Rattle.lk_tables.specs.LinkerSymbols.{bound_section, is_bound_no}
 use Rattle.lk_tables.specs.Objects.{GroupView}
 use Rattle.lk_tables.specs.Reach.{ends_at}
 use Rattle.lk_tables.specs.Sites.{place_of}
-use Rattle.lk_tables.specs.Targets.{target_of}
+use Rattle.lk_tables.specs.Targets.{spot_of}
 use Rattle.sec_graph.specs.FrameRelocs.{frame_relocs}
 
 -- section k of file f takes part in the link and may be kept
@@ -32,15 +32,15 @@ IsInTable files f k = k < length (file_at files f).head.sections
 -- which sh_link names it, and the members of its groups
 pub record IsClosedByRules (files : List File) (b : Bindings) (s : ℕ → Bool) : Type 0 where
   pub targets : (f k : ℕ) (r : Reloc) (section offset : ℕ) (rest : ℤ) → MayStay files b f k → s (section_no files f k) ≡ true
-      → Contains (relocs_at (file_at files f) k) r → names_a_symbol r.kind ≡ true → target_of files b f r ≡ Section section offset rest
+      → Contains (relocs_at (file_at files f) k) r → names_a_symbol r.kind ≡ true → spot_of files b f r ≡ Section section offset rest
       → s section ≡ true
   pub bounds : (f k g j : ℕ) (r : Reloc) (n : ℕ) → MayStay files b f k → s (section_no files f k) ≡ true
-      → Contains (relocs_at (file_at files f) k) r → names_a_symbol r.kind ≡ true → target_of files b f r ≡ Linker n → is_bound_no n ≡ true
+      → Contains (relocs_at (file_at files f) k) r → names_a_symbol r.kind ≡ true → spot_of files b f r ≡ Linker n → is_bound_no n ≡ true
       → MayStay files b g j → (input_of files b g j).name ≡ (input_at files b (bound_section n)).name
       → s (section_no files g j) ≡ true
   pub frames : (f k : ℕ) (fde : FrameNo) (r : Reloc) (section offset : ℕ) (rest : ℤ) → MayStay files b f k → s (section_no files f k) ≡ true
       → Contains (frames_at files b (all_lists files) (section_no files f k)) fde → Contains (frame_relocs (all_lists files) fde) r
-      → names_a_symbol r.kind ≡ true → target_of files b (place_of files fde.section).file r ≡ Section section offset rest → s section ≡ true
+      → names_a_symbol r.kind ≡ true → spot_of files b (place_of files fde.section).file r ≡ Section section offset rest → s section ≡ true
   pub links : (f k j : ℕ) → MayStay files b f k → IsInTable files f k → s (section_no files f k) ≡ true
       → MayStay files b f j → bit_and (section_at (file_at files f) j).flags SHF_LINK_ORDER ≢ 0 → (section_at (file_at files f) j).link ≡ k → k ≢ 0
       → s (section_no files f j) ≡ true

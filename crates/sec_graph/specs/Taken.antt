@@ -5,12 +5,12 @@ use Rattle.std.specs.List.{list_any, range_with_len}
 use Rattle.lk_base.specs.RelocKinds.{is_among, names_a_symbol}
 use Rattle.lk_base.specs.declared.abi.TheConstants.{R_RISCV_BRANCH, R_RISCV_CALL, R_RISCV_CALL_PLT, R_RISCV_JAL, R_RISCV_PCREL_LO12_I, R_RISCV_PCREL_LO12_S, R_RISCV_RVC_BRANCH, R_RISCV_RVC_JUMP}
 use Rattle.link_sections.specs.Leaders.{is_kept}
-use Rattle.lk_tables.specs.declared.bounds.Target.{Target}
-use Rattle.lk_tables.specs.declared.bounds.Target.TheVariants.{Linker, Number, Section, Unbound, Zero}
+use Rattle.lk_tables.specs.declared.bounds.Spot.{Spot}
+use Rattle.lk_tables.specs.declared.bounds.Spot.TheVariants.{Linker, Number, Section, Unbound, Zero}
 use Rattle.lk_tables.specs.declared.objects.Reloc.{Reloc}
 use Rattle.lk_tables.specs.Binding.{Bindings}
 use Rattle.lk_tables.specs.Files.{File, section_no, section_total}
-use Rattle.lk_tables.specs.Targets.{target_of}
+use Rattle.lk_tables.specs.Targets.{spot_of}
 use Rattle.lk_tables.specs.Walks.{over_relocs}
 
 -- code only goes to the symbol, or the symbol is a label in the section itself
@@ -21,7 +21,7 @@ only_goes kind = is_among (R_RISCV_BRANCH ∷ R_RISCV_JAL ∷ R_RISCV_CALL ∷ R
 abbrev pub takes_address : ℕ → Bool
 takes_address kind = names_a_symbol kind && not (only_goes kind)
 
-abbrev pub section_of : Target → List ℕ
+abbrev pub section_of : Spot → List ℕ
 section_of (Section section offset rest) = section ∷ []
 section_of (Number n) = []
 section_of Zero = []
@@ -31,7 +31,7 @@ section_of Unbound = []
 module _ (files : List File) (b : Bindings) where
   -- the section whose address a relocation of file f takes, and one of section k of file f if that is kept
   unfoldable pub taken_by : (f : ℕ) → Reloc → List ℕ
-  taken_by f r = if takes_address r.kind then section_of (target_of files b f r) else []
+  taken_by f r = if takes_address r.kind then section_of (spot_of files b f r) else []
 
   unfoldable pub taken_at : (kept : List Bool) → (f k : ℕ) → Reloc → List ℕ
   taken_at kept f k r = if is_kept kept (section_no files f k) then taken_by f r else []

@@ -18,7 +18,7 @@ use flat_rows::Rows;
 use link_sections::{input_section, may_stay};
 use lk_base::relocations::names_a_symbol;
 use lk_base::{FileNo, SecNo};
-use lk_tables::{Binding, Frames, Reloc, Tables, Target, bound_section, section_count, target_in};
+use lk_tables::{Binding, Frames, Reloc, Spot, Tables, bound_section, section_count, spot_in};
 use std::alloc::{AllocError, Global};
 
 /// For each section number of a file, in order, the sections to which that leads.
@@ -50,7 +50,7 @@ pub fn file_ends(
     )
 }
 
-/// The same of a file that takes part, of which the pairs are known.
+/// For each section number of a file that takes part, in order, the sections to which that leads; the pairs of the file are known.
 fn live_ends(
     alloc: Global,
     tables: &Tables,
@@ -162,12 +162,12 @@ fn push_target(
     if !names_a_symbol(reloc.kind) {
         return Ok(());
     }
-    match target_in(tables, binding, file, reloc) {
-        Target::Section { section, .. } => {
+    match spot_in(tables, binding, file, reloc) {
+        Spot::Section { section, .. } => {
             ends.push(section)?;
             Ok(())
         }
-        Target::Linker(number) => push_bound(ends, tables, binding, named, number),
+        Spot::Linker(number) => push_bound(ends, tables, binding, named, number),
         _ => Ok(()),
     }
 }

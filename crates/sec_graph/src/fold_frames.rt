@@ -8,7 +8,7 @@ ghost use Rattle.lk_tables.specs.Files.{section_total};
 ghost use Rattle.lk_tables.specs.Frames.{lists_of};
 ghost use Rattle.lk_tables.specs.Records.{first_of};
 ghost use Rattle.lk_tables.specs.TablesView.{files_of};
-ghost use Rattle.lk_tables.specs.Targets.{target_of};
+ghost use Rattle.lk_tables.specs.Targets.{spot_of};
 ghost use Rattle.link_sections.specs.FoldItems.{frame_view, frame_views};
 ghost use Rattle.link_sections.specs.PoolViews.{merged_views};
 ghost use Rattle.sec_graph.specs.Foldable as spec;
@@ -18,7 +18,7 @@ use crate::fold_lists::{contents, fold_reloc};
 use crate::frame_relocs::{cie_of, first_of, found, others, others_len, relocs_of, span_of};
 use link_sections::{FoldFrame, FoldReloc, Pools};
 use lk_base::FileNo;
-use lk_tables::{Binding, FrameNo, Frames, Reloc, Tables, Target, target_in};
+use lk_tables::{Binding, FrameNo, Frames, Reloc, Spot, Tables, spot_in};
 use std::alloc::{AllocError, Global};
 
 /// Bytes of a record's Length, and of its CIE ID or CIE Pointer after that.
@@ -102,30 +102,30 @@ fn bytes_of(bytes: &[u8], from: u64, len: u64) -> &[u8]
 /// The byte that an FDE's PC Begin stands for, by its offset in its section, and what is to be added to its address.
 fn begin_of(tables: &Tables, binding: &Binding, file: FileNo, relocs: &[Reloc]) -> (u64, i64)
     requires { file < length (files_of tables.now) }
-    ensures offset { result.0 ≡ option_map_or (λ r. spec.offset_of (target_of (files_of tables.now) (binding_view binding.now) file r)) (first_of relocs.now) 0 }
-    ensures rest { result.1 ≡ option_map_or (λ r. spec.rest_of (target_of (files_of tables.now) (binding_view binding.now) file r)) (first_of relocs.now) (pos 0) }
+    ensures offset { result.0 ≡ option_map_or (λ r. spec.offset_of (spot_of (files_of tables.now) (binding_view binding.now) file r)) (first_of relocs.now) 0 }
+    ensures rest { result.1 ≡ option_map_or (λ r. spec.rest_of (spot_of (files_of tables.now) (binding_view binding.now) file r)) (first_of relocs.now) (pos 0) }
 {
     let Some(first) = first_of(relocs) else {
         return (0, 0);
     };
-    byte_of(target_in(tables, binding, file, &first))
+    byte_of(spot_in(tables, binding, file, &first))
 }
 
 /// The byte that a target stands for.
-fn byte_of(target: Target) -> (u64, i64)
+fn byte_of(target: Spot) -> (u64, i64)
     ensures offset { result.0 ≡ spec.offset_of target }
     ensures rest { result.1 ≡ spec.rest_of target }
 {
     match target {
-        Target::Section {
+        Spot::Section {
             section: _,
             offset,
             rest,
         } => (offset, rest),
-        Target::Number(_) => (0, 0),
-        Target::Zero => (0, 0),
-        Target::Linker(_) => (0, 0),
-        Target::Unbound => (0, 0),
+        Spot::Number(_) => (0, 0),
+        Spot::Zero => (0, 0),
+        Spot::Linker(_) => (0, 0),
+        Spot::Unbound => (0, 0),
     }
 }
 

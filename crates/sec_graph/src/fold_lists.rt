@@ -20,7 +20,7 @@ use link_sections::{FoldItem, FoldReloc, Pools, Target, input_in, input_section}
 use lk_base::relocations::names_a_symbol;
 use lk_base::{FileNo, SecNo};
 use lk_tables::{
-    Binding, File, Frames, Reloc, Span, Tables, is_section_symbol, output_name, target_in, text_of,
+    Binding, File, Frames, Reloc, Span, Tables, is_section_symbol, output_name, spot_in, text_of,
 };
 use std::alloc::{AllocError, Global};
 
@@ -332,5 +332,5 @@ fn fold_target(
     if !names_a_symbol(reloc.kind) {
         return None;
     }
-    Some(pools.piece_target(target_in(tables, binding, file, reloc)))
+    Some(pools.piece_target(spot_in(tables, binding, file, reloc)))
 }

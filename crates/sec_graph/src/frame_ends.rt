@@ -12,7 +12,7 @@ ghost use Rattle.sec_graph.specs.Graph as spec;
 use crate::frame_relocs::{cie_of, cies_of, found, others};
 use lk_base::relocations::names_a_symbol;
 use lk_base::{FileNo, SecNo};
-use lk_tables::{Binding, FrameNo, Frames, Reloc, Tables, Target, target_in};
+use lk_tables::{Binding, FrameNo, Frames, Reloc, Spot, Tables, spot_in};
 use std::alloc::{AllocError, Global};
 
 /// Adds the sections that FDEs name beside those of their functions, and then those that their CIEs name.
@@ -166,7 +166,7 @@ fn push_target(
     if !names_a_symbol(reloc.kind) {
         return Ok(());
     }
-    if let Target::Section { section, .. } = target_in(tables, binding, file, reloc) {
+    if let Spot::Section { section, .. } = spot_in(tables, binding, file, reloc) {
         ends.push(section)?;
     }
     Ok(())

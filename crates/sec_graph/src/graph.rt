@@ -27,9 +27,10 @@ use work_split::{Gate, over_shares, pieces_by_weight};
 
 /// Where each section leads, by section number: to the sections that its relocations name, where one that refers to the start or the end
 /// of a name (`__start_X`, `__stop_X`) names all sections of this name; then to those that the FDEs of its functions name beside it, and that
-/// the CIEs of these name, each CIE once (a name's start or end names none there); then to those flagged LINK_ORDER of which `sh_link` names it, then to the next member of each of its
-/// groups, from the last member to the first. A section that may not be kept leads nowhere. The ends are section numbers. The files are shared
-/// among so many workers, and the answer is the same for any number of them. The only error is out of memory.
+/// the CIEs of these name, each CIE once (a name's start or end names none there); then to those flagged LINK_ORDER of which `sh_link` names
+/// it, then to the next member of each of its groups, from the last member to the first. A section that may not be kept leads nowhere. The
+/// ends are section numbers. The files are shared among so many workers, and the answer is the same for any number of them. The only error is
+/// out of memory.
 pub fn edges<R: Threads + Sync, G: Gate>(
     rt: &R,
     alloc: Global,

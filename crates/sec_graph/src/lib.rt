@@ -8,10 +8,11 @@
 //!
 //! `pairs` lists the sections of a file that go together without a relocation, `named_sections` finds the sections of each name to whose
 //! start or end symbols refer, `frame_relocs` reads unwind records and `frame_ends` lists the sections that they name, `ends` joins these with
-//! what relocations name, `graph` does so for all files, `walks` has the members of a group lead to one another in one step, and `undefined_symbols` finds what a kept section refers to though nothing defines it;
-//! `needed_frames` says which unwind records count as well, and `prevailing` what names stand for without a look into other files.
-//! `fold_lists` lists which sections may be folded, and of all or of some of them what their relocations refer to, `fold_frames` the unwind records of each, and `taken` finds the
-//! sections whose address is taken.
+//! what relocations name, `graph` does so for all files, `walks` has the members of a group lead to one another in one step, and
+//! `undefined_symbols` finds what a kept section refers to though nothing defines it; `needed_frames` says which unwind records count as well,
+//! and `prevailing` what names stand for without a look into other files.
+//! `fold_lists` lists which sections may be folded, and of all or of some of them what their relocations refer to, `fold_frames` the unwind
+//! records of each, and `taken` finds the sections whose address is taken.
 #![tactic(auto)]
 
 mod ends;

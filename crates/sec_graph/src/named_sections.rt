@@ -92,7 +92,7 @@ fn find_asked<R: Threads + Sync, G: Gate>(
     }
 }
 
-/// The same of a run of files.
+/// For each symbol of a run of files that is bound to the start or the end of a section's name such a section.
 fn asked_between(
     alloc: Global,
     tables: &Tables,
@@ -186,7 +186,7 @@ fn pairs_named<'a>(
     Ok(pairs)
 }
 
-/// The same in the order of the sections to which they lead.
+/// The pairs to the sections of these names that may be kept, in the order of the sections to which they lead.
 fn all_named<'a>(
     alloc: Global,
     tables: &Tables<'a>,

@@ -14,7 +14,7 @@ ghost use Rattle.sec_graph.specs.Undefined as spec;
 use crate::frame_relocs::{first_of, has_other, has_reloc, list_of};
 use crate::kept::is_kept;
 use lk_base::FileNo;
-use lk_tables::{Binding, Frames, Record, Reloc, Tables, Target, target_in};
+use lk_tables::{Binding, Frames, Record, Reloc, Spot, Tables, spot_in};
 
 /// Whether a relocation of a section's unwind records is needed: it is of an FDE of a kept function, and not that of PC Begin, or of the CIE of
 /// such an FDE. Other FDEs are looked at only for a relocation of a CIE.
@@ -131,22 +131,22 @@ fn is_of_kept(
     let Some(first) = first_of(entry.relocs.as_slice()) else {
         return false;
     };
-    is_in_kept(kept, target_in(tables, binding, file, &first))
+    is_in_kept(kept, spot_in(tables, binding, file, &first))
 }
 
 /// Whether a target stands in a kept section.
-fn is_in_kept(kept: &[bool], target: Target) -> bool
+fn is_in_kept(kept: &[bool], target: Spot) -> bool
     ensures { result ≡ spec.is_kept_owner kept.now (section_of_spot target) }
 {
     match target {
-        Target::Section {
+        Spot::Section {
             section,
             offset: _,
             rest: _,
         } => is_kept(kept, section as usize),
-        Target::Number(_) => false,
-        Target::Zero => false,
-        Target::Linker(_) => false,
-        Target::Unbound => false,
+        Spot::Number(_) => false,
+        Spot::Zero => false,
+        Spot::Linker(_) => false,
+        Spot::Unbound => false,
     }
 }

@@ -13,7 +13,7 @@ use lk_base::abi::{
 };
 use lk_base::relocations::names_a_symbol;
 use lk_base::{FileNo, SecNo};
-use lk_tables::{Binding, Reloc, Tables, Target, target_in};
+use lk_tables::{Binding, Reloc, Spot, Tables, spot_in};
 use std::alloc::{AllocError, Global};
 
 /// By section number, whether the address of a section is taken: a relocation of a kept section, of a kind other than those of branches, jumps and
@@ -100,8 +100,8 @@ fn taken_by(tables: &Tables, binding: &Binding, file: FileNo, reloc: &Reloc) -> 
     if !takes_address(reloc.kind) {
         return None;
     }
-    match target_in(tables, binding, file, reloc) {
-        Target::Section { section, .. } => Some(section),
+    match spot_in(tables, binding, file, reloc) {
+        Spot::Section { section, .. } => Some(section),
         _ => None,
     }
 }

@@ -43,7 +43,7 @@ pub fn walk_edges(
     Ok(Edges::from_rows(rows))
 }
 
-/// The same for each section of a file.
+/// Where each section of a file leads in a walk.
 fn file_walks(
     alloc: Global,
     tables: &Tables,
@@ -62,7 +62,7 @@ fn file_walks(
     live_walks(alloc, tables, binding, edges, file, mates.as_slice())
 }
 
-/// The same of a file that takes part, of whose groups the pairs are known.
+/// Where each section of a file that takes part leads in a walk; the pairs of its groups are known.
 fn live_walks(
     alloc: Global,
     tables: &Tables,

@@ -27,7 +27,7 @@ pub fn piece_count(tables: &Tables) -> u64
     total
 }
 
-/// Those of one file, and `before` more.
+/// How many pieces the written sections of one file have that are merged if they are kept, and `before` more.
 fn count_file(tables: &Tables, file: FileNo, before: u64) -> u64
     requires file { file < length (files_of tables.now) }
     ensures { result ≡ added before (sum (map (pieces_at (files_of tables.now) file) (range_with_len 0 (section_count (file_at (files_of tables.now) file))))) }
@@ -52,7 +52,7 @@ pub fn piece_bound(tables: &Tables) -> u64
     total
 }
 
-/// That of one file, and `before` more.
+/// The bytes of the written sections of one file that are merged if they are kept, and `before` more.
 fn bound_file(tables: &Tables, file: FileNo, before: u64) -> u64
     requires file { file < length (files_of tables.now) }
     ensures { added before (sum (map (pieces_at (files_of tables.now) file) (range_with_len 0 (section_count (file_at (files_of tables.now) file))))) ≤ result }

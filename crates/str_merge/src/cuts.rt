@@ -36,7 +36,7 @@ pub struct Cut<'a> {
     pub ends: Vec<u32>,
 }
 
-/// These sections, cut into their pieces.
+/// Sections that are merged, cut into their pieces.
 pub fn cut_sites<'a, R: Threads + Sync, G: Gate>(
     rt: &R,
     alloc: Global,

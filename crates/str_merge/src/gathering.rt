@@ -117,7 +117,7 @@ fn find(cuts: &[Cut], members: &[u32], from: &Place, i: usize) -> Place
     find_from(cuts, members, from, i)
 }
 
-/// The same, from a section on whose pieces don't begin after it.
+/// The section of piece `i`, looked for from a section on whose pieces don't begin after it.
 fn find_from(cuts: &[Cut], members: &[u32], from: &Place, i: usize) -> Place
     requires members { All (λ m. m < length cuts.now) members.now }
     requires from { IsPlace (piece_lists cuts.now) members.now from.now }

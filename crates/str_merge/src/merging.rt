@@ -3,7 +3,7 @@
 ghost use Rattle.std.specs.Prelude.{◌≡◌, ◌<◌, ◌≤◌, ◌^◌, length, IfOk};
 ghost use Rattle.lk_tables.specs.TablesView.{files_of};
 ghost use Rattle.link_sections.specs.Merging.{piece_count, pools_of};
-ghost use Rattle.link_sections.specs.PoolViews.{piece_rows, pools_view};
+ghost use Rattle.link_sections.specs.PoolViews.{piece_rows, pool_list, pools_view};
 ghost use Rattle.str_merge.specs.Filling.{IsFilledTo};
 ghost use Rattle.str_merge.specs.Small.{AreSmall, AreWritten};
 ghost use Rattle.str_merge.specs.Works.{IsWork};
@@ -48,7 +48,7 @@ pub fn merge<R: Threads + Sync, G: Gate>(
     requires pieces { piece_count (files_of tables.now) < 2 ^ 31 }
     requires written { AreWritten (files_of tables.now) kept.now }
     ensures value { IfOk result (λ pools. pools_view (files_of tables.now) pools ≡ pools_of (files_of tables.now) kept.now) }
-    ensures rows { IfOk result (λ pools. length (piece_rows pools) ≡ length pools.pools.items) }
+    ensures rows { IfOk result (λ pools. length (piece_rows pools) ≡ length (pool_list pools)) }
 {
     are_small(tables, kept);
     let sites = merge_sites(alloc, tables, kept)?;
@@ -76,7 +76,7 @@ fn finish(alloc: Global, work: &Work, filled: Filled) -> Result<Pools, AllocErro
     requires work { IsWork work.now }
     requires filled { IsFilledTo work.now (length work.now.firsts.now) filled }
     ensures value { IfOk result (λ pools. pools_view (files_of work.now.tables.now) pools ≡ pools_of (files_of work.now.tables.now) work.now.kept.now) }
-    ensures rows { IfOk result (λ pools. length (piece_rows pools) ≡ length pools.pools.items) }
+    ensures rows { IfOk result (λ pools. length (piece_rows pools) ≡ length (pool_list pools)) }
 {
     let merged = spread(alloc, work.tables, work.kept, filled.answers.as_slice())?;
     Ok(Pools::of(filled.pools, merged, filled.rows))

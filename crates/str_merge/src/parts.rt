@@ -14,7 +14,8 @@ use flat_rows::Rows;
 use link_sections::Part;
 use std::alloc::{AllocError, Global};
 
-/// The parts of each of some sections, if for each of their pieces the index of the first equal one is known.
+/// The parts of each of some sections, if for each of their pieces the index of the first equal one is known. The list of parts is the largest, so memory for
+/// it is looked for first: that of a table of texts that is gone serves it, with its pages.
 pub fn part_rows(
     alloc: Global,
     cuts: &[Cut],
@@ -27,10 +28,12 @@ pub fn part_rows(
     requires wide { length numbers.now ≡ length (gathered (piece_lists cuts.now) members.now) }
     ensures { IfOk result (λ rows. IsFirstOf numbers.now → rows ≡ part_lists (lists_at (cut_views cuts.now) members.now) (ranks numbers.now)) }
 {
+    let largest: Vec<Part> = Vec::with_capacity(alloc, numbers.len())?;
     let ranks = ranks_of(alloc, numbers)?;
+    drop(largest);
     let ranks = ranks.as_slice();
     let mut rows = Rows::empty(alloc)?;
-    rows.reserve(ranks.len())?;
+    rows.reserve(room_for(members.len(), ranks.len()))?;
     let mut at = 0;
     for n in 0..members.len() {
         let cut = cut_at(cuts, members, n);
@@ -40,6 +43,11 @@ pub fn part_rows(
         at = end;
     }
     Ok(rows)
+}
+
+/// How many parts want room before they are listed: those of one section alone are not copied.
+fn room_for(sections: usize, parts: usize) -> usize {
+    if sections < 2 { 0 } else { parts }
 }
 
 /// The items from one on and before another.

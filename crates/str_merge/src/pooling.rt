@@ -33,7 +33,7 @@ pub struct Work<'t, 'a> {
     pub kept: &'t [bool],
     /// The sections that are merged.
     pub sites: &'t [Site],
-    /// The same, cut.
+    /// The sections that are merged, cut into pieces.
     pub cuts: &'t [Cut<'a>],
     /// The keys of their pools.
     pub keys: &'t [PoolKey<'a>],
@@ -134,7 +134,7 @@ fn place<R: Threads + Sync>(
     Ok(Pooled { placed, parts })
 }
 
-/// The same, with a thread for each of both.
+/// The distinct pieces of these sections, placed, and the parts of the sections, with a thread for each of both.
 fn place_beside<R: Threads + Sync>(
     rt: &R,
     alloc: Global,

@@ -18,7 +18,7 @@ pub fn is_mergeable(file: &File, index: usize) -> bool
     passes(file, index)
 }
 
-/// The same, test by test.
+/// Whether a section is merged if it is kept, test by test.
 #[tactic(auto, unfolding(link_sections::specs::MergeSections::is_mergeable))]
 fn passes(file: &File, index: usize) -> bool
     ensures { result ≡ spec.is_mergeable (file_view file.now) index }

@@ -36,7 +36,7 @@ pub fn merge_sites(alloc: Global, tables: &Tables, kept: &[bool]) -> Result<Vec<
     Ok(list)
 }
 
-/// Those of one file.
+/// Adds the sections of one file that are merged, in order of number.
 #[tactic(auto, unfolding(link_sections::specs::Merging::sites_in))]
 fn push_sites(
     list: &mut Vec<Site>,

@@ -89,7 +89,7 @@ fn workers_for(weights: &[u64], workers: u32) -> u32
     workers
 }
 
-/// The same of the pools of one share.
+/// The small pools of one share, each merged by one worker.
 fn small_share<R: Threads + Sync>(
     rt: &R,
     alloc: Global,

@@ -29,7 +29,7 @@ pub fn spread(
     Ok(list)
 }
 
-/// Those of one file, of which the first section that is merged has the answer `next`. Gives the answer of the next file's.
+/// Adds what is merged of the sections of one file, of which the first that is merged has the answer `next`. Gives the answer of the next file's.
 fn spread_file(
     list: &mut Vec<Option<Merged>>,
     tables: &Tables,

@@ -4,8 +4,6 @@ pub mod LinkerAddresses
 pub mod Near
 pub mod NotedSteps
 pub mod NumberRuns
-pub mod PastSymbols
-pub mod PoolPositions
 pub mod Prevails
 pub mod SectionNames
 pub mod TakenAddresses

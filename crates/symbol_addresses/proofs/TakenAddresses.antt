@@ -14,8 +14,8 @@ use Rattle.lk_tables.specs.Targets.{bound, bound_by, definition, rank_at}
 use Rattle.lk_tables.proofs.ByNumber.{read_by_symbol}
 use Rattle.lk_tables.proofs.FirstNumbers.{first_all, first_more}
 use Rattle.link_sections.specs.Addresses.{address_of, symbol_address}
-use Rattle.symbol_addresses.specs.declared.links.LaidLink.{LaidLink}
-use Rattle.symbol_addresses.specs.Links.{link_binding, link_files, link_laid, link_leaders}
+use Rattle.link_sections.specs.declared.links.LaidLink.{LaidLink}
+use Rattle.link_sections.specs.Links.{link_binding, link_files, link_laid, link_leaders}
 use Rattle.symbol_addresses.specs.Prevailing.{HasFile, is_bound_away, is_file_rank, number_named, own_address, own_addresses, taken_address}
 use Rattle.symbol_addresses.specs.Sources.{address_in, addresses_of}
 use Rattle.symbol_addresses.proofs.Prevails.{IsResolved, IsSeen, is_resolved}

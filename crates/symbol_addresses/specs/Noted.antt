@@ -6,11 +6,16 @@ use Rattle.std.specs.Option.{option_map_or}
 use Rattle.std.specs.Str.{bytes_eq}
 use Rattle.link_sections.specs.Addresses.{has_name}
 use Rattle.link_sections.specs.LaidOut.{OutputPlace}
+use Rattle.symbol_addresses.specs.declared.extents.Extents.{Extents}
 use Rattle.symbol_addresses.specs.declared.places.Extent.{Extent}
 
 -- what is noted of a name
 unfoldable pub noted : {S : Type 0} → HashMap (Bor (List ℕ)) Extent S → (name : List ℕ) → Option Extent
 noted known name = get_by (λ k. bytes_eq name k.now) known
+
+-- by name where the output sections of each start and end
+abbrev pub extents_of : Extents → (name : List ℕ) → Option Extent
+extents_of extents = noted extents.known
 
 -- and once one more output section of the name is there
 abbrev pub grown : Option Extent → OutputPlace → Extent

@@ -4,8 +4,8 @@ use Rattle.lk_tables.specs.Binding.{Bindings}
 use Rattle.lk_tables.specs.Files.{File, by_symbol, symbol_no}
 use Rattle.lk_tables.specs.Ranks.{file_of, is_linker_rank, no_rank, symbol_of_rank}
 use Rattle.lk_tables.specs.Targets.{rank_at}
-use Rattle.symbol_addresses.specs.declared.links.LaidLink.{LaidLink}
-use Rattle.symbol_addresses.specs.Links.{link_binding, link_files}
+use Rattle.link_sections.specs.declared.links.LaidLink.{LaidLink}
+use Rattle.link_sections.specs.Links.{link_binding, link_files}
 use Rattle.symbol_addresses.specs.Sources.{address_in}
 
 -- a rank is that of a symbol of a file

@@ -1,8 +1,8 @@
 -- The addresses of the symbols of a link that is laid out.
 use Rattle.std.specs.Prelude.{ℕ, List}
 use Rattle.link_sections.specs.Addresses.{symbol_address, symbol_addresses}
-use Rattle.symbol_addresses.specs.declared.links.LaidLink.{LaidLink}
-use Rattle.symbol_addresses.specs.Links.{link_binding, link_files, link_laid, link_leaders}
+use Rattle.link_sections.specs.declared.links.LaidLink.{LaidLink}
+use Rattle.link_sections.specs.Links.{link_binding, link_files, link_laid, link_leaders}
 
 abbrev pub address_in : LaidLink → (f i : ℕ) → ℕ
 address_in link = symbol_address (link_files link) (link_binding link) (link_leaders link) (link_laid link)

@@ -1,4 +1,4 @@
-//! The addresses of all symbols.
+//! The addresses of all symbols, and that at which the executable starts.
 
 ghost use Rattle.std.specs.Prelude.{◌≡◌, ◌-◌, ◌<◌, ◌≤◌, ◌++◌, length, map, min, flat_map, IfOk, OnOk};
 ghost use Rattle.std.specs.List.{range_with_len};
@@ -6,22 +6,22 @@ ghost use Rattle.lk_tables.specs.BoundNames.{IsBindingOf};
 ghost use Rattle.lk_tables.specs.BindingView.{binding_view};
 ghost use Rattle.lk_tables.specs.Files.{file_at, first_symbol, symbol_total};
 ghost use Rattle.lk_tables.specs.TablesView.{files_of};
-ghost use Rattle.link_sections.specs.Addresses as spec;
+ghost use Rattle.link_sections.specs.Addresses.{AreAddresses};
 ghost use Rattle.link_sections.specs.GotView.{entries_of};
 ghost use Rattle.link_sections.specs.LaidOut.{layout_view, with_contents};
 ghost use Rattle.link_sections.specs.PoolViews.{pools_view};
 ghost use Rattle.link_sections.specs.Sound.{IsSound};
-ghost use Rattle.symbol_addresses.specs.Links.{link_files};
+ghost use Rattle.link_sections.specs.Links.{link_files};
 ghost use Rattle.symbol_addresses.specs.Prevailing.{own_address, own_addresses, own_at};
 ghost use Rattle.work_split.specs.Pieces.{Tiles};
 ghost use Rattle.work_split.specs.Runs.{IsRun};
 
 use crate::edges::find_fixed;
+use crate::entry::entry_address;
 use crate::extents::Extents;
-use crate::links::LaidLink;
 use crate::prevailing::{own_address, take_addresses};
 use crate::sources::Sources;
-use link_sections::{Addresses, Got, Layout, Pools};
+use link_sections::{Addresses, Got, LaidLink, Layout, Pools};
 use lk_base::{FileNo, LinkStop, SecNo};
 use lk_tables::{Binding, Tables};
 use std::alloc::{AllocError, Global};
@@ -34,9 +34,9 @@ const LEAST: usize = 4096;
 
 /// What each symbol stands for once everything has its place: an address or a number. The list has one entry for each symbol of all files,
 /// by symbol number: 0 for those of a file that takes no part, and for one that stands for nothing. A symbol in a section that is merged
-/// has the address of its byte in the pool; one of the linker's own has that of what its name says. The symbols are shared among so many
-/// workers, by number and whatever file they are of, each of which reads these alone; then those that are bound to another symbol take its
-/// address. The only error is out of memory.
+/// has the address of its byte in the pool; one of the linker's own has that of what its name says. Beside it stands the address of what the
+/// entry's name is bound to. The symbols are shared among so many workers, by number and whatever file they are of, each of which reads these
+/// alone; then those that are bound to another symbol take its address. The only error is out of memory.
 pub fn find_addresses<R: Threads + Sync, G: Gate>(
     rt: &R,
     alloc: Global,
@@ -53,7 +53,7 @@ pub fn find_addresses<R: Threads + Sync, G: Gate>(
     requires most { workers ≤ 64 }
     requires bound { IsBindingOf (files_of tables.now) (binding_view binding.now) }
     requires sound { IsSound (files_of tables.now) (binding_view binding.now) leaders.now (with_contents (layout_view layout.now) (pools_view (files_of tables.now) pools.now) (entries_of got.now)) }
-    ensures { IfOk result (λ found. found.symbols.items ≡ spec.symbol_addresses (files_of tables.now) (binding_view binding.now) leaders.now (with_contents (layout_view layout.now) (pools_view (files_of tables.now) pools.now) (entries_of got.now))) }
+    ensures { IfOk result (AreAddresses (files_of tables.now) (binding_view binding.now) leaders.now (with_contents (layout_view layout.now) (pools_view (files_of tables.now) pools.now) (entries_of got.now))) }
 {
     let link = LaidLink {
         tables,
@@ -72,7 +72,10 @@ pub fn find_addresses<R: Threads + Sync, G: Gate>(
     };
     let mut symbols = find_own(rt, alloc, &sources, workers, gate)?;
     take_addresses(&link, symbols.as_mut_slice());
-    Ok(Addresses { symbols })
+    Ok(Addresses {
+        symbols,
+        entry: entry_address(&link),
+    })
 }
 
 /// The addresses that symbols have without a look at other symbols. The workers each find those of one piece of the symbols' numbers.

@@ -3,10 +3,10 @@
 ghost use Rattle.std.specs.Prelude.{◌≡◌, ◌+◌, codes, IfOk};
 ghost use Rattle.link_sections.specs.Addresses as spec;
 ghost use Rattle.symbol_addresses.specs.Extents.{HasRoom, fixed_addresses};
-ghost use Rattle.symbol_addresses.specs.Links.{link_laid};
+ghost use Rattle.link_sections.specs.Links.{link_laid};
 
-use crate::links::LaidLink;
 use crate::places::{array_in, rw_place, start_or};
+use link_sections::LaidLink;
 use lk_base::abi::IMAGE_BASE;
 use lk_tables::{Edge, FIXED_COUNT, edge_of};
 use std::alloc::{AllocError, Global};

@@ -5,7 +5,7 @@ ghost use Rattle.std.specs.Option.{option_map_or};
 ghost use Rattle.std.specs.Str.{bytes_eq};
 ghost use Rattle.lk_base.specs.declared.abi.TheConstants.{IMAGE_BASE};
 ghost use Rattle.link_sections.specs.LaidOut.{place_view};
-ghost use Rattle.symbol_addresses.specs.Noted.{AreExtents, grown, noted};
+ghost use Rattle.symbol_addresses.specs.Noted.{AreExtents, extents_of, grown, noted};
 
 use crate::places::Extent;
 use link_sections::{Layout, OutputPlace};
@@ -20,9 +20,9 @@ pub struct Extents<'a> {
 }
 
 impl<'a> Extents<'a> {
-    /// Those of a layout.
+    /// The extents of the output sections of a layout.
     pub fn of(alloc: Global, layout: &Layout<'a>) -> Result<Extents<'a>, AllocError>
-        ensures { IfOk result (λ extents. AreExtents (map place_view layout.now.places.items) (noted extents.known)) }
+        ensures { IfOk result (λ extents. AreExtents (map place_view layout.now.places.items) (extents_of extents)) }
     {
         let mut known = HashMap::new(alloc);
         for place in layout.places.iter() {
@@ -31,11 +31,11 @@ impl<'a> Extents<'a> {
         Ok(Extents { known })
     }
 
-    /// That of a name; both ends are the start of the image, if there is no output section of this name.
+    /// The extent of a name; both ends are the start of the image, if there is no output section of this name.
     #[tactic(auto, unfolding(crate::specs::Noted::noted))]
     pub fn get(&self, name: &[u8]) -> Extent
-        ensures start { result.start ≡ option_map_or (λ (e : _). e.start) (noted self.now.known name.now) IMAGE_BASE }
-        ensures end { result.end ≡ option_map_or (λ (e : _). e.end) (noted self.now.known name.now) IMAGE_BASE }
+        ensures start { result.start ≡ option_map_or (λ (e : _). e.start) (extents_of self.now name.now) IMAGE_BASE }
+        ensures end { result.end ≡ option_map_or (λ (e : _). e.end) (extents_of self.now name.now) IMAGE_BASE }
     {
         match self.known.get(name) {
             Some(extent) => *extent,

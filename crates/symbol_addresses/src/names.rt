@@ -4,10 +4,9 @@ ghost use Rattle.std.specs.Prelude.{◌≡◌, ◌≤◌, ◌==◌};
 ghost use Rattle.std.specs.List.{list_any};
 ghost use Rattle.lk_tables.specs.Files.{section_total};
 ghost use Rattle.lk_tables.specs.InputSections.{input_at};
-ghost use Rattle.symbol_addresses.specs.Links.{link_binding, link_files};
+ghost use Rattle.link_sections.specs.Links.{link_binding, link_files};
 
-use crate::links::LaidLink;
-use link_sections::{input_in, input_section};
+use link_sections::{LaidLink, input_in, input_section};
 use lk_base::SecNo;
 use lk_tables::BoundCommon;
 
@@ -21,7 +20,7 @@ pub fn name_of<'a>(link: &LaidLink<'_, 'a>, section: SecNo) -> &'a [u8]
     past_name(link, section)
 }
 
-/// That of a number past the last section, which counts as an index of the first file.
+/// The name of a number past the last section, which counts as an index of the first file.
 fn past_name<'a>(link: &LaidLink<'_, 'a>, section: SecNo) -> &'a [u8]
     requires past { section_total (link_files link.now) ≤ section }
     ensures { result.now ≡ (input_at (link_files link.now) (link_binding link.now) section).name }

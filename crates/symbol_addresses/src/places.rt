@@ -5,10 +5,9 @@ ghost use Rattle.std.specs.Str.{bytes_eq};
 ghost use Rattle.link_sections.specs.Addresses as spec;
 ghost use Rattle.link_sections.specs.LaidOut.{place_view};
 ghost use Rattle.symbol_addresses.specs.Extents.{array_extent, extent_of};
-ghost use Rattle.symbol_addresses.specs.Links.{link_laid};
+ghost use Rattle.link_sections.specs.Links.{link_laid};
 
-use crate::links::LaidLink;
-use link_sections::OutputPlace;
+use link_sections::{LaidLink, OutputPlace};
 use lk_base::abi::IMAGE_BASE;
 use lk_tables::Class;
 
@@ -21,7 +20,7 @@ pub struct Extent {
     pub end: u64,
 }
 
-/// That of a name.
+/// The extent of the output sections of a name.
 #[tactic(auto, unfolding(crate::specs::Extents::extent_of))]
 pub fn extent_in(link: &LaidLink, name: &[u8]) -> Extent
     ensures { result ≡ extent_of (link_laid link.now) name.now }
@@ -32,7 +31,7 @@ pub fn extent_in(link: &LaidLink, name: &[u8]) -> Extent
     }
 }
 
-/// That of a list of functions to call: of the output section that is written, else of the first of its name.
+/// The extent of a list of functions to call: of the output section that is written, else of the first of its name.
 #[tactic(auto, unfolding(crate::specs::Extents::array_extent))]
 pub fn array_in(link: &LaidLink, name: &[u8]) -> Extent
     ensures { result ≡ array_extent (link_laid link.now) name.now }

@@ -3,13 +3,12 @@
 ghost use Rattle.std.specs.Prelude.{◌≡◌, ◌<◌, length};
 ghost use Rattle.lk_tables.specs.BoundNames.{IsBindingOf};
 ghost use Rattle.lk_tables.specs.Targets.{rank_at};
-ghost use Rattle.symbol_addresses.specs.Links.{link_binding, link_files};
+ghost use Rattle.link_sections.specs.Links.{link_binding, link_files};
 ghost use Rattle.symbol_addresses.specs.Prevailing as spec;
 ghost use Rattle.symbol_addresses.specs.Sources.{addresses_of};
 
-use crate::links::LaidLink;
-use crate::numbers::number_at;
 use crate::sources::{Sources, symbol_in};
+use link_sections::{LaidLink, number_at};
 use lk_base::{FileNo, SymNo};
 use lk_tables::{NO_RANK, file_of, is_linker_rank, symbol_of};
 

@@ -9,14 +9,13 @@ ghost use Rattle.lk_tables.specs.Targets.{bound};
 ghost use Rattle.link_sections.specs.Addresses as spec;
 ghost use Rattle.link_sections.specs.Sound.{IsSound};
 ghost use Rattle.symbol_addresses.specs.Extents.{fixed_addresses};
-ghost use Rattle.symbol_addresses.specs.Links.{link_binding, link_files, link_laid, link_leaders};
-ghost use Rattle.symbol_addresses.specs.Noted.{AreExtents, noted};
+ghost use Rattle.link_sections.specs.Links.{link_binding, link_files, link_laid, link_leaders};
+ghost use Rattle.symbol_addresses.specs.Noted.{AreExtents, extents_of};
 
 use crate::bytes::of_byte;
 use crate::extents::Extents;
-use crate::links::LaidLink;
 use crate::names::name_of;
-use crate::numbers::number_at;
+use link_sections::{LaidLink, number_at};
 use lk_base::{FileNo, SymNo};
 use lk_tables::{Bound, bound_section, is_stop};
 
@@ -32,7 +31,7 @@ pub struct Sources<'t, 'a> {
     ghost near: { (f i section offset : ℕ) → f < length (link_files link) → (file_at (link_files link) f).live ≡ true → bound (link_files link) (link_binding link) f i ≡ InSection section offset → offset ≤ NOBITS_MAX } by { Prim.hlevel props },
     ghost sound: { IsSound (link_files link) (link_binding link) (link_leaders link) (link_laid link) } by { Prim.hlevel props },
     ghost by_number: { fixed.now ≡ fixed_addresses (link_laid link) } by { Prim.hlevel props },
-    ghost by_name: { AreExtents (link_laid link).places (noted extents.now.known) } by { Prim.hlevel props },
+    ghost by_name: { AreExtents (link_laid link).places (extents_of extents.now) } by { Prim.hlevel props },
 }
 
 /// The address of a symbol of a file; 0 if the file takes no part.

@@ -6,6 +6,7 @@ use Rattle.std.specs.Str.{bytes_eq}
 use Rattle.lk_tables.specs.declared.classes.Class.{Class}
 use Rattle.lk_tables.specs.declared.classes.Class.TheVariants.{R, Rx, TlsBits, TlsNobits, RwBits, RwNobits}
 use Rattle.link_sections.specs.LaidOut.{OutputSection}
+use Rattle.symbol_table.specs.declared.outputs.Outputs.{Outputs}
 use Rattle.symbol_table.specs.Outputs.{first_passing}
 
 abbrev pub class_no : Class → ℕ
@@ -22,6 +23,10 @@ HeldKey = Bor (List ℕ) × ℕ
 -- what is noted of a name and a class
 unfoldable pub noted : {S : Type 0} → HashMap HeldKey ℕ S → (name : List ℕ) → (class : ℕ) → Option ℕ
 noted known name class = get_by (λ k. bytes_eq name k.0.now && class == k.1) known
+
+-- by name and class the number of each output section
+abbrev pub output_numbers : Outputs → (name : List ℕ) → (class : ℕ) → Option ℕ
+output_numbers outputs = noted outputs.known
 
 abbrev pub has : (name : List ℕ) → (class : ℕ) → OutputSection → Bool
 has name class o = bytes_eq o.name name && class_no o.class == class

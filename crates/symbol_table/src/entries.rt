@@ -6,7 +6,7 @@ ghost use Rattle.lk_tables.specs.declared.bounds.Bound.TheVariants.{InSection, L
 ghost use Rattle.link_sections.specs.InputViews.{input_view};
 ghost use Rattle.link_sections.specs.Leaders as leaders;
 ghost use Rattle.link_sections.specs.Views.{binding_in, files_in, laid_in, leaders_in};
-ghost use Rattle.symbol_table.specs.Noted.{AreNoted, noted};
+ghost use Rattle.symbol_table.specs.Noted.{AreNoted, output_numbers};
 ghost use Rattle.symbol_table.specs.Outputs.{place_in};
 ghost use Rattle.symbol_table.specs.Seen.{AreSeen};
 ghost use Rattle.symbol_table.specs.declared.symbols.TablePlace.{TablePlace as TablePlaceOf};
@@ -15,13 +15,12 @@ ghost use Rattle.symbol_table.specs.SymbolViews.{symbol_view, views_if};
 
 use crate::outputs::Outputs;
 use crate::symbols::{TablePlace, TableSymbol};
-use link_sections::{InputSection, View, input_in};
+use link_sections::{InputSection, View, input_in, leader_of, offset_in, symbol_address};
 use lk_base::abi::{STB_GLOBAL, STB_WEAK, STT_COMMON, STT_NOTYPE, STT_OBJECT, STT_TLS};
 use lk_base::{FileNo, SecNo, SymNo, low_bits};
 use lk_tables::{
     Bound, FRAME_START_NO, Symbol, class_of, is_common, is_offer, is_visible, rank_of,
 };
-use symbol_addresses::{leader_of, offset_in, symbol_address};
 
 /// The entry of a symbol of a file, if it has one. What is noted of the file's sections is where they stand, as far as symbols in them were
 /// found.
@@ -33,7 +32,7 @@ pub fn entry_of<'t, 'a>(
     file: FileNo,
     symbol: SymNo,
 ) -> Option<TableSymbol<'a>>
-    requires noted { AreNoted 1 (laid_in view.now).outputs (noted outputs.now.known) }
+    requires noted { AreNoted 1 (laid_in view.now).outputs (output_numbers outputs.now) }
     requires file { file < length (files_in view.now) }
     requires symbol { symbol < length (file_at (files_in view.now) file).head.symbols }
     requires seen { AreSeen (files_in view.now) (binding_in view.now) (laid_in view.now) file seen.old.items }
@@ -54,7 +53,7 @@ pub fn entry_of<'t, 'a>(
     }
 }
 
-/// That of a symbol that stands in a section, or in the room that it gets.
+/// The entry of a symbol that stands in a section, or in the room that it gets.
 #[tactic(auto, unfolding(crate::specs::SymbolTable::entry_by))]
 fn in_section<'t, 'a>(
     view: &View<'t, 'a>,
@@ -65,7 +64,7 @@ fn in_section<'t, 'a>(
     section: SecNo,
     offset: u64,
 ) -> Option<TableSymbol<'a>>
-    requires noted { AreNoted 1 (laid_in view.now).outputs (noted outputs.now.known) }
+    requires noted { AreNoted 1 (laid_in view.now).outputs (output_numbers outputs.now) }
     requires file { file < length (files_in view.now) }
     requires symbol { symbol < length (file_at (files_in view.now) file).head.symbols }
     requires seen { AreSeen (files_in view.now) (binding_in view.now) (laid_in view.now) file seen.old.items }
@@ -92,7 +91,7 @@ fn kept_symbol<'t, 'a>(
     section: SecNo,
     offset: u64,
 ) -> TableSymbol<'a>
-    requires noted { AreNoted 1 (laid_in view.now).outputs (noted outputs.now.known) }
+    requires noted { AreNoted 1 (laid_in view.now).outputs (output_numbers outputs.now) }
     requires file { file < length (files_in view.now) }
     requires seen { AreSeen (files_in view.now) (binding_in view.now) (laid_in view.now) file seen.old.items }
     ensures seen { AreSeen (files_in view.now) (binding_in view.now) (laid_in view.now) file seen.new.items }
@@ -115,7 +114,7 @@ fn place_noted(
     section: SecNo,
     input: &InputSection,
 ) -> TablePlace
-    requires noted { AreNoted 1 (laid_in view.now).outputs (noted outputs.now.known) }
+    requires noted { AreNoted 1 (laid_in view.now).outputs (output_numbers outputs.now) }
     requires file { file < length (files_in view.now) }
     requires input { input_view input.now ≡ spec.section_in (files_in view.now) (binding_in view.now) file section }
     requires seen { AreSeen (files_in view.now) (binding_in view.now) (laid_in view.now) file seen.old.items }
@@ -151,7 +150,7 @@ fn note_place(seen: &mut Vec<Option<TablePlace>>, index: usize, place: TablePlac
     seen[index] = Some(place);
 }
 
-/// That of a symbol that stands for one of the linker's. The start of `.eh_frame` has no name, so a symbol that stands for it has an entry of
+/// The entry of a symbol that stands for one of the linker's. The start of `.eh_frame` has no name, so a symbol that stands for it has an entry of
 /// its own.
 #[tactic(auto, unfolding(crate::specs::SymbolTable::entry_by))]
 fn of_linker<'t, 'a>(
@@ -170,7 +169,7 @@ fn of_linker<'t, 'a>(
     Some(linker_symbol(view, file, symbol))
 }
 
-/// That of a symbol that stands in no section that is written, if it is taken.
+/// The entry of a symbol that stands in no section that is written, if it is taken.
 fn absolute<'t, 'a>(view: &View<'t, 'a>, file: FileNo, symbol: SymNo) -> Option<TableSymbol<'a>>
     requires file { file < length (files_in view.now) }
     requires symbol { symbol < length (file_at (files_in view.now) file).head.symbols }

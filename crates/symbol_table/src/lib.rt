@@ -18,6 +18,8 @@ mod outputs;
 mod sorting;
 mod symbols;
 
-pub use listing::table_symbols;
+pub use listing::{list_entries, table_symbols};
+pub use named::Named;
 pub use outputs::Outputs;
+pub use sorting::in_order;
 pub use symbols::{TablePlace, TableSymbol};

@@ -6,7 +6,7 @@ ghost use Rattle.lk_tables.specs.Files.{file_at};
 ghost use Rattle.lk_tables.specs.TablesView.{files_of};
 ghost use Rattle.link_sections.specs.Views.{binding_in, files_in, laid_in, leaders_in};
 ghost use Rattle.symbol_table.specs.NamedViews.{AreEntries, named_views};
-ghost use Rattle.symbol_table.specs.Noted.{AreNoted, noted};
+ghost use Rattle.symbol_table.specs.Noted.{AreNoted, output_numbers};
 ghost use Rattle.symbol_table.specs.SymbolTable as spec;
 ghost use Rattle.symbol_table.specs.SymbolViews.{symbol_views, views_if};
 ghost use Rattle.work_split.specs.Pieces.{Tiles};
@@ -40,9 +40,25 @@ pub fn table_symbols<'t, 'a, R: Threads + Sync, G: Gate>(
     requires most { workers ≤ 64 }
     ensures { IfOk result (λ list. symbol_views list.items ≡ spec.table_symbols (files_in view.now) (binding_in view.now) view.now.kept.now (leaders_in view.now) (laid_in view.now)) }
 {
+    let mut entries = list_entries(rt, alloc, view, workers, gate)?;
+    in_order(rt, alloc, &mut entries, workers)
+}
+
+/// The entries of these symbols in order of file and symbol, with one for each reference to one of the linker's own: `in_order` makes the symbols
+/// of them. So many workers share the symbols of all files. The only error is out of memory.
+pub fn list_entries<'t, 'a, R: Threads + Sync, G: Gate>(
+    rt: &R,
+    alloc: Global,
+    view: &View<'t, 'a>,
+    workers: u32,
+    gate: &G,
+) -> Result<Vec<Named<'a>>, AllocError>
+    requires some { 1 ≤ workers }
+    requires most { workers ≤ 64 }
+    ensures { IfOk result (λ list. named_views list.items ≡ spec.all_entries (files_in view.now) (binding_in view.now) view.now.kept.now (leaders_in view.now) (laid_in view.now)) }
+{
     let outputs = Outputs::of(alloc, view.layout.outputs.as_slice())?;
-    let entries = all_entries(rt, alloc, view, &outputs, workers, gate)?;
-    in_order(rt, alloc, entries, workers)
+    all_entries(rt, alloc, view, &outputs, workers, gate)
 }
 
 /// The entries of the symbols of all files, in order of file and symbol. The workers each list those of one piece of the files.
@@ -57,7 +73,7 @@ fn all_entries<'t, 'a, R: Threads + Sync, G: Gate>(
 ) -> Result<Vec<Named<'a>>, AllocError>
     requires some { 1 ≤ workers }
     requires most { workers ≤ 64 }
-    requires noted { AreNoted 1 (laid_in view.now).outputs (noted outputs.now.known) }
+    requires noted { AreNoted 1 (laid_in view.now).outputs (output_numbers outputs.now) }
     ensures { IfOk result (λ list. named_views list.items ≡ spec.all_entries (files_in view.now) (binding_in view.now) view.now.kept.now (leaders_in view.now) (laid_in view.now)) }
 {
     let pieces = pieces_of(alloc, view.tables, workers)?;
@@ -67,7 +83,7 @@ fn all_entries<'t, 'a, R: Threads + Sync, G: Gate>(
         gate,
         pieces.as_slice(),
         |piece: Range<usize>| -> Result<Vec<Named>, LinkStop>
-            requires noted { AreNoted 1 (laid_in view.now).outputs (noted outputs.now.known) }
+            requires noted { AreNoted 1 (laid_in view.now).outputs (output_numbers outputs.now) }
             requires piece { piece.end ≤ length (files_in view.now) }
             ensures { AreEntries (spec.entries_in (files_in view.entry.now) (binding_in view.entry.now) view.entry.now.kept.now (leaders_in view.entry.now) (laid_in view.entry.now)) piece result }
         { Ok(entries_of(alloc, view, outputs, piece)?) },
@@ -92,14 +108,14 @@ fn pieces_of(alloc: Global, tables: &Tables, workers: u32) -> Result<Vec<Range<u
     pieces_by_weight(alloc, counts.as_slice(), workers)
 }
 
-/// Those of a run of files.
+/// The entries of a run of files.
 fn entries_of<'t, 'a>(
     alloc: Global,
     view: &View<'t, 'a>,
     outputs: &Outputs,
     piece: Range<usize>,
 ) -> Result<Vec<Named<'a>>, AllocError>
-    requires noted { AreNoted 1 (laid_in view.now).outputs (noted outputs.now.known) }
+    requires noted { AreNoted 1 (laid_in view.now).outputs (output_numbers outputs.now) }
     requires piece { piece.end ≤ length (files_in view.now) }
     ensures { IfOk result (λ list. named_views list.items ≡ flat_map (spec.entries_in (files_in view.now) (binding_in view.now) view.now.kept.now (leaders_in view.now) (laid_in view.now)) (range_with_len piece.start (piece.end - piece.start))) }
 {
@@ -111,7 +127,7 @@ fn entries_of<'t, 'a>(
     Ok(list)
 }
 
-/// Those of one file, if it takes part.
+/// Adds the entries of one file, if it takes part.
 #[tactic(auto, unfolding(crate::specs::SymbolTable::entries_in))]
 fn push_file<'t, 'a>(
     alloc: Global,
@@ -120,7 +136,7 @@ fn push_file<'t, 'a>(
     outputs: &Outputs,
     file: FileNo,
 ) -> Result<(), AllocError>
-    requires noted { AreNoted 1 (laid_in view.now).outputs (noted outputs.now.known) }
+    requires noted { AreNoted 1 (laid_in view.now).outputs (output_numbers outputs.now) }
     requires file { file < length (files_in view.now) }
     ensures { OnOk result (named_views list.new.items ≡ named_views list.old.items ++ spec.entries_in (files_in view.now) (binding_in view.now) view.now.kept.now (leaders_in view.now) (laid_in view.now) file) }
 {
@@ -130,7 +146,7 @@ fn push_file<'t, 'a>(
     push_symbols(alloc, list, view, outputs, file)
 }
 
-/// Those of the symbols of a file.
+/// Adds the entries of the symbols of a file.
 fn push_symbols<'t, 'a>(
     alloc: Global,
     list: &mut Vec<Named<'a>>,
@@ -138,7 +154,7 @@ fn push_symbols<'t, 'a>(
     outputs: &Outputs,
     file: FileNo,
 ) -> Result<(), AllocError>
-    requires noted { AreNoted 1 (laid_in view.now).outputs (noted outputs.now.known) }
+    requires noted { AreNoted 1 (laid_in view.now).outputs (output_numbers outputs.now) }
     requires file { file < length (files_in view.now) }
     ensures { OnOk result (named_views list.new.items ≡ named_views list.old.items ++ flat_map (spec.entry_of (files_in view.now) (binding_in view.now) view.now.kept.now (leaders_in view.now) (laid_in view.now) file) (range_with_len 0 (length (file_at (files_in view.now) file).head.symbols))) }
 {

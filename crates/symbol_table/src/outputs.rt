@@ -5,7 +5,7 @@ ghost use Rattle.link_sections.specs.InputViews.{input_view};
 ghost use Rattle.link_sections.specs.LaidOut.{layout_view, output_view};
 ghost use Rattle.lk_tables.specs.Classes.{is_in};
 ghost use Rattle.lk_tables.specs.declared.classes.Class.{Class as AnyClass};
-ghost use Rattle.symbol_table.specs.Noted.{AreNoted, class_no as spec_no, has, noted};
+ghost use Rattle.symbol_table.specs.Noted.{AreNoted, class_no as spec_no, has, noted, output_numbers};
 ghost use Rattle.symbol_table.specs.Outputs.{place_in, place_or};
 
 use crate::symbols::TablePlace;
@@ -25,7 +25,7 @@ impl<'a> Outputs<'a> {
     /// By name and class, the numbers of these output sections, from 1 on. The only error is out of memory.
     pub fn of(alloc: Global, list: &[Output<'a>]) -> Result<Outputs<'a>, AllocError>
         requires { length list.now < 2 ^ 16 }
-        ensures { IfOk result (λ outputs. AreNoted 1 (map output_view list.now) (noted outputs.known)) }
+        ensures { IfOk result (λ outputs. AreNoted 1 (map output_view list.now) (output_numbers outputs)) }
     {
         let mut known = HashMap::new(alloc);
         let mut left = list.len();
@@ -40,17 +40,17 @@ impl<'a> Outputs<'a> {
     /// noted.
     #[tactic(auto, unfolding(crate::specs::Outputs::place_in, link_sections::specs::LaidOut::layout_view))]
     pub fn place_of(&self, layout: &Layout, section: &InputSection) -> TablePlace
-        requires { AreNoted 1 (layout_view layout.now).outputs (noted self.now.known) }
+        requires { AreNoted 1 (layout_view layout.now).outputs (output_numbers self.now) }
         ensures { result ≡ place_in (layout_view layout.now) (input_view section.now) }
     {
         let class = class_of(section.sh_type, section.flags);
         self.get(output_name(section.name), class_no(class))
     }
 
-    /// That of a name and a class.
+    /// The place of the output section of a name and a class.
     #[tactic(auto, unfolding(crate::specs::Noted::noted))]
     fn get(&self, name: &[u8], class: u8) -> TablePlace
-        ensures { result ≡ place_or (noted self.now.known name.now class) }
+        ensures { result ≡ place_or (output_numbers self.now name.now class) }
     {
         match self.known.get(&(name, class)) {
             Some(number) => TablePlace::Output(*number),

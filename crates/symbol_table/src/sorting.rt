@@ -14,17 +14,16 @@ use rayon::prelude::*;
 use std::alloc::{AllocError, Global};
 use std::thread::Threads;
 
-/// Entries in order of their names; of those that have one name the first. One worker sorts by itself; more are as many as the machine has
-/// processors.
+/// Entries in order of their names; of those that have one name the first. What is lent is sorted where it stands. One worker sorts by itself;
+/// more are as many as the machine has processors. The only error is out of memory; the lent entries are then in any order.
 pub fn in_order<'a, R: Threads + Sync>(
     rt: &R,
     alloc: Global,
-    list: Vec<Named<'a>>,
+    list: &mut Vec<Named<'a>>,
     workers: u32,
 ) -> Result<Vec<TableSymbol<'a>>, AllocError>
-    ensures { IfOk result (λ sorted. symbol_views sorted.items ≡ by_name (λ (t : Shown). t.name) (named_views list.entry.items)) }
+    ensures { IfOk result (λ sorted. symbol_views sorted.items ≡ by_name (λ (t : Shown). t.name) (named_views list.old.items)) }
 {
-    let mut list = list;
     sort(rt, alloc, list.as_mut_slice(), workers)?;
     firsts(alloc, list.as_slice())
 }

@@ -37,7 +37,7 @@ fn same_sites(one: &[FoldReloc], two: &[FoldReloc]) -> bool
     true
 }
 
-/// The same of two relocations.
+/// Whether two relocations are equal, but for what they stand for.
 fn same_site(one: &FoldReloc, two: &FoldReloc) -> bool
     ensures { result ≡ same_site (site_of one.now) (site_of two.now) }
 {
@@ -62,7 +62,7 @@ fn same_frames(one: &[FoldFrame], two: &[FoldFrame]) -> bool
     true
 }
 
-/// The same of two frames.
+/// Whether two frames are equal, each with its CIE.
 fn same_frame(one: &FoldFrame, two: &FoldFrame) -> bool
     ensures { result ≡ same_frame (frame_view one.now) (frame_view two.now) }
 {

@@ -43,7 +43,7 @@ pub fn why_apart(
     Ok(chain)
 }
 
-/// The same, unless more than `most` pairs would be compared for it, which are all different: then `None`.
+/// Why two items are not folded, as of [`why_apart`], unless more than `most` pairs would be compared for it, which are all different: then `None`.
 pub fn why_apart_within(
     alloc: Global,
     items: &[FoldItem],

@@ -42,7 +42,7 @@ pub fn meet_or_end(
     Ok(end)
 }
 
-/// The same of a pair with one key.
+/// Why the two of a pair with one key can't stand for one another whatever else is folded.
 fn meet_alike(
     items: &[FoldItem],
     pair: Pair,

@@ -73,7 +73,7 @@ fn items_of(items: &[FoldItem], one: Option<Target>, two: Option<Target>) -> Opt
     }
 }
 
-/// The same where the one target is this.
+/// The items of the sections in which two targets stand, if they stand there at one offset and with one rest; the one target is this.
 fn items_beside(
     items: &[FoldItem],
     section: SecNo,

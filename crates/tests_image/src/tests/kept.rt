@@ -1,4 +1,4 @@
-//! The same sections are kept by one worker, by two and by 64.
+//! One worker, two and 64 keep the same sections.
 
 ghost use Rattle.std.specs.Prelude.{◌≡◌, ◌+◌, ◌<◌, ◌≤◌, ◌∷◌, [], All, length, IfOk, OnOk};
 ghost use Rattle.link_sections.specs.Edges.{ends_of};

@@ -76,7 +76,7 @@ fn leads_by<R: Threads + Sync, L: Ledger>(
     Ok(found.as_slice() == leaders && steps.taken() == count)
 }
 
-/// The same in a ledger of its own.
+/// Whether so many workers find these leaders, in so many steps of a ledger of its own.
 fn leads_in<R: Threads + Sync>(
     rt: &R,
     alloc: Global,

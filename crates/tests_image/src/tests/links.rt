@@ -7,6 +7,7 @@ ghost use Rattle.elf_out.specs.Prepared.{IsPreparedFor};
 ghost use Rattle.layout.specs.Layout.{frame_sizes};
 ghost use Rattle.layout.specs.Spots.{HasFrames};
 ghost use Rattle.link_driver.specs.Tables.{MayStay};
+ghost use Rattle.link_sections.specs.GotUses.{HasAllUses};
 ghost use Rattle.link_sections.specs.GotView.{entries_of};
 ghost use Rattle.link_sections.specs.LaidOut.{layout_view, with_contents};
 ghost use Rattle.link_sections.specs.PoolViews.{pools_view};
@@ -147,7 +148,7 @@ fn push_values(values: &mut Vec<i128>, view: &View, section: SecNo) -> Result<()
     Ok(())
 }
 
-/// Those of all sections.
+/// The values of the relocations of all sections.
 fn values_of(alloc: Global, view: &View) -> Result<Vec<i128>, AllocError> {
     view.tables.is_few();
     let mut values = Vec::new(alloc);
@@ -196,6 +197,7 @@ fn answers_of<R: Threads + Sync>(
     requires plain { ArePlain (all_lists (files_of tables.now)) }
     requires plan { plan_view plan.now ≡ plan_of (files_of tables.now) (binding_view binding.now) (with_contents (layout_view layout.now) (pools_view (files_of tables.now) pools.now) (entries_of got.now)).merging.merged (all_lists (files_of tables.now)) leaders.now }
     requires framed { HasFrames (frame_sizes plan.now) layout.now.bounds }
+    requires uses { HasAllUses (files_of tables.now) leaders.now (entries_of got.now) }
     requires sound { IsSound (files_of tables.now) (binding_view binding.now) leaders.now (with_contents (layout_view layout.now) (pools_view (files_of tables.now) pools.now) (entries_of got.now)) }
 {
     let addresses = find_addresses(
@@ -276,6 +278,7 @@ fn kept_made<'a, R: Threads + Sync>(
         &OpenGate,
     )?;
     let plan = find_plan(
+        rt,
         alloc,
         tables,
         binding,
@@ -285,8 +288,11 @@ fn kept_made<'a, R: Threads + Sync>(
         &pools,
         leaders.as_slice(),
         options,
+        2,
+        &OpenGate,
     )?;
-    let got = entries(alloc, tables, &numbers, leaders.as_slice())?;
+    let uppers = find_uppers(alloc, tables)?;
+    let got = entries(alloc, tables, &numbers, &uppers, leaders.as_slice())?;
     let layout = match lay_out(
         rt,
         alloc,
@@ -350,7 +356,7 @@ pub fn run_within<'a, R: Threads + Sync>(
         Ok(binding) => binding,
         Err(stop) => return Err(stop),
     };
-    let frames = find_frames(alloc, &tables, &binding, records)?;
+    let frames = find_frames(rt, alloc, &tables, &binding, records, 2, &OpenGate)?;
     let kept = find_kept(
         rt,
         alloc,

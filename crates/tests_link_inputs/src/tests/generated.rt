@@ -25,7 +25,7 @@ const TWO: Image = image!(ONE => table: 0x2030,
         (0x2010, b"\0.rodata\0.text\0.data\0.shstrtab\0")],
     sections: &[[1, 1, 2, 0x10120, 0x120, 6, 1], [9, 1, 6, 0x11000, 0x1000, 44, 4], [15, 1, 3, 0x12000, 0x2000, 16, 8], [21, 3, 0, 0, 0x2010, 31, 1]]);
 
-/// The same with its symbols.
+/// Two objects, of which the first calls the second, with their symbols.
 const TWO_LISTED: Image = image!(TWO => table: 0x2120,
     contents: &[(0x120, b"s0\0s1"), (0x1000, b"\xef\0\xc0\0\xef\0\x40\x01\x67\x80\0\0\x13\x05\0\0\x67\x80\0\0\x67\x80\0\0"),
         (0x1018, b"\xef\0\x80\0\x67\x80\0\0\x13\x05\x10\0\x67\x80\0\0\x67\x80\0\0"), (0x2000, b"\x20\x01\x01\0\0\0\0\0\x23\x01\x01\0\0\0\0\0")],

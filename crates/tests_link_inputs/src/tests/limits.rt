@@ -112,7 +112,7 @@ const PIECES: &[Bounded] = &[
         defect: Some(defect!(PASSED => place: 11))),
 ];
 
-/// These limits, or the standard ones where those are less.
+/// Limits, or the standard ones where those are less.
 fn within_standard(limits: &Limits) -> Limits
     ensures { IsWithinStandard result }
 {

@@ -89,7 +89,7 @@ const IN_GROUP: Section = section!(SMALL => flags: 0x206);
 /// A COMDAT group of section 69,999; its signature is the name of symbol 3.
 const HIGH_GROUP: Section = section!(GROUP => bytes: b"\x01\0\0\0\x6f\x11\x01\0", info: 3);
 
-/// The same two symbols, and one in section 69,999.
+/// `_start`, `f` far off, and `n` in section 69,999.
 const OF_GROUP: &[Symbol] = &[
     symbol!(b"_start", 1, 2, ELSEWHERE + 70_000, 0, 4),
     symbol!(b"f", 1, 2, ELSEWHERE + 0xfff1, 0, 4),

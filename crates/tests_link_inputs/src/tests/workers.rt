@@ -122,11 +122,12 @@ fn workers_in_either_order(rt: HostRuntime) -> Result<(), Fail> {
 /// A command that links generated objects, so many that two workers share passes that a small link leaves to one, and how many passes they share.
 type Large<'a> = (&'a [&'a str], u64);
 
-/// Beside what small links share: calls that may be shortened, what sections lose by them, addresses, and the blocks of the executable.
-const RELAXED: Large = (&["rvld", "-s", "--self-input", "2048"], 12);
+/// Beside what small links share: which sections may stay, calls that may be shortened, what sections lose by them, addresses, and the blocks of
+/// the executable.
+const RELAXED: Large = (&["rvld", "-s", "--self-input", "2048"], 13);
 
-/// The same with alignments alone.
-const UNRELAXED: Large = (&["rvld", "-s", "--no-relax", "--self-input", "2048"], 11);
+/// What only large links share, with alignments alone.
+const UNRELAXED: Large = (&["rvld", "-s", "--no-relax", "--self-input", "2048"], 12);
 
 /// Whether two links gave the same executable and report.
 fn is_alike(left: &Left, right: &Left) -> bool {

@@ -317,7 +317,7 @@ fn chain(alloc: Global) -> Result<Files, AllocError> {
     Ok(files)
 }
 
-/// The same, but the last calls the first.
+/// Functions that each call the next one; the last calls the first.
 fn ring(alloc: Global) -> Result<Files, AllocError> {
     let mut files = Vec::new(alloc);
     for number in 0..ROUND {

@@ -33,7 +33,7 @@ macro_rules! unwound {
 const RECORDS: &[u8] =
     b"\x10\0\0\0\0\0\0\0\x01zR\0\x01|\x01\x01\x1b\x0c\x02\0\x10\0\0\0\x18\0\0\0\0\0\0\0\x04\0\0\0\0\0\0\0";
 
-/// The same of eight bytes.
+/// A CIE and an FDE of eight bytes of code.
 const LONGER_RECORDS: &[u8] =
     b"\x10\0\0\0\0\0\0\0\x01zR\0\x01|\x01\x01\x1b\x0c\x02\0\x10\0\0\0\x18\0\0\0\0\0\0\0\x08\0\0\0\0\0\0\0";
 

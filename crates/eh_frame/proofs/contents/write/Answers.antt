@@ -19,7 +19,7 @@ use Rattle.eh_frame.proofs.TableRows.{header_length}
 use Rattle.eh_frame.proofs.contents.write.Goals as goal
 
 pub place-requires-clause-cies : goal.place-requires-clause-cies
-place-requires-clause-cies c =
+place-requires-clause-cies g c =
     let files = files_in c.args.view.now in
     let lists = lists_of c.args.plan.now.frames.now in
     let plan = plan_view c.args.plan.now in
@@ -27,7 +27,7 @@ place-requires-clause-cies c =
     (plan_cies_known files lists (binding_in c.args.view.now) (laid_in c.args.view.now).merging.merged (leaders_in c.args.view.now) plan c.requires.lists c.requires.plan)
 
 pub place-requires-clause-fdes : goal.place-requires-clause-fdes
-place-requires-clause-fdes c =
+place-requires-clause-fdes g c =
     let files = files_in c.args.view.now in
     let lists = lists_of c.args.plan.now.frames.now in
     let plan = plan_view c.args.plan.now in
@@ -35,12 +35,12 @@ place-requires-clause-fdes c =
     (plan_fdes_known files lists (binding_in c.args.view.now) (laid_in c.args.view.now).merging.merged (leaders_in c.args.view.now) plan c.requires.lists c.requires.plan)
 
 pub place-requires-clause-room : goal.place-requires-clause-room
-place-requires-clause-room c =
+place-requires-clause-room g c =
     plan_room (files_in c.args.view.now) (lists_of c.args.plan.now.frames.now) (binding_in c.args.view.now) (laid_in c.args.view.now).merging.merged (leaders_in c.args.view.now)
     (plan_view c.args.plan.now) c.requires.plan
 
 pub first_defect-requires-clause-known : goal.first_defect-requires-clause-known
-first_defect-requires-clause-known c =
+first_defect-requires-clause-known g c = λ κs bound.
     let files = files_in c.args.view.now in
     let b = binding_in c.args.view.now in
     let leaders = leaders_in c.args.view.now in
@@ -53,7 +53,7 @@ first_defect-requires-clause-known c =
     (plan_fdes_known files lists b merged leaders plan c.requires.lists c.requires.plan))
 
 pub returns-in-Some-clause-goes : goal.returns-in-Some-clause-goes
-returns-in-Some-clause-goes c =
+returns-in-Some-clause-goes g c =
     let files = files_in c.args.view.now in
     let b = binding_in c.args.view.now in
     let leaders = leaders_in c.args.view.now in
@@ -68,7 +68,7 @@ returns-in-Some-clause-goes c =
     (c.as_slice.ensures.value ∙ c.in_ok-placed.ensures) c.starts_of-starts.ensures.frames c.in_ok-found.ensures)
 
 pub split_at-requires : goal.split_at-requires
-split_at-requires c =
+split_at-requires g c =
     let lists = lists_of c.args.plan.now.frames.now in
     let plan = plan_view c.args.plan.now in
     let n : c.len.result ≡ length plan.cies = c.len.ensures ∙ c.args.plan.now.cies.ok.0 in
@@ -76,21 +76,21 @@ split_at-requires c =
     omega (arith, n, same, length-append (placed_cies lists plan) (placed_fdes lists plan), cies_length lists plan)
 
 pub frame_bytes-requires-clause-cies_are : goal.frame_bytes-requires-clause-cies_are
-frame_bytes-requires-clause-cies_are c =
+frame_bytes-requires-clause-cies_are g c = λ κs bound.
     let lists = lists_of c.args.plan.now.frames.now in
     let plan = plan_view c.args.plan.now in
     c.split_at.ensures.front ∙ ap (take c.len.result) (c.as_slice-2.ensures.value ∙ c.in_ok-placed.ensures)
     ∙ first_placed lists plan c.len.result (sym (c.len.ensures ∙ c.args.plan.now.cies.ok.0))
 
 pub frame_bytes-requires-clause-fdes_are : goal.frame_bytes-requires-clause-fdes_are
-frame_bytes-requires-clause-fdes_are c =
+frame_bytes-requires-clause-fdes_are g c = λ κs bound.
     let lists = lists_of c.args.plan.now.frames.now in
     let plan = plan_view c.args.plan.now in
     c.split_at.ensures.back ∙ ap (drop c.len.result) (c.as_slice-2.ensures.value ∙ c.in_ok-placed.ensures)
     ∙ last_placed lists plan c.len.result (sym (c.len.ensures ∙ c.args.plan.now.cies.ok.0))
 
 pub frame_bytes-requires-clause-known_cies : goal.frame_bytes-requires-clause-known_cies
-frame_bytes-requires-clause-known_cies c =
+frame_bytes-requires-clause-known_cies g c = λ κs bound.
     let files = files_in c.args.view.now in
     let lists = lists_of c.args.plan.now.frames.now in
     let plan = plan_view c.args.plan.now in
@@ -102,7 +102,7 @@ frame_bytes-requires-clause-known_cies c =
     (plan_cies_known files lists (binding_in c.args.view.now) (laid_in c.args.view.now).merging.merged (leaders_in c.args.view.now) plan c.requires.lists c.requires.plan))
 
 pub frame_bytes-requires-clause-known_fdes : goal.frame_bytes-requires-clause-known_fdes
-frame_bytes-requires-clause-known_fdes c =
+frame_bytes-requires-clause-known_fdes g c = λ κs bound.
     let files = files_in c.args.view.now in
     let lists = lists_of c.args.plan.now.frames.now in
     let plan = plan_view c.args.plan.now in
@@ -114,7 +114,7 @@ frame_bytes-requires-clause-known_fdes c =
     (plan_fdes_known files lists (binding_in c.args.view.now) (laid_in c.args.view.now).merging.merged (leaders_in c.args.view.now) plan c.requires.lists c.requires.plan))
 
 pub frame_bytes-requires-clause-uses : goal.frame_bytes-requires-clause-uses
-frame_bytes-requires-clause-uses c =
+frame_bytes-requires-clause-uses g c = λ κs bound.
     let lists = lists_of c.args.plan.now.frames.now in
     let plan = plan_view c.args.plan.now in
     let are : c.split_at.result.1.now ≡ placed_fdes lists plan =
@@ -124,7 +124,7 @@ frame_bytes-requires-clause-uses c =
     ∙ sym (fdes_length lists plan) ∙ sym (ap length are)
 
 pub header_bytes-requires-clause-known : goal.header_bytes-requires-clause-known
-header_bytes-requires-clause-known c =
+header_bytes-requires-clause-known g c = λ κs bound.
     let files = files_in c.args.view.now in
     let lists = lists_of c.args.plan.now.frames.now in
     let plan = plan_view c.args.plan.now in
@@ -136,7 +136,7 @@ header_bytes-requires-clause-known c =
     (plan_fdes_known files lists (binding_in c.args.view.now) (laid_in c.args.view.now).merging.merged (leaders_in c.args.view.now) plan c.requires.lists c.requires.plan))
 
 pub returns-clause-goes : goal.returns-clause-goes
-returns-clause-goes c =
+returns-clause-goes g c =
     let files = files_in c.args.view.now in
     let b = binding_in c.args.view.now in
     let leaders = leaders_in c.args.view.now in
@@ -152,7 +152,7 @@ returns-clause-goes c =
 
 pub returns-clause-header : goal.returns-clause-header
 unfolding header_bytes
-returns-clause-header c =
+returns-clause-header g c =
     let files = files_in c.args.view.now in
     let b = binding_in c.args.view.now in
     let leaders = leaders_in c.args.view.now in
@@ -169,14 +169,14 @@ returns-clause-header c =
     ∙ ap (λ ps. table_of files b leaders laid lists laid.bounds.frame_header laid.bounds.frames ps) are
 
 pub returns-clause-lengths : goal.returns-clause-lengths
-returns-clause-lengths c =
+returns-clause-lengths g c =
     let files = files_in c.args.view.now in
     let b = binding_in c.args.view.now in
     let leaders = leaders_in c.args.view.now in
     let laid = laid_in c.args.view.now in
     let lists = lists_of c.args.plan.now.frames.now in
     let plan = plan_view c.args.plan.now in (
-      ap length (returns-clause-header c)
+      ap length (returns-clause-header g c)
           ∙ header_length files b leaders laid lists laid.bounds.frame_header laid.bounds.frames plan
           ∙ sym (plan_header_len files lists b laid.merging.merged leaders plan c.requires.plan),
       ap length c.in_ok-frame.ensures

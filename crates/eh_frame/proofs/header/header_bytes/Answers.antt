@@ -6,13 +6,13 @@ use Rattle.eh_frame.proofs.TableRows.{no_table, table_is}
 use Rattle.eh_frame.proofs.header.header_bytes.Goals as goal
 
 pub returns-then-fdes-eq0 : goal.returns-then-fdes-eq0
-returns-then-fdes-eq0 c =
+returns-then-fdes-eq0 g c =
     c.new.ensures.items
     ∙ no_table (files_in c.args.view.now) (binding_in c.args.view.now) (leaders_in c.args.view.now) (laid_in c.args.view.now) (lists_of c.args.frames.now) c.args.starts.header c.args.starts.frames
     c.args.fdes.now c.if-fdes-eq0.true
 
 pub returns : goal.returns
-returns c =
+returns g c =
     let head = encodings ++ (word (pos c.args.starts.frames -ℤ pos (c.args.starts.header + 4)) ++ word (pos (length c.args.fdes.now))) in
     table_is (files_in c.args.view.now) (binding_in c.args.view.now) (leaders_in c.args.view.now) (laid_in c.args.view.now) (lists_of c.args.frames.now) c.args.starts.header c.args.starts.frames
     c.args.fdes.now c.push_head.new.out.items c.push_rows.new.out.items (omega arith)

@@ -10,7 +10,7 @@ use Rattle.eh_frame.proofs.owners.table.Given as goal
 
 -- the lists after all that is left are those after all
 abbrev pub invariant-loop-number : goal.invariant-loop-number
-invariant-loop-number l =
+invariant-loop-number g l =
     let items : Vec FrameNo → List FrameNo = λ list. list.items in
     let files = files_of l.tables in
     all_after files (binding_view l.binding) (drop l.number (list_views l.lists)) (map items l.of.items)

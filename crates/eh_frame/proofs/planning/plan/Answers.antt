@@ -13,7 +13,7 @@ use Rattle.eh_frame.proofs.Totals.{IsRead, found_cies, found_count, found_fdes, 
 use Rattle.eh_frame.proofs.planning.plan.Goals as goal
 
 pub frame_len-frame_len-requires-clause-cies_most : goal.frame_len-frame_len-requires-clause-cies_most
-frame_len-frame_len-requires-clause-cies_most c =
+frame_len-frame_len-requires-clause-cies_most g c =
     let files = files_of c.args.tables.now in
     let lists = lists_of c.args.frames.now in
     let read = subst (All IsRead) (sym c.requires.lists) (lists_read files) in
@@ -21,7 +21,7 @@ frame_len-frame_len-requires-clause-cies_most c =
     omega (arith, most, ap (sum_by (size_of lists)) c.as_slice.ensures.value)
 
 pub frame_len-frame_len-requires-clause-fdes_most : goal.frame_len-frame_len-requires-clause-fdes_most
-frame_len-frame_len-requires-clause-fdes_most c =
+frame_len-frame_len-requires-clause-fdes_most g c =
     let files = files_of c.args.tables.now in
     let lists = lists_of c.args.frames.now in
     let read = subst (All IsRead) (sym c.requires.lists) (lists_read files) in
@@ -29,7 +29,7 @@ frame_len-frame_len-requires-clause-fdes_most c =
     omega (arith, most, ap (sum_by (size_of lists)) c.as_slice-2.ensures.value)
 
 pub header_len-header_len-requires : goal.header_len-header_len-requires
-header_len-header_len-requires c =
+header_len-header_len-requires g c =
     let files = files_of c.args.tables.now in
     let lists = lists_of c.args.frames.now in
     let found = c.in_ok-fdes.field-0 in
@@ -38,7 +38,7 @@ header_len-header_len-requires c =
     omega (arith, most, c.len.ensures, found.fdes.ok.0)
 
 pub returns-clause-plan : goal.returns-clause-plan
-returns-clause-plan c =
+returns-clause-plan g c =
     let lists = lists_of c.args.frames.now in
     let found = c.in_ok-fdes.field-0 in
     planned (files_of c.args.tables.now) (binding_view c.args.binding.now) (merged_views c.args.pools.now) lists c.args.leaders.now found c.frame_len-frame_len.result c.header_len-header_len.result
@@ -47,19 +47,19 @@ returns-clause-plan c =
     (c.header_len-header_len.ensures ∙ ap (λ n. cond (n == 0) 0 (12 + 8 * n)) (c.len.ensures ∙ found.fdes.ok.0))
 
 pub returns-clause-laws : goal.returns-clause-laws
-returns-clause-laws c =
+returns-clause-laws g c =
     let files = files_of c.args.tables.now in
     let b = binding_view c.args.binding.now in
     let merged = merged_views c.args.pools.now in
     let lists = lists_of c.args.frames.now in
     let leaders = c.args.leaders.now in
     let P : PlanView → Type 0 = IsPlanned files b merged lists leaders in
-    subst P (sym (returns-clause-plan c)) (plan_laws files b merged lists leaders c.requires.within.order)
+    subst P (sym (returns-clause-plan g c)) (plan_laws files b merged lists leaders c.requires.within.order)
 
 pub returns-clause-small : goal.returns-clause-small
-returns-clause-small c =
+returns-clause-small g c =
     let files = files_of c.args.tables.now in
     let lists = lists_of c.args.frames.now in
     let read = subst (All IsRead) (sym c.requires.lists) (lists_read files) in
-    subst IsSmall (sym (returns-clause-plan c))
+    subst IsSmall (sym (returns-clause-plan g c))
     (plan_small files lists c.requires.within c.is_few.ensures.section_count_is read (binding_view c.args.binding.now) (merged_views c.args.pools.now) c.args.leaders.now)

@@ -1,16 +1,27 @@
-use Rattle.std.proofs.Common.{ℕ, Option, ap, get_or, ◌∙◌, arith}
+use Rattle.std.proofs.Common.{ℕ, Option, ap, get_or, sym, ◌∙◌, arith}
 use Rattle.std.specs.Prelude.{unwrap_or}
 use Rattle.std.proofs.lemmas.List.{length-map}
 use Rattle.lk_tables.specs.BindingView.{binding_view}
-use Rattle.lk_tables.specs.Frames.{frame_no, no_record}
+use Rattle.lk_tables.specs.Frames.{frame_no, no_record, owner_in}
 use Rattle.lk_tables.specs.RecordViews.{record_view, record_views}
 use Rattle.lk_tables.specs.Sites.{place_of}
 use Rattle.lk_tables.specs.TablesView.{files_of}
 use Rattle.link_sections.specs.PoolViews.{merged_views}
-use Rattle.eh_frame.specs.Uses.{cies_for, used_cie}
+use Rattle.eh_frame.specs.Uses.{cies_for, list_in, used_cie}
 use Rattle.eh_frame.proofs.FrameWalks.{no_frame, one_led, record_read, used_is}
 use Rattle.eh_frame.proofs.NotedCies.{fde_added, none_more}
+use Rattle.eh_frame.proofs.Owning.{owner_read}
 use Rattle.eh_frame.proofs.planning.push_record.Goals as goal
+
+pub used_cie-requires : goal.used_cie-requires
+used_cie-requires c =
+    let files = files_of c.args.tables.now in
+    let b = binding_view c.args.binding.now in
+    let records = c.args.records.now in
+    let l = list_in c.args.section records in
+    let read = record_read records c.args.at c.index-records-at.result c.requires.at c.index-records-at.is in
+    owner_read files b l c.args.owners.now c.args.at c.owner_by.result (omega (arith, c.requires.at, length-map records record_view)) c.requires.owners c.owner_by.ensures
+    ∙ ap (owner_in files b (place_of files c.args.section).file) (sym read)
 
 pub returns-in_default : goal.returns-in_default
 returns-in_default c = λ key cie_of fdes tells are.

@@ -7,8 +7,8 @@ use Rattle.got_tls.proofs.listing.entries.Goals as goal
 
 pub loop-section-preserved : goal.loop-section-preserved
 loop-section-preserved c =
-    sections_step (wanted_in (files_of c.args.tables.now) c.args.leaders.now) c.loop-section.section [] (entries_of c.loop-section.got) (entries_of c.add_section.new.got)
-    c.loop-section.invariant c.in_ok-add_section.ensures
+    sections_step (wanted_in (files_of c.args.tables.now) c.args.leaders.now) c.loop-section.section [] (entries_of c.loop-section.got) (entries_of c.add_by_uppers.new.got)
+    c.loop-section.invariant c.in_ok-add_by_uppers.ensures
 
 pub returns-clause-value : goal.returns-clause-value
 returns-clause-value c =

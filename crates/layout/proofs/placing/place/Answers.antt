@@ -12,6 +12,7 @@ use Rattle.layout.specs.Layout.{frame_sizes, layout_of, limit_defects}
 use Rattle.link_sections.specs.LaidOut.{with_contents}
 use Rattle.link_sections.specs.PoolViews.{pools_view}
 use Rattle.link_sections.specs.Sound.{IsSound}
+use Rattle.layout.proofs.AllAligned.{start_seen}
 use Rattle.layout.proofs.AllHeld.{held_seen}
 use Rattle.layout.proofs.Laying.{stops_first, then_limits}
 use Rattle.layout.proofs.PoolSizes.{pools_seen, sizes_seen}
@@ -110,3 +111,8 @@ returns-in-Ok-clause-held c =
     held_seen c.in_ok-layout.layout files b pools.pools.items words c.args.leaders.now (sizes_of c.args.sizes.now) (frame_sizes c.args.frames.now) c.requires.leaders c.requires.sizes
     (all_apart c.args.sizes.now.rows c.args.sizes.now.sound) c.in_ok-layout.ensures.sized (omega (arith, c.args.sections.now.few, length-map c.args.sections.now.items.items item_view, same))
     pools.rising c.requires.pools c.in_ok-layout.ensures.found
+
+pub returns-in-Ok-clause-starts : goal.returns-in-Ok-clause-starts
+returns-in-Ok-clause-starts c =
+    start_seen c.in_ok-layout.layout (files_of c.args.tables.now) (binding_view c.args.binding.now) c.args.pools.now.pools.items (word_count (entries_of c.args.got.now)) c.args.leaders.now
+    (sizes_of c.args.sizes.now) (frame_sizes c.args.frames.now) c.in_ok-layout.ensures.sized c.args.pools.now.rising c.requires.pools c.in_ok-layout.ensures.found

@@ -6,17 +6,17 @@ use Rattle.link_driver.proofs.FrameContents.{both_of, records_few, sections_know
 use Rattle.link_driver.proofs.frames.find_frames.Goals as goal
 
 pub table-requires-clause-sections : goal.table-requires-clause-sections
-table-requires-clause-sections c =
+table-requires-clause-sections g c = λ κs bound.
     let files = files_of c.args.tables.now in
     sections_known files (all_lists files) (list_views c.args.records.items) c.requires.records c.requires.within
 
 pub table-requires-clause-few : goal.table-requires-clause-few
-table-requires-clause-few c =
+table-requires-clause-few g c = λ κs bound.
     let files = files_of c.args.tables.now in
     records_few files (all_lists files) (list_views c.args.records.items) c.requires.records c.requires.within
 
 pub returns : goal.returns
-returns c =
+returns g c =
     let files = files_of c.args.tables.now in
     let b = binding_view c.args.binding.now in
     let P : List RecordList → Type 0 = AreListsWithin files in

@@ -11,12 +11,12 @@ use Rattle.link_driver.proofs.FrameContents.{contents_are, fits_so, planned_none
 use Rattle.link_driver.proofs.frames.write_frames.Goals as goal
 
 pub write-requires-clause-lists : goal.write-requires-clause-lists
-write-requires-clause-lists g c =
+write-requires-clause-lists g c = λ κs bound.
     let P : List RecordList → Type 0 = AreListsWithin (files_in c.args.view.now) in
     subst P (sym c.requires.lists) c.requires.within
 
 pub write-requires-clause-plan : goal.write-requires-clause-plan
-write-requires-clause-plan g c =
+write-requires-clause-plan g c = λ κs bound.
     let v = c.args.view.now in
     c.requires.plan ∙ ap (λ ls. plan_of (files_in v) (binding_in v) (laid_in v).merging.merged ls (leaders_in v)) (sym c.requires.lists)
 

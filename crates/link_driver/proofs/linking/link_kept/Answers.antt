@@ -51,7 +51,7 @@ returns-clause-goes g c =
     c.in-Ok.ensures.goes (goes_so r w files b kept _ _ _ placed.leaders placed.laid placed.plan c.in-Ok-write.ensures.goes)
 
 pub returns-clause-settled : goal.returns-clause-settled
-returns-clause-settled g c = record { listed = c.in-Ok.ensures.listed; sound = c.in-Ok.ensures.placed.sound; made = c.in-Ok-write.ensures.made }
+returns-clause-settled g c = record { listed = c.in-Ok.ensures.listed; uses = c.in-Ok.ensures.placed.uses; sound = c.in-Ok.ensures.placed.sound; made = c.in-Ok-write.ensures.made }
 
 pub returns-clause-written : goal.returns-clause-written
 returns-clause-written g c =

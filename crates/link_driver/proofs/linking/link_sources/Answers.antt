@@ -212,6 +212,16 @@ of-requires-clause-listed g c =
     told_of (IsSettled files b c.as_slice-2.result.now strip) c.link_beside-made.result.0 settled c.in-Ok-made.is c.link_beside-made.ensures.settled in
     is.listed
 
+pub of-requires-clause-uses : goal.of-requires-clause-uses
+of-requires-clause-uses g c =
+    let files = files_of c.in-Ok.both.0 in
+    let b = binding_view c.in-Ok-bound.binding in
+    let strip = c.options_of-options.result.strip in
+    let settled = c.in-Ok-made.settled in
+    let is : IsSettled files b c.as_slice-2.result.now strip settled =
+    told_of (IsSettled files b c.as_slice-2.result.now strip) c.link_beside-made.result.0 settled c.in-Ok-made.is c.link_beside-made.ensures.settled in
+    is.uses
+
 pub of-requires-clause-sound : goal.of-requires-clause-sound
 of-requires-clause-sound g c =
     let files = files_of c.in-Ok.both.0 in
@@ -269,8 +279,8 @@ returns g c =
     ∙ c.in_ok-names.ensures (shows ∙ or_left c.options_of-options.result.map (asks_why asked) on)) in
     let text = c.as_slice-5.result.now in
     let said : LinkedView = with_why text linked in
-    let said_is : c.in-Ok-of.linked ≡ said =
-    c.in-Ok-of.ensures ∙ ap (λ (k : List Bool). with_why text (settled_view files b k strip settled)) (sym c.as_slice-2.ensures.value) in
+    let said_is : c.hold.new.self ≡ said =
+    c.hold.ensures ∙ c.in-Ok-of.ensures ∙ ap (λ (k : List Bool). with_why text (settled_view files b k strip settled)) (sym c.as_slice-2.ensures.value) in
     let Given : LinkedView → Type 0 = λ x. Links limits asked shown ss x in
     let why = c.in-Ok-told.why.items in
     let named_again : asks_why asked ≡ true → names_of given ≡ shown = λ on. ap names_of c.as_slice-4.ensures.value

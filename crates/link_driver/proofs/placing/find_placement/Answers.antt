@@ -1,5 +1,5 @@
 use Rattle.std.proofs.Common.{ℕ, List, Option, subst}
-use Rattle.got_tls.specs.GotList.{HasAllUses}
+use Rattle.link_sections.specs.GotUses.{HasAllUses}
 use Rattle.link_sections.specs.GotView.{entries_of}
 use Rattle.link_sections.specs.LaidOut.{LaidOut, layout_view, with_contents}
 use Rattle.link_sections.specs.PoolViews.{pools_view}
@@ -12,8 +12,8 @@ use Rattle.link_driver.specs.Symbols.{SymbolsStand}
 use Rattle.link_driver.proofs.FewPieces.{kept_written}
 use Rattle.link_driver.proofs.placing.find_placement.Goals as goal
 
-pub merge-requires-clause-written : goal.merge-requires-clause-written
-merge-requires-clause-written g c κs bound = kept_written (files_of c.args.tables.now) (binding_view c.args.binding.now) c.args.kept.now c.requires.stay
+pub find_pools-requires-clause-written : goal.find_pools-requires-clause-written
+find_pools-requires-clause-written g c κs bound = kept_written (files_of c.args.tables.now) (binding_view c.args.binding.now) c.args.kept.now c.requires.stay
 
 pub returns-clause-placed : goal.returns-clause-placed
 returns-clause-placed g c =

@@ -4,13 +4,13 @@ use Rattle.lk_base.specs.declared.defects.Defect.{Defect}
 use Rattle.lk_base.specs.Firsts.{Goes, StopsAt}
 use Rattle.lk_base.specs.declared.defects.LinkStop.{LinkStop}
 use Rattle.link_driver.specs.Code.{HaveOwnCuts}
-use Rattle.got_tls.specs.GotList.{HasAllUses}
+use Rattle.link_sections.specs.GotUses.{HasAllUses}
 use Rattle.elf_out.specs.Executable.{FrameContents, executable, own_tables}
 use Rattle.elf_out.specs.Prepared.{IsPrepared}
 use Rattle.elf_out.specs.declared.prepared.Prepared.{Prepared}
 use Rattle.elf_out.specs.Standing.{FitFrames, FramesStand}
 use Rattle.elf_out.specs.TablesView.{frame_contents}
-use Rattle.link_sections.specs.Addresses.{symbol_addresses}
+use Rattle.link_sections.specs.Addresses.{entry_address, symbol_addresses}
 use Rattle.link_sections.specs.declared.got.GotEntry.{GotEntry}
 use Rattle.link_sections.specs.GotView.{entries_of}
 use Rattle.link_sections.specs.LaidOut.{layout_view}
@@ -101,7 +101,10 @@ returns-clause-made g c =
     let P : List (Option ℕ) → Type 0 = λ l. IsPrepared files b l laid (own_tables files b kept strip l laid) c.in-Ok-made.prepared in
     let H : Result Prepared LinkStop → Type 0 = λ r. IfOk r (λ p. IsPrepared files b leaders laid (own_tables files b kept strip leaders laid) p) in
     record {
-      addresses = c.in_ok-addresses.ensures ∙ ap (λ l. symbol_addresses files b l laid) value;
+      addresses = record {
+        symbols = c.in_ok-addresses.ensures.symbols ∙ ap (λ l. symbol_addresses files b l laid) value;
+        entry = c.in_ok-addresses.ensures.entry ∙ ap (λ l. entry_address files b l laid) value;
+      };
       prepared = subst P value (subst H c.in-Ok-made.is c.make_beside-framed.ensures.prepared);
       window = c.in_ok-window.ensures;
     }

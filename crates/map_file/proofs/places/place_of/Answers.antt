@@ -1,7 +1,7 @@
 use Rattle.std.proofs.Common.{arith, sym, ◌≤◌}
 use Rattle.lk_tables.specs.Files.{section_total}
 use Rattle.lk_tables.specs.TablesView.{files_of}
-use Rattle.symbol_addresses.proofs.SectionNames.{place_past}
+use Rattle.link_sections.proofs.PastSections.{place_past}
 use Rattle.map_file.proofs.places.place_of.Goals as goal
 
 pub returns-clause-place : goal.returns-clause-place

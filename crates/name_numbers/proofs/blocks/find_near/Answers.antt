@@ -13,5 +13,5 @@ compare_others-requires-clause-alike c =
     let most = c.requires.most in
     let P : List ℕ → Type 0 = AreAlike texts c.args.from n in
     let ok = c.args.block.now.alike.ok.0 in
-    let back = c.as_mut_slice-5.ensures.value ∙ written_back _ c.own_numbers.new.alike _ (omega (arith, len, whole, ok)) in
+    let back = c.as_mut_slice-6.ensures.value ∙ written_back _ c.own_numbers.new.alike _ (omega (arith, len, whole, ok)) in
     subst P (sym back) (own_alike texts c.args.from n c.own_numbers.new.alike (omega (arith, len, whole, room, most)) c.own_numbers.ensures.own)

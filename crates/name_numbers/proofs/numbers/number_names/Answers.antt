@@ -5,8 +5,8 @@ use Rattle.name_numbers.specs.Keys.{followed, keys, text_of_key}
 use Rattle.name_numbers.proofs.Numbered.{alone_numbers, indexes_wide, indexes_within, keys_few, length_firsts_is, places_rise, places_within, table_of}
 use Rattle.name_numbers.proofs.numbers.number_names.Goals as goal
 
-pub number_texts-requires-after_bounds : goal.number_texts-requires-after_bounds
-number_texts-requires-after_bounds g c κs within =
+pub number_cut-requires-after_bounds : goal.number_cut-requires-after_bounds
+number_cut-requires-after_bounds g c κs within =
     let files = file_views c.args.files.now in
     let texts : c.of-texts.result ≡ map text_of_key (keys files) = c.of-texts.ensures ∙ c.in_ok-listed.ensures.keys.texts in
     omega (arith, c.requires.symbols, keys_few files, ap length texts, length-map (keys files) text_of_key)

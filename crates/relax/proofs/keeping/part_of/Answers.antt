@@ -22,8 +22,8 @@ loop-section-preserved c =
     let s = c.args.scene.now in
     let low = c.loop-section.invariant.0 in (
       omega (arith, low),
-      rows_more (files_of s.tables.now) s.members.now c.args.calls.now c.args.sizes.now c.args.piece.start c.loop-section.section c.loop-section.rows c.push.new.self c.in_ok-cuts.cuts.items low
-          c.loop-section.invariant.1 (c.in_ok-push.ensures.ok ∙ ap (λ l. c.loop-section.rows ++ l ∷ []) c.as_slice.ensures.value) c.in_ok-cuts.ensures.views c.in_ok-cuts.ensures.sound,
+      rows_more (files_of s.tables.now) s.members.now c.args.calls.now c.args.sizes.now c.args.piece.start c.loop-section.section c.loop-section.rows c.push.new.self c.section_cuts.new.cuts.items low
+          c.loop-section.invariant.1 (c.in_ok-push.ensures.ok ∙ ap (λ l. c.loop-section.rows ++ l ∷ []) c.as_slice.ensures.value) c.in_ok-section_cuts.ensures.views c.in_ok-section_cuts.ensures.sound,
     )
 
 pub returns : goal.returns

@@ -19,10 +19,8 @@ loop-k-preserved c =
     let k = c.loop-k.k in
     let relocs = c.relocs-relocs.result.now in
     let sizes : ℕ → ℕ = size_in c.args.calls.now c.args.sizes.now c.place_of-member.result in
-    let zero_reloc = no_reloc in
     record {
-      views = c.in_ok-lost.ensures.views ∙ ap (λ l. l ++ added c.held_size-size.result (get_or relocs k no_reloc)) is.views
-          ∙ ap (λ l. cuts_upto sizes relocs k ++ l) c.held_size-size.ensures ∙ sym (cuts_more sizes relocs k);
+      views = c.in_ok-lost.ensures.views ∙ ap (λ l. l ++ added (sizes k) (get_or relocs k no_reloc)) is.views ∙ sym (cuts_more sizes relocs k);
       placed = c.in_ok-lost.ensures.placed is.placed;
       few = omega (arith, is.few, c.in_ok-lost.ensures.few);
     }

@@ -11,6 +11,12 @@ bounds-before-next c = omega (arith, ap length c.requires.before, length_sums c.
 pub bounds-before-first : goal.bounds-before-first
 bounds-before-first c = omega (arith, ap length c.requires.before, length_sums c.args.sizes.now, c.loop-first-test.true)
 
+pub offset_bounds-before-next : goal.offset_bounds-before-next
+offset_bounds-before-next c = omega (arith, ap length c.requires.before, length_sums c.args.sizes.now, c.min-next.ensures, c.type_inv.before)
+
+pub offset_bounds-before-first : goal.offset_bounds-before-first
+offset_bounds-before-first c = omega (arith, ap length c.requires.before, length_sums c.args.sizes.now, c.loop-first-test.true, c.type_inv.before)
+
 pub loop-first-preserved : goal.loop-first-preserved
 loop-first-preserved c =
     let z = c.args.sizes.now in

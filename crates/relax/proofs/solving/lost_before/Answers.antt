@@ -7,6 +7,9 @@ use Rattle.relax.proofs.solving.lost_before.Goals as goal
 pub bounds-lost-point : goal.bounds-lost-point
 bounds-lost-point c = omega (arith, c.requires.within, ap length c.requires.lost, length_sums c.args.sizes.now)
 
+pub offset_bounds-lost-point : goal.offset_bounds-lost-point
+offset_bounds-lost-point c = omega (arith, c.requires.within, ap length c.requires.lost, length_sums c.args.sizes.now, c.type_inv.lost)
+
 pub overflow_add-result : goal.overflow_add-result
 overflow_add-result c =
     let z = c.args.sizes.now in

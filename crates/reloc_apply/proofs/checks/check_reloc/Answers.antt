@@ -2,10 +2,10 @@ use Rattle.std.proofs.Common.{◌≡◌, ◌-◌, ◌∙◌, ℤ, Option, get_or
 use Rattle.std.specs.Prelude.{IfSome}
 use Rattle.std.proofs.lemmas.Bool.{eqb-true}
 use Rattle.lk_base.specs.RelocKinds.{HasValue}
-use Rattle.lk_base.specs.declared.abi.TheConstants.{R_RISCV_64, R_RISCV_RELAX}
+use Rattle.lk_base.specs.declared.abi.TheConstants.{R_RISCV_RELAX}
 use Rattle.link_sections.specs.Views.{binding_in, files_in, laid_in, leaders_in}
 use Rattle.reloc_apply.proofs.HintValues.{hint_defects}
-use Rattle.reloc_apply.proofs.WordValues.{word_defects}
+use Rattle.reloc_apply.proofs.EveryValues.{every_defects}
 use Rattle.lk_tables.specs.Files.{no_reloc}
 use Rattle.reloc_apply.proofs.checks.check_reloc.Goals as goal
 
@@ -21,9 +21,8 @@ returns-then-is_hint c =
     let hint : r.kind ≡ R_RISCV_RELAX = eqb-true r.kind R_RISCV_RELAX (sym c.is_hint.ensures ∙ c.if-is_hint.true) in
     hint_defects (files_in v) (binding_in v) (leaders_in v) (laid_in v) c.args.site.section r hint (get_or c.args.relocs.now (c.args.k - 1) no_reloc)
 
-pub returns-then-is_word : goal.returns-then-is_word
-returns-then-is_word c =
+pub returns-then-takes_every : goal.returns-then-takes_every
+returns-then-takes_every c =
     let v = c.args.view.now in
     let r = get_or c.args.relocs.now c.args.k no_reloc in
-    let word : r.kind ≡ R_RISCV_64 = eqb-true r.kind R_RISCV_64 (sym c.is_word.ensures ∙ c.if-is_word.true) in
-    word_defects (files_in v) (binding_in v) (leaders_in v) (laid_in v) c.args.site.section r word (get_or c.args.relocs.now (c.args.k - 1) no_reloc)
+    every_defects (files_in v) (binding_in v) (leaders_in v) (laid_in v) c.args.site.section r (sym c.takes_every.ensures ∙ c.if-takes_every.true) (get_or c.args.relocs.now (c.args.k - 1) no_reloc)

@@ -1,6 +1,6 @@
 use Rattle.std.proofs.Common.{◌≡◌, ◌∙◌, ap, pos, ◌+ℤ◌, rules}
 use Rattle.lk_tables.specs.declared.section_places.SectionPlace.{SectionPlace}
-use Rattle.lk_tables.specs.Targets.{target_of}
+use Rattle.lk_tables.specs.Targets.{spot_of}
 use Rattle.link_sections.specs.Addresses.{target_address}
 use Rattle.link_sections.specs.PieceTargets.{piece_target}
 use Rattle.link_sections.specs.Views.{binding_in, files_in, laid_in, leaders_in}
@@ -22,6 +22,6 @@ returns-clause-value c =
     let same : pos c.symbol_address.result +ℤ r.addend ≡ sum_of files b leaders laid c.args.site.section r =
     ap (λ a. pos a +ℤ r.addend) c.symbol_address.ensures
     ∙ sum_is files b leaders laid place.file r live c.requires.plain
-    ∙ ap (λ (p : SectionPlace). pos (target_address files b leaders laid (piece_target laid.merging.merged (target_of files b p.file r)))
-    +ℤ addend_of (piece_target laid.merging.merged (target_of files b p.file r)) r) c.requires.site.place in
+    ∙ ap (λ (p : SectionPlace). pos (target_address files b leaders laid (piece_target laid.merging.merged (spot_of files b p.file r)))
+    +ℤ addend_of (piece_target laid.merging.merged (spot_of files b p.file r)) r) c.requires.site.place in
     search (rules, same)

@@ -1,6 +1,6 @@
 use Rattle.std.proofs.Common.{◌-◌, arith, length, min}
 use Rattle.lk_tables.specs.Files.{file_at}
-use Rattle.symbol_addresses.specs.Links.{link_files}
+use Rattle.link_sections.specs.Links.{link_files}
 use Rattle.symbol_addresses.specs.Prevailing.{own_address}
 use Rattle.symbol_addresses.proofs.NumberRuns.{walk_done, walk_next}
 use Rattle.symbol_addresses.proofs.addresses.addresses_in.Goals as goal

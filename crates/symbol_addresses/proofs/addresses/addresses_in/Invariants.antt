@@ -1,4 +1,4 @@
-use Rattle.symbol_addresses.specs.Links.{link_files}
+use Rattle.link_sections.specs.Links.{link_files}
 use Rattle.symbol_addresses.specs.Prevailing.{own_address}
 use Rattle.symbol_addresses.proofs.NumberRuns.{AreBefore}
 use Rattle.symbol_addresses.proofs.addresses.addresses_in.Given as goal

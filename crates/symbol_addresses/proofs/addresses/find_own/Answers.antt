@@ -3,7 +3,7 @@ use Rattle.std.specs.List.{range_with_len}
 use Rattle.std.specs.declared.ops.Range.{Range}
 use Rattle.work_split.specs.Pieces.{Tiles}
 use Rattle.work_split.proofs.RunsJoined.{joined_run, piece_within}
-use Rattle.symbol_addresses.specs.Links.{link_files}
+use Rattle.link_sections.specs.Links.{link_files}
 use Rattle.symbol_addresses.specs.Prevailing.{own_address, own_at}
 use Rattle.symbol_addresses.proofs.NumberRuns.{all_numbers}
 use Rattle.symbol_addresses.proofs.addresses.find_own.Goals as goal

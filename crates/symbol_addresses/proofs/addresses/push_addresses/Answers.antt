@@ -1,7 +1,7 @@
 use Rattle.std.proofs.Common.{ap, arith, length, min}
 use Rattle.lk_tables.specs.Files.{File}
 use Rattle.lk_tables.proofs.FirstNumbers.{first_within}
-use Rattle.symbol_addresses.specs.Links.{link_files}
+use Rattle.link_sections.specs.Links.{link_files}
 use Rattle.symbol_addresses.specs.Prevailing.{own_address}
 use Rattle.symbol_addresses.proofs.NumberRuns.{push_step}
 use Rattle.symbol_addresses.proofs.addresses.push_addresses.Goals as goal

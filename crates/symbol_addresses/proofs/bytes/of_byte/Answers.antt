@@ -5,7 +5,7 @@ use Rattle.link_sections.specs.declared.targets.Target.{Target}
 use Rattle.link_sections.specs.declared.targets.Target.TheVariants as targets
 use Rattle.link_sections.specs.PieceTargets.{in_section, piece_target}
 use Rattle.link_sections.specs.PoolViews.{Merged, merged_at, merged_views, pools_view}
-use Rattle.symbol_addresses.specs.Links.{link_binding, link_files, link_laid, link_leaders}
+use Rattle.link_sections.specs.Links.{link_binding, link_files, link_laid, link_leaders}
 use Rattle.symbol_addresses.proofs.bytes.of_byte.Goals as goal
 
 no_linker : (m : Option Merged) (section offset : ℕ) (rest : ℤ) (t : Target) (n : ℕ) → t ≡ in_section m section offset rest → t ≢ targets.Linker n

@@ -2,7 +2,7 @@ use Rattle.std.proofs.Common.{◌∙◌, ap, [], ◌∷◌, ◌++◌}
 use Rattle.lk_base.proofs.Loops.{map_step}
 use Rattle.lk_tables.specs.LinkerSymbols.{edge_of}
 use Rattle.link_sections.specs.Addresses.{edge_address}
-use Rattle.symbol_addresses.specs.Links.{link_laid}
+use Rattle.link_sections.specs.Links.{link_laid}
 use Rattle.symbol_addresses.proofs.edges.find_fixed.Goals as goal
 
 pub loop-number-preserved : goal.loop-number-preserved

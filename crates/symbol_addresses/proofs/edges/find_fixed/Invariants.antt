@@ -2,7 +2,7 @@ use Rattle.std.proofs.Common.{◌≡◌, map}
 use Rattle.std.specs.List.{range_with_len}
 use Rattle.lk_tables.specs.LinkerSymbols.{edge_of}
 use Rattle.link_sections.specs.Addresses.{edge_address}
-use Rattle.symbol_addresses.specs.Links.{link_laid}
+use Rattle.link_sections.specs.Links.{link_laid}
 use Rattle.symbol_addresses.proofs.edges.find_fixed.Given as goal
 
 abbrev pub invariant-loop-number : goal.invariant-loop-number

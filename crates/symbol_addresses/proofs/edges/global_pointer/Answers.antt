@@ -1,7 +1,7 @@
 use Rattle.std.proofs.Common.{◌≡◌, ◌+◌, ◌∙◌, ap, arith, codes}
 use Rattle.link_sections.specs.Addresses.{rw_place, start_or}
 use Rattle.link_sections.specs.LaidOut.{layout_view, with_contents}
-use Rattle.symbol_addresses.specs.Links.{link_laid}
+use Rattle.link_sections.specs.Links.{link_laid}
 use Rattle.symbol_addresses.proofs.FoundPlaces.{pointer_few}
 use Rattle.symbol_addresses.proofs.edges.global_pointer.Goals as goal
 

@@ -3,7 +3,7 @@ use Rattle.std.specs.Prelude.{◌==◌}
 use Rattle.std.specs.List.{list_any}
 use Rattle.lk_tables.specs.declared.commons.BoundCommon.{BoundCommon}
 use Rattle.lk_tables.specs.InputSections.{InputSection}
-use Rattle.symbol_addresses.specs.Links.{link_binding, link_files}
+use Rattle.link_sections.specs.Links.{link_binding, link_files}
 use Rattle.symbol_addresses.proofs.SectionNames.{input_past, room_named, room_unnamed}
 use Rattle.symbol_addresses.proofs.names.past_name.Goals as goal
 

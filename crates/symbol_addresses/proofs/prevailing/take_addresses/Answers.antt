@@ -1,6 +1,6 @@
 use Rattle.std.proofs.Common.{◌≡◌, ◌<◌, ap, ◌∙◌, arith, length, refl}
 use Rattle.lk_tables.proofs.ByNumber.{length_by_symbol}
-use Rattle.symbol_addresses.specs.Links.{link_binding, link_files}
+use Rattle.link_sections.specs.Links.{link_binding, link_files}
 use Rattle.symbol_addresses.specs.Prevailing.{own_address, own_addresses}
 use Rattle.symbol_addresses.specs.Sources.{address_in, addresses_of}
 use Rattle.symbol_addresses.proofs.TakenAddresses.{LeadsOn, all_taken, none_taken, number_leads, taken_is, taken_more}

@@ -2,9 +2,9 @@ use Rattle.std.proofs.Common.{rules, ◌≡◌, ℕ, ◌<◌, ◌^◌, arith, �
 use Rattle.std.proofs.lemmas.Int.{ints}
 use Rattle.link_sections.specs.Addresses.{byte_address}
 use Rattle.link_sections.specs.LaidOut.{with_contents}
-use Rattle.symbol_addresses.specs.Links.{link_binding, link_files, link_laid, link_leaders}
+use Rattle.link_sections.specs.Links.{link_binding, link_files, link_laid, link_leaders}
 use Rattle.symbol_addresses.proofs.ByteRooms.{byte_few}
-use Rattle.symbol_addresses.proofs.PoolPositions.{position_few}
+use Rattle.link_sections.proofs.PoolPositions.{position_few}
 use Rattle.symbol_addresses.proofs.sources.address_of.Goals as goal
 
 cast_few : (v : ℤ) (n : ℕ) → v ≡ pos n → n < 2 ^ 64 → v <ℤ pos (2 ^ 64)

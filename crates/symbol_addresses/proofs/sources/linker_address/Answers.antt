@@ -2,7 +2,7 @@ use Rattle.std.proofs.Common.{ℕ, ◌∙◌, ap, sym, List, Option}
 use Rattle.std.specs.Option.{option_map_or}
 use Rattle.lk_base.specs.declared.abi.TheConstants.{IMAGE_BASE}
 use Rattle.symbol_addresses.specs.declared.places.Extent.{Extent}
-use Rattle.symbol_addresses.specs.Links.{link_binding, link_files, link_laid, link_leaders}
+use Rattle.link_sections.specs.Links.{link_binding, link_files, link_laid, link_leaders}
 use Rattle.symbol_addresses.specs.Noted.{noted}
 use Rattle.symbol_addresses.proofs.LinkerAddresses.{listed_at, noted_end, noted_start, start_at, stop_at}
 use Rattle.symbol_addresses.proofs.sources.linker_address.Goals as goal

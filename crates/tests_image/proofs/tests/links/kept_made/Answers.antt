@@ -1,7 +1,8 @@
-use Rattle.std.proofs.Common.{◌∙◌, List, [], subst}
+use Rattle.std.proofs.Common.{ℕ, ◌∙◌, List, [], Option, subst, sym}
 use Rattle.link_driver.specs.Tables.{wished}
 use Rattle.link_driver.proofs.FewPieces.{kept_written}
 use Rattle.link_driver.proofs.Leading.{planned_laid}
+use Rattle.link_sections.specs.GotUses.{HasAllUses}
 use Rattle.link_sections.specs.GotView.{entries_of}
 use Rattle.link_sections.specs.LaidOut.{layout_view, with_contents}
 use Rattle.link_sections.specs.PoolViews.{pools_view}
@@ -18,6 +19,11 @@ pub answers_of-requires-clause-within : goal.answers_of-requires-clause-within
 answers_of-requires-clause-within g c = λ κs bound.
     let P : List RecordList → Type 0 = AreListsWithin (files_of c.args.tables.now) in
     subst P c.requires.frames.lists c.requires.frames.within
+
+pub answers_of-requires-clause-uses : goal.answers_of-requires-clause-uses
+answers_of-requires-clause-uses g c = λ κs bound.
+    let P : List (Option ℕ) → Type 0 = λ l. HasAllUses (files_of c.args.tables.now) l (entries_of c.in_ok-got.got) in
+    subst P (c.as_slice-2.ensures.value ∙ sym c.as_slice-4.ensures.value) c.in_ok-got.ensures.law
 
 pub answers_of-requires-clause-plan : goal.answers_of-requires-clause-plan
 answers_of-requires-clause-plan g c = λ κs bound.
