@@ -10,6 +10,9 @@ Usage: scripts/speed.py MODE [RVLD] [--before RVLD] [--runs 5] [--peers lld,mold
   archive    an archive of 10,000 members of which a chain of 5,000 is live, and one of twice as many
   strings    250,000, 500,000 and 1,000,000 strings in 100 files, of which half repeat
   string     the same in one file
+  names      250,000, 500,000 and 1,000,000 global symbols in 100 files, all of other names
+  name       as many in one file
+  groups     25,000, 50,000 and 100,000 COMDAT groups, each in two of the files, which have 1,000 groups each
   functions  500, 1,000 and 2,000 objects of 30 functions with two calls each
   links      a chain of 8,000 functions of equal bytes, and of 16,000, 32,000 and 64,000, with --icf=all
   cycles     two cycles of such functions, 1,003 and 1,005 long, and 10,003 and 10,005
@@ -61,8 +64,8 @@ import time
 from xml.sax.saxutils import escape
 
 sys.path.insert(0, os.path.dirname(os.path.realpath(__file__)))
-from elf.constants import (ALLOC, EXECINSTR, FUNC, GLOBAL, INFO_LINK, LOCAL, MERGE, NOTYPE, PROGBITS, R_64, R_CALL_PLT, R_RELAX, R_SET_ULEB128, R_SUB_ULEB128,
-                           R_32_PCREL, R_ADD32, R_SUB32, RELA, RESERVED, SECTION, STRINGS, STRTAB, SYMTAB, UNDEF, WRITE)
+from elf.constants import (ALLOC, COMDAT, EXECINSTR, FUNC, GLOBAL, GROUP, IN_GROUP, INFO_LINK, LOCAL, MERGE, NOTYPE, PROGBITS, R_64, R_CALL_PLT, R_RELAX, R_SET_ULEB128, R_SUB_ULEB128,
+                           R_32_PCREL, R_ADD32, R_SUB32, RELA, RESERVED, SECTION, STRINGS, STRTAB, SYMTAB, UNDEF, WEAK, WRITE)
 from elf.read import File, members
 from elf.write import CALL, NOP, RETURN, Texts, archive, entry, indexes, placed, relocatable, simple, symbol
 
@@ -187,6 +190,46 @@ def string_files(folder, count, files):
     share = count // files
     return [write(os.path.join(place, 's%d.o' % f),
                   string_object(not f, [b'the string of number %d\0' % k for k in order[f * share:(f + 1) * share]])) for f in range(files)]
+
+
+def name_object(first, names_of):
+    """An object of global symbols; the first object has the entry."""
+    names = Texts()
+    symbols = [bytes(24)] + ([symbol(names.add('_start'), GLOBAL, FUNC, 1, 0, 4)] if first else [])
+    symbols += [symbol(names.add(name), GLOBAL, FUNC, 1, 0, 4) for name in names_of]
+    return relocatable([
+        ('.text', PROGBITS, ALLOC | EXECINSTR, RETURN, 0, 0, 4, 0),
+        ('.symtab', SYMTAB, 0, b''.join(symbols), 3, 1, 8, 24),
+        ('.strtab', STRTAB, 0, names.bytes(), 0, 0, 1, 0)])
+
+
+def name_files(folder, count, files):
+    place = os.path.join(folder, 'names-%d-%d' % (count, files))
+    os.makedirs(place, exist_ok=True)
+    share = max(count // files, 1)
+    return [write(os.path.join(place, 'n%d.o' % f), name_object(not f, ['a_global_name_of_number_%d' % k for k in range(f * share, (f + 1) * share)])) for f in range(files)]
+
+
+def group_object(first, signatures):
+    """An object with a COMDAT group of one function for each signature; the first object has the entry."""
+    names = Texts()
+    symbols = [bytes(24)] + ([symbol(names.add('_start'), GLOBAL, FUNC, 1, 0, 4)] if first else [])
+    rows = [('.text', PROGBITS, ALLOC | EXECINSTR, RETURN, 0, 0, 4, 0)]
+    at_symtab = 2 * len(signatures) + 2
+    for i, signature in enumerate(signatures):
+        rows.append(('.group', GROUP, 0, COMDAT.to_bytes(4, 'little') + (3 + 2 * i).to_bytes(4, 'little'), at_symtab, len(symbols), 4, 4))
+        rows.append(('.text.' + signature, PROGBITS, ALLOC | EXECINSTR | IN_GROUP, RETURN, 0, 0, 4, 0))
+        symbols.append(symbol(names.add(signature), WEAK, FUNC, 3 + 2 * i, 0, 4))
+    return relocatable(rows + [
+        ('.symtab', SYMTAB, 0, b''.join(symbols), at_symtab + 1, 1, 8, 24),
+        ('.strtab', STRTAB, 0, names.bytes(), 0, 0, 1, 0)])
+
+
+def group_files(folder, count):
+    place = os.path.join(folder, 'groups-%d' % count)
+    os.makedirs(place, exist_ok=True)
+    each = min(count, 1000)
+    return [write(os.path.join(place, 'g%d.o' % f), group_object(not f, ['_ZN5group%dEv' % (k % count) for k in range(f * each, (f + 1) * each)])) for f in range(2 * count // each)]
 
 
 def call_object(k, count):
@@ -514,6 +557,11 @@ MODES = {
                 'Strings in 100 files, of which half repeat'),
     'string': (lambda folder, count: string_files(folder, count, 1), 'strings', (250000, 500000, 1000000), (125000, 250000, 500000, 1000000),
                'Strings in one file, of which half repeat'),
+    'names': (lambda folder, count: name_files(folder, count, 100), 'symbols', (250000, 500000, 1000000), (125000, 250000, 500000, 1000000),
+              'Global symbols in 100 files, all of other names'),
+    'name': (lambda folder, count: name_files(folder, count, 1), 'symbols', (250000, 500000, 1000000), (125000, 250000, 500000, 1000000),
+             'Global symbols in one file, all of other names'),
+    'groups': (group_files, 'groups', (25000, 50000, 100000), (12000, 25000, 50000, 100000), 'COMDAT groups, each in two files'),
     'functions': (functions, 'objects', (500, 1000, 2000), (250, 500, 1000, 2000), 'Objects of 30 functions with two calls each'),
     'links': (links, 'functions', (8000, 16000, 32000, 64000), (8000, 16000, 32000, 64000), 'Functions of equal bytes in a chain, folded with `--icf all`: none is alike'),
     'shapes': (shapes, 'functions', (50000, 100000), (25000, 50000, 100000), 'Functions of 1,000 shapes, folded with `--icf all`'),

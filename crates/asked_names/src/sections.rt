@@ -25,7 +25,7 @@ pub fn sections_of_names(
     ensures sections { IfOk result (λ list. list.items ≡ spec.named_sections (files_of tables.now) (binding_view binding.now) (spec.lists_of names.now)) }
     ensures within { IfOk result (λ list. All (λ r. r < section_total (files_of tables.now)) list.items) }
 {
-    tables.is_few();
+    tables.prove_few();
     let mut list = Vec::new(alloc);
     for name in names {
         push_section(&mut list, section_of(tables, binding, name.as_slice()))?;
@@ -48,7 +48,7 @@ fn section_of(tables: &Tables, binding: &Binding, name: &[u8]) -> Option<SecNo>
     requires { IsBindingOf (files_of tables.now) (binding_view binding.now) }
     ensures { option_to_list result ≡ spec.section_named (files_of tables.now) (binding_view binding.now) name.now }
 {
-    tables.is_few();
+    tables.prove_few();
     for file in 0..tables.file_count() {
         if let Some(symbol) = symbol_named(tables.file(file as FileNo), name) {
             return section_in(binding.bound(tables, file as FileNo, symbol as SymNo));

@@ -17,11 +17,11 @@ use std::thread::Threads;
 use work_split::Gate;
 
 /// There are no more COMDAT groups than sections, since each is one. Nothing is done while a program runs: the clause is all.
-fn are_few(tables: &Tables, groups: &Vec<ComdatGroup>)
+fn prove_few_groups(tables: &Tables, groups: &Vec<ComdatGroup>)
     requires { comdat_views groups.now.items ≡ comdats (files_of tables.now) }
     ensures { length groups.now.items < 2 ^ 31 }
 {
-    tables.is_few();
+    tables.prove_few();
 }
 
 /// By section number, whether a section is discarded: it belongs to a COMDAT group of whose signature another stands before, in order of
@@ -43,7 +43,7 @@ pub fn discard<R: Threads + Sync, G: Gate>(
     if groups.len() == 0 {
         return Ok(marks);
     }
-    are_few(tables, &groups);
+    prove_few_groups(tables, &groups);
     let list = signatures_of(alloc, groups.as_slice())?;
     let signatures = Texts::of(alloc, list);
     let numbers = number_texts(rt, alloc, &signatures, workers, gate)?;

@@ -1,8 +1,8 @@
 -- CIEs by their first use: which of them says the same as one, and what one more leaves.
-use Rattle.std.proofs.Common.{◌≡◌, ℕ, zero, suc, ◌+◌, ◌<◌, Bool, true, false, ◌||◌, not, cond, List, [], ◌∷◌, ◌++◌, length, map, get_or, refl, sym, ap, ◌∙◌, arith, eqb, inl, inr}
+use Rattle.std.proofs.Common.{◌≡◌, ℕ, zero, suc, ◌+◌, ◌<◌, Bool, true, false, ◌||◌, not, cond, List, [], ◌∷◌, ◌++◌, length, map, get_or, refl, sym, ap, ◌∙◌, arith, eqb, inl, inr, subst, append_assoc, append-nil}
 use Rattle.std.specs.List.{AllPairs, list_any, position_or_len}
 use Rattle.std.proofs.lemmas.Bool.{cases_lt, cond-true, cond-false, eq-eqb, false≢true, ne_eqb, or_left}
-use Rattle.std.proofs.lemmas.List.{length_push}
+use Rattle.std.proofs.lemmas.List.{get_or_append_left, get_or_push, length_push}
 use Rattle.std.proofs.lemmas.List.Folds.{list_any-append, list_any_at, position_or_len_push}
 use Rattle.std.proofs.lemmas.List.Quantifiers.{all_pairs_push}
 use Rattle.std.proofs.lemmas.List.Sums.{fails_before_first, passes_at_first, prefix_len-le-length}
@@ -141,3 +141,93 @@ module _ (key : FrameNo → CieKey) where
       let own = cie_of (get_or fdes k none) in
       let u : IsUse key cies own (use_of key cies own) = record { is = refl; within = found_first (is_alike key own) cies (known k lt) } in
       sym (use_stays cies cie own (use_of key cies own) u).is)
+
+  -- by their first use: of the CIEs of some uses, each of the known ones is that of the first use that says the same, before which all say the same as
+  -- those that are known before it
+  pub record IsFirst (done known : List FrameNo) (j : ℕ) : Type 0 where
+    pub at : ℕ
+    pub among : at < length done
+    pub is : get_or known j none ≡ get_or done at none
+    pub own : use_of key known (get_or done at none) ≡ j
+    pub before : (i : ℕ) → i < at → use_of key known (get_or done i none) < j
+
+  abbrev pub EachFirst : (done known : List FrameNo) → Type 0
+  EachFirst done known = (j : ℕ) → j < length known → IsFirst done known j
+
+  abbrev AllKnown : (done known : List FrameNo) → Type 0
+  AllKnown done known = (i : ℕ) → i < length done → use_of key known (get_or done i none) < length known
+
+  use_low : (cies : List FrameNo) (cie : FrameNo) (n : ℕ) → IsUse key cies cie n → use_of key cies cie < length cies
+  use_low cies cie n u = let is = u.is in let within = u.within in omega (arith, is, within)
+
+  known_with : (done known : List FrameNo) (c : FrameNo) (t : Bool) → list_any (is_alike key c) known ≡ t → AllKnown done known → AllKnown (done ++ (c ∷ [])) (cond t known (known ++ (c ∷ [])))
+  known_with done known c t any all = λ i lt.
+      let more : List FrameNo = cond t known (known ++ (c ∷ [])) in
+      let P : FrameNo → Type 0 = λ y. use_of key more y < length more in
+      elim (cases_lt i (length done)) [
+        | inl low ↦
+            let x = get_or done i none in
+            subst P (sym (get_or_append_left done (c ∷ []) none i low))
+            (use_low more x (use_of key known x) (kept_use known c x (use_of key known x) t (record { is = refl; within = all i low })))
+        | inr le ↦
+            subst P (sym (get_or_push done c none i (omega (arith, le, lt, length_push done c)))) (use_low more c (use_of key known c) (own_use known c t any))
+      ]
+
+  -- a use that is done is so with one CIE more
+  done_with : (done known : List FrameNo) (c : FrameNo) (t : Bool) → AllKnown done known → (i : ℕ) → i < length done
+      → use_of key (cond t known (known ++ (c ∷ []))) (get_or (done ++ (c ∷ [])) i none) ≡ use_of key known (get_or done i none)
+  done_with done known c t all i low =
+      let x = get_or done i none in
+      ap (use_of key (cond t known (known ++ (c ∷ [])))) (get_or_append_left done (c ∷ []) none i low)
+      ∙ (kept_use known c x (use_of key known x) t (record { is = refl; within = all i low })).is
+
+  known_at : (known : List FrameNo) (c : FrameNo) (t : Bool) (j : ℕ) → j < length known → get_or (cond t known (known ++ (c ∷ []))) j none ≡ get_or known j none
+  known_at known c true j low = refl
+  known_at known c false j low = get_or_append_left known (c ∷ []) none j low
+
+  kept_first : (done known : List FrameNo) (c : FrameNo) (t : Bool) → AllKnown done known → (j : ℕ) → j < length known → IsFirst done known j
+      → IsFirst (done ++ (c ∷ [])) (cond t known (known ++ (c ∷ []))) j
+  kept_first done known c t all j low f =
+      let among = f.among in
+      record {
+        at = f.at;
+        among = omega (arith, among, length_push done c);
+        is = known_at known c t j low ∙ f.is ∙ sym (get_or_append_left done (c ∷ []) none f.at among);
+        own = done_with done known c t all f.at among ∙ f.own;
+        before = λ i lt.
+            let same = done_with done known c t all i (omega (arith, lt, among)) in
+            let less = f.before i lt in
+            omega (arith, same, less);
+      }
+
+  first_with : (done known : List FrameNo) (c : FrameNo) (t : Bool) → list_any (is_alike key c) known ≡ t → AllKnown done known → EachFirst done known
+      → EachFirst (done ++ (c ∷ [])) (cond t known (known ++ (c ∷ [])))
+  first_with done known c true any all each = λ j lt. kept_first done known c true all j lt (each j lt)
+  first_with done known c false any all each = λ j lt.
+      elim (cases_lt j (length known)) [
+        | inl low ↦ kept_first done known c false all j low (each j low)
+        | inr le ↦
+            let end : length known ≡ j = omega (arith, le, lt, length_push known c) in
+            let here = get_or_push done c none (length done) refl in
+            let new = not_found (is_alike key c) known any in
+            record {
+              at = length done;
+              among = omega (arith, length_push done c);
+              is = get_or_push known c none j end ∙ sym here;
+              own = ap (use_of key (known ++ (c ∷ []))) here ∙ (own_use known c false any).is ∙ new ∙ end;
+              before = λ i low.
+                  let same = done_with done known c false all i low in
+                  let less = all i low in
+                  omega (arith, same, less, end);
+            }
+      ]
+
+  first_on : (done known cies : List FrameNo) → AllKnown done known → EachFirst done known → EachFirst (done ++ cies) (first_cies key known cies)
+  first_on done known [] all each = subst (λ l. EachFirst l known) (sym (append-nil done)) each
+  first_on done known (c ∷ cies) all each =
+      let t = list_any (is_alike key c) known in
+      subst (λ l. EachFirst l (first_cies key (with_cie key known c) cies)) (append_assoc done (c ∷ []) cies)
+      (first_on (done ++ (c ∷ [])) (with_cie key known c) cies (known_with done known c t refl all) (first_with done known c t refl all each))
+
+  pub each_first : (cies : List FrameNo) → EachFirst cies (first_cies key [] cies)
+  each_first cies = first_on [] [] cies (λ i lt. absurd (omega (arith, lt))) (λ j lt. absurd (omega (arith, lt)))

@@ -18,7 +18,7 @@ use Rattle.eh_frame.specs.Laws.{IsInPlace, IsPlanned, comes_before}
 use Rattle.eh_frame.specs.Plan.{CieKey, cie_key, cie_no, is_alike, is_in_place, is_owner_in_place, plan_of, use_of, written_cies, written_fdes}
 use Rattle.eh_frame.specs.Uses.{cies_for}
 use Rattle.eh_frame.proofs.CieKeys.{cie_Decides}
-use Rattle.eh_frame.proofs.FirstCies.{first_apart, found_first}
+use Rattle.eh_frame.proofs.FirstCies.{each_first, first_apart, found_first}
 use Rattle.eh_frame.proofs.Membership.{from_filter, from_flat, from_map, from_range, in_filter, in_flat, in_map, in_range}
 use Rattle.eh_frame.proofs.NotedCies.{each_known}
 
@@ -188,6 +188,13 @@ module _ (files : List File) (b : Bindings) (merged : List (Option Merged)) (lis
       let passes = passes_at_first p cies (frame_no 0 0) low in
       (low, (cie_Decides (key (get_or cies (use_of key cies own) (frame_no 0 0))) (key own)).0 passes)
 
+  -- the number of each FDE's CIE, as it stands in the list
+  used_at : (fdes : List FrameNo) (k : ℕ) → k < length fdes →
+      get_or (map (λ (fde : FrameNo). use_of key (cies_for key own_cie fdes) (own_cie fde)) fdes) k 0 ≡ use_of key (cies_for key own_cie fdes) (get_or (map own_cie fdes) k (frame_no 0 0))
+  used_at fdes k lt =
+      get_or-map (λ (fde : FrameNo). use_of key (cies_for key own_cie fdes) (own_cie fde)) fdes k (frame_no 0 0) 0 lt
+      ∙ ap (use_of key (cies_for key own_cie fdes)) (sym (get_or-map own_cie fdes k (frame_no 0 0) (frame_no 0 0) lt))
+
   pub plan_laws : (leaders : List (Option ℕ)) → AreInOrder lists → IsPlanned files b merged lists leaders (plan_of files b merged lists leaders)
   unfolding plan_of written_cies
   plan_laws leaders order =
@@ -203,4 +210,18 @@ module _ (files : List File) (b : Bindings) (merged : List (Option Merged)) (lis
             let both = subst used (sym at) (one_use fdes k lt) in
             record { within = both.0; same = both.1 };
         apart = first_apart key [] (map own_cie fdes) (λ i j d lt high. absurd (omega (arith, high)));
+        firsts = λ j lt.
+            let f = each_first key (map own_cie fdes) j lt in
+            let f_among = f.among in
+            let among : f.at < length fdes = omega (arith, f_among, length-map fdes own_cie) in
+            record {
+              fde = f.at;
+              among = among;
+              is = f.is ∙ get_or-map own_cie fdes f.at (frame_no 0 0) (frame_no 0 0) among;
+              own = used_at fdes f.at among ∙ f.own;
+              before = λ k less.
+                  let same = used_at fdes k (omega (arith, less, among)) in
+                  let lesser = f.before k less in
+                  omega (arith, same, lesser);
+            };
       }

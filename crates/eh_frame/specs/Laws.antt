@@ -31,11 +31,21 @@ pub record HasItsCie (files : List File) (b : Bindings) (merged : List (Option M
   pub same : cie_key files b merged lists (slice_index_or plan.cies (slice_index plan.uses k) (frame_no 0 0))
       ≡ cie_key files b merged lists (cie_no lists (slice_index_or plan.fdes k (frame_no 0 0)))
 
+-- a CIE that is written is the one that the first FDE names which has its number, and all FDEs before that one have lesser numbers: CIEs stand in order
+-- of their first use
+pub record IsFirstUse (lists : List RecordList) (plan : PlanView) (j : ℕ) : Type 0 where
+  pub fde : ℕ
+  pub among : fde < length plan.fdes
+  pub is : slice_index_or plan.cies j (frame_no 0 0) ≡ cie_no lists (slice_index_or plan.fdes fde (frame_no 0 0))
+  pub own : slice_index plan.uses fde ≡ j
+  pub before : (k : ℕ) → k < fde → slice_index plan.uses k < j
+
 -- each FDE of a section whose own bytes are written is, and no other; they stand in order, so each is written once; each has a CIE equal to
--- its own; and no two of the CIEs are equal
+-- its own; no two of the CIEs are equal; and each is the first of those that say the same
 pub record IsPlanned (files : List File) (b : Bindings) (merged : List (Option Merged)) (lists : List RecordList) (leaders : List (Option ℕ)) (plan : PlanView) : Type 0 where
   pub each : (fde : FrameNo) → IsInPlace files b merged lists leaders fde → Contains plan.fdes fde
   pub others : All (IsInPlace files b merged lists leaders) plan.fdes
   pub order : AllPairs (λ first second. comes_before first second ≡ true) plan.fdes
   pub uses : (k : ℕ) → k < length plan.fdes → HasItsCie files b merged lists plan k
   pub apart : AllPairs (λ first second. cie_key files b merged lists first ≡ cie_key files b merged lists second → ⊥) plan.cies
+  pub firsts : (j : ℕ) → j < length plan.cies → IsFirstUse lists plan j

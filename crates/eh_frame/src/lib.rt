@@ -17,7 +17,7 @@
 //! (`planning`, `cies`). The layout asks for no more than how many bytes they have. After the layout workers test the values of their
 //! relocations (`checking`), make their bytes (`contents`) and list their functions (`header`), each those of a run of the records that
 //! are written, before the bytes of the executable, which copies them. Where a value of theirs does not fit, the values of all relocations
-//! are tested too, and the first by section is reported (`frames` of link_driver). `records_stand` does nothing while a program runs: its
+//! are tested too, and the first by section is reported (`frames` of link_driver). `prove_records_stand` does nothing while a program runs: its
 //! clause says that the FDEs stand so in what was made (`standing`).
 #![tactic(auto)]
 
@@ -45,4 +45,4 @@ pub use contents::write;
 pub use owners::table;
 pub use planning::plan;
 pub use sections::read_frames;
-pub use standing::records_stand;
+pub use standing::prove_records_stand;

@@ -63,7 +63,7 @@ pub fn plan<'t, R: Threads + Sync, G: Gate>(
     ensures lent { IfOk result (λ plan. plan.frames.now ≡ frames.now) }
     ensures small { IfOk result (λ plan. IsSmall (plan_view plan)) }
 {
-    tables.is_few();
+    tables.prove_few();
     let Uses { fdes, uses, firsts } = shared_uses(
         rt, alloc, tables, binding, pools, frames, leaders, workers, gate,
     )?;

@@ -16,7 +16,7 @@ use lk_tables::{FrameBytes, FramePlan};
 /// leads to a CIE that has the same bytes as its own and stands for the same, and `.eh_frame_hdr` has one entry for it, in order of the
 /// addresses of the functions. What is asked of the relocations of records is seen to where they are read. Nothing is done while a program
 /// runs: all that is said here is in the clause.
-pub fn records_stand(view: &View, plan: &FramePlan, bytes: &FrameBytes)
+pub fn prove_records_stand(view: &View, plan: &FramePlan, bytes: &FrameBytes)
     requires lists { AreListsWithin (files_in view.now) (lists_of plan.now.frames.now) }
     requires plain { ArePlain (lists_of plan.now.frames.now) }
     requires plan { plan_view plan.now ≡ plan_of (files_in view.now) (binding_in view.now) (laid_in view.now).merging.merged (lists_of plan.now.frames.now) (leaders_in view.now) }
@@ -24,5 +24,5 @@ pub fn records_stand(view: &View, plan: &FramePlan, bytes: &FrameBytes)
     requires header { bytes.now.header.items ≡ header_bytes (files_in view.now) (binding_in view.now) (leaders_in view.now) (laid_in view.now) (lists_of plan.now.frames.now) (plan_view plan.now) (laid_in view.now).bounds.frame_header (laid_in view.now).bounds.frames }
     ensures { HasUnwindRecords (files_in view.now) (binding_in view.now) (leaders_in view.now) (laid_in view.now) (lists_of plan.now.frames.now) (plan_view plan.now) bytes.now.frame.items bytes.now.header.items }
 {
-    view.tables.is_few();
+    view.tables.prove_few();
 }

@@ -1,7 +1,7 @@
 -- The headers of output sections one after the other, each with the offset of its name.
 use Rattle.std.proofs.Common.{◌≡◌, ℕ, Option, suc, ◌+◌, ◌<◌, ◌≤◌, ◌^◌, List, [], ◌∷◌, ◌++◌, length, map, drop, get_or, append_assoc, length-append, refl, ap, sym, ◌∙◌, arith}
 use Rattle.std.proofs.Math.Seq.{drop-cons}
-use Rattle.link_sections.specs.declared.layouts.Output.{Output}
+use Rattle.link_sections.specs.declared.layouts.OutputSection.{OutputSection as HeldSection}
 use Rattle.link_sections.specs.LaidOut.{OutputSection, output_view}
 use Rattle.elf_fields.specs.declared.headers.SectionHeader.{SectionHeader}
 use Rattle.elf_fields.specs.Headers.{section_header}
@@ -36,15 +36,15 @@ along_next all rest later o old now next name k e pushed more a =
       named = omega (arith, names_long rest later o e, a.named);
     }
 
-rest_is : (xs : List Output) (i : ℕ) (d : Output) → i < length xs → map output_view (drop i xs) ≡ output_view (get_or xs i d) ∷ map output_view (drop (i + 1) xs)
+rest_is : (xs : List HeldSection) (i : ℕ) (d : HeldSection) → i < length xs → map output_view (drop i xs) ≡ output_view (get_or xs i d) ∷ map output_view (drop (i + 1) xs)
 rest_is xs i d lt =
     let e : suc i ≡ i + 1 = omega arith in
     ap (map output_view) (drop-cons xs i d lt) ∙ ap (λ k. output_view (get_or xs i d) ∷ map output_view (drop k xs)) e
 
-name_is : (o : Output) → (output_view o).name ≡ o.name.now
+name_is : (o : HeldSection) → (output_view o).name ≡ o.name.now
 name_is o = refl
 
-pub along_step : (xs : List Output) (i : ℕ) (d : Output) (old now next : List ℕ) (name k : ℕ) (h : SectionHeader)
+pub along_step : (xs : List HeldSection) (i : ℕ) (d : HeldSection) (old now next : List ℕ) (name k : ℕ) (h : SectionHeader)
     → h ≡ output_section name (output_view (get_or xs i d)) → next ≡ now ++ section_header h
     → k ≡ name + (length (get_or xs i d).name.now + 1) → i < length xs
     → Along (map output_view xs) (map output_view (drop i xs)) old now name → Along (map output_view xs) (map output_view (drop (i + 1) xs)) old next k
@@ -95,7 +95,7 @@ counted_first outputs tables size is few = record {
   small = omega (arith, few);
 }
 
-pub counted_step : (xs : List Output) (tables : Option SymbolTables) (i : ℕ) (d : Output) (size sum : ℕ) → i < length xs → sum ≡ size + (length (get_or xs i d).name.now + 1)
+pub counted_step : (xs : List HeldSection) (tables : Option SymbolTables) (i : ℕ) (d : HeldSection) (size sum : ℕ) → i < length xs → sum ≡ size + (length (get_or xs i d).name.now + 1)
     → sum < 2 ^ 62 → Counted (map output_view xs) (map output_view (drop i xs)) tables size
     → Counted (map output_view xs) (map output_view (drop (i + 1) xs)) tables sum
 counted_step xs tables i d size sum lt is few held =

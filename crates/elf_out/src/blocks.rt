@@ -47,7 +47,7 @@ pub fn block(
     ensures goes { Passes result (touching_defects (files_in view.now) (binding_in view.now) (leaders_in view.now) (laid_in view.now) (65536 * k) (length out.old)) }
     ensures sure { relocation_defects (files_in view.now) (binding_in view.now) (leaders_in view.now) (laid_in view.now) ≡ [] → IsOk result }
 {
-    is_short(view, prepared);
+    prove_short(view, prepared);
     let from = BLOCK * k;
     clear(out);
     lay_headers(out, from, view, prepared);
@@ -61,7 +61,7 @@ pub fn block(
 }
 
 /// That 63 bits hold the length of a file. Nothing is done while a program runs.
-fn is_short(view: &View, prepared: &Prepared)
+fn prove_short(view: &View, prepared: &Prepared)
     requires { IsPreparedFor view.now prepared.now }
     ensures { spec.file_length (laid_in view.now) (tables_in view.now) < 2 ^ 63 }
 {}
@@ -83,7 +83,7 @@ pub fn fill_window<R: Threads + Sync, G: Gate>(
     requires within { 65536 * k + length window.old ≤ spec.file_length (laid_in view.now) (tables_in view.now) }
     ensures { window.new ≡ take (length window.old) (drop (65536 * k) (spec.executable (files_in view.now) (binding_in view.now) view.now.kept.now view.now.strip (leaders_in view.now) (laid_in view.now) (frame_contents frames.now))) }
 {
-    is_short(view, prepared);
+    prove_short(view, prepared);
     fill_blocks(rt, window, BLOCK * k, view, frames, prepared, gate);
 }
 

@@ -28,5 +28,5 @@ mod symbols;
 pub use blocks::{BLOCK, block, fill_window};
 pub use prepared::{Prepared, prepare, prepare_unchecked};
 pub use segments::headers;
-pub use standing::file_stands;
+pub use standing::prove_file_stands;
 pub use symbols::{SymbolTables, symtab};

@@ -69,7 +69,7 @@ pub fn prepare<R: Threads + Sync, G: Gate>(
         return Ok(prepared);
     }
     let mut entries = list_symbols(rt, alloc, view, workers, &OpenGate)?;
-    let (checked, prepared) = prepare_beside(rt, alloc, view, &mut entries, workers, gate);
+    let (checked, prepared) = prepare_in_parallel(rt, alloc, view, &mut entries, workers, gate);
     // A relocation that can't be done is reported even where memory for the parts made meanwhile has run out.
     match checked {
         Ok(()) => {}
@@ -83,7 +83,7 @@ pub fn prepare<R: Threads + Sync, G: Gate>(
 
 /// Whether all relocations can be done, and what is made of a file before its first block, of the entries of its symbols. A thread each does
 /// both, since neither needs the other.
-fn prepare_beside<R: Threads + Sync, G: Gate>(
+fn prepare_in_parallel<R: Threads + Sync, G: Gate>(
     rt: &R,
     alloc: Global,
     view: &View,

@@ -8,7 +8,7 @@ ghost use Rattle.link_sections.specs.LaidOut.{output_view};
 use crate::header_bytes::offset_of;
 use crate::symbols::SymbolTables;
 use elf_fields::{SectionHeader, push_name, push_section_header};
-use link_sections::Output;
+use link_sections::OutputSection;
 use lk_base::abi::{SHT_NULL, SHT_STRTAB, SHT_SYMTAB, SYM_SIZE};
 use std::alloc::{AllocError, Global};
 
@@ -34,7 +34,7 @@ const NULL_SECTION: SectionHeader = SectionHeader {
 };
 
 /// Adds the names of output sections.
-fn push_output_names(out: &mut Vec<u8>, outputs: &[Output]) -> Result<(), AllocError>
+fn push_output_names(out: &mut Vec<u8>, outputs: &[OutputSection]) -> Result<(), AllocError>
     ensures { OnOk result (out.new.items ≡ out.old.items ++ spec.output_names (map output_view outputs.now)) }
 {
     for output in outputs {
@@ -61,7 +61,7 @@ fn push_table_names(out: &mut Vec<u8>, tables: &Option<SymbolTables>) -> Result<
 #[tactic(auto, unfolding(crate::specs::Headers::section_names, crate::specs::Headers::own_name))]
 pub fn name_bytes(
     alloc: Global,
-    outputs: &[Output],
+    outputs: &[OutputSection],
     tables: &Option<SymbolTables>,
 ) -> Result<Vec<u8>, AllocError>
     ensures { IfOk result (λ v. v.items ≡ spec.section_names (map output_view outputs.now) (tables_if tables.now)) }
@@ -75,7 +75,10 @@ pub fn name_bytes(
 }
 
 /// How many bytes the names have; out of memory if no memory holds so many.
-pub fn names_size(outputs: &[Output], tables: &Option<SymbolTables>) -> Result<u64, AllocError>
+pub fn names_size(
+    outputs: &[OutputSection],
+    tables: &Option<SymbolTables>,
+) -> Result<u64, AllocError>
     ensures value { IfOk result (λ size. size ≡ length (spec.section_names (map output_view outputs.now) (tables_if tables.now))) }
     ensures small { IfOk result (λ size. size < 2 ^ 62) }
 {
@@ -112,7 +115,7 @@ fn with_name(size: u64, name: &[u8]) -> Result<u64, AllocError>
 }
 
 /// The header of an output section whose name starts at `name`.
-fn output_section(name: u64, output: &Output) -> SectionHeader
+fn output_section(name: u64, output: &OutputSection) -> SectionHeader
     ensures { result ≡ spec.output_section name (output_view output.now) }
 {
     SectionHeader {
@@ -166,7 +169,7 @@ fn symbols_section(name: u64, offset: u64, size: u64, strings: u64) -> SectionHe
 }
 
 /// Adds the headers of output sections, and gives where the name after theirs starts.
-fn push_output_headers(out: &mut Vec<u8>, outputs: &[Output]) -> Result<u64, AllocError>
+fn push_output_headers(out: &mut Vec<u8>, outputs: &[OutputSection]) -> Result<u64, AllocError>
     requires { length (spec.output_names (map output_view outputs.now)) < 2 ^ 63 }
     ensures written { OnOk result (out.new.items ≡ out.old.items ++ spec.output_headers 1 (map output_view outputs.now)) }
     ensures next { IfOk result (λ name. name ≡ 1 + length (spec.output_names (map output_view outputs.now))) }
@@ -207,7 +210,7 @@ fn push_table_headers(
 /// The section headers, if the symbol table stands at the file offset `at` and the names, of so many bytes, at `offset`.
 pub fn header_table(
     alloc: Global,
-    outputs: &[Output],
+    outputs: &[OutputSection],
     tables: &Option<SymbolTables>,
     at: u64,
     offset: u64,

@@ -11,7 +11,7 @@ use lk_tables::FrameBytes;
 /// That each piece of which the executable is made stands whole in it, and so do the bytes of each section; the unwind records and the headers do
 /// where the records have the bytes for which there is room. Nothing is done while a program runs: all that is said here is in the clauses.
 #[tactic(auto, unfolding(crate::specs::Executable::executable))]
-pub fn file_stands(view: &View, frames: &FrameBytes)
+pub fn prove_file_stands(view: &View, frames: &FrameBytes)
     ensures sections { SectionsStand (files_in view.now) (binding_in view.now) (leaders_in view.now) (laid_in view.now) (executable (files_in view.now) (binding_in view.now) view.now.kept.now view.now.strip (leaders_in view.now) (laid_in view.now) (frame_contents frames.now)) }
     ensures pieces { PiecesStand (files_in view.now) (binding_in view.now) (leaders_in view.now) (laid_in view.now) (tables_in view.now) (executable (files_in view.now) (binding_in view.now) view.now.kept.now view.now.strip (leaders_in view.now) (laid_in view.now) (frame_contents frames.now)) }
     ensures frames { FitFrames view.now.layout.now.bounds (frame_contents frames.now) → FramesStand (laid_in view.now) (frame_contents frames.now) (executable (files_in view.now) (binding_in view.now) view.now.kept.now view.now.strip (leaders_in view.now) (laid_in view.now) (frame_contents frames.now)) }

@@ -95,7 +95,7 @@ fn tables_of<R: Threads + Sync>(
     if workers == 1 || list.len() < LEAST {
         return tables_alone(alloc, list);
     }
-    tables_beside(rt, alloc, list)
+    make_tables_in_parallel(rt, alloc, list)
 }
 
 /// The two tables, one after the other.
@@ -110,7 +110,7 @@ fn tables_alone(alloc: Global, list: &[TableSymbol]) -> Result<SymbolTables, All
 
 /// The two tables at the same time.
 #[tactic(auto, unfolding(crate::specs::Symbols::symbol_tables))]
-fn tables_beside<R: Threads + Sync>(
+fn make_tables_in_parallel<R: Threads + Sync>(
     rt: &R,
     alloc: Global,
     list: &[TableSymbol],

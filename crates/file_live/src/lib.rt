@@ -19,4 +19,4 @@ mod pulls;
 mod search;
 
 pub use live_files::live;
-pub use order::archives_stand_anywhere;
+pub use order::prove_archives_stand_anywhere;

@@ -10,7 +10,7 @@ use lk_tables::File;
 
 /// That an archive may stand anywhere among the objects of a command: the same files take part wherever each object stands, as long as members come
 /// one after another as they do. Nothing is done while a program runs: all that is said here is in the clause.
-pub fn archives_stand_anywhere(files: &[File], undefined: &[Vec<u8>])
+pub fn prove_archives_stand_anywhere(files: &[File], undefined: &[Vec<u8>])
     requires files { length files.now < 2 ^ 24 }
     requires symbols { symbol_total (file_views files.now) < 2 ^ 31 }
     ensures { StandsAnywhere (lists_of undefined.now) (file_views files.now) }

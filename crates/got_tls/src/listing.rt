@@ -31,7 +31,7 @@ pub fn entries(
     ensures value { IfOk result (λ got. entries_of got ≡ got_of (files_of tables.now) leaders.now) }
     ensures law { IfOk result (λ got. HasAllUses (files_of tables.now) leaders.now (entries_of got)) }
 {
-    tables.is_few();
+    tables.prove_few();
     let mut got = Got::empty(alloc);
     for section in 0..tables.section_count() as u32 {
         add_by_uppers(&mut got, tables, numbers, uppers, leaders, section)?;
@@ -116,7 +116,7 @@ fn add_reloc(
     requires symbol { reloc.now.symbol < length (file_at (files_of tables.now) file).head.symbols }
     ensures { OnOk result (entries_of got.new ≡ all_added (entries_of got.old) (wanted_by (files_of tables.now) file reloc.now)) }
 {
-    tables.is_few();
+    tables.prove_few();
     let Some(usage) = use_of(reloc.kind) else {
         return Ok(());
     };

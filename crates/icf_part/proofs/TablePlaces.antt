@@ -4,7 +4,7 @@ use Rattle.std.specs.List.Sorted.{IsStrictlyIncreasing}
 use Rattle.std.proofs.lemmas.Bool.{cases_eq, cases_lt, cond-false, cond-true, eq-eqb, ne_eqb}
 use Rattle.std.proofs.lemmas.List.{get_or-replicate, get_or-set_other, get_or-set_same, get_or_past, length-replicate, length-set}
 use Rattle.std.proofs.lemmas.List.Kept.{AllPairs-from_increasing}
-use Rattle.icf_part.specs.PlaceTables.{IsPlaceTable, told_place}
+use Rattle.icf_part.specs.PlaceTables.{IsPlaceTable, place_in_table}
 use Rattle.icf_part.specs.Signatures.{place_of}
 use Rattle.icf_part.proofs.SectionPlaces.{no_place, placed, rising}
 
@@ -83,16 +83,16 @@ table_own n sections k table are = record { wide = refl; each = are.each; low = 
 pub below_last : (sections : List ℕ) (last : ℕ) → IsStrictlyIncreasing sections → last ≡ get_or sections (length sections - 1) 0 → (k : ℕ) → k < length sections → get_or sections k 0 < last + 1
 below_last sections last order is k lt = omega (arith, rising sections order k (length sections - 1) (omega (arith, lt)) (omega (arith, lt)), is)
 
-told_none : (number : ℕ) → number ≡ 0 → told_place number ≡ None
-unfolding told_place
+told_none : (number : ℕ) → number ≡ 0 → place_in_table number ≡ None
+unfolding place_in_table
 told_none number is = cond-true (number == 0) None (Some (number - 1)) (eq-eqb number 0 is)
 
-told_some : (number : ℕ) → 1 ≤ number → told_place number ≡ Some (number - 1)
-unfolding told_place
+told_some : (number : ℕ) → 1 ≤ number → place_in_table number ≡ Some (number - 1)
+unfolding place_in_table
 told_some number some = cond-false (number == 0) None (Some (number - 1)) (ne_eqb number 0 (λ e. omega (arith, some, e)))
 
 pub table_tells : (n : ℕ) (sections table : List ℕ) (section : ℕ) → IsStrictlyIncreasing sections → IsPlaceTable n sections (length sections) table →
-    told_place (get_or table section 0) ≡ place_of sections section
+    place_in_table (get_or table section 0) ≡ place_of sections section
 table_tells n sections table section order are =
     let number = get_or table section 0 in
     ⊎_elim

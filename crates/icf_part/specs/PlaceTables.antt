@@ -9,5 +9,5 @@ pub record IsPlaceTable (n : ℕ) (sections : List ℕ) (k : ℕ) (table : List 
   pub others : (section : ℕ) → 1 ≤ slice_index table section → slice_index sections (slice_index table section - 1) ≡ section
 
 -- the place that a number of a table tells
-unfoldable pub told_place : ℕ → Option ℕ
-told_place number = if number == 0 then None else Some (number - 1)
+unfoldable pub place_in_table : ℕ → Option ℕ
+place_in_table number = if number == 0 then None else Some (number - 1)

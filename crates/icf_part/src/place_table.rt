@@ -2,7 +2,7 @@
 
 ghost use Rattle.std.specs.Prelude.{◌≡◌, ℕ, ◌-◌, ◌<◌, ◌^◌, length, slice_index, IfOk};
 ghost use Rattle.std.specs.List.Sorted.{IsStrictlyIncreasing};
-ghost use Rattle.icf_part.specs.PlaceTables.{IsPlaceTable, told_place};
+ghost use Rattle.icf_part.specs.PlaceTables.{IsPlaceTable, place_in_table};
 ghost use Rattle.icf_part.specs.Signatures as spec;
 
 use lk_base::SecNo;
@@ -45,7 +45,7 @@ impl Places {
         requires { IsStrictlyIncreasing self.now }
         ensures { result ≡ spec.place_of self.now section }
     {
-        place_told(number_at(self.table.as_slice(), section as usize))
+        place_of_entry(number_at(self.table.as_slice(), section as usize))
     }
 }
 
@@ -89,9 +89,9 @@ fn number_at(numbers: &[u32], place: usize) -> u32
 }
 
 /// The place that a number of a table tells.
-#[tactic(auto, unfolding(crate::specs::PlaceTables::told_place))]
-fn place_told(number: u32) -> Option<u32>
-    ensures { result ≡ told_place number }
+#[tactic(auto, unfolding(crate::specs::PlaceTables::place_in_table))]
+fn place_of_entry(number: u32) -> Option<u32>
+    ensures { result ≡ place_in_table number }
 {
     if number == 0 {
         return None;

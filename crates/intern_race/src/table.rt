@@ -18,7 +18,7 @@ use crate::texts::Texts;
 use atomic_table::{Seat, Table};
 use std::alloc::{AllocError, Global};
 use std::marker::Model;
-use std::thread::{Threads, join_mut};
+use std::thread::{Threads, join};
 
 /// The word of an empty slot.
 const NONE: u64 = 0xffff_ffff_ffff_ffff;
@@ -81,10 +81,10 @@ impl<'a> Interner<'a> {
         open_with(alloc, texts, slots, row)
     }
 
-    /// A table as of [`open`](Interner::open), made by two threads. Another thread makes the row of empty slots that the table begins with, and this
-    /// one meanwhile takes as much memory and gives it back, which is where the table comes to lie: so each of both asks the system for half of what
-    /// is new.
-    pub fn open_beside<R: Threads + Sync>(
+    /// A table as of [`open`](Interner::open), made by two threads. Another thread fills the row of empty slots that the table begins with, and this
+    /// one meanwhile fills as much memory and gives it back, which is where the table comes to lie: so each of both asks the system for half of what
+    /// is new. Both lie in this thread's memory, so the lists that it makes next lie in what the row leaves.
+    pub fn open_in_parallel<R: Threads + Sync>(
         rt: &R,
         alloc: Global,
         texts: &'a Texts<'a>,
@@ -95,12 +95,17 @@ impl<'a> Interner<'a> {
         ensures seat { IfOk result (λ r. r.1 ≡ first_seat r.0) }
     {
         let slots = slots_for(texts.len());
-        let (row, spare) = join_mut(
+        let row = Vec::with_capacity(alloc, slots)?;
+        let spare = Vec::with_capacity(alloc, slots)?;
+        let (row, spare) = join(
             rt,
-            &mut || -> Result<Vec<u64>, AllocError>
+            move || -> Result<Vec<u64>, AllocError>
+                requires { row.items ≡ [] }
                 ensures { IfOk result (λ row. row.items ≡ replicate slots specs.none) }
-            { vec![in alloc; NONE; slots] },
-            &mut || -> Result<Vec<u64>, AllocError> { vec![in alloc; NONE; slots] },
+            { filled(row, slots) },
+            move || -> Result<Vec<u64>, AllocError>
+                requires { spare.items ≡ [] }
+            { filled(spare, slots) },
         );
         let row = row?;
         drop(spare);
@@ -409,6 +414,16 @@ fn least_of(word: u64) -> u32
     ensures { result ≡ specs.least word }
 {
     (word / 0x1_0000_0000) as u32
+}
+
+// So many empty slots, put into a list that is empty.
+fn filled(row: Vec<u64>, slots: usize) -> Result<Vec<u64>, AllocError>
+    requires { row.items ≡ [] }
+    ensures { IfOk result (λ row. row.items ≡ replicate slots specs.none) }
+{
+    let mut row = row;
+    row.resize(slots, NONE)?;
+    Ok(row)
 }
 
 /// How many slots a table for so many texts has.

@@ -25,7 +25,7 @@ use Rattle.layout.specs.Walk.{cursor_at, member_at}
 use Rattle.output_sections.proofs.ClassSums.{each_class}
 use Rattle.output_sections.proofs.ItemFacts.{all_flat, same_section}
 use Rattle.layout.proofs.MemberFacts.{each_member, each_of}
-use Rattle.layout.proofs.Trails.{all_members, trail_zeros}
+use Rattle.layout.proofs.Trails.{all_members, trail_nobits}
 
 -- an item or a row that is a section has its alignment
 abbrev HasAlign : List File → Bindings → Content → (align : ℕ) → Type 0
@@ -89,9 +89,9 @@ module _ (files : List File) (b : Bindings) (sizes : List (List Cut)) where
   aligned_members o bounds all = each_member (RowAlign files b) (IsAligned files b) sizes aligned_one o bounds all
 
   -- and those without bytes in the file
-  pub aligned_zeros : (parts : List Item) (o : Orders) (bounds : Bounds) (sections pools : ℕ) → ((class : Class) → All (RowAlign files b) (rows_in o class))
-      → All (IsAligned files b) (trail_of sizes parts o bounds (no_trail sections pools)).zeros
-  aligned_zeros parts o bounds sections pools all =
-      rw (trail_zeros sizes parts o bounds sections pools)
+  pub aligned_nobits : (parts : List Item) (o : Orders) (bounds : Bounds) (sections pools : ℕ) → ((class : Class) → All (RowAlign files b) (rows_in o class))
+      → All (IsAligned files b) (trail_of sizes parts o bounds (no_trail sections pools)).nobits_members
+  aligned_nobits parts o bounds sections pools all =
+      rw (trail_nobits sizes parts o bounds sections pools)
       (All-append (IsAligned files b) _ _ (each_of (RowAlign files b) (IsAligned files b) sizes aligned_one (after_tls_bits sizes o bounds.rw_start bounds.tls_align) (rows_in o TlsNobits) (all TlsNobits))
       (each_of (RowAlign files b) (IsAligned files b) sizes aligned_one (cursor_at bounds.bits_end) (rows_in o RwNobits) (all RwNobits)))

@@ -11,9 +11,9 @@ use Rattle.output_sections.specs.declared.rows.Row.{Row}
 use Rattle.layout.specs.declared.frames.FrameBounds.{FrameBounds}
 use Rattle.layout.specs.declared.walk.Cursor.{Cursor}
 use Rattle.output_sections.specs.Items.{Item}
-use Rattle.layout.specs.Layout.{FrameSizes, after_tls_bits, frame_section, frame_sections, frames_in, last_end, no_trail, tls_cursor, trail_of, with_bits, with_frames, with_zeros}
+use Rattle.layout.specs.Layout.{FrameSizes, after_tls_bits, frame_section, frame_sections, frames_in, last_end, no_trail, tls_cursor, trail_of, with_bits, with_frames, with_nobits}
 use Rattle.output_sections.specs.Order.{Orders, rows_in}
-use Rattle.layout.specs.Spots.{AreApart, AreRising, IsWithinClass, bytes_end, class_end, class_start, is_tls_nobits, without_tls_zeros}
+use Rattle.layout.specs.Spots.{AreApart, AreRising, IsWithinClass, bytes_end, class_end, class_start, is_tls_nobits, without_tls_nobits}
 use Rattle.layout.specs.Walk.{after, cursor_at, end_along, is_empty, past, runs, section_in, section_of, sections_along, start_of}
 use Rattle.layout.proofs.Chain.{AreBounds}
 use Rattle.layout.proofs.Cursors.{Moves, RowFits, after_moves, least_along, past_least, start_least}
@@ -34,7 +34,7 @@ all_sections sizes parts o b = sections_along sizes parts R (cursor_at b.headers
 
 pub trail_outputs : (sizes : List (List Cut)) (parts : List Item) (o : Orders) (b : Bounds) (sections pools : ℕ)
     → (trail_of sizes parts o b (no_trail sections pools)).outputs ≡ all_sections sizes parts o b
-unfolding trail_of with_bits with_frames with_zeros
+unfolding trail_of with_bits with_frames with_nobits
 trail_outputs sizes parts o b sections pools = simp append_assoc
 
 -- one output section before those after it
@@ -62,45 +62,45 @@ along sizes parts class c from (o ∷ os) later le fit k =
 
 -- a class is kept whole, or left out
 keep_by : (e : Bool) (parts : List Item) (class : Class) (o : List Row) (start end : ℕ) (later : List OutputSection) → is_tls_nobits class ≡ false
-    → without_tls_zeros ((if e then [] else section_of parts class o start end ∷ []) ++ later) ≡ (if e then [] else section_of parts class o start end ∷ []) ++ without_tls_zeros later
+    → without_tls_nobits ((if e then [] else section_of parts class o start end ∷ []) ++ later) ≡ (if e then [] else section_of parts class o start end ∷ []) ++ without_tls_nobits later
 unfolding section_of
 keep_by true parts class o start end later stays = refl
 keep_by false parts class o start end later stays = rw stays refl
 
 drop_by : (e : Bool) (parts : List Item) (o : List Row) (start end : ℕ) (later : List OutputSection)
-    → without_tls_zeros ((if e then [] else section_of parts TlsNobits o start end ∷ []) ++ later) ≡ without_tls_zeros later
+    → without_tls_nobits ((if e then [] else section_of parts TlsNobits o start end ∷ []) ++ later) ≡ without_tls_nobits later
 unfolding section_of
 drop_by true parts o start end later = refl
 drop_by false parts o start end later = refl
 
 keep_along : (sizes : List (List Cut)) (parts : List Item) (class : Class) (c : Cursor) (os : List (List Row)) (later : List OutputSection) → is_tls_nobits class ≡ false
-    → without_tls_zeros (sections_along sizes parts class c os ++ later) ≡ sections_along sizes parts class c os ++ without_tls_zeros later
+    → without_tls_nobits (sections_along sizes parts class c os ++ later) ≡ sections_along sizes parts class c os ++ without_tls_nobits later
 unfolding section_in
 keep_along sizes parts class c [] later stays = refl
 keep_along sizes parts class c (o ∷ os) later stays =
     let s : List OutputSection = if is_empty o then [] else section_of parts class o (start_of c o) (past sizes (start_of c o) o) ∷ [] in
     let rest : List OutputSection = sections_along sizes parts class (after sizes c o) os in
-    ap without_tls_zeros (append_assoc s rest later)
+    ap without_tls_nobits (append_assoc s rest later)
     ∙ keep_by (is_empty o) parts class o (start_of c o) (past sizes (start_of c o) o) (rest ++ later) stays
-    ∙ ap (λ l. s ++ l) (keep_along sizes parts class (after sizes c o) os later stays) ∙ sym (append_assoc s rest (without_tls_zeros later))
+    ∙ ap (λ l. s ++ l) (keep_along sizes parts class (after sizes c o) os later stays) ∙ sym (append_assoc s rest (without_tls_nobits later))
 
 drop_along : (sizes : List (List Cut)) (parts : List Item) (c : Cursor) (os : List (List Row)) (later : List OutputSection)
-    → without_tls_zeros (sections_along sizes parts TlsNobits c os ++ later) ≡ without_tls_zeros later
+    → without_tls_nobits (sections_along sizes parts TlsNobits c os ++ later) ≡ without_tls_nobits later
 unfolding section_in
 drop_along sizes parts c [] later = refl
 drop_along sizes parts c (o ∷ os) later =
     let s : List OutputSection = if is_empty o then [] else section_of parts TlsNobits o (start_of c o) (past sizes (start_of c o) o) ∷ [] in
     let rest : List OutputSection = sections_along sizes parts TlsNobits (after sizes c o) os in
-    ap without_tls_zeros (append_assoc s rest later)
+    ap without_tls_nobits (append_assoc s rest later)
     ∙ drop_by (is_empty o) parts o (start_of c o) (past sizes (start_of c o) o) (rest ++ later) ∙ drop_along sizes parts (after sizes c o) os later
 
 -- the unwind records, by whether they are there
 keep_by_frames : (t : Bool) (header frame : OutputSection) (later : List OutputSection) → is_tls_nobits header.class ≡ false → is_tls_nobits frame.class ≡ false
-    → without_tls_zeros ((if t then header ∷ frame ∷ [] else []) ++ later) ≡ (if t then header ∷ frame ∷ [] else []) ++ without_tls_zeros later
+    → without_tls_nobits ((if t then header ∷ frame ∷ [] else []) ++ later) ≡ (if t then header ∷ frame ∷ [] else []) ++ without_tls_nobits later
 keep_by_frames true header frame later first second = rw (first, second) refl
 keep_by_frames false header frame later first second = refl
 
-keep_frames : (f : FrameBounds) (later : List OutputSection) → without_tls_zeros (frame_sections f ++ later) ≡ frame_sections f ++ without_tls_zeros later
+keep_frames : (f : FrameBounds) (later : List OutputSection) → without_tls_nobits (frame_sections f ++ later) ≡ frame_sections f ++ without_tls_nobits later
 keep_frames f later =
     keep_by_frames f.has_frames (frame_section (codes ".eh_frame_hdr") f.header f.header_end 4) (frame_section (codes ".eh_frame") f.frames f.frames_end 8) later refl refl
 
@@ -149,7 +149,7 @@ frames_within sizes o fs b is rises le =
     ])
 
 pub outputs_apart : (sizes : List (List Cut)) (parts : List Item) (o : Orders) (fs : FrameSizes) (b : Bounds) → AllFit sizes o → AreBounds sizes o fs b → AreRising b
-    → AreApart b.headers_end (without_tls_zeros (all_sections sizes parts o b))
+    → AreApart b.headers_end (without_tls_nobits (all_sections sizes parts o b))
 outputs_apart sizes parts o fs b fit is rises =
     let tn : List OutputSection = sections_along sizes parts TlsNobits (after_tls_bits sizes o b.rw_start b.tls_align) (runs (rows_in o TlsNobits)) in
     let wb : List OutputSection = sections_along sizes parts RwBits (cursor_at b.tls_bits_end) (runs (rows_in o RwBits)) in
@@ -158,9 +158,9 @@ outputs_apart sizes parts o fs b fit is rises =
     let tb : List OutputSection = sections_along sizes parts TlsBits (tls_cursor sizes o b.rw_start b.tls_align) (runs (rows_in o TlsBits)) in
     let r : List OutputSection = sections_along sizes parts R (cursor_at b.headers_end) (runs (rows_in o R)) in
     let u : List OutputSection = frame_sections (frames_in b) in
-    let last : without_tls_zeros wn ≡ wn ++ [] =
-    ap without_tls_zeros (sym (append-nil wn)) ∙ keep_along sizes parts RwNobits (cursor_at b.bits_end) (runs (rows_in o RwNobits)) [] refl in
-    let whole : without_tls_zeros (all_sections sizes parts o b) ≡ r ++ (u ++ (x ++ (tb ++ (wb ++ (wn ++ []))))) =
+    let last : without_tls_nobits wn ≡ wn ++ [] =
+    ap without_tls_nobits (sym (append-nil wn)) ∙ keep_along sizes parts RwNobits (cursor_at b.bits_end) (runs (rows_in o RwNobits)) [] refl in
+    let whole : without_tls_nobits (all_sections sizes parts o b) ≡ r ++ (u ++ (x ++ (tb ++ (wb ++ (wn ++ []))))) =
     keep_along sizes parts R (cursor_at b.headers_end) (runs (rows_in o R)) (u ++ (x ++ (tb ++ (tn ++ (wb ++ wn))))) refl
     ∙ ap (λ l. r ++ l) (keep_frames (frames_in b) (x ++ (tb ++ (tn ++ (wb ++ wn))))
     ∙ ap (λ l. u ++ l) (keep_along sizes parts Rx (cursor_at b.rx_start) (runs (rows_in o Rx)) (tb ++ (tn ++ (wb ++ wn))) refl

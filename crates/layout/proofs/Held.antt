@@ -112,10 +112,10 @@ kind_tls true w x true is = cc
 kind_tls true w x false is = refl
 kind_tls false w x n is = cc
 
-kind_tls_zeros : (t w x n : Bool) → (t && n) ≡ true → kind_by t w x n ≡ TlsNobits
-kind_tls_zeros true w x true is = refl
-kind_tls_zeros true w x false is = cc
-kind_tls_zeros false w x n is = cc
+kind_tls_nobits : (t w x n : Bool) → (t && n) ≡ true → kind_by t w x n ≡ TlsNobits
+kind_tls_nobits true w x true is = refl
+kind_tls_nobits true w x false is = cc
+kind_tls_nobits false w x n is = cc
 
 kind_rw : (t w x n : Bool) → (not t && w && not n) ≡ true → kind_by t w x n ≡ RwBits
 kind_rw true w x n is = cc
@@ -123,30 +123,30 @@ kind_rw false false x n is = cc
 kind_rw false true x true is = cc
 kind_rw false true x false is = refl
 
-kind_rw_zeros : (t w x n : Bool) → (not t && w && n) ≡ true → kind_by t w x n ≡ RwNobits
-kind_rw_zeros true w x n is = cc
-kind_rw_zeros false false x n is = cc
-kind_rw_zeros false true x true is = refl
-kind_rw_zeros false true x false is = cc
+kind_rw_nobits : (t w x n : Bool) → (not t && w && n) ≡ true → kind_by t w x n ≡ RwNobits
+kind_rw_nobits true w x n is = cc
+kind_rw_nobits false false x n is = cc
+kind_rw_nobits false true x true is = refl
+kind_rw_nobits false true x false is = cc
 
 kind_is : (class : Class) (sh_type flags : ℕ) → is_in class sh_type flags ≡ true → kind_of sh_type flags ≡ class
 unfolding is_in
 kind_is R sh_type flags is = kind_r (is_tls flags) (may_write flags) (may_execute flags) (is_nobits sh_type) is
 kind_is Rx sh_type flags is = kind_rx (is_tls flags) (may_write flags) (may_execute flags) (is_nobits sh_type) is
 kind_is TlsBits sh_type flags is = kind_tls (is_tls flags) (may_write flags) (may_execute flags) (is_nobits sh_type) is
-kind_is TlsNobits sh_type flags is = kind_tls_zeros (is_tls flags) (may_write flags) (may_execute flags) (is_nobits sh_type) is
+kind_is TlsNobits sh_type flags is = kind_tls_nobits (is_tls flags) (may_write flags) (may_execute flags) (is_nobits sh_type) is
 kind_is RwBits sh_type flags is = kind_rw (is_tls flags) (may_write flags) (may_execute flags) (is_nobits sh_type) is
-kind_is RwNobits sh_type flags is = kind_rw_zeros (is_tls flags) (may_write flags) (may_execute flags) (is_nobits sh_type) is
+kind_is RwNobits sh_type flags is = kind_rw_nobits (is_tls flags) (may_write flags) (may_execute flags) (is_nobits sh_type) is
 
 -- and each has one
 has_kind_by : (P : Class → Type 0) (t w x n : Bool) → ((not t && not w && not x) ≡ true → P R) → ((not t && not w && x) ≡ true → P Rx) → ((t && not n) ≡ true → P TlsBits)
     → ((t && n) ≡ true → P TlsNobits) → ((not t && w && not n) ≡ true → P RwBits) → ((not t && w && n) ≡ true → P RwNobits) → P (kind_by t w x n)
-has_kind_by P true w x true r rx tls tls_zeros rw_bits zeros = tls_zeros refl
-has_kind_by P true w x false r rx tls tls_zeros rw_bits zeros = tls refl
-has_kind_by P false true x true r rx tls tls_zeros rw_bits zeros = zeros refl
-has_kind_by P false true x false r rx tls tls_zeros rw_bits zeros = rw_bits refl
-has_kind_by P false false true n r rx tls tls_zeros rw_bits zeros = rx refl
-has_kind_by P false false false n r rx tls tls_zeros rw_bits zeros = r refl
+has_kind_by P true w x true r rx tls tls_nobits_members rw_bits nobits_members = tls_nobits_members refl
+has_kind_by P true w x false r rx tls tls_nobits_members rw_bits nobits_members = tls refl
+has_kind_by P false true x true r rx tls tls_nobits_members rw_bits nobits_members = nobits_members refl
+has_kind_by P false true x false r rx tls tls_nobits_members rw_bits nobits_members = rw_bits refl
+has_kind_by P false false true n r rx tls tls_nobits_members rw_bits nobits_members = rx refl
+has_kind_by P false false false n r rx tls tls_nobits_members rw_bits nobits_members = r refl
 
 pub has_kind : (sh_type flags : ℕ) → is_in (kind_of sh_type flags) sh_type flags ≡ true
 unfolding is_in

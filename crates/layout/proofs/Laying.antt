@@ -46,7 +46,7 @@ pub view_is : (w : Walked) (held : Sizes) (b : Bounds) (leaders : List (Option â
     â†’ layout_view (record {
       outputs = w.outputs;
       members = w.members;
-      zeros = w.zeros;
+      nobits_members = w.nobits_members;
       places = w.extents;
       starts = w.places.starts;
       pools = w.places.pools;

@@ -105,7 +105,7 @@ rising sizes o fs b fit room small is =
     let rx : (b.rx_start ≤ b.rx_end) × (b.rx_end ≤ b.rx_start + weight (rows_in o Rx)) = (omega (arith, m.rx.least, is.rx_end), omega (arith, m.rx.most, is.rx_end)) in
     let tls : (b.rw_start ≤ b.tls_bits_end) × (b.tls_bits_end ≤ b.rw_start + weight (rows_in o TlsBits)) =
     (omega (arith, m.tls_bits.least, is.tls_bits_end), omega (arith, m.tls_bits.most, is.tls_bits_end)) in
-    let zeros : (b.tls_bits_end ≤ b.tls_end) × (b.tls_end ≤ b.tls_bits_end + weight (rows_in o TlsNobits)) =
+    let nobits_members : (b.tls_bits_end ≤ b.tls_end) × (b.tls_end ≤ b.tls_bits_end + weight (rows_in o TlsNobits)) =
     (omega (arith, m.tls_nobits.least, is.tls_bits_end, is.tls_end), omega (arith, m.tls_nobits.most, is.tls_bits_end, is.tls_end)) in
     let bits : (b.tls_bits_end ≤ b.bits_end) × (b.bits_end ≤ b.tls_bits_end + weight (rows_in o RwBits)) =
     (omega (arith, m.rw_bits.least, is.bits_end), omega (arith, m.rw_bits.most, is.bits_end)) in
@@ -125,7 +125,7 @@ rising sizes o fs b fit room small is =
       rx = rx.0;
       rw_rounded = omega (arith, rw_is, rw_up);
       tls_bits = tls.0;
-      tls_nobits = zeros.0;
+      tls_nobits = nobits_members.0;
       bits = bits.0;
       nobits = nobits.0;
       file_least = rw file_is file.0;
@@ -133,5 +133,5 @@ rising sizes o fs b fit room small is =
       image_least = rw is.image_end image.0;
       image_most = rw is.image_end image.1;
       room = omega (arith, room, first, headers_is, headers.1, r.1, rx_is, rx_near, rx.1, rw_is, rw_near, tls.1, bits.1, nobits.1);
-      tls_room = omega (arith, room, first, headers_is, headers.1, r.1, rx_is, rx_near, rx.1, rw_is, rw_near, tls.1, zeros.1);
+      tls_room = omega (arith, room, first, headers_is, headers.1, r.1, rx_is, rx_near, rx.1, rw_is, rw_near, tls.1, nobits_members.1);
     }

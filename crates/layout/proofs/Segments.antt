@@ -63,7 +63,7 @@ reached_along sizes c (o ∷ os) extra some fit most bytes =
     elim (cases_Bool (is_empty o)) [
       | inl none ↦
           let same : after sizes c o ≡ c = still_one sizes c o none in
-          let rest : up c.at c.extra ≤ (end_along sizes c os).at = reached_along sizes c os extra some fit.1 most.1 (λ zeros. bytes (none_each o none, zeros)) in
+          let rest : up c.at c.extra ≤ (end_along sizes c os).at = reached_along sizes c os extra some fit.1 most.1 (λ nobits_members. bytes (none_each o none, nobits_members)) in
           subst (λ x. up c.at c.extra ≤ (end_along sizes x os).at) (sym same) rest
       | inr full ↦
           let start : start_of c o ≡ up c.at c.extra = start_extra (is_empty o) c o refl full (greatest_below c.extra o some most.0) in
@@ -75,8 +75,8 @@ reached_along sizes c (o ∷ os) extra some fit most bytes =
     ]
 
 has_bytes : (rows : List Row) → is_empty rows ≡ false → EachRun (λ row. row.size ≡ 0) (runs rows) → ⊥
-has_bytes rows full zeros =
-    let none : is_empty rows ≡ true = each_none rows (of_runs (λ row. row.size ≡ 0) rows zeros) in
+has_bytes rows full nobits_members =
+    let none : is_empty rows ≡ true = each_none rows (of_runs (λ row. row.size ≡ 0) rows nobits_members) in
     let wrong : true ≡ false = sym none ∙ full in cc
 
 reached : (sizes : List (List Cut)) (c : Cursor) (rows : List Row) → c.extra ≤ ALIGN_MAX → 1 ≤ c.extra → All (RowFits sizes) rows → All (λ row. row.align ≤ c.extra) rows

@@ -14,7 +14,7 @@ use Rattle.output_sections.specs.declared.rows.Row.{Row}
 use Rattle.layout.specs.declared.frames.FrameBounds.{FrameBounds}
 use Rattle.layout.specs.declared.walk.Cursor.{Cursor}
 use Rattle.output_sections.specs.Items.{Item}
-use Rattle.layout.specs.Layout.{FrameSizes, Trail, after_tls_bits, frame_place, frame_places, frames_in, no_trail, tls_cursor, trail_of, with_bits, with_frames, with_zeros}
+use Rattle.layout.specs.Layout.{FrameSizes, Trail, after_tls_bits, frame_place, frame_places, frames_in, no_trail, tls_cursor, trail_of, with_bits, with_frames, with_nobits}
 use Rattle.output_sections.specs.Order.{Orders, rows_in}
 use Rattle.layout.specs.Spots.{AreRising}
 use Rattle.layout.specs.Walk.{Stands, after, all_put, cursor_at, end_along, members_along, place_in, place_of, places_along, put, runs, stands_along, start_of}
@@ -44,7 +44,7 @@ all_members sizes o b = members_along sizes (cursor_at b.headers_end) (runs (row
 
 pub trail_stands : (sizes : List (List Cut)) (parts : List Item) (o : Orders) (b : Bounds) (t : Trail)
     → (trail_of sizes parts o b t).stands ≡ all_put (all_stands sizes o b) t.stands
-unfolding trail_of with_bits with_frames with_zeros
+unfolding trail_of with_bits with_frames with_nobits
 trail_stands sizes parts o b t =
     let r = stands_along sizes (cursor_at b.headers_end) (runs (rows_in o R)) in
     let x = stands_along sizes (cursor_at b.rx_start) (runs (rows_in o Rx)) in
@@ -67,29 +67,29 @@ pub trail_is : (sizes : List (List Cut)) (parts : List Item) (o : Orders) (b : B
     → t2 ≡ with_frames f t1
     → t3 ≡ with_bits sizes parts Rx (cursor_at b.rx_start) (rows_in o Rx) t2
     → t4 ≡ with_bits sizes parts TlsBits (tls_cursor sizes o b.rw_start b.tls_align) (rows_in o TlsBits) t3
-    → t5 ≡ with_zeros sizes parts TlsNobits (after_tls_bits sizes o b.rw_start b.tls_align) (rows_in o TlsNobits) t4
+    → t5 ≡ with_nobits sizes parts TlsNobits (after_tls_bits sizes o b.rw_start b.tls_align) (rows_in o TlsNobits) t4
     → t6 ≡ with_bits sizes parts RwBits (cursor_at b.tls_bits_end) (rows_in o RwBits) t5
-    → t7 ≡ with_zeros sizes parts RwNobits (cursor_at b.bits_end) (rows_in o RwNobits) t6
+    → t7 ≡ with_nobits sizes parts RwNobits (cursor_at b.bits_end) (rows_in o RwNobits) t6
     → t7 ≡ trail_of sizes parts o b t0
 unfolding trail_of
 trail_is sizes parts o b f t0 t1 t2 t3 t4 t5 t6 t7 are e1 e2 e3 e4 e5 e6 e7 =
-    e7 ∙ ap (λ t. with_zeros sizes parts RwNobits (cursor_at b.bits_end) (rows_in o RwNobits) t)
+    e7 ∙ ap (λ t. with_nobits sizes parts RwNobits (cursor_at b.bits_end) (rows_in o RwNobits) t)
     (e6 ∙ ap (λ t. with_bits sizes parts RwBits (cursor_at b.tls_bits_end) (rows_in o RwBits) t)
-    (e5 ∙ ap (λ t. with_zeros sizes parts TlsNobits (after_tls_bits sizes o b.rw_start b.tls_align) (rows_in o TlsNobits) t)
+    (e5 ∙ ap (λ t. with_nobits sizes parts TlsNobits (after_tls_bits sizes o b.rw_start b.tls_align) (rows_in o TlsNobits) t)
     (e4 ∙ ap (λ t. with_bits sizes parts TlsBits (tls_cursor sizes o b.rw_start b.tls_align) (rows_in o TlsBits) t)
     (e3 ∙ ap (λ t. with_bits sizes parts Rx (cursor_at b.rx_start) (rows_in o Rx) t)
     (e2 ∙ frames_same f b t1 are ∙ ap (λ t. with_frames (frames_in b) t) e1)))))
 
 pub trail_members : (sizes : List (List Cut)) (parts : List Item) (o : Orders) (b : Bounds) (sections pools : ℕ)
     → (trail_of sizes parts o b (no_trail sections pools)).members ≡ all_members sizes o b
-unfolding trail_of with_bits with_frames with_zeros
+unfolding trail_of with_bits with_frames with_nobits
 trail_members sizes parts o b sections pools = simp append_assoc
 
 -- and those without
-pub trail_zeros : (sizes : List (List Cut)) (parts : List Item) (o : Orders) (b : Bounds) (sections pools : ℕ) → (trail_of sizes parts o b (no_trail sections pools)).zeros
+pub trail_nobits : (sizes : List (List Cut)) (parts : List Item) (o : Orders) (b : Bounds) (sections pools : ℕ) → (trail_of sizes parts o b (no_trail sections pools)).nobits_members
     ≡ members_along sizes (after_tls_bits sizes o b.rw_start b.tls_align) (runs (rows_in o TlsNobits)) ++ members_along sizes (cursor_at b.bits_end) (runs (rows_in o RwNobits))
-unfolding trail_of with_bits with_frames with_zeros
-trail_zeros sizes parts o b sections pools = refl
+unfolding trail_of with_bits with_frames with_nobits
+trail_nobits sizes parts o b sections pools = refl
 
 -- where they stand: from the headers on, and not much after the end of the last class
 near_more : (from to later : ℕ) (ms : List Member) → to ≤ later → All (Near from to) ms → (first : ℕ) → first ≤ from → All (Near first later) ms
@@ -137,7 +137,7 @@ all_places sizes parts o b = places_along sizes parts R (cursor_at b.headers_end
 
 pub trail_places : (sizes : List (List Cut)) (parts : List Item) (o : Orders) (b : Bounds) (sections pools : ℕ)
     → (trail_of sizes parts o b (no_trail sections pools)).places ≡ all_places sizes parts o b
-unfolding trail_of with_bits with_frames with_zeros
+unfolding trail_of with_bits with_frames with_nobits
 trail_places sizes parts o b sections pools = simp append_assoc
 
 -- each starts not much after the end of the last class
@@ -219,9 +219,9 @@ all_hold P (m ∷ ms) s each all =
     all_hold P ms (put m.content m.start s) (All-tail (λ (x : Member). P x.start) m ms each)
     (put_holds P m.content m.start s (All-head (λ (x : Member). P x.start) m ms each) all)
 
-pub all_zeros : (P : ℕ → Type 0) (n : ℕ) → P 0 → All P (replicate n 0)
-all_zeros P zero one = All-nil P
-all_zeros P (suc n) one = All-cons P 0 (replicate n 0) one (all_zeros P n one)
+pub all_nobits : (P : ℕ → Type 0) (n : ℕ) → P 0 → All P (replicate n 0)
+all_nobits P zero one = All-nil P
+all_nobits P (suc n) one = All-cons P 0 (replicate n 0) one (all_nobits P n one)
 
 pub trail_low : (sizes : List (List Cut)) (parts : List Item) (o : Orders) (fs : FrameSizes) (b : Bounds) (sections pools : ℕ) → AllFit sizes o → AreBounds sizes o fs b → AreRising b
     → AllStand (λ start. start + 2 ^ 30 < 2 ^ 63) (trail_of sizes parts o b (no_trail sections pools)).stands
@@ -231,4 +231,4 @@ trail_low sizes parts o fs b sections pools fit is up =
     let none : P 0 = omega arith in
     rw (trail_stands sizes parts o b (no_trail sections pools))
     (all_hold P (all_stands sizes o b) (no_trail sections pools).stands (λ k d lt. omega (arith, (near k d lt).low))
-    (record { starts = all_zeros P sections none; pools = all_zeros P pools none; got = none }))
+    (record { starts = all_nobits P sections none; pools = all_nobits P pools none; got = none }))

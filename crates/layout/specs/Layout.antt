@@ -230,7 +230,7 @@ module _ (sizes : List (List Cut)) (o : Orders) (fs : FrameSizes) where
 pub record Trail : Type 0 where
   pub outputs : List OutputSection
   pub members : List Member
-  pub zeros : List Member
+  pub nobits_members : List Member
   pub places : List OutputPlace
   pub stands : Stands
 
@@ -238,7 +238,7 @@ unfoldable pub trail_view : Walked → Trail
 trail_view w = record {
   outputs = map output_view w.outputs.items;
   members = w.members.items;
-  zeros = w.zeros.items;
+  nobits_members = w.nobits_members.items;
   places = map place_view w.extents.items;
   stands = stands_view w.places;
 }
@@ -248,7 +248,7 @@ unfoldable pub with_frames : FrameBounds → Trail → Trail
 with_frames f t = record {
   outputs = t.outputs ++ frame_sections f;
   members = t.members;
-  zeros = t.zeros;
+  nobits_members = t.nobits_members;
   places = t.places ++ frame_places f;
   stands = t.stands;
 }
@@ -259,25 +259,25 @@ module _ (sizes : List (List Cut)) (parts : List Item) where
   with_bits class c rows t = record {
     outputs = t.outputs ++ sections_along sizes parts class c (runs rows);
     members = t.members ++ members_along sizes c (runs rows);
-    zeros = t.zeros;
+    nobits_members = t.nobits_members;
     places = t.places ++ places_along sizes parts class c (runs rows);
     stands = all_put (stands_along sizes c (runs rows)) t.stands;
   }
 
-  unfoldable pub with_zeros : Class → Cursor → List Row → Trail → Trail
-  with_zeros class c rows t = record {
+  unfoldable pub with_nobits : Class → Cursor → List Row → Trail → Trail
+  with_nobits class c rows t = record {
     outputs = t.outputs ++ sections_along sizes parts class c (runs rows);
     members = t.members;
-    zeros = t.zeros ++ members_along sizes c (runs rows);
+    nobits_members = t.nobits_members ++ members_along sizes c (runs rows);
     places = t.places ++ places_along sizes parts class c (runs rows);
     stands = all_put (stands_along sizes c (runs rows)) t.stands;
   }
 
   unfoldable pub trail_of : Orders → Bounds → Trail → Trail
   trail_of o b t =
-      with_zeros RwNobits (cursor_at b.bits_end) (rows_in o RwNobits)
+      with_nobits RwNobits (cursor_at b.bits_end) (rows_in o RwNobits)
       (with_bits RwBits (cursor_at b.tls_bits_end) (rows_in o RwBits)
-      (with_zeros TlsNobits (after_tls_bits sizes o b.rw_start b.tls_align) (rows_in o TlsNobits)
+      (with_nobits TlsNobits (after_tls_bits sizes o b.rw_start b.tls_align) (rows_in o TlsNobits)
       (with_bits TlsBits (tls_cursor sizes o b.rw_start b.tls_align) (rows_in o TlsBits)
       (with_bits Rx (cursor_at b.rx_start) (rows_in o Rx)
       (with_frames (frames_in b)
@@ -288,7 +288,7 @@ abbrev pub no_trail : (sections pools : ℕ) → Trail
 no_trail sections pools = record {
   outputs = [];
   members = [];
-  zeros = [];
+  nobits_members = [];
   places = [];
   stands = record { starts = replicate sections 0; pools = replicate pools 0; got = 0 };
 }
@@ -305,7 +305,7 @@ unfoldable pub laid_by : (leaders : List (Option ℕ)) → (sizes : List (List C
 laid_by leaders sizes sections b t = record {
   outputs = t.outputs;
   members = t.members;
-  zeros = t.zeros;
+  nobits_members = t.nobits_members;
   places = t.places;
   starts = t.stands.starts;
   pools = t.stands.pools;

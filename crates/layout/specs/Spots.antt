@@ -100,8 +100,8 @@ is_tls_nobits RwBits = false
 is_tls_nobits RwNobits = false
 
 -- all others
-abbrev pub without_tls_zeros : List OutputSection → List OutputSection
-without_tls_zeros outputs = filter (λ s. not (is_tls_nobits s.class)) outputs
+abbrev pub without_tls_nobits : List OutputSection → List OutputSection
+without_tls_nobits outputs = filter (λ s. not (is_tls_nobits s.class)) outputs
 
 -- members one after the other from an address on, too
 abbrev pub AreInOrder : ℕ → List Member → Type 0
@@ -109,10 +109,10 @@ AreInOrder from [] = Unit {0}
 AreInOrder from (m ∷ ms) = (from ≤ m.start) × AreInOrder (m.start + m.size) ms
 
 -- the members without bytes in the file: those that are thread-local, one after the other in their class, and then the others in theirs
-pub record HaveZeros (laid : LaidOut) : Type 0 where
+pub record HaveNobits (laid : LaidOut) : Type 0 where
   pub threads : List Member
   pub others : List Member
-  pub all : laid.zeros ≡ threads ++ others
+  pub all : laid.nobits_members ≡ threads ++ others
   pub threads_order : AreInOrder laid.bounds.tls_bits_end threads
   pub threads_end : All (λ m. m.start + m.size ≤ laid.bounds.tls_end) threads
   pub others_order : AreInOrder laid.bounds.bits_end others
@@ -121,7 +121,7 @@ pub record HaveZeros (laid : LaidOut) : Type 0 where
 -- each member that is a section starts at a multiple of its alignment
 pub record HaveAlignments (files : List File) (b : Bindings) (laid : LaidOut) : Type 0 where
   pub members : All (λ m. (n : ℕ) → m.content ≡ Section n → m.start % (input_at files b n).align ≡ 0) laid.members
-  pub zeros : All (λ m. (n : ℕ) → m.content ≡ Section n → m.start % (input_at files b n).align ≡ 0) laid.zeros
+  pub nobits_members : All (λ m. (n : ℕ) → m.content ≡ Section n → m.start % (input_at files b n).align ≡ 0) laid.nobits_members
 
 -- each section that leads itself starts at a multiple of its alignment, each pool at one of its first section's, and the table of words of eight
 -- bytes at one of 8; whether their output sections have bytes or not

@@ -36,7 +36,7 @@ pub fn lay_rows(
     ensures rows { IfOk result (λ rows. map cut_views rows ≡ all_cuts leaders.now (sizes_of sizes.now) starts.now (section_total (files_of tables.now))) }
     ensures sound { IfOk result (λ rows. All AreCuts rows) }
 {
-    tables.is_few();
+    tables.prove_few();
     let mut rows = Rows::empty(alloc)?;
     rows.reserve(room_of(sizes, tables.section_count() as u32))?;
     let mut laid = Vec::new(alloc);

@@ -4,7 +4,7 @@ ghost use Rattle.std.specs.Prelude.{◌≡◌, ◌+◌, ◌<◌, ◌≤◌, ◌+
 ghost use Rattle.link_sections.specs.LaidOut.{output_view, place_view};
 ghost use Rattle.layout.specs.Layout as spec;
 
-use link_sections::{Output, OutputPlace};
+use link_sections::{OutputPlace, OutputSection};
 use lk_base::abi::{IMAGE_BASE, SHF_ALLOC, SHT_PROGBITS};
 use lk_base::up;
 use lk_tables::{Class, FramePlan};
@@ -70,11 +70,11 @@ pub fn frame_bounds(plan: &FramePlan, rows_end: u64) -> FrameBounds
 }
 
 /// One of them as an output section: it has no members.
-fn frame_section<'a>(name: &'a [u8], start: u64, end: u64, align: u64) -> Output<'a>
+fn frame_section<'a>(name: &'a [u8], start: u64, end: u64, align: u64) -> OutputSection<'a>
     requires { start ≤ end }
     ensures { output_view result ≡ spec.frame_section name.now start end align }
 {
-    Output {
+    OutputSection {
         name,
         class: Class::R,
         sh_type: SHT_PROGBITS,
@@ -101,7 +101,7 @@ fn frame_place<'a>(name: &'a [u8], start: u64, end: u64) -> OutputPlace<'a>
 /// Adds them to the output sections that are not empty, and to where all are, if there is an FDE.
 pub fn push_frames<'a>(
     frames: &FrameBounds,
-    outputs: &mut Vec<Output<'a>>,
+    outputs: &mut Vec<OutputSection<'a>>,
     extents: &mut Vec<OutputPlace<'a>>,
 ) -> Result<(), AllocError>
     requires header { frames.now.header ≤ frames.now.header_end }

@@ -23,14 +23,14 @@ ghost use Rattle.output_sections.specs.ItemViews.{items_view};
 ghost use Rattle.layout.specs.Holding.{AreHeld};
 ghost use Rattle.layout.specs.Layout as spec;
 ghost use Rattle.output_sections.specs.Order.{orders_of, rows_in};
-ghost use Rattle.layout.specs.Spots.{AreApart, AreRising, HasFrames, HaveAlignments, HaveSegments, HaveZeros, IsWithinClass, StartAligned, without_tls_zeros};
+ghost use Rattle.layout.specs.Spots.{AreApart, AreRising, HasFrames, HaveAlignments, HaveSegments, HaveNobits, IsWithinClass, StartAligned, without_tls_nobits};
 ghost use Rattle.layout.specs.Walk as walk;
 
 use crate::cut_rows::lay_rows;
 use crate::frames::{FrameBounds, frame_bounds, has_frames, push_frames};
 use crate::places::Places;
 use crate::walk::{Cursor, Sources, greatest_alignment, is_empty, walk_class};
-use link_sections::{Bounds, Got, Layout, Member, Output, OutputPlace, Pools, Sizes};
+use link_sections::{Bounds, Got, Layout, Member, OutputPlace, OutputSection, Pools, Sizes};
 use lk_base::abi::{EHDR_SIZE, IMAGE_BASE, PAGE, PHDR_SIZE};
 use lk_base::kinds::TOO_BIG;
 use lk_base::{Defect, Limits, LinkStop, SecNo, count_defect, up};
@@ -67,12 +67,12 @@ pub fn place<'a>(
     ensures within { IfOk result (λ layout. spec.IsWithin limits.now (layout_view layout)) }
     ensures rising { IfOk result (λ layout. AreRising layout.bounds) }
     ensures segments { IfOk result (λ layout. HaveSegments layout.bounds) }
-    ensures apart { IfOk result (λ layout. AreApart layout.bounds.headers_end (without_tls_zeros (layout_view layout).outputs)) }
+    ensures apart { IfOk result (λ layout. AreApart layout.bounds.headers_end (without_tls_nobits (layout_view layout).outputs)) }
     ensures inside { IfOk result (λ layout. All (IsWithinClass layout.bounds) (layout_view layout).outputs) }
     ensures held { IfOk result (λ layout. AreHeld (files_of tables.now) (binding_view binding.now) (pool_list pools.now) (word_count (entries_of got.now)) leaders.now (layout_view layout)) }
     ensures aligned { IfOk result (λ layout. HaveAlignments (files_of tables.now) (binding_view binding.now) (layout_view layout)) }
     ensures starts { IfOk result (λ layout. StartAligned (files_of tables.now) (binding_view binding.now) (pool_list pools.now) leaders.now (layout_view layout)) }
-    ensures zeros { IfOk result (λ layout. HaveZeros (layout_view layout)) }
+    ensures nobits_members { IfOk result (λ layout. HaveNobits (layout_view layout)) }
     ensures framed { IfOk result (λ layout. HasFrames (spec.frame_sizes frames.now) layout.bounds) }
 {
     let layout = lay_out(
@@ -119,7 +119,7 @@ fn lay_out<'a>(
     Ok(Layout {
         outputs: walked.outputs,
         members: walked.members,
-        zeros: walked.zeros,
+        nobits_members: walked.nobits_members,
         places: walked.extents,
         starts: walked.places.starts,
         pools: walked.places.pools,
@@ -179,7 +179,7 @@ fn no_walk(alloc: Global, sections: usize, pools: usize) -> Result<Walked<'stati
     Ok(Walked {
         outputs: Vec::new(alloc),
         members: Vec::new(alloc),
-        zeros: Vec::new(alloc),
+        nobits_members: Vec::new(alloc),
         extents: Vec::new(alloc),
         places: Places {
             starts: vec![in alloc; 0u64; sections]?,
@@ -194,11 +194,11 @@ fn no_walk(alloc: Global, sections: usize, pools: usize) -> Result<Walked<'stati
 #[derive(Debug, Drop)]
 pub struct Walked<'a> {
     /// The output sections that are not empty.
-    pub outputs: Vec<Output<'a>>,
+    pub outputs: Vec<OutputSection<'a>>,
     /// Their members in classes with bytes in the file.
     pub members: Vec<Member>,
     /// Their members in classes without.
-    pub zeros: Vec<Member>,
+    pub nobits_members: Vec<Member>,
     /// Where all output sections are, the empty ones too.
     pub extents: Vec<OutputPlace<'a>>,
     /// Where all members stand, those of empty output sections too.
@@ -238,8 +238,8 @@ fn walk_bits<'a>(
 }
 
 /// A class without bytes in the file, from a cursor on.
-#[tactic(auto, unfolding(crate::specs::Layout::trail_view, crate::specs::Layout::with_zeros))]
-fn walk_zeros<'a>(
+#[tactic(auto, unfolding(crate::specs::Layout::trail_view, crate::specs::Layout::with_nobits))]
+fn walk_nobits<'a>(
     from: &Sources<'_, 'a>,
     cursor: Cursor,
     class: Class,
@@ -250,7 +250,7 @@ fn walk_zeros<'a>(
     requires extra { cursor.extra ≤ ALIGN_MAX }
     requires room { cursor.at + walk.weight rows.now + ALIGN_MAX < 2 ^ 63 }
     ensures end { IfOk result (λ end. end ≡ walk.end_along (sizes_of from.now.sizes.now) cursor (walk.runs rows.now)) }
-    ensures trail { OnOk result (spec.trail_view walked.new ≡ spec.with_zeros (sizes_of from.now.sizes.now) (items_view from.now.items.now) class cursor rows.now (spec.trail_view walked.old)) }
+    ensures trail { OnOk result (spec.trail_view walked.new ≡ spec.with_nobits (sizes_of from.now.sizes.now) (items_view from.now.items.now) class cursor rows.now (spec.trail_view walked.old)) }
     ensures bound { IfOk result (λ end. end.at ≤ cursor.at + walk.weight rows.now) }
     ensures extra { IfOk result (λ end. end.extra ≤ ALIGN_MAX) }
     ensures sections { OnOk result (length walked.new.places.starts.items ≡ length walked.old.places.starts.items) }
@@ -262,7 +262,7 @@ fn walk_zeros<'a>(
         class,
         rows,
         &mut walked.outputs,
-        &mut walked.zeros,
+        &mut walked.nobits_members,
         &mut walked.extents,
         &mut walked.places,
     )?;
@@ -427,7 +427,7 @@ fn walk_all<'a>(
     let tls_align = tls_align_of(o);
     let tls = cursor(rw_start, tls_align);
     let tls_bits = walk_bits(from, tls, Class::TlsBits, o.class(Class::TlsBits), walked)?;
-    let tls_end = walk_zeros(
+    let tls_end = walk_nobits(
         from,
         tls_bits,
         Class::TlsNobits,
@@ -438,10 +438,10 @@ fn walk_all<'a>(
     let tls_bits_end = tls_bits.at;
     let written = cursor(tls_bits_end, 1);
     let bits_end = walk_bits(from, written, Class::RwBits, o.class(Class::RwBits), walked)?.at;
-    let zeros = cursor(bits_end, 1);
-    let nobits_end = walk_zeros(
+    let nobits_start = cursor(bits_end, 1);
+    let nobits_end = walk_nobits(
         from,
-        zeros,
+        nobits_start,
         Class::RwNobits,
         o.class(Class::RwNobits),
         walked,

@@ -10,7 +10,7 @@ ghost use Rattle.output_sections.specs.ItemViews.{items_view};
 ghost use Rattle.layout.specs.Walk as spec;
 
 use crate::places::{Places, place_row, put};
-use link_sections::{Member, Output, OutputPlace, Sizes};
+use link_sections::{Member, OutputPlace, OutputSection, Sizes};
 use lk_base::abi::{SHF_ALLOC, SHF_EXECINSTR, SHF_TLS, SHF_WRITE, SHT_NOBITS, SHT_PROGBITS};
 use lk_base::up;
 use lk_tables::{Class, output_name};
@@ -43,7 +43,7 @@ pub fn walk_class<'a>(
     cursor: Cursor,
     class: Class,
     rows: &[Row],
-    outputs: &mut Vec<Output<'a>>,
+    outputs: &mut Vec<OutputSection<'a>>,
     members: &mut Vec<Member>,
     extents: &mut Vec<OutputPlace<'a>>,
     places: &mut Places,
@@ -182,12 +182,12 @@ fn describe<'a>(
     start: u64,
     end: u64,
     align: u64,
-) -> Output<'a>
+) -> OutputSection<'a>
     requires aligned { align ≡ spec.greatest rows.now }
     requires rising { start ≤ end }
     ensures { output_view result ≡ spec.section_of (items_view items.now) class rows.now start end }
 {
-    Output {
+    OutputSection {
         name: first_name(items, rows),
         class,
         sh_type: first_type(class, rows),
@@ -240,7 +240,7 @@ fn walk_section<'a>(
     cursor: Cursor,
     class: Class,
     rows: &[Row],
-    outputs: &mut Vec<Output<'a>>,
+    outputs: &mut Vec<OutputSection<'a>>,
     members: &mut Vec<Member>,
     extents: &mut Vec<OutputPlace<'a>>,
     places: &mut Places,

@@ -18,7 +18,7 @@ use Rattle.link_command.specs.Grammar.{taken}
 -- left out, the names that are asked for as by an undefined symbol, the names whose sections are folded with no other, the name of which it is said
 -- why its section is kept, the two names of which it is said why their sections are not folded, and what is linked: so many generated objects, or
 -- the files of these names
-pub record Asked : Type 0 where
+pub record CommandView : Type 0 where
   pub output : List ℕ
   pub map : Option (List ℕ)
   pub entry : List ℕ
@@ -68,8 +68,8 @@ is_safe Safe = true
 abbrev pub lists_of : List (Vec ℕ) → List (List ℕ)
 lists_of names = map (λ name. name.items) names
 
-abbrev pub asks : Command → Asked
-asks command = record {
+abbrev pub command_view : Command → CommandView
+command_view command = record {
   output = string_bytes command.output;
   map = option_map (λ name. string_bytes name) command.map;
   entry = string_bytes command.entry;
@@ -131,7 +131,7 @@ abbrev pub mode_of : List ℕ → IcfMode
 mode_of text = if bytes_eq text (codes "all") then All else (if bytes_eq text (codes "safe") then Safe else Off)
 
 -- what clap's rows for the words ask for
-abbrev pub read_from : List Row → Asked
+abbrev pub read_from : List Row → CommandView
 read_from rows = record {
   output = text_of (codes "output") rows;
   map = first_of (codes "map") rows;
@@ -150,7 +150,7 @@ read_from rows = record {
 }
 
 -- files are given, or generated objects, and not both
-abbrev pub has_inputs : Asked → Bool
+abbrev pub has_inputs : CommandView → Bool
 has_inputs asked = if is_some asked.generated then length asked.inputs == 0 else not (length asked.inputs == 0)
 
 -- the map has another name than the executable
@@ -171,7 +171,7 @@ abbrev pub are_two : List (List ℕ) → Bool
 are_two names = length names == 0 || (length names == 2 && are_named names)
 
 -- the command has one kind of input, an entry, two names for its two files, no empty name in its lists, and names for what is asked of them
-abbrev pub is_linkable : Asked → Bool
+abbrev pub is_linkable : CommandView → Bool
 is_linkable asked = has_inputs asked && (not (length asked.entry == 0) && (is_apart asked.map asked.output
     && (are_named asked.undefined && (are_named asked.unique
     && (is_named asked.why_live && are_two asked.why_apart)))))
@@ -180,9 +180,9 @@ is_linkable asked = has_inputs asked && (not (length asked.entry == 0) && (is_ap
 abbrev pub is_mode : List ℕ → Bool
 is_mode text = bytes_eq text (codes "none") || (bytes_eq text (codes "all") || bytes_eq text (codes "safe"))
 
-abbrev pub tested : (mode : List ℕ) → Asked → Option Asked
+abbrev pub tested : (mode : List ℕ) → CommandView → Option CommandView
 tested mode asked = if is_mode mode && is_linkable asked then Some asked else None
 
 -- the accepted commands: those that clap takes and that can be linked
-unfoldable pub asked_of : List (List ℕ) → Option Asked
-asked_of words = option_and_then (λ rows. tested (text_of (codes "icf") rows) (read_from rows)) (taken words)
+unfoldable pub command_of_words : List (List ℕ) → Option CommandView
+command_of_words words = option_and_then (λ rows. tested (text_of (codes "icf") rows) (read_from rows)) (taken words)

@@ -1,7 +1,7 @@
 //! An accepted command.
 
 ghost use Rattle.std.specs.Prelude.{◌≡◌, ◌≤◌, IfOk, IfSome, is_some, option_map, string_bytes};
-ghost use Rattle.link_command.specs.Command.{IsWanted, asked_of, asks, folds, generated_in, generated_of, has_inputs, inputs_in, is_apart, is_safe, names_of as given_names, read_from, texts_of};
+ghost use Rattle.link_command.specs.Command.{IsWanted, command_of_words, command_view, folds, generated_in, generated_of, has_inputs, inputs_in, is_apart, is_safe, names_of as given_names, read_from, texts_of};
 ghost use Rattle.link_command.specs.Grammar.{HasGenerated, HasThreads, rows_in};
 
 use crate::matching::matches_of;
@@ -125,7 +125,7 @@ fn read_from(alloc: Global, matches: &ArgMatches, inputs: Wanted) -> Result<Comm
     requires threads { HasThreads (rows_in matches.now) }
     requires generated { generated_of inputs ≡ generated_in (rows_in matches.now) }
     requires names { given_names inputs ≡ inputs_in (rows_in matches.now) }
-    ensures asked { IfOk result (λ command. asks command ≡ read_from (rows_in matches.now)) }
+    ensures asked { IfOk result (λ command. command_view command ≡ read_from (rows_in matches.now)) }
     ensures threads { IfOk result (λ command. (1 ≤ command.threads) × (command.threads ≤ 64)) }
     ensures inputs { IfOk result (λ command. command.inputs ≡ inputs) }
 {
@@ -164,9 +164,9 @@ fn is_apart(map: &Option<String>, output: &str) -> bool
 }
 
 /// The command of these words, the program's name first. `None` refuses them. The only error is out of memory.
-#[tactic(auto, unfolding(crate::specs::Command::asked_of))]
+#[tactic(auto, unfolding(crate::specs::Command::command_of_words))]
 pub fn command_of(alloc: Global, words: &[String]) -> Result<Option<Command>, AllocError>
-    ensures exact { IfOk result (λ command. option_map asks command ≡ asked_of (texts_of words.now)) }
+    ensures exact { IfOk result (λ command. option_map command_view command ≡ command_of_words (texts_of words.now)) }
     ensures threads { IfOk result (λ command. IfSome command (λ c. (1 ≤ c.threads) × (c.threads ≤ 64))) }
     ensures inputs { IfOk result (λ command. IfSome command (λ c. IsWanted c.inputs)) }
 {

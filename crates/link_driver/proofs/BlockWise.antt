@@ -10,8 +10,8 @@ use Rattle.elf_out.proofs.Laying.{image_length}
 use Rattle.link_sections.specs.declared.views.View.{View}
 use Rattle.link_sections.specs.LaidOut.{LaidOut}
 use Rattle.link_sections.specs.Views.{binding_in, files_in, laid_in, leaders_in}
-use Rattle.lk_depot.specs.Files.{Files, told_added}
-use Rattle.lk_depot.proofs.NamedMaps.{told_added_twice}
+use Rattle.lk_depot.specs.Files.{Files, added_if_seen}
+use Rattle.lk_depot.proofs.NamedMaps.{added_if_seen_twice}
 use Rattle.lk_tables.specs.Binding.{Bindings}
 use Rattle.lk_tables.specs.BindingView.{binding_view}
 use Rattle.lk_tables.specs.Files.{File}
@@ -60,63 +60,63 @@ module _ (e : Executable) where
 
 -- bytes that are added from one place of a list to another go on where the first ones end
 pub added_on : (name bytes : List ℕ) (done end : ℕ) (files : Option Files) → done ≤ end
-    → told_added name (take (end - done) (drop done bytes)) (told_added name (take done bytes) files) ≡ told_added name (take end bytes) files
+    → added_if_seen name (take (end - done) (drop done bytes)) (added_if_seen name (take done bytes) files) ≡ added_if_seen name (take end bytes) files
 added_on name bytes done end files le =
     let sum : done + (end - done) ≡ end = omega (arith, le) in
-    told_added_twice name (take done bytes) (take (end - done) (drop done bytes)) files
-    ∙ ap (λ xs. told_added name xs files) (sym (take-add done (end - done) bytes) ∙ ap (λ k. take k bytes) sum)
+    added_if_seen_twice name (take done bytes) (take (end - done) (drop done bytes)) files
+    ∙ ap (λ xs. added_if_seen name xs files) (sym (take-add done (end - done) bytes) ∙ ap (λ k. take k bytes) sum)
 
 -- so do the first of the bytes of a part
 pub added_some : (name bytes : List ℕ) (done size n : ℕ) (files : Option Files) → n ≤ size
-    → told_added name (take n (take size (drop done bytes))) (told_added name (take done bytes) files) ≡ told_added name (take (done + n) bytes) files
+    → added_if_seen name (take n (take size (drop done bytes))) (added_if_seen name (take done bytes) files) ≡ added_if_seen name (take (done + n) bytes) files
 added_some name bytes done size n files le =
-    told_added_twice name (take done bytes) (take n (take size (drop done bytes))) files
-    ∙ ap (λ xs. told_added name xs files) (ap (λ ys. take done bytes ++ ys) (take-take n size (drop done bytes) le) ∙ sym (take-add done n bytes))
+    added_if_seen_twice name (take done bytes) (take n (take size (drop done bytes))) files
+    ∙ ap (λ xs. added_if_seen name xs files) (ap (λ ys. take done bytes ++ ys) (take-take n size (drop done bytes) le) ∙ sym (take-add done n bytes))
 
 -- and so do those of a part that starts at a multiple
 pub block_added : (name bytes : List ℕ) (done k size n : ℕ) (files : Option Files) → done ≡ 65536 * k → n ≤ size
-    → told_added name (take n (take size (drop (65536 * k) bytes))) (told_added name (take done bytes) files) ≡ told_added name (take (done + n) bytes) files
+    → added_if_seen name (take n (take size (drop (65536 * k) bytes))) (added_if_seen name (take done bytes) files) ≡ added_if_seen name (take (done + n) bytes) files
 block_added name bytes done k size n files is le =
-    ap (λ m. told_added name (take n (take size (drop m bytes))) (told_added name (take done bytes) files)) (sym is)
+    ap (λ m. added_if_seen name (take n (take size (drop m bytes))) (added_if_seen name (take done bytes) files)) (sym is)
     ∙ added_some name bytes done size n files le
 
 pub window_added : (name bytes : List ℕ) (done k size : ℕ) (files : Option Files) → done ≡ 65536 * k
-    → told_added name (take size (drop (65536 * k) bytes)) (told_added name (take done bytes) files) ≡ told_added name (take (done + size) bytes) files
+    → added_if_seen name (take size (drop (65536 * k) bytes)) (added_if_seen name (take done bytes) files) ≡ added_if_seen name (take (done + size) bytes) files
 window_added name bytes done k size files is =
-    ap (λ xs. told_added name xs (told_added name (take done bytes) files)) (sym (take-take size size (drop (65536 * k) bytes) (omega arith)))
+    ap (λ xs. added_if_seen name xs (added_if_seen name (take done bytes) files)) (sym (take-take size size (drop (65536 * k) bytes) (omega arith)))
     ∙ block_added name bytes done k size size files is (omega arith)
 
 -- a part of which some first bytes were added, behind what stands before it
 pub part_added : (name bytes : List ℕ) (done end : ℕ) (before now after : Option Files) → done ≤ end → end ≤ length bytes
-    → now ≡ told_added name (take done bytes) before
-    → (n : ℕ) × (n < length (take (end - done) (drop done bytes))) × (after ≡ told_added name (take n (take (end - done) (drop done bytes))) now)
-    → (n : ℕ) × (n < length bytes) × (after ≡ told_added name (take n bytes) before)
+    → now ≡ added_if_seen name (take done bytes) before
+    → (n : ℕ) × (n < length (take (end - done) (drop done bytes))) × (after ≡ added_if_seen name (take n (take (end - done) (drop done bytes))) now)
+    → (n : ℕ) × (n < length bytes) × (after ≡ added_if_seen name (take n bytes) before)
 part_added name bytes done end before now after le most was (n, shorter, is) =
     let long : length (take (end - done) (drop done bytes)) ≡ end - done =
     length-take-le (end - done) (drop done bytes) (omega (arith, length-drop done bytes, most)) in (
       done + n,
       omega (arith, long, shorter, le, most),
-      is ∙ ap (told_added name (take n (take (end - done) (drop done bytes)))) was
+      is ∙ ap (added_if_seen name (take n (take (end - done) (drop done bytes)))) was
           ∙ added_some name bytes done (end - done) n before (omega (arith, long, shorter)),
     )
 
 -- the same of a window of some blocks
 pub window_cut : (name bytes : List ℕ) (done k size : ℕ) (before now after : Option Files) → done ≡ 65536 * k → done + size ≤ length bytes
-    → now ≡ told_added name (take done bytes) before
-    → (n : ℕ) × (n < size) × (after ≡ told_added name (take n (take size (drop (65536 * k) bytes))) now)
-    → (n : ℕ) × (n < length bytes) × (after ≡ told_added name (take n bytes) before)
+    → now ≡ added_if_seen name (take done bytes) before
+    → (n : ℕ) × (n < size) × (after ≡ added_if_seen name (take n (take size (drop (65536 * k) bytes))) now)
+    → (n : ℕ) × (n < length bytes) × (after ≡ added_if_seen name (take n bytes) before)
 window_cut name bytes done k size before now after is most was (n, shorter, cut) = (
   done + n,
   omega (arith, shorter, most),
-  cut ∙ ap (told_added name (take n (take size (drop (65536 * k) bytes)))) was ∙ block_added name bytes done k size n before is (omega (arith, shorter)),
+  cut ∙ ap (added_if_seen name (take n (take size (drop (65536 * k) bytes)))) was ∙ block_added name bytes done k size n before is (omega (arith, shorter)),
 )
 
 -- a list that is added, and one of which some first bytes are, by its value
-pub whole_of : (name made bytes : List ℕ) (before after : Option Files) → made ≡ bytes → after ≡ told_added name made before → after ≡ told_added name bytes before
-whole_of name made bytes before after is added = added ∙ ap (λ xs. told_added name xs before) is
+pub whole_of : (name made bytes : List ℕ) (before after : Option Files) → made ≡ bytes → after ≡ added_if_seen name made before → after ≡ added_if_seen name bytes before
+whole_of name made bytes before after is added = added ∙ ap (λ xs. added_if_seen name xs before) is
 
 pub cut_of : (name made bytes : List ℕ) (size : ℕ) (before after : Option Files) → made ≡ bytes → length made ≡ size
-    → (n : ℕ) × (n < length made) × (after ≡ told_added name (take n made) before)
-    → (n : ℕ) × (n < size) × (after ≡ told_added name (take n bytes) before)
+    → (n : ℕ) × (n < length made) × (after ≡ added_if_seen name (take n made) before)
+    → (n : ℕ) × (n < size) × (after ≡ added_if_seen name (take n bytes) before)
 cut_of name made bytes size before after is long (n, shorter, cut) =
-    (n, omega (arith, shorter, long), cut ∙ ap (λ xs. told_added name (take n xs) before) is)
+    (n, omega (arith, shorter, long), cut ∙ ap (λ xs. added_if_seen name (take n xs) before) is)

@@ -12,7 +12,7 @@ use Rattle.lk_tables.specs.Files.{File, section_total}
 use Rattle.lk_tables.specs.Sites.{place_of as site_of}
 use Rattle.lk_tables.proofs.BoundHas.{each_flat, one_if}
 use Rattle.lk_tables.proofs.ByNumber.{length_by_section}
-use Rattle.link_command.specs.Command.{Asked}
+use Rattle.link_command.specs.Command.{CommandView}
 use Rattle.link_sections.specs.declared.pools.Pools.{Pools}
 use Rattle.link_sections.specs.FoldItems.{FoldItem, section_of as number_of, sections_of}
 use Rattle.link_sections.specs.InputSections.{input_at}
@@ -149,7 +149,7 @@ not_two names files b kept barred (x ∷ y ∷ []) other = let no : ⊥ = other 
 not_two names files b kept barred (x ∷ y ∷ z ∷ rest) other = refl
 
 -- both texts, where one is asked for
-pub why_is : (asked : Asked) (names : List (List ℕ)) (files : List File) (b : Bindings) (kept barred : List Bool) (live apart all : List ℕ) → asks_why asked ≡ true →
+pub why_is : (asked : CommandView) (names : List (List ℕ)) (files : List File) (b : Bindings) (kept barred : List Bool) (live apart all : List ℕ) → asks_why asked ≡ true →
     live ≡ live_text names files b asked.undefined asked.why_live → apart ≡ apart_text names files b kept barred asked.why_apart → all ≡ live ++ apart →
     all ≡ why_text asked names files b kept barred
 unfolding why_text

@@ -7,13 +7,14 @@ use Rattle.lk_base.specs.declared.defects.LinkStop.TheVariants as stops
 use Rattle.lk_base.specs.declared.limits.Limits.{Limits}
 use Rattle.lk_base.specs.Firsts.{BeginsWith, Goes, StopsAt}
 use Rattle.comdat.specs.Discarded.{discarded}
-use Rattle.link_command.specs.Command.{Asked}
+use Rattle.link_command.specs.Command.{CommandView}
 use Rattle.lk_tables.specs.Binding.{Bindings, first_phase, flag_defects, duplicate_defects}
 use Rattle.lk_tables.specs.BoundNames.{binding_defects, entry_defects}
 use Rattle.lk_tables.specs.Files.{File}
-use Rattle.link_driver.specs.Link.{bound_names, defects_in, kept_for, last_phases, later_phases, piece_defects, wishes_for}
-use Rattle.link_driver.specs.Defects.{opening_defects, reading_defects}
-use Rattle.link_driver.specs.Sources.{Source, files_in}
+use Rattle.link_passes.specs.Passes.{bound_names, kept_for, piece_defects, link_options_for}
+use Rattle.link_driver.specs.Link.{defects_in, last_phases, later_phases}
+use Rattle.link_passes.specs.Defects.{opening_defects, reading_defects}
+use Rattle.link_passes.specs.Sources.{Source, files_in}
 
 -- phases of which none has a defect are passed
 pub passed : (ps qs : List (List Defect)) → first_phase ps ≡ [] → first_phase (ps ++ qs) ≡ first_phase qs
@@ -48,7 +49,7 @@ pub goes_next : {X : Type 0} (r : Result X LinkStop) (ps : List (List Defect)) (
 goes_next (Ok x) ps ds none empty = passed ps (ds ∷ []) none ∙ one_none ds empty
 goes_next (Err stop) ps ds none at = let P : List Defect → Type 0 = λ xs. StopsAt stop xs in subst P (sym (passed ps (ds ∷ []) none)) (one_stop stop ds at)
 
-module _ (limits : Limits) (asked : Asked) (ss : List Source) where
+module _ (limits : Limits) (asked : CommandView) (ss : List Source) where
   pub at_reading : (stop : LinkStop) → StopsAt stop (first_phase (reading_defects limits ss ∷ opening_defects limits asked.undefined ss ∷ [])) → StopsAt stop (defects_in limits asked ss)
   unfolding defects_in
   at_reading stop at = stopped (reading_defects limits ss ∷ opening_defects limits asked.undefined ss ∷ []) (later_phases limits asked (files_in asked.undefined ss)) stop at
@@ -71,7 +72,7 @@ module _ (limits : Limits) (asked : Asked) (ss : List Source) where
 
       module _ (few : piece_defects limits files ≡ []) where
         past : defects_in limits asked ss
-            ≡ first_phase (binding_phases ++ last_phases limits (wishes_for asked files (bound_names files asked.entry) (kept_for asked files (bound_names files asked.entry))) files (bound_names files asked.entry) (kept_for asked files (bound_names files asked.entry)))
+            ≡ first_phase (binding_phases ++ last_phases limits (link_options_for asked files (bound_names files asked.entry) (kept_for asked files (bound_names files asked.entry))) files (bound_names files asked.entry) (kept_for asked files (bound_names files asked.entry)))
         past = left ∙ passed (piece_defects limits files ∷ []) _ (one_none (piece_defects limits files) few)
 
         pub at_binding : (stop : LinkStop) → StopsAt stop (binding_defects files (discarded files) asked.entry) → StopsAt stop (defects_in limits asked ss)
@@ -79,13 +80,13 @@ module _ (limits : Limits) (asked : Asked) (ss : List Source) where
 
         module _ (bound : binding_defects files (discarded files) asked.entry ≡ []) (b : Bindings) (names : b ≡ bound_names files asked.entry)
             (kept : List Bool) (stays : kept ≡ kept_for asked files b) where
-          then_left : defects_in limits asked ss ≡ first_phase (last_phases limits (wishes_for asked files b kept) files b kept)
+          then_left : defects_in limits asked ss ≡ first_phase (last_phases limits (link_options_for asked files b kept) files b kept)
           then_left = past ∙ passed binding_phases _ bound
-              ∙ ap (λ n. first_phase (last_phases limits (wishes_for asked files n (kept_for asked files n)) files n (kept_for asked files n))) (sym names)
-              ∙ ap (λ k. first_phase (last_phases limits (wishes_for asked files b k) files b k)) (sym stays)
+              ∙ ap (λ n. first_phase (last_phases limits (link_options_for asked files n (kept_for asked files n)) files n (kept_for asked files n))) (sym names)
+              ∙ ap (λ k. first_phase (last_phases limits (link_options_for asked files b k) files b k)) (sym stays)
 
-          pub at_last : (stop : LinkStop) → StopsAt stop (first_phase (last_phases limits (wishes_for asked files b kept) files b kept)) → StopsAt stop (defects_in limits asked ss)
+          pub at_last : (stop : LinkStop) → StopsAt stop (first_phase (last_phases limits (link_options_for asked files b kept) files b kept)) → StopsAt stop (defects_in limits asked ss)
           at_last stop at = let P : List Defect → Type 0 = λ ds. StopsAt stop ds in subst P (sym then_left) at
 
-          pub no_defects : first_phase (last_phases limits (wishes_for asked files b kept) files b kept) ≡ [] → defects_in limits asked ss ≡ []
+          pub no_defects : first_phase (last_phases limits (link_options_for asked files b kept) files b kept) ≡ [] → defects_in limits asked ss ≡ []
           no_defects done = then_left ∙ done

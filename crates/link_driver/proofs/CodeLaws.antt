@@ -454,8 +454,8 @@ module _ (tables : Tables) (b : Bindings) (leaders : List (Option ℕ)) (laid : 
       ∙ sym (get_or-take c.kept (drop from stays) j 0 inside ∙ get_or-drop from stays j 0)) in
       subst AreNops (sym (same ∙ stand)) (are_nops c.kept)
 
-  pub code_stands : CodeStands (files_of tables) b leaders laid
-  code_stands = record {
+  pub prove_code_stands : CodeStands (files_of tables) b leaders laid
+  prove_code_stands = record {
     reads = λ n k is plain v value. placed_reads files b leaders laid n (fit n is.section) k is.among (kept_if n k is) plain v value;
     goes = λ n k is. goes_kept n k is.section is.among (kept_if n k is);
     pairs = λ n k m j first second high v one two. pair_at n k m j first second high v one two;

@@ -1,8 +1,7 @@
 -- What the report counts.
 use Rattle.std.proofs.Common.{◌≡◌, ℕ, zero, suc, ◌+◌, ◌<◌, ◌≤◌, not, Bool, true, false, List, [], ◌∷◌, length, map, drop, flat_map, get_or, refl, ap, ◌∙◌, arith, subst, ◌++◌, append_assoc}
-use Rattle.std.specs.Global.{Global, Vec}
 use Rattle.std.specs.List.Sorted.{IsStrictlyIncreasing}
-use Rattle.std.specs.Prelude.{filter, if◌then◌else◌, string_bytes, String}
+use Rattle.std.specs.Prelude.{filter, if◌then◌else◌}
 use Rattle.std.proofs.Math.ListN.{drop_of_length-le, get_or-map}
 use Rattle.std.proofs.Math.Seq.{drop-cons}
 use Rattle.std.proofs.lemmas.List.{length-append, length-map, get_or-map as get_or-map-within}
@@ -17,7 +16,6 @@ use Rattle.link_sections.specs.CutsView.{cut_view, cut_views}
 use Rattle.link_sections.specs.LaidOut.{LaidOut, cuts_at, layout_view, with_contents}
 use Rattle.link_sections.specs.Pools.{AreRising}
 use Rattle.link_sections.specs.PoolViews.{PoolView, PoolsView, piece_rows, piece_text, pool_views, pools_view}
-use Rattle.link_gen.specs.Generated.{objects_in}
 use Rattle.lk_tables.specs.Files.{File}
 use Rattle.link_driver.specs.Reports.{piece_total, short_calls}
 
@@ -100,15 +98,6 @@ pub pieces_are : (l : LaidOut) (files : List File) (pools : Pools) (t : List Got
     pieces_left files pools.pools.items (piece_rows pools) 0 ≡ piece_total (with_contents l (pools_view files pools) t)
 unfolding with_contents pools_view
 pieces_are l files pools t = refl
-
--- names and bytes of generated objects
-pub names_out : (list : List (String Global × Vec ℕ)) → map (λ o. string_bytes o.0) list ≡ map (λ o. o.0) (objects_in list)
-names_out [] = refl
-names_out (o ∷ os) = ap (λ (l : List (List ℕ)). string_bytes o.0 ∷ l) (names_out os)
-
-pub bytes_out : (list : List (String Global × Vec ℕ)) → map (λ o. o.1.items) list ≡ map (λ o. o.1) (objects_in list)
-bytes_out [] = refl
-bytes_out (o ∷ os) = ap (λ (l : List (List ℕ)). o.1.items ∷ l) (bytes_out os)
 
 -- a text that is made of parts, one after the other
 pub joined : (a b c d e f z t0 t1 t2 t3 t4 t5 t6 t7 : List ℕ) → t0 ≡ [] → t1 ≡ t0 ++ a → t2 ≡ t1 ++ b → t3 ≡ t2 ++ c → t4 ≡ t3 ++ d → t5 ≡ t4 ++ e → t6 ≡ t5 ++ f →

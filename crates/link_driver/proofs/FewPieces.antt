@@ -1,32 +1,27 @@
 -- What a link merges: sections that are written, and not too many pieces; and what it folds is no more than its sections.
-use Rattle.std.proofs.Common.{◌≡◌, ℕ, ◌+◌, ◌-◌, ◌<◌, ◌≤◌, ◌^◌, ◌&&◌, not, min, Bool, true, false, List, [], length, take, drop, nat_lt, sym, ap, ◌∙◌, arith, inl, inr}
+use Rattle.std.proofs.Common.{◌≡◌, ℕ, ◌-◌, ◌<◌, ◌≤◌, ◌^◌, ◌&&◌, not, min, Bool, true, List, [], length, drop, sym, ap, ◌∙◌, arith, inl, inr}
 use Rattle.std.specs.Prelude.{if◌then◌else◌, is_some}
-use Rattle.std.specs.List.{filter, range_with_len}
 use Rattle.std.proofs.lemmas.Bool.{and_parts, cases_lt, lt-ltb}
 use Rattle.std.proofs.lemmas.List.{get_or_past, length-take}
-use Rattle.std.proofs.lemmas.List.FromFn.{length-range_with_len}
-use Rattle.std.proofs.lemmas.List.Sums.{count_by-le-length, length-filter}
 use Rattle.lk_base.specs.declared.limits.Limits.{Limits}
 use Rattle.lk_base.specs.Limits.{IsWithinStandard}
 use Rattle.lk_tables.specs.declared.section_places.SectionPlace.{SectionPlace}
 use Rattle.lk_tables.specs.declared.heads.Section.{Section}
 use Rattle.lk_tables.specs.Binding.{Bindings}
-use Rattle.lk_tables.specs.Files.{File, file_at, first_section, no_section, section_at, section_count, section_no, section_total, writes}
+use Rattle.lk_tables.specs.Files.{File, file_at, first_section, no_section, section_at, section_no, writes}
 use Rattle.lk_tables.specs.InputSections.{common_in, is_own, may_stay}
 use Rattle.lk_tables.specs.Sections.{contents_of}
 use Rattle.lk_tables.specs.Sites.{place_of}
 use Rattle.lk_tables.specs.Targets.{is_gone}
 use Rattle.lk_tables.proofs.FirstNumbers.{section_more}
-use Rattle.lk_tables.proofs.Owners.{IsOwner, place_in, place_is}
+use Rattle.lk_tables.proofs.Owners.{IsOwner, place_is}
 use Rattle.link_sections.specs.Leaders.{is_kept}
 use Rattle.link_sections.specs.MergeSections.{contents, is_mergeable}
 use Rattle.link_sections.specs.Merging.{is_merge, piece_count}
-use Rattle.icf_part.specs.Chosen.{AreShared}
-use Rattle.sec_graph.specs.Foldable.{foldable, is_foldable}
 use Rattle.str_merge.specs.Small.{AreWritten}
 use Rattle.str_merge.proofs.PieceLaws.{some_contents}
-use Rattle.link_driver.specs.Link.{piece_defects}
-use Rattle.link_driver.specs.Tables.{MayStay}
+use Rattle.link_passes.specs.Passes.{piece_defects}
+use Rattle.link_passes.specs.Tables.{MayStay}
 use Rattle.link_driver.proofs.FirstLeast.{none_over}
 
 -- pieces that are not refused
@@ -67,17 +62,3 @@ kept_written files b kept stay = λ f k lt low is.
     let at : may_stay files b (place_of files n).file (place_of files n).index ≡ may_stay files b f k =
     ap (λ (p : SectionPlace). may_stay files b p.file p.index) (place_is files n f owner) ∙ ap (may_stay files b f) index in
     own_written files b f k (lt-ltb k (length (file_at files f).head.sections) (merged_own (file_at files f) k both.1)) (sym at ∙ stay.each n both.0)
-
--- no more sections may be folded than there are
-pub foldable_few : (files : List File) (b : Bindings) (kept barred : List Bool) → length (foldable files b kept barred) ≤ section_total files
-unfolding foldable
-foldable_few files b kept barred =
-    let test = is_foldable files b kept barred in
-    let all = range_with_len 0 (section_total files) in
-    omega (arith, length-filter test all, count_by-le-length test all, length-range_with_len 0 (section_total files))
-
--- some of so many
-pub shared_few : (bytes list : List ℕ) → AreShared bytes list → length list ≤ length bytes
-shared_few bytes list are =
-    let all = range_with_len 0 (length bytes) in
-    omega (arith, ap length are.list_is, length-filter are.test all, count_by-le-length are.test all, length-range_with_len 0 (length bytes))

@@ -3,17 +3,17 @@ use Rattle.std.proofs.Common.{◌≡◌, ℕ, ◌<◌, ◌≤◌, List, length, 
 use Rattle.lk_depot.specs.declared.kinds.FileKind.{FileKind}
 use Rattle.lk_depot.specs.declared.kinds.FileKind.TheVariants.{Executable, Plain}
 use Rattle.lk_depot.specs.Faults.{Rose, Rises}
-use Rattle.lk_depot.specs.Files.{Named, told_put}
+use Rattle.lk_depot.specs.Files.{Named, put_if_seen}
 use Rattle.lk_depot.specs.Store.{Store}
-use Rattle.lk_depot.specs.Output.{Output, told_said}
+use Rattle.lk_depot.specs.Output.{Output, said_if_seen}
 use Rattle.lk_depot.proofs.Counts.{later_then_rose}
 use Rattle.link_driver.specs.declared.driving.Ending.{Ending}
 use Rattle.link_driver.specs.declared.driving.Ending.TheVariants.{Done, Memory, Refused, Unreported, Defective, Unread, Unwritten}
 use Rattle.link_driver.specs.Linked.{LinkedView}
-use Rattle.link_command.specs.Command.{Asked}
+use Rattle.link_command.specs.Command.{CommandView}
 use Rattle.link_driver.specs.Link.{link, cannot_write}
 use Rattle.link_driver.specs.Ends.{Accepts, IsCut, never_begun, cut_short, with_map, with_file, Ends, links, cannot_write_output, cannot_write_map, cannot_say}
-use Rattle.link_driver.specs.Endings.{status_of, told_line, AfterReport, IsReady}
+use Rattle.link_driver.specs.Endings.{status_of, reported_line, AfterReport, IsReady}
 
 -- a file that is cut, as seen from a store with the same files and kinds, and of equal bytes
 pub cut_from : (first next after : Store) (name : List ℕ) (kind : FileKind) (bytes bytes' : List ℕ)
@@ -22,10 +22,10 @@ pub cut_from : (first next after : Store) (name : List ℕ) (kind : FileKind) (b
 cut_from first next after name kind bytes bytes' files kinds same (never_begun f k) = never_begun (f ∙ files) (k ∙ kinds)
 cut_from first next after name kind bytes bytes' files kinds same (cut_short size shorter f k) =
     cut_short size (subst (λ xs. size < length xs) same shorter)
-    (f ∙ ap (told_put name (take size bytes)) files ∙ ap (λ xs. told_put name (take size xs) first.files) same)
-    (k ∙ ap (told_put name kind) kinds)
+    (f ∙ ap (put_if_seen name (take size bytes)) files ∙ ap (λ xs. put_if_seen name (take size xs) first.files) same)
+    (k ∙ ap (put_if_seen name kind) kinds)
 
-module _ (asked : Asked) (before now after : Store) (inputs : List (List ℕ)) (linked : LinkedView) where
+module _ (asked : CommandView) (before now after : Store) (inputs : List (List ℕ)) (linked : LinkedView) where
   accepted : IsReady asked before now inputs linked → after.unread ≡ now.unread → Accepts (Some asked) before after asked inputs
   accepted ready unread = record {
     asks = refl;
@@ -60,23 +60,23 @@ module _ (asked : Asked) (before now after : Store) (inputs : List (List ℕ)) (
 
   -- all was written, and the report was said or not
   pub reported : (say say' : Output) (ending : Ending) → IsReady asked before now inputs linked
-      → after.files ≡ with_map asked.map linked.map (told_put asked.output linked.exe now.files)
-      → after.kinds ≡ with_map asked.map Plain (told_put asked.output Executable now.kinds)
+      → after.files ≡ with_map asked.map linked.map (put_if_seen asked.output linked.exe now.files)
+      → after.kinds ≡ with_map asked.map Plain (put_if_seen asked.output Executable now.kinds)
       → after.unread ≡ now.unread → AfterReport linked.report say say' ending
-      → Ends (Some asked) before after say say' (status_of ending) (told_line ending)
+      → Ends (Some asked) before after say say' (status_of ending) (reported_line ending)
   reported say say' ending ready files kinds unread said = by ending said
     where
-      files_are : after.files ≡ with_map asked.map (link (Some asked) inputs).map (told_put asked.output (link (Some asked) inputs).executable before.files)
+      files_are : after.files ≡ with_map asked.map (link (Some asked) inputs).map (put_if_seen asked.output (link (Some asked) inputs).executable before.files)
       files_are =
-          files ∙ ap (λ f. with_map asked.map linked.map (told_put asked.output linked.exe f)) ready.inputs_are.untouched.files
-          ∙ ap (λ e. with_map asked.map linked.map (told_put asked.output e before.files)) ready.is_link.executable
-          ∙ ap (λ m. with_map asked.map m (told_put asked.output (link (Some asked) inputs).executable before.files)) ready.is_link.map
+          files ∙ ap (λ f. with_map asked.map linked.map (put_if_seen asked.output linked.exe f)) ready.inputs_are.untouched.files
+          ∙ ap (λ e. with_map asked.map linked.map (put_if_seen asked.output e before.files)) ready.is_link.executable
+          ∙ ap (λ m. with_map asked.map m (put_if_seen asked.output (link (Some asked) inputs).executable before.files)) ready.is_link.map
 
-      kinds_are : after.kinds ≡ with_map asked.map Plain (told_put asked.output Executable before.kinds)
-      kinds_are = kinds ∙ ap (λ k. with_map asked.map Plain (told_put asked.output Executable k)) ready.inputs_are.untouched.kinds
+      kinds_are : after.kinds ≡ with_map asked.map Plain (put_if_seen asked.output Executable before.kinds)
+      kinds_are = kinds ∙ ap (λ k. with_map asked.map Plain (put_if_seen asked.output Executable k)) ready.inputs_are.untouched.kinds
 
       by : (ending : Ending) → AfterReport linked.report say say' ending
-          → Ends (Some asked) before after say say' (status_of ending) (told_line ending)
+          → Ends (Some asked) before after say say' (status_of ending) (reported_line ending)
       by Done said = links (record {
         asked = asked;
         inputs = inputs;
@@ -85,7 +85,7 @@ module _ (asked : Asked) (before now after : Store) (inputs : List (List ℕ)) (
         status_is = refl;
         files = files_are;
         kinds = kinds_are;
-        said = said ∙ ap (λ r. told_said r say.written) ready.is_link.report;
+        said = said ∙ ap (λ r. said_if_seen r say.written) ready.is_link.report;
         line_is = refl;
       })
       by Unreported (rose, (size, shorter, said)) = cannot_say (record {
@@ -99,7 +99,7 @@ module _ (asked : Asked) (before now after : Store) (inputs : List (List ℕ)) (
         files = files_are;
         kinds = kinds_are;
         shorter = subst (λ xs. size < length xs) ready.is_link.report shorter;
-        said = said ∙ ap (λ r. told_said (take size r) say.written) ready.is_link.report;
+        said = said ∙ ap (λ r. said_if_seen (take size r) say.written) ready.is_link.report;
         line_is = refl;
       })
       by Memory said = absurd said
@@ -109,9 +109,9 @@ module _ (asked : Asked) (before now after : Store) (inputs : List (List ℕ)) (
       by (Unwritten line) said = absurd said
 
 -- the executable was written, and the map was not
-pub map_cut : (asked : Asked) (before now next after : Store) (inputs : List (List ℕ)) (linked : LinkedView) (name : List ℕ) (say : Output) (line : List ℕ)
+pub map_cut : (asked : CommandView) (before now next after : Store) (inputs : List (List ℕ)) (linked : LinkedView) (name : List ℕ) (say : Output) (line : List ℕ)
     → IsReady asked before now inputs linked → asked.map ≡ Some name
-    → next.files ≡ told_put asked.output linked.exe now.files → next.kinds ≡ told_put asked.output Executable now.kinds
+    → next.files ≡ put_if_seen asked.output linked.exe now.files → next.kinds ≡ put_if_seen asked.output Executable now.kinds
     → Rises now.begun next.begun → now.faults ≤ next.faults → next.unread ≡ now.unread
     → IsCut next after name Plain linked.map → Rises next.begun after.begun → Rose next.faults after.faults
     → after.unread ≡ next.unread → line ≡ cannot_write name
@@ -128,9 +128,9 @@ map_cut asked before now next after inputs linked name say line ready map_is fil
       begun = omega (arith, ready.inputs_are.untouched.begun, begun.later, begun'.rose, begun'.later);
       faults = omega (arith, ready.inputs_are.faults, later, faults);
       left = cut_from (with_file asked.output Executable (link (Some asked) inputs).executable before) next after name Plain _ _
-          (files ∙ ap (told_put asked.output linked.exe) ready.inputs_are.untouched.files
-          ∙ ap (λ e. told_put asked.output e before.files) ready.is_link.executable)
-          (kinds ∙ ap (told_put asked.output Executable) ready.inputs_are.untouched.kinds)
+          (files ∙ ap (put_if_seen asked.output linked.exe) ready.inputs_are.untouched.files
+          ∙ ap (λ e. put_if_seen asked.output e before.files) ready.is_link.executable)
+          (kinds ∙ ap (put_if_seen asked.output Executable) ready.inputs_are.untouched.kinds)
           ready.is_link.map left;
       quiet = refl;
       line_is = line_is;
@@ -141,5 +141,5 @@ pub without_map : {X : Type 0} (m : Option (List ℕ)) (value : X) (names after 
 without_map m value names after none is = is ∙ sym (ap (λ o. with_map o value names) none)
 
 pub with_that_map : {X : Type 0} (m : Option (List ℕ)) (name : List ℕ) (value : X) (names after : Option (Named X))
-    → m ≡ Some name → after ≡ told_put name value names → after ≡ with_map m value names
+    → m ≡ Some name → after ≡ put_if_seen name value names → after ≡ with_map m value names
 with_that_map m name value names after some is = is ∙ sym (ap (λ o. with_map o value names) some)

@@ -5,7 +5,7 @@ use Rattle.std.specs.List.{range_with_len}
 use Rattle.std.proofs.lemmas.Bool.{ltb-false}
 use Rattle.comdat.specs.Discarded.{discarded}
 use Rattle.layout.specs.Layout.{layout_defects}
-use Rattle.link_command.specs.Command.{Asked}
+use Rattle.link_command.specs.Command.{CommandView}
 use Rattle.lk_base.specs.declared.defects.Defect.{Defect}
 use Rattle.lk_base.specs.declared.defects.LinkStop.{LinkStop}
 use Rattle.lk_base.specs.declared.defects.LinkStop.TheVariants as stops
@@ -17,10 +17,11 @@ use Rattle.lk_tables.specs.Binding.{Bindings, duplicate_defects, first_phase, fl
 use Rattle.lk_tables.specs.BoundNames.{entry_defects}
 use Rattle.lk_tables.specs.Files.{File, symbol_total}
 use Rattle.sec_graph.specs.Undefined.{undefined_defects}
-use Rattle.link_driver.specs.Defects.{head_defects_at, opening_defects, reading_defects}
+use Rattle.link_passes.specs.Defects.{head_defects_at, opening_defects, reading_defects}
 use Rattle.link_driver.specs.Laws.{AreCounted, StopsAtLeast}
-use Rattle.link_driver.specs.Link.{Wishes, bound_names, defects_in, final_phases, kept_for, laid_out, last_phases, later_phases, leaders_in, merged_of, piece_defects, plan_in, wishes_for}
-use Rattle.link_driver.specs.Sources.{Source, files_in, heads_in}
+use Rattle.link_passes.specs.Passes.{LinkOptions, bound_names, kept_for, leaders_in, merged_of, piece_defects, plan_in, link_options_for}
+use Rattle.link_driver.specs.Link.{defects_in, final_phases, laid_out, last_phases, later_phases}
+use Rattle.link_passes.specs.Sources.{Source, files_in, heads_in}
 use Rattle.link_driver.specs.Values.{value_defects}
 use Rattle.link_driver.proofs.DefectOrder.{Ordered, first_least, first_ordered}
 use Rattle.link_driver.proofs.LaidOrder.{laid_ordered}
@@ -56,7 +57,7 @@ module _ (limits : Limits) (within : IsWithinStandard limits) (ss : List Source)
       let small = none_over limits.symbols (symbol_total (heads_in ss)) (none_right files symbols counts) in
       record { files = omega (arith, few, within.files); symbols = omega (arith, small, within.symbols) }
 
-  module _ (asked : Asked) where
+  module _ (asked : CommandView) where
     abbrev files : List File
     files = files_in asked.undefined ss
 
@@ -66,13 +67,13 @@ module _ (limits : Limits) (within : IsWithinStandard limits) (ss : List Source)
     abbrev kept : List Bool
     kept = kept_for asked files bound
 
-    abbrev wishes : Wishes
-    wishes = wishes_for asked files bound kept
+    abbrev own_options : LinkOptions
+    own_options = link_options_for asked files bound kept
 
-    last_ordered : Ordered (first_phase (last_phases limits wishes files bound kept))
+    last_ordered : Ordered (first_phase (last_phases limits own_options files bound kept))
     unfolding plan_in
     last_ordered =
-        let w = wishes in
+        let w = own_options in
         let rise = files_in_order asked.undefined ss in
         let leaders = leaders_in w files bound kept in
         let laid = laid_out w files bound kept in
@@ -84,7 +85,7 @@ module _ (limits : Limits) (within : IsWithinStandard limits) (ss : List Source)
     binding_ordered : AreCounted ss → Ordered (first_phase (later_phases limits asked files))
     binding_ordered few =
         let gone = discarded files in
-        let last = last_phases limits wishes files bound kept in
+        let last = last_phases limits own_options files bound kept in
         first_ordered (piece_defects limits files) (flag_defects files ∷ duplicate_defects files gone ∷ entry_defects files gone asked.entry ∷ last) (pieces_ordered limits files)
         (λ none. first_ordered (flag_defects files) (duplicate_defects files gone ∷ entry_defects files gone asked.entry ∷ last) (flags_ordered files)
         (λ nor. first_ordered (duplicate_defects files gone) (entry_defects files gone asked.entry ∷ last) (duplicates_ordered_in files gone (few_files asked.undefined ss few) (few_symbols asked.undefined ss few))

@@ -34,11 +34,11 @@ use Rattle.eh_frame.specs.Bytes.{all_placed, frame_defects, placed_order, is_of,
 use Rattle.eh_frame.specs.Plan.{plan_of, size_of}
 use Rattle.reloc_apply.specs.Relocated.{relocation_defects, section_defects}
 use Rattle.link_driver.specs.Values.{comes_first, earlier, earlier_stop, has_records, value_defects, values_at}
-use Rattle.link_driver.proofs.DefectOrder.{all_append}
+use Rattle.link_passes.proofs.Rising.{all_append}
 use Rattle.link_driver.proofs.FrameOrder.{all_ordered, cies_all, fdes_all, placed_all, records_section}
 use Rattle.link_driver.proofs.LaidOrder.{section_of}
 use Rattle.link_driver.proofs.PhaseOrder.{OfSection}
-use Rattle.link_driver.proofs.RecordLists.{IsKnownList, place_known}
+use Rattle.link_passes.proofs.RecordLists.{IsKnownList, place_known}
 
 -- lists over numbers
 pub flat_same : {X : Type 0} (f g : ℕ → List X) (count a : ℕ) → ((n : ℕ) → a ≤ n → n < a + count → f n ≡ g n) → flat_map f (range_with_len a count) ≡ flat_map g (range_with_len a count)

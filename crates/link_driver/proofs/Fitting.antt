@@ -1,11 +1,10 @@
 -- A link whose leaders are kept sections that lead themselves, and whose sections lose bytes only where they may, can be laid out.
 use Rattle.std.proofs.Common.{◌≡◌, ℕ, ◌+◌, ◌<◌, Bool, true, List, length, map, filter, get_or, sym, ◌∙◌, subst, arith}
-use Rattle.std.specs.Prelude.{Option}
 use Rattle.std.specs.List.{All, range_with_len}
 use Rattle.std.proofs.lemmas.Bool.{and_parts}
 use Rattle.std.proofs.lemmas.List.Elements.{All-filter, All-map}
 use Rattle.std.proofs.lemmas.List.FromFn.{get_or-range_with_len, length-range_with_len}
-use Rattle.output_sections.specs.Items.{AreLeaders, HaveFirsts, IsStaying}
+use Rattle.output_sections.specs.Items.{HaveFirsts, IsStaying}
 use Rattle.layout.specs.Layout.{FitSizes}
 use Rattle.lk_tables.specs.Binding.{Bindings}
 use Rattle.lk_tables.specs.Files.{File, file_at, section_count, section_no}
@@ -17,24 +16,12 @@ use Rattle.link_sections.specs.MergeSections.{is_mergeable}
 use Rattle.link_sections.specs.Merging.{Site, is_merge, no_site, pool_of, pool_site, pool_sites, pools_of, same_pool, site, site_at, sites, sites_in}
 use Rattle.link_sections.specs.declared.pools.Pool.{Pool}
 use Rattle.link_sections.specs.PoolViews.{PoolView, pool_head, pool_heads}
-use Rattle.link_sections.proofs.OwnLeaders.{LeadThemselves, kept_below}
-use Rattle.link_driver.specs.Tables.{MayStay}
+use Rattle.link_passes.specs.Tables.{MayStay}
 use Rattle.relax.specs.Sizes.{FitSections}
+use Rattle.link_passes.proofs.Leading.{kept_stays}
 
 pub sizes_fit : (files : List File) (b : Bindings) (sizes : List (List Cut)) → FitSections files sizes → FitSizes files b sizes
 sizes_fit files b sizes fit = record { count = fit.count; some = fit.some; within = fit.within b; clear = fit.clear }
-
--- a kept section may stay
-kept_stays : (files : List File) (b : Bindings) (kept : List Bool) (n : ℕ) → MayStay files b kept → is_kept kept n ≡ true → IsStaying files b n
-kept_stays files b kept n stay on = record { number = omega (arith, kept_below kept n on, stay.wide); stays = stay.each n on }
-
-pub lead_so : (files : List File) (b : Bindings) (kept : List Bool) (leaders : List (Option ℕ)) → LeadThemselves kept leaders → MayStay files b kept →
-    AreLeaders files b leaders
-lead_so files b kept leaders lead stay = record {
-  count = lead.count ∙ stay.wide;
-  stay = λ n m leader. kept_stays files b kept m stay (lead.kept_are n m leader);
-  own = lead.own;
-}
 
 -- sections that are merged are kept
 sites_kept : (files : List File) (kept : List Bool) → All (λ (s : Site). is_kept kept s.section ≡ true) (sites files kept)

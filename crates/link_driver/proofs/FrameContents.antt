@@ -1,9 +1,6 @@
 -- What a link writes of unwind records, as its plan and its layout say.
-use Rattle.std.proofs.Common.{◌≡◌, ℕ, ◌-◌, ◌^◌, ◌<◌, Bool, true, false, List, [], ◌∷◌, Option, length, refl, sym, ap, ◌∙◌, subst, arith, nat_lt}
-use Rattle.std.specs.Prelude.{Result, Ok, Err, IfOk}
-use Rattle.std.specs.List.{All}
+use Rattle.std.proofs.Common.{◌≡◌, ℕ, ◌-◌, Bool, true, false, List, [], ◌∷◌, Option, length, refl, sym, ap, ◌∙◌, subst, arith, nat_lt}
 use Rattle.std.proofs.lemmas.Bool.{ltb-false}
-use Rattle.std.proofs.lemmas.List.Elements.{All-weaker}
 use Rattle.elf_out.specs.Executable.{FrameContents}
 use Rattle.elf_out.specs.Standing.{FitFrames}
 use Rattle.elf_out.specs.TablesView.{frame_contents}
@@ -15,29 +12,13 @@ use Rattle.link_sections.specs.PoolViews.{Merged}
 use Rattle.lk_tables.specs.declared.frames.FrameBytes.{FrameBytes}
 use Rattle.lk_tables.specs.declared.records.FrameNo.{FrameNo}
 use Rattle.lk_tables.specs.Binding.{Bindings}
-use Rattle.lk_tables.specs.Files.{File, section_total}
+use Rattle.lk_tables.specs.Files.{File}
 use Rattle.lk_tables.specs.FramePlans.{PlanView}
-use Rattle.lk_tables.specs.Frames.{AreListsWithin, IsListWithin, RecordList, all_lists}
+use Rattle.lk_tables.specs.Frames.{RecordList, all_lists}
 use Rattle.eh_frame.specs.Bytes.{frame_bytes}
 use Rattle.eh_frame.specs.Header.{header_bytes}
 use Rattle.eh_frame.specs.Plan.{frame_len_of, header_len_of, plan_of}
 use Rattle.link_driver.specs.Values.{contents_with}
-
--- two facts of an answer make one
-pub both_of : {X E : Type 0} {P Q S : X → Type 0} (r : Result X E) → ((x : X) → P x → Q x → S x) → IfOk r P → IfOk r Q → IfOk r S
-both_of (Ok x) make one two = make x one two
-both_of (Err e) make one two = tt
-
--- lists that lie in their sections have numbers of sections, and few records
-pub sections_known : (files : List File) (lists now : List RecordList) → now ≡ lists → AreListsWithin files lists → All (λ (l : RecordList). l.section < section_total files) now
-sections_known files lists now are within =
-    let P : List RecordList → Type 0 = λ ls. All (λ (l : RecordList). l.section < section_total files) ls in
-    subst P (sym are) (All-weaker (IsListWithin files) (λ (l : RecordList). l.section < section_total files) (λ l is. is.section) lists within.within)
-
-pub records_few : (files : List File) (lists now : List RecordList) → now ≡ lists → AreListsWithin files lists → All (λ (l : RecordList). length l.records < 2 ^ 32) now
-records_few files lists now are within =
-    let P : List RecordList → Type 0 = λ ls. All (λ (l : RecordList). length l.records < 2 ^ 32) ls in
-    subst P (sym are) (All-weaker (IsListWithin files) (λ (l : RecordList). length l.records < 2 ^ 32) (λ l is. omega (arith, is.few)) lists within.within)
 
 -- what is written is what the plan says
 pub contents_are : (files : List File) (b : Bindings) (leaders : List (Option ℕ)) (laid : LaidOut) (plan : PlanView) (lists : List RecordList) (bytes : FrameBytes) →

@@ -31,9 +31,10 @@ use Rattle.eh_frame.specs.Laws.{comes_before}
 use Rattle.eh_frame.specs.Plan.{CieKey, cie_key, cie_no, first_cies, is_alike, is_owner_in_place, plan_of, record_by, size_of, with_cie, written_cies, written_fdes}
 use Rattle.eh_frame.proofs.Places.{place_le}
 use Rattle.eh_frame.proofs.PlanLaws.{plan_laws}
-use Rattle.link_driver.proofs.DefectOrder.{NotAfter, Ordered, Up, all_append, all_map, all_same, all_weaker, later_place, up_append, up_filter, up_from_rises, up_walk}
+use Rattle.link_driver.proofs.DefectOrder.{NotAfter, Ordered, all_same, later_place, up_filter, up_from_rises}
+use Rattle.link_passes.proofs.Rising.{Up, all_append, all_map, all_weaker, up_append, up_walk}
 use Rattle.link_driver.proofs.PhaseOrder.{AreInOrder, OfReloc, OfSection, RelocsUp, relocs_apart}
-use Rattle.link_driver.proofs.RecordLists.{IsKnownList, known_lists, lists_in_order, place_known}
+use Rattle.link_passes.proofs.RecordLists.{IsKnownList, known_lists, lists_in_order, place_known}
 
 -- lists in general
 filter_all : {X : Type 0} (P : X → Type 0) (test : X → Bool) (xs : List X) → ((x : X) → test x ≡ true → P x) → AllByRecursion P (filter test xs)

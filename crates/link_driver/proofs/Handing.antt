@@ -1,11 +1,9 @@
 -- What the steps of a link hand on, together.
 use Rattle.std.proofs.Common.{◌≡◌, ℕ, Bool, true, false, List, [], ◌++◌, Option, refl, ap, ap₂, ◌∙◌, subst}
-use Rattle.std.specs.Prelude.{if◌then◌else◌, Result, Ok, Err, IfOk}
+use Rattle.std.specs.Prelude.{if◌then◌else◌}
 use Rattle.comdat.specs.Discarded.{discarded}
-use Rattle.link_command.specs.Command.{Asked}
-use Rattle.file_live.specs.Live.{IsLive, live_of}
+use Rattle.link_command.specs.Command.{CommandView}
 use Rattle.link_sections.specs.LaidOut.{LaidOut}
-use Rattle.lk_tables.specs.BoundNames.{IsBindingOf}
 use Rattle.lk_tables.specs.Binding.{Bindings}
 use Rattle.lk_tables.specs.Files.{File}
 use Rattle.lk_tables.specs.FramePlans.{PlanView}
@@ -13,30 +11,13 @@ use Rattle.map_file.specs.MapText.{map_text}
 use Rattle.sym_resolve.specs.Law.{IsLawful}
 use Rattle.link_driver.specs.Linked.{LinkedView}
 use Rattle.link_driver.specs.Certificates.{apart_text, asks_why, live_text, why_text}
-use Rattle.link_driver.specs.Link.{Wishes, bound_in, bound_names, executable_in, executable_with, kept_for, kept_in, laid_out, leaders_in, linked_files, map_in, map_with, plan_in, report_in, report_with, say_in, wishes_for, wishes_in}
+use Rattle.link_passes.specs.Passes.{LinkOptions, bound_names, kept_for, leaders_in, plan_in, link_options_for}
+use Rattle.link_driver.specs.Link.{bound_in, executable_in, executable_with, kept_in, laid_out, linked_files, map_in, map_with, report_in, report_with, say_in, link_options_in}
 use Rattle.link_driver.specs.Phases.{Gives, IsWritten, Makes}
-use Rattle.link_driver.specs.Sources.{Source, heads_in, live_in}
-
--- the set of files that takes part, as the code found it
-pub live_is : (undefined : List (List ℕ)) (ss : List Source) (files : List File) → files ≡ heads_in ss → live_of undefined files ≡ live_in undefined ss
-unfolding live_in
-live_is undefined ss files are = ap (live_of undefined) are
-
--- it is the least closed set of them
-pub least_is : (undefined : List (List ℕ)) (ss : List Source) (files : List File) (live : List Bool) → files ≡ heads_in ss → live ≡ live_of undefined files →
-    IsLive undefined files live → IsLive undefined (heads_in ss) (live_in undefined ss)
-least_is undefined ss files live are found least =
-    let P : List File → Type 0 = λ fs. IsLive undefined fs (live_in undefined ss) in
-    let Q : List Bool → Type 0 = λ l. IsLive undefined files l in
-    subst P are (subst Q (found ∙ live_is undefined ss files are) least)
-
--- the names of the files are bound
-pub binding_is : (entry : List ℕ) (files : List File) (b : Bindings) → b ≡ bound_names files entry → IsBindingOf files b
-unfolding bound_names
-binding_is entry files b names = (discarded files, entry, names)
+use Rattle.link_passes.specs.Sources.{Source}
 
 -- what files give that are laid out as Link says
-pub made_of : (w : Wishes) (names : List (List ℕ)) (files : List File) (b : Bindings) (kept : List Bool) (leaders : List (Option ℕ)) (laid : LaidOut) (plan : PlanView) (linked : LinkedView) →
+pub made_of : (w : LinkOptions) (names : List (List ℕ)) (files : List File) (b : Bindings) (kept : List Bool) (leaders : List (Option ℕ)) (laid : LaidOut) (plan : PlanView) (linked : LinkedView) →
     leaders ≡ leaders_in w files b kept → laid ≡ laid_out w files b kept → plan ≡ plan_in w files b kept → IsWritten w names files b kept leaders laid plan linked →
     Makes w names files b kept linked
 unfolding executable_with map_with report_with
@@ -52,7 +33,7 @@ if_named : (on : Bool) (give : List (List ℕ) → List ℕ) (a b : List (List �
 if_named true give a b same = ap give (same refl)
 if_named false give a b same = refl
 
-pub made_as : (w : Wishes) (names shown : List (List ℕ)) (files : List File) (b : Bindings) (kept : List Bool) (linked : LinkedView) → (w.map ≡ true → names ≡ shown) →
+pub made_as : (w : LinkOptions) (names shown : List (List ℕ)) (files : List File) (b : Bindings) (kept : List Bool) (linked : LinkedView) → (w.map ≡ true → names ≡ shown) →
     Makes w names files b kept linked → Makes w shown files b kept linked
 unfolding map_with
 made_as w names shown files b kept linked same makes = record {
@@ -62,22 +43,22 @@ made_as w names shown files b kept linked same makes = record {
 }
 
 -- what holds of files, what their names are bound to and what is kept holds of those of the sources
-pub holds_in : (asked : Asked) (ss : List Source) (F : Wishes → List File → Bindings → List Bool → Type 0) (files : List File) (b : Bindings) (kept : List Bool) →
-    files ≡ linked_files asked ss → b ≡ bound_names files asked.entry → kept ≡ kept_for asked files b → F (wishes_for asked files b kept) files b kept →
-    F (wishes_in asked ss) (linked_files asked ss) (bound_in asked ss) (kept_in asked ss)
+pub holds_in : (asked : CommandView) (ss : List Source) (F : LinkOptions → List File → Bindings → List Bool → Type 0) (files : List File) (b : Bindings) (kept : List Bool) →
+    files ≡ linked_files asked ss → b ≡ bound_names files asked.entry → kept ≡ kept_for asked files b → F (link_options_for asked files b kept) files b kept →
+    F (link_options_in asked ss) (linked_files asked ss) (bound_in asked ss) (kept_in asked ss)
 holds_in asked ss F files b kept are bound stays holds =
-    let P : List Bool → Type 0 = λ k. F (wishes_for asked files b k) files b k in
-    let Q : Bindings → Type 0 = λ n. F (wishes_for asked files n (kept_for asked files n)) files n (kept_for asked files n) in
+    let P : List Bool → Type 0 = λ k. F (link_options_for asked files b k) files b k in
+    let Q : Bindings → Type 0 = λ n. F (link_options_for asked files n (kept_for asked files n)) files n (kept_for asked files n) in
     let R : List File → Type 0 = λ fs.
-    F (wishes_for asked fs (bound_names fs asked.entry) (kept_for asked fs (bound_names fs asked.entry))) fs (bound_names fs asked.entry)
+    F (link_options_for asked fs (bound_names fs asked.entry) (kept_for asked fs (bound_names fs asked.entry))) fs (bound_names fs asked.entry)
     (kept_for asked fs (bound_names fs asked.entry)) in
     subst R are (subst Q bound (subst P stays holds))
 
 -- what the files of these sources give, once it is said what is asked why
-pub gives_all : (asked : Asked) (names : List (List ℕ)) (ss : List Source) (linked said : LinkedView) (why : List ℕ) →
-    Makes (wishes_in asked ss) names (linked_files asked ss) (bound_in asked ss) (kept_in asked ss) linked → said.exe ≡ linked.exe →
+pub gives_all : (asked : CommandView) (names : List (List ℕ)) (ss : List Source) (linked said : LinkedView) (why : List ℕ) →
+    Makes (link_options_in asked ss) names (linked_files asked ss) (bound_in asked ss) (kept_in asked ss) linked → said.exe ≡ linked.exe →
     said.map ≡ linked.map → said.report ≡ linked.report ++ why →
-    why ≡ why_text asked names (linked_files asked ss) (bound_in asked ss) (kept_in asked ss) (wishes_in asked ss).barred → Gives asked names ss said
+    why ≡ why_text asked names (linked_files asked ss) (bound_in asked ss) (kept_in asked ss) (link_options_in asked ss).barred → Gives asked names ss said
 unfolding executable_in map_in report_in say_in
 gives_all asked names ss linked said why makes exe map report is = record {
   executable = exe ∙ makes.executable;
@@ -86,7 +67,7 @@ gives_all asked names ss linked said why makes exe map report is = record {
 }
 
 -- names are no matter where nothing is asked why
-pub why_as : (asked : Asked) (names shown : List (List ℕ)) (files : List File) (b : Bindings) (kept barred : List Bool) → (asks_why asked ≡ true → names ≡ shown) →
+pub why_as : (asked : CommandView) (names shown : List (List ℕ)) (files : List File) (b : Bindings) (kept barred : List Bool) → (asks_why asked ≡ true → names ≡ shown) →
     why_text asked names files b kept barred ≡ why_text asked shown files b kept barred
 unfolding why_text
 why_as asked names shown files b kept barred same =
@@ -99,13 +80,3 @@ bound_are entry asked files given are same bound =
     let P : List ℕ → Type 0 = λ name. IsLawful given (discarded given) name (bound_names given name) in
     let Q : List File → Type 0 = λ fs. IsLawful fs (discarded fs) entry (bound_names fs entry) in
     subst P same (subst Q are bound)
-
--- what holds of an answer, and follows from it
-pub on_each : {X E : Type 0} {P Q : X → Type 0} (r : Result X E) → ((x : X) → P x → Q x) → IfOk r P → IfOk r Q
-on_each (Ok x) step has = step x has
-on_each (Err e) step has = tt
-
--- what holds holds of an answer, if there is one
-pub on_ok : {X E : Type 0} {P : Type 0} (r : Result X E) → P → IfOk r (λ _. P)
-on_ok (Ok x) p = p
-on_ok (Err e) p = tt

@@ -42,7 +42,8 @@ use Rattle.relax.specs.CallSizes.{IsLeastSafe, all_calls, all_cuts, bytes_at, ca
 use Rattle.relax.specs.Jumps.{size_at}
 use Rattle.relax.specs.Placing.{IsOneSize}
 use Rattle.reloc_apply.specs.Relocated.{reloc_defects}
-use Rattle.link_driver.specs.Reach.{AreAlike, CallsReach}
+use Rattle.link_passes.specs.Leaders.{AreAlike}
+use Rattle.link_driver.specs.Reach.{CallsReach}
 use Rattle.link_driver.proofs.Defects.{none_defect}
 use Rattle.link_driver.specs.Code.{HaveOwnCuts}
 use Rattle.link_driver.proofs.Given.{IsGiven}
@@ -275,7 +276,7 @@ own_cuts_of tables b held words leaders table limits sizes fs on _ few bound are
     (registers tables b pools words leaders view table limits sizes fs few bound are alike firsts (subst U laid_is sound) (subst (HaveAlignments files b) laid_is aligned)
     (subst (λ l. layout_defects limits files l ≡ []) laid_is none) on z least.safe sizes_are))
 
-pub calls_reach : (tables : Tables) (b : Bindings) (held : Pools) (words : ℕ) (leaders : List (Option ℕ)) (table : List GotEntry) (limits : Limits) (sizes : List (List Cut)) (fs : FrameSizes) (on : Bool) (laid : LaidOut)
+pub prove_calls_reach : (tables : Tables) (b : Bindings) (held : Pools) (words : ℕ) (leaders : List (Option ℕ)) (table : List GotEntry) (limits : Limits) (sizes : List (List Cut)) (fs : FrameSizes) (on : Bool) (laid : LaidOut)
     → AreFew (files_of tables) → IsBindingOf (files_of tables) b → AreLeaders (files_of tables) b leaders → AreAlike (files_of tables) b leaders → HaveFirsts (files_of tables) b held.pools.items
     → sizes ≡ cuts_of (files_of tables) b (pools_view (files_of tables) held).merged leaders (members_in (orders_of (items (files_of tables) b held.pools.items words leaders))) on
     → IsLeastSafe (files_of tables) b (pools_view (files_of tables) held).merged leaders (members_in (orders_of (items (files_of tables) b held.pools.items words leaders))) on
@@ -284,7 +285,7 @@ pub calls_reach : (tables : Tables) (b : Bindings) (held : Pools) (words : ℕ) 
     → layout_defects limits (files_of tables) laid ≡ []
     → CallsReach (files_of tables) b leaders (with_contents laid (pools_view (files_of tables) held) table)
 unfolding cuts_of
-calls_reach tables b held words leaders table limits sizes fs on _ few bound are alike firsts sizes_are least laid_is sound aligned none =
+prove_calls_reach tables b held words leaders table limits sizes fs on _ few bound are alike firsts sizes_are least laid_is sound aligned none =
     let files = files_of tables in
     let view = pools_view files held in
     let pools = held.pools.items in

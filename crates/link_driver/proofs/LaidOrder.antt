@@ -31,8 +31,10 @@ use Rattle.relax.specs.CallSizes as calls
 use Rattle.relax.specs.CallSizes.{cut_of, cuts_by, is_cut}
 use Rattle.reloc_apply.specs.Relocated.{defects_at, misfit_defects, operand, reach_in, reloc_at, reloc_defect, reloc_defects, section_defects, value_defects, width_at}
 use Rattle.reloc_apply.specs.Values.{partner_of, value_of}
-use Rattle.link_driver.specs.Link.{Wishes, cuts_in, laid_out, leaders_in, plan_in, sizes_in}
-use Rattle.link_driver.proofs.DefectOrder.{AreBelow, IsWide, NotAfter, Ordered, Up, all_append, all_flat, all_if, all_map, all_same, all_weaker, first_ordered, later_place, number_walk, numbers_up, one_all, read_all, read_up, up_append, up_filter, up_if, up_map, wide_ordered}
+use Rattle.link_passes.specs.Passes.{LinkOptions, leaders_in, plan_in}
+use Rattle.link_driver.specs.Link.{cuts_in, laid_out, sizes_in}
+use Rattle.link_passes.proofs.Rising.{AreBelow, Up, all_append, all_map, all_weaker, number_walk, numbers_up, one_all, read_up, up_append, up_if, up_map}
+use Rattle.link_driver.proofs.DefectOrder.{IsWide, NotAfter, Ordered, all_flat, all_if, all_same, first_ordered, later_place, read_all, up_filter, wide_ordered}
 use Rattle.link_driver.proofs.PhaseOrder.{AreInOrder, OfReloc, OfSection, RelocsUp, relocs_apart, sections_walk}
 
 -- cuts in order of offset
@@ -193,7 +195,7 @@ module _ (files : List File) (b : Bindings) (leaders : List (Option ℕ)) (laid 
       (λ i. reloc_up n (reloc_at files b leaders laid n (i - 1)) (reloc_at files b leaders laid n i))) tt
 
 -- the cuts of a link
-pub laid_ordered : (limits : Limits) (w : Wishes) (files : List File) (b : Bindings) (kept : List Bool) → ((f : ℕ) → AreInOrder (file_at files f)) →
+pub laid_ordered : (limits : Limits) (w : LinkOptions) (files : List File) (b : Bindings) (kept : List Bool) → ((f : ℕ) → AreInOrder (file_at files f)) →
     Ordered (layout_defects limits files (laid_out w files b kept))
 unfolding laid_out cuts_in calls.cuts_of
 laid_ordered limits w files b kept rise =

@@ -15,13 +15,14 @@ use Rattle.lk_base.specs.Limits.{standard}
 use Rattle.lk_tables.specs.Files.{File, symbol_total}
 use Rattle.sym_resolve.specs.Law.{IsLawful}
 use Rattle.sym_resolve.proofs.Lawful.{lawful}
-use Rattle.link_command.specs.Command.{Asked}
-use Rattle.link_driver.specs.Given.{contents_for}
+use Rattle.link_command.specs.Command.{CommandView}
+use Rattle.link_passes.specs.Given.{contents_for}
 use Rattle.link_driver.specs.Laws.{AreCounted, AreLeast, with_workers}
 use Rattle.link_driver.specs.Certificates.{why_text}
-use Rattle.link_driver.specs.Link.{bound_names, defects_in, executable_in, line_of_defect, link, link_with, map_in, report_in, say_in}
-use Rattle.link_driver.specs.Sources.{Source, files_in, has_body, headed, heads_in, live_in, opened, opened_files, sources, with_body}
-use Rattle.link_driver.proofs.Opened.{how_many}
+use Rattle.link_passes.specs.Passes.{bound_names}
+use Rattle.link_driver.specs.Link.{defects_in, executable_in, line_of_defect, link, link_with, map_in, report_in, say_in}
+use Rattle.link_passes.specs.Sources.{Source, files_in, has_body, headed, heads_in, live_in, opened, opened_files, sources, with_body}
+use Rattle.link_passes.proofs.Opened.{how_many}
 
 -- a body adds no symbol
 abbrev symbols_of : File → ℕ
@@ -74,16 +75,16 @@ module _ (undefined : List (List ℕ)) (ss : List Source) (few : AreCounted ss) 
   least_offers entry =
       lawful (files_in undefined ss) (discarded (files_in undefined ss)) (few_files undefined ss few) (few_symbols undefined ss few) entry
 
-pub are_least : (asked : Asked) (ss : List Source) → AreCounted ss → AreLeast asked ss
+pub are_least : (asked : CommandView) (ss : List Source) → AreCounted ss → AreLeast asked ss
 are_least asked ss few = record { taking_part = least_files asked.undefined ss few; anywhere = any_place asked.undefined ss few; bound = least_offers asked.undefined ss few asked.entry }
 
 -- no definition of Link reads the number of workers
-same_line : (asked : Asked) (inputs : List (List ℕ)) (n : ℕ) (ds : List Defect) → link_with (with_workers n asked) inputs ds ≡ link_with asked inputs ds
+same_line : (asked : CommandView) (inputs : List (List ℕ)) (n : ℕ) (ds : List Defect) → link_with (with_workers n asked) inputs ds ≡ link_with asked inputs ds
 unfolding executable_in map_in say_in report_in why_text line_of_defect
 same_line asked inputs n [] = refl
 same_line asked inputs n (d ∷ ds) = refl
 
-pub link_of_any : (asked : Asked) (given : List (List ℕ)) (n : ℕ) → link (Some (with_workers n asked)) given ≡ link (Some asked) given
+pub link_of_any : (asked : CommandView) (given : List (List ℕ)) (n : ℕ) → link (Some (with_workers n asked)) given ≡ link (Some asked) given
 unfolding link defects_in
 link_of_any asked given n =
     same_line asked (contents_for asked given) n (defects_in standard asked (sources standard (contents_for asked given)))

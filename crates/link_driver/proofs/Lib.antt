@@ -1,4 +1,3 @@
-pub mod Alike
 pub mod BlockWise
 pub mod CallChain
 pub mod Certifying
@@ -10,10 +9,8 @@ pub mod CodePlaces
 pub mod Counting
 pub mod DefectOrder
 pub mod Defects
-pub mod EachBody
 pub mod Evens
 pub mod FieldParts
-pub mod FileFacts
 pub mod Finishing
 pub mod FewPieces
 pub mod FirstLeast
@@ -22,12 +19,8 @@ pub mod Fitting
 pub mod Flat
 pub mod FrameContents
 pub mod FrameOrder
-pub mod Gathered
 pub mod Given
-pub mod GoingAlong
 pub mod Handing
-pub mod InsideTables
-pub mod Keeping
 pub mod KeptCuts
 pub mod KnownHeads
 pub mod Laid
@@ -38,9 +31,7 @@ pub mod Leading
 pub mod Losses
 pub mod Members
 pub mod NearRows
-pub mod NumberedRecords
 pub mod OneLine
-pub mod Opened
 pub mod Orders
 pub mod OwnCuts
 pub mod Passing
@@ -49,10 +40,7 @@ pub mod PlacedBytes
 pub mod Priorities
 pub mod Promising
 pub mod Reached
-pub mod RecordLists
 pub mod SectionLists
-pub mod SetApart
-pub mod Sharing
 pub mod ShortRegister
 pub mod Shortened
 pub mod Spans
@@ -60,10 +48,8 @@ pub mod Sparing
 pub mod Starting
 pub mod SymbolPlaces
 pub mod TargetsLie
-pub mod Totals
 pub mod Unwinding
 pub mod ValueOrder
 pub mod Values
 pub mod Whole
-pub mod WholeBodies
 pub mod WrittenFiles

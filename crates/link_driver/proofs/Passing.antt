@@ -1,79 +1,36 @@
 -- What holds of a link past its layout: each shortened call reaches its target.
 use Rattle.std.proofs.Common.{◌≡◌, Bool, List, Option, [], ◌∷◌, ◌++◌, ℕ, sym, ap, ◌∙◌, subst}
 use Rattle.std.specs.Prelude.{Result, Ok, Err}
-use Rattle.link_driver.specs.Reach.{AreAlike, CallsReach}
-use Rattle.link_driver.proofs.Alike.{folded_alike, own_alike}
+use Rattle.link_driver.specs.Reach.{CallsReach}
 use Rattle.comdat.specs.Discarded.{discarded}
-use Rattle.icf_part.specs.Folding.{AreLeaders}
-use Rattle.link_command.specs.Command.{Asked}
-use Rattle.link_sections.specs.FoldItems.{FoldItem}
+use Rattle.link_command.specs.Command.{CommandView}
 use Rattle.link_sections.specs.LaidOut.{LaidOut}
-use Rattle.link_sections.specs.Leaders.{folded_leaders, own_leaders}
-use Rattle.link_sections.specs.PoolViews.{merged_views}
-use Rattle.link_sections.specs.declared.pools.Pools.{Pools}
 use Rattle.lk_base.specs.declared.defects.Defect.{Defect}
 use Rattle.lk_base.specs.declared.defects.LinkStop.{LinkStop}
 use Rattle.lk_base.specs.declared.defects.LinkStop.TheVariants as stops
 use Rattle.lk_base.specs.declared.limits.Limits.{Limits}
 use Rattle.lk_base.specs.Firsts.{Goes, StopsAt}
-use Rattle.lk_tables.specs.declared.tables.Tables.{Tables}
 use Rattle.lk_tables.specs.Binding.{Bindings, duplicate_defects, first_phase, flag_defects}
 use Rattle.lk_tables.specs.BoundNames.{binding_defects, entry_defects}
 use Rattle.lk_tables.specs.Files.{File}
 use Rattle.lk_tables.specs.FramePlans.{PlanView}
-use Rattle.lk_tables.specs.TablesView.{files_of}
-use Rattle.sec_graph.specs.Foldable.{items}
-use Rattle.link_driver.specs.Defects.{opening_defects, reading_defects}
-use Rattle.link_driver.specs.Link.{Wishes, binding_phases, bound_names, kept_for, laid_out, leaders_in, piece_defects, placing_defects, placing_phases, plan_in, wishes_for}
+use Rattle.link_passes.specs.Defects.{opening_defects, reading_defects}
+use Rattle.link_passes.specs.Passes.{LinkOptions, bound_names, kept_for, leaders_in, piece_defects, plan_in, link_options_for}
+use Rattle.link_driver.specs.Link.{binding_phases, laid_out, placing_defects, placing_phases}
 use Rattle.link_driver.specs.Phases.{HoldsAtStop, HoldsPast, ShortenedCallsReach}
-use Rattle.link_driver.specs.Sources.{Source, files_in}
-use Rattle.link_driver.specs.Symbols.{GoWithLeaders}
-use Rattle.link_driver.specs.Tables.{MayStay}
+use Rattle.link_passes.specs.Sources.{Source, files_in}
 use Rattle.link_driver.specs.Values.{value_defects}
-use Rattle.link_driver.proofs.GoingAlong.{folded_go, own_go}
 use Rattle.link_driver.proofs.Chain.{one_none, one_stop, passed, stopped}
 
--- each section has as many bytes as its leader, without folding and with it
-pub own_so : (tables : Tables) (b : Bindings) (kept : List Bool) (pools : Pools) (own : List (Option ℕ)) → own ≡ own_leaders kept (merged_views pools) →
-    MayStay (files_of tables) b kept → AreAlike (files_of tables) b own
-own_so tables b kept pools own is stay =
-    let Q : List (Option ℕ) → Type 0 = λ l. AreAlike (files_of tables) b l in
-    subst Q (sym is) (own_alike tables b kept stay.each (merged_views pools))
-
-pub folded_so : (tables : Tables) (b : Bindings) (kept barred : List Bool) (pools : Pools) (own leaders : List (Option ℕ)) (list : List FoldItem) (places : List ℕ) →
-    own ≡ own_leaders kept (merged_views pools) → list ≡ items (files_of tables) b (merged_views pools) kept barred → AreLeaders list places →
-    leaders ≡ folded_leaders list places own → MayStay (files_of tables) b kept → AreAlike (files_of tables) b leaders
-folded_so tables b kept barred pools own leaders list places own_is list_is lead is stay =
-    let files = files_of tables in
-    let merged = merged_views pools in
-    let P : List FoldItem → Type 0 = λ l. AreLeaders l places in
-    let Q : List (Option ℕ) → Type 0 = λ l. AreAlike files b l in
-    let whole = is ∙ ap (λ l. folded_leaders l places own) list_is ∙ ap (folded_leaders (items files b merged kept barred) places) own_is in
-    subst Q (sym whole) (folded_alike tables b kept stay.each barred merged places (subst P list_is lead))
-
--- and goes where its leader does
-pub own_goes : (files : List File) (b : Bindings) (kept : List Bool) (pools : Pools) (own : List (Option ℕ)) → own ≡ own_leaders kept (merged_views pools) →
-    GoWithLeaders files b kept (merged_views pools) own
-own_goes files b kept pools own is = subst (GoWithLeaders files b kept (merged_views pools)) (sym is) (own_go files b kept (merged_views pools))
-
-pub folded_goes : (files : List File) (b : Bindings) (kept barred : List Bool) (pools : Pools) (own leaders : List (Option ℕ)) (list : List FoldItem) (places : List ℕ) →
-    own ≡ own_leaders kept (merged_views pools) → list ≡ items files b (merged_views pools) kept barred → AreLeaders list places →
-    leaders ≡ folded_leaders list places own → GoWithLeaders files b kept (merged_views pools) leaders
-folded_goes files b kept barred pools own leaders list places own_is list_is lead is =
-    let merged = merged_views pools in
-    let P : List FoldItem → Type 0 = λ l. AreLeaders l places in
-    let whole = is ∙ ap (λ l. folded_leaders l places own) list_is ∙ ap (folded_leaders (items files b merged kept barred) places) own_is in
-    subst (GoWithLeaders files b kept merged) (sym whole) (folded_go files b kept barred merged places (subst P list_is lead))
-
 -- over the leaders and the layout of a link
-pub reaches_so : (w : Wishes) (files : List File) (b : Bindings) (kept : List Bool) (leaders : List (Option ℕ)) (laid : LaidOut) → leaders ≡ leaders_in w files b kept →
+pub reaches_so : (w : LinkOptions) (files : List File) (b : Bindings) (kept : List Bool) (leaders : List (Option ℕ)) (laid : LaidOut) → leaders ≡ leaders_in w files b kept →
     laid ≡ laid_out w files b kept → CallsReach files b leaders laid → ShortenedCallsReach w files b kept
 reaches_so w files b kept leaders laid lead found reach =
     let P : List (Option ℕ) → Type 0 = λ l. CallsReach files b l laid in
     let Q : LaidOut → Type 0 = λ l. CallsReach files b (leaders_in w files b kept) l in
     subst Q found (subst P lead reach)
 
-pub goes_so : {X : Type 0} (r : Result X LinkStop) (w : Wishes) (files : List File) (b : Bindings) (kept : List Bool) (leaders : List (Option ℕ)) (laid : LaidOut) (plan : PlanView) →
+pub goes_so : {X : Type 0} (r : Result X LinkStop) (w : LinkOptions) (files : List File) (b : Bindings) (kept : List Bool) (leaders : List (Option ℕ)) (laid : LaidOut) (plan : PlanView) →
     leaders ≡ leaders_in w files b kept → laid ≡ laid_out w files b kept → plan ≡ plan_in w files b kept → Goes r (value_defects files b leaders laid plan) →
     Goes r (value_defects files b (leaders_in w files b kept) (laid_out w files b kept) (plan_in w files b kept))
 goes_so r w files b kept leaders laid plan lead found planned goes =
@@ -98,12 +55,12 @@ pub past_on : (stop : LinkStop) (earlier more : List Defect) (P Q : Type 0) → 
 past_on (stops.Defect d) earlier more P Q less step holds = λ none. step (holds (less none))
 past_on stops.Memory earlier more P Q less step holds = tt
 
-module _ (limits : Limits) (asked : Asked) (ss : List Source) where
+module _ (limits : Limits) (asked : CommandView) (ss : List Source) where
   abbrev read_phases : List (List Defect)
   read_phases = reading_defects limits ss ∷ opening_defects limits asked.undefined ss ∷ []
 
   abbrev placing_of : List File → Bindings → List Bool → List (List Defect)
-  placing_of files b kept = placing_phases limits (wishes_for asked files b kept) files b kept
+  placing_of files b kept = placing_phases limits (link_options_for asked files b kept) files b kept
 
   abbrev rest_of : List File → List (List Defect)
   rest_of files = binding_phases limits asked files ++ placing_of files (bound_names files asked.entry) (kept_for asked files (bound_names files asked.entry))

@@ -30,10 +30,11 @@ use Rattle.lk_tables.specs.Walks.{over_file, over_live, over_section, reloc_defe
 use Rattle.lk_tables.proofs.FirstNumbers.{first_within, section_more, section_upto}
 use Rattle.lk_tables.proofs.Owners.{place_of_number}
 use Rattle.sec_graph.specs.Undefined.{is_needed, undefined_at, undefined_defects}
-use Rattle.link_driver.specs.Defects.{body_defects, body_defects_at, body_of, flawed, flaws, head_defects, head_defects_at, opening_defects, reading_defects}
-use Rattle.link_driver.specs.Link.{piece_defects}
-use Rattle.link_driver.specs.Sources.{Source, files_in, has_body, headed, heads_in, live_in, opened, opened_files, source_at, with_body}
-use Rattle.link_driver.proofs.DefectOrder.{AreBelow, IsWide, NotAfter, Ordered, Up, all_append, all_flat, all_if, all_map, all_same, all_weaker, later_file, later_place, later_section, number_walk, one_all, one_up, read_all, then_wide, up_append, up_filter, up_from_rises, up_if, up_map, up_walk, wide_ordered}
+use Rattle.link_passes.specs.Defects.{body_defects, body_defects_at, body_of, flawed, flaws, head_defects, head_defects_at, opening_defects, reading_defects}
+use Rattle.link_passes.specs.Passes.{piece_defects}
+use Rattle.link_passes.specs.Sources.{Source, files_in, has_body, headed, heads_in, live_in, opened, opened_files, source_at, with_body}
+use Rattle.link_passes.proofs.Rising.{AreBelow, Up, all_append, all_map, all_weaker, number_walk, one_all, one_up, up_append, up_if, up_map, up_walk}
+use Rattle.link_driver.proofs.DefectOrder.{IsWide, NotAfter, Ordered, all_flat, all_if, all_same, later_file, later_place, later_section, read_all, then_wide, up_filter, up_from_rises, wide_ordered}
 
 -- a defect of this file
 abbrev pub OfFile : ℕ → Defect → Type 0

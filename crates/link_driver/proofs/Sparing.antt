@@ -12,7 +12,7 @@ use Rattle.icf_part.specs.Leaders.{leaders_of}
 use Rattle.icf_part.proofs.Fewer.{StandAmong, folded_more}
 use Rattle.icf_part.proofs.LeadersOf.{are_leaders, leaders_within}
 use Rattle.link_command.specs.declared.command.IcfMode.TheVariants.{All as AllMode, Safe}
-use Rattle.link_command.specs.Command.{Asked, folds}
+use Rattle.link_command.specs.Command.{CommandView, folds}
 use Rattle.link_sections.specs.FoldItems.{FoldItem, section_of, sections_of}
 use Rattle.link_sections.specs.Leaders.{fold_each, folded_leaders, leader_at, own_leaders, section_at}
 use Rattle.link_sections.specs.Merging.{pools_of}
@@ -24,8 +24,9 @@ use Rattle.sec_graph.specs.Foldable.{is_barred, is_foldable, item_of, items}
 use Rattle.sec_graph.specs.Taken.{address_taken}
 use Rattle.sec_graph.proofs.FoldOrder.{sections_are}
 use Rattle.sec_graph.proofs.ListParts.{each_passed}
-use Rattle.link_driver.specs.Link.{barred_of, bound_in, is_apart, kept_in, leaders_in, linked_files}
-use Rattle.link_driver.specs.Sources.{Source}
+use Rattle.link_passes.specs.Passes.{barred_of, is_apart, leaders_in}
+use Rattle.link_driver.specs.Link.{bound_in, kept_in, linked_files}
+use Rattle.link_passes.specs.Sources.{Source}
 use Rattle.link_driver.specs.Spared.{AreFoldedSections, Spares, StandsAlone}
 
 -- where no item is of a section, and none of its place, folding leaves the section
@@ -194,7 +195,7 @@ safe_more unique files b kept n is =
           absurd (both_ways (is_barred some n) (get_or_past some n false (omega (arith, past, wide))) is)
     ]
 
-pub spares : (asked : Asked) (ss : List Source) → Spares asked ss
+pub spares : (asked : CommandView) (ss : List Source) → Spares asked ss
 unfolding leaders_in
 spares asked ss =
     let files = linked_files asked ss in

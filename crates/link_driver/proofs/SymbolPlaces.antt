@@ -50,8 +50,8 @@ use Rattle.symbol_table.specs.declared.symbols.TablePlace.{TablePlace}
 use Rattle.symbol_table.specs.declared.symbols.TablePlace.TheVariants.{Output}
 use Rattle.symbol_table.specs.Outputs.{first_passing, goes_to, place_in, place_or}
 use Rattle.symbol_table.specs.SymbolTable.{TableSymbol, entry_by, entry_of, is_taken, own_symbol, section_in, size_in, table_value}
-use Rattle.link_driver.specs.Reach.{AreAlike}
-use Rattle.link_driver.specs.Symbols.{GoWithLeaders, HasItsSection, StandsIn, SymbolsStand}
+use Rattle.link_passes.specs.Leaders.{AreAlike, GoWithLeaders}
+use Rattle.link_driver.specs.Symbols.{HasItsSection, StandsIn, SymbolsStand}
 use Rattle.link_driver.proofs.TargetsLie.{LiesIn, bound_lies}
 
 -- the first that passes a test, and its number

@@ -12,7 +12,8 @@ use Rattle.eh_frame.specs.Bytes.{record_defects}
 use Rattle.eh_frame.specs.Plan.{plan_of}
 use Rattle.reloc_apply.specs.Relocated.{section_defects}
 use Rattle.link_driver.specs.Values.{has_records, value_defects, values_at}
-use Rattle.link_driver.proofs.DefectOrder.{NotAfter, Ordered, all_if, up_if}
+use Rattle.link_driver.proofs.DefectOrder.{NotAfter, Ordered, all_if}
+use Rattle.link_passes.proofs.Rising.{up_if}
 use Rattle.link_driver.proofs.FrameOrder.{records_ordered, records_section}
 use Rattle.link_driver.proofs.LaidOrder.{section_of, section_up}
 use Rattle.link_driver.proofs.PhaseOrder.{AreInOrder, OfSection, sections_walk}

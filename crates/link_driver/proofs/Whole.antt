@@ -16,7 +16,8 @@ use Rattle.elf_out.specs.Standing.{FramesStand, HasHeaderRoom, HeadersStand, Pie
 use Rattle.elf_out.proofs.Appends.{six_count}
 use Rattle.elf_out.proofs.Whole.{all_stand}
 use Rattle.reloc_apply.specs.Relocated.{relocation_defects}
-use Rattle.link_driver.specs.Link.{Wishes, laid_out, leaders_in, plan_in}
+use Rattle.link_passes.specs.Passes.{LinkOptions, leaders_in, plan_in}
+use Rattle.link_driver.specs.Link.{laid_out}
 use Rattle.link_driver.specs.Phases.{LinkStands, StandsWhole}
 use Rattle.link_driver.specs.Symbols.{SymbolsStand}
 use Rattle.link_driver.specs.Unwound.{Unwinds}
@@ -35,7 +36,7 @@ header_room b have rising = record {
 }
 
 -- what is written of a layout
-pub stands_so : (w : Wishes) (files : List File) (b : Bindings) (kept : List Bool) (leaders : List (Option ℕ)) (laid : LaidOut) (plan : PlanView) (exe made : List ℕ) → made ≡ exe
+pub stands_so : (w : LinkOptions) (files : List File) (b : Bindings) (kept : List Bool) (leaders : List (Option ℕ)) (laid : LaidOut) (plan : PlanView) (exe made : List ℕ) → made ≡ exe
     → HeadersStand files b leaders laid (own_tables files b kept w.strip leaders laid) exe → FramesStand laid (contents_with files b leaders laid plan) exe
     → PiecesStand files b leaders laid (own_tables files b kept w.strip leaders laid) exe → SectionsStand files b leaders laid exe
     → Unwinds files b leaders laid plan (contents_with files b leaders laid plan) → relocation_defects files b leaders laid ≡ [] → CodeStands files b leaders laid → HasAllUses files leaders laid.table
@@ -54,7 +55,7 @@ stands_so w files b kept leaders laid plan exe made is head records others stand
     subst (StandsWhole w files b kept leaders laid plan) (sym is) whole
 
 -- over the leaders and the layout of a link
-pub stands_in : (w : Wishes) (files : List File) (b : Bindings) (kept : List Bool) (leaders : List (Option ℕ)) (laid : LaidOut) (plan : PlanView) (exe : List ℕ)
+pub stands_in : (w : LinkOptions) (files : List File) (b : Bindings) (kept : List Bool) (leaders : List (Option ℕ)) (laid : LaidOut) (plan : PlanView) (exe : List ℕ)
     → leaders ≡ leaders_in w files b kept → laid ≡ laid_out w files b kept → plan ≡ plan_in w files b kept → StandsWhole w files b kept leaders laid plan exe
     → LinkStands w files b kept exe
 stands_in w files b kept leaders laid plan exe lead found planned whole =

@@ -1,20 +1,20 @@
 -- A file begun and written.
 use Rattle.std.proofs.Common.{◌≡◌, ℕ, ◌<◌, List, [], length, take, Option, ◌∙◌, ap}
 use Rattle.lk_depot.specs.declared.kinds.FileKind.{FileKind}
-use Rattle.lk_depot.specs.Files.{Files, told_added, told_put}
+use Rattle.lk_depot.specs.Files.{Files, added_if_seen, put_if_seen}
 use Rattle.lk_depot.specs.Store.{Store}
-use Rattle.lk_depot.proofs.NamedMaps.{told_added_to_new}
+use Rattle.lk_depot.proofs.NamedMaps.{added_if_seen_to_new}
 use Rattle.link_driver.specs.Ends.{IsCut, cut_short}
 
 -- all bytes behind an empty file
 pub whole_behind : (name bytes : List ℕ) (before begun after : Option Files)
-    → begun ≡ told_put name [] before → after ≡ told_added name bytes begun → after ≡ told_put name bytes before
-whole_behind name bytes before begun after was is = is ∙ ap (told_added name bytes) was ∙ told_added_to_new name bytes before
+    → begun ≡ put_if_seen name [] before → after ≡ added_if_seen name bytes begun → after ≡ put_if_seen name bytes before
+whole_behind name bytes before begun after was is = is ∙ ap (added_if_seen name bytes) was ∙ added_if_seen_to_new name bytes before
 
 -- some bytes behind an empty file
 pub cut_behind : (store store' store'' : Store) (name bytes : List ℕ) (kind : FileKind)
-    → store'.files ≡ told_put name [] store.files → store'.kinds ≡ told_put name kind store.kinds → store''.kinds ≡ store'.kinds
-    → (n : ℕ) × (n < length bytes) × (store''.files ≡ told_added name (take n bytes) store'.files)
+    → store'.files ≡ put_if_seen name [] store.files → store'.kinds ≡ put_if_seen name kind store.kinds → store''.kinds ≡ store'.kinds
+    → (n : ℕ) × (n < length bytes) × (store''.files ≡ added_if_seen name (take n bytes) store'.files)
     → IsCut store store'' name kind bytes
 cut_behind store store' store'' name bytes kind files kinds kept (n, shorter, cut) =
     cut_short n shorter (whole_behind name (take n bytes) store.files store'.files store''.files files cut) (kept ∙ kinds)

@@ -5,7 +5,7 @@ use Rattle.lk_tables.specs.Binding.{Bindings}
 use Rattle.lk_tables.specs.Files.{File}
 use Rattle.lk_tables.specs.Sites.{place_of as site_of}
 use Rattle.asked_names.specs.AskedNames.{named_sections}
-use Rattle.link_command.specs.Command.{Asked}
+use Rattle.link_command.specs.Command.{CommandView}
 use Rattle.link_sections.specs.FoldItems.{FoldItem, sections_of}
 use Rattle.link_sections.specs.InputSections.{input_at}
 use Rattle.link_sections.specs.Merging.{pools_of}
@@ -117,10 +117,10 @@ module _ (names : List (List ℕ)) (files : List File) (b : Bindings) (kept barr
   apart_text asked = []
 
 -- such a text is asked for
-abbrev pub asks_why : Asked → Bool
+abbrev pub asks_why : CommandView → Bool
 asks_why asked = is_some asked.why_live || not (length asked.why_apart == 0)
 
 -- what is said to what is asked for, if these sections are kept, and these are to be folded with no other
-unfoldable pub why_text : Asked → (names : List (List ℕ)) → List File → Bindings → (kept barred : List Bool) → List ℕ
+unfoldable pub why_text : CommandView → (names : List (List ℕ)) → List File → Bindings → (kept barred : List Bool) → List ℕ
 why_text asked names files b kept barred =
     if asks_why asked then live_text names files b asked.undefined asked.why_live ++ apart_text names files b kept barred asked.why_apart else []

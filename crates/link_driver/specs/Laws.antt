@@ -3,10 +3,10 @@ use Rattle.std.specs.Prelude.{◌≡◌, ℕ, ◌≤◌, ◌&&◌, ◌||◌, ◌
 use Rattle.comdat.specs.Discarded.{discarded}
 use Rattle.file_live.specs.Live.{IsLive}
 use Rattle.file_live.specs.Order.{StandsAnywhere}
-use Rattle.link_command.specs.Command.{Asked}
-use Rattle.link_driver.specs.Given.{contents_for}
+use Rattle.link_command.specs.Command.{CommandView}
+use Rattle.link_passes.specs.Given.{contents_for}
 use Rattle.link_driver.specs.Link.{bound_in, linked_files}
-use Rattle.link_driver.specs.Sources.{Source, heads_in, live_in, sources}
+use Rattle.link_passes.specs.Sources.{Source, heads_in, live_in, sources}
 use Rattle.lk_base.specs.declared.defects.Defect.{Defect}
 use Rattle.lk_base.specs.declared.defects.LinkStop.{LinkStop}
 use Rattle.lk_base.specs.declared.defects.LinkStop.TheVariants as stops
@@ -17,11 +17,11 @@ use Rattle.lk_tables.specs.Files.{symbol_total}
 use Rattle.sym_resolve.specs.Law.{IsLawful}
 
 -- the files of a link of inputs with these bytes
-abbrev pub sources_for : Asked → List (List ℕ) → List Source
+abbrev pub sources_for : CommandView → List (List ℕ) → List Source
 sources_for asked given = sources standard (contents_for asked given)
 
 -- the same command with another number of workers
-abbrev pub with_workers : ℕ → Asked → Asked
+abbrev pub with_workers : ℕ → CommandView → CommandView
 with_workers n asked = record {
   output = asked.output;
   map = asked.map;
@@ -46,7 +46,7 @@ pub record AreCounted (ss : List Source) : Type 0 where
 
 -- the files that take part are the least set with the command's objects, the members that it asks for and all that these pull, and an archive may stand anywhere among
 -- the objects; each name is bound to the least offer of it, if there is one, and bound COMMON symbols get the greatest room asked for
-pub record AreLeast (asked : Asked) (ss : List Source) : Type 0 where
+pub record AreLeast (asked : CommandView) (ss : List Source) : Type 0 where
   pub taking_part : IsLive asked.undefined (heads_in ss) (live_in asked.undefined ss)
   pub anywhere : StandsAnywhere asked.undefined (heads_in ss)
   pub bound : IsLawful (linked_files asked ss) (discarded (linked_files asked ss)) asked.entry (bound_in asked ss)

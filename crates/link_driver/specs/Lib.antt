@@ -1,13 +1,7 @@
 pub mod Certificates
 pub mod Code
-pub mod Contents
-pub mod Counts
-pub mod Defects
 pub mod Endings
 pub mod Ends
-pub mod Frames
-pub mod Given
-pub mod Known
 pub mod Laws
 pub mod Link
 pub mod Linked
@@ -16,13 +10,9 @@ pub mod Phases
 pub mod Placing
 pub mod Promises
 pub mod Reach
-pub mod Reading
 pub mod Reports
-pub mod Sources
 pub mod Spared
-pub mod Stops
 pub mod Symbols
-pub mod Tables
 pub mod Unwound
 pub mod Values
 pub use Rattle.link_command.specs.Command

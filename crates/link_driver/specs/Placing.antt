@@ -17,7 +17,8 @@ use Rattle.lk_tables.specs.Frames.{all_lists, lists_of}
 use Rattle.output_sections.specs.Items.{AreLeaders}
 use Rattle.link_driver.specs.declared.placing.Placement.{Placement}
 use Rattle.link_driver.specs.Symbols.{SymbolsStand}
-use Rattle.link_driver.specs.Link.{Wishes, laid_out, leaders_in, plan_in}
+use Rattle.link_passes.specs.Passes.{LinkOptions, leaders_in, plan_in}
+use Rattle.link_driver.specs.Link.{laid_out}
 
 -- where everything stands
 abbrev pub laid_by : List File → Placement → LaidOut
@@ -26,7 +27,7 @@ laid_by files p = with_contents (layout_view p.layout) (pools_view files p.pools
 -- it is the one of Link; its layout is sound and has room for the headers and for the unwind records, each shortened call reaches its target,
 -- where a section loses bytes is a call's or an alignment's own place, what is computed from the linker's table has its entry there, and each symbol
 -- lies in the section of its st_shndx
-pub record IsPlacement (w : Wishes) (files : List File) (b : Bindings) (kept : List Bool) (p : Placement) : Type 0 where
+pub record IsPlacement (w : LinkOptions) (files : List File) (b : Bindings) (kept : List Bool) (p : Placement) : Type 0 where
   pub leaders : p.leaders.items ≡ leaders_in w files b kept
   pub lead : AreLeaders files b p.leaders.items
   pub lists : lists_of p.plan.frames.now ≡ all_lists files

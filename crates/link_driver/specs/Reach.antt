@@ -1,18 +1,13 @@
 -- Calls of which not all bytes stay reach their targets (RISC-V ELF psABI, "Function Call Relaxation").
-use Rattle.std.specs.Prelude.{◌≡◌, ℕ, ◌<◌, ◌&&◌, nat_lt, Bool, true, Option, Some, List, [], All}
+use Rattle.std.specs.Prelude.{◌≡◌, ℕ, ◌<◌, ◌&&◌, nat_lt, Bool, true, Option, List, [], All}
 use Rattle.lk_tables.specs.declared.objects.Reloc.{Reloc}
 use Rattle.lk_tables.specs.Binding.{Bindings}
 use Rattle.lk_tables.specs.Files.{File, section_total}
 use Rattle.lk_tables.specs.Sites.{relocs_of}
 use Rattle.link_sections.specs.Calls.{call_size, is_call}
-use Rattle.link_sections.specs.InputSections.{input_at}
 use Rattle.link_sections.specs.LaidOut.{LaidOut, cuts_at}
-use Rattle.link_sections.specs.Leaders.{leader_at, leads}
+use Rattle.link_sections.specs.Leaders.{leads}
 use Rattle.reloc_apply.specs.Relocated.{reloc_defects}
-
--- each section has as many bytes as the one that is written in its place
-abbrev pub AreAlike : List File → Bindings → (leaders : List (Option ℕ)) → Type 0
-AreAlike files b leaders = (n m : ℕ) → leader_at leaders n ≡ Some m → (input_at files b n).size ≡ (input_at files b m).size
 
 -- a relocation of section n is a call that keeps less than its eight bytes
 abbrev pub is_shortened : LaidOut → (n : ℕ) → Reloc → Bool

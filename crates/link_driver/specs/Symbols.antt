@@ -5,22 +5,12 @@ use Rattle.std.specs.List.{slice_get}
 use Rattle.lk_tables.specs.declared.bounds.Bound.TheVariants.{InSection}
 use Rattle.lk_tables.specs.Binding.{Bindings}
 use Rattle.lk_tables.specs.Files.{File, file_at}
-use Rattle.lk_tables.specs.OutputNames.{output_name}
 use Rattle.lk_tables.specs.Targets.{bound}
 use Rattle.link_sections.specs.Addresses.{symbol_address}
-use Rattle.link_sections.specs.InputSections.{input_at}
 use Rattle.link_sections.specs.LaidOut.{LaidOut, OutputSection}
-use Rattle.link_sections.specs.Leaders.{is_kept, leader_at}
-use Rattle.link_sections.specs.PoolViews.{Merged, is_merged}
+use Rattle.link_sections.specs.PoolViews.{is_merged}
 use Rattle.symbol_table.specs.declared.symbols.TablePlace.TheVariants.{Output}
 use Rattle.symbol_table.specs.SymbolTable.{TableSymbol, entry_of, table_value}
-
--- what decides to which output section a section goes is that of the one which is written in its place; each that is kept and not merged has one
-pub record GoWithLeaders (files : List File) (b : Bindings) (kept : List Bool) (merged : List (Option Merged)) (leaders : List (Option ℕ)) : Type 0 where
-  pub led : (n : ℕ) → is_kept kept n ≡ true → is_merged merged n ≡ false → (m : ℕ) × (leader_at leaders n ≡ Some m)
-  pub output : (n m : ℕ) → leader_at leaders n ≡ Some m → output_name (input_at files b n).name ≡ output_name (input_at files b m).name
-  pub sh_type : (n m : ℕ) → leader_at leaders n ≡ Some m → (input_at files b n).sh_type ≡ (input_at files b m).sh_type
-  pub flags : (n m : ℕ) → leader_at leaders n ≡ Some m → (input_at files b n).flags ≡ (input_at files b m).flags
 
 -- the section header of this number is that of an output section; unless it is one of the linker's own unwind records, which have no members, the
 -- address lies in it or at its end

@@ -5,7 +5,7 @@ ghost use Rattle.std.specs.Option.{option_map};
 ghost use Rattle.std.specs.List.Sorted.{IsStrictlyIncreasing};
 ghost use Rattle.icf_part.specs.Folding.{item_at};
 ghost use Rattle.link_driver.specs.Certificates as spec;
-ghost use Rattle.link_driver.specs.Contents.{names_of};
+ghost use Rattle.link_passes.specs.Contents.{names_of};
 ghost use Rattle.link_sections.specs.FoldItems.{item_views, sections_of};
 ghost use Rattle.lk_tables.specs.BindingView.{binding_view};
 ghost use Rattle.lk_tables.specs.Files.{section_total};

@@ -3,10 +3,10 @@
 ghost use Rattle.std.specs.Prelude.{◌≡◌, ◌<◌, ◌≤◌, ◌^◌, ◌==◌, ◌||◌, ◌∷◌, [], All, Some, length, slice_get, slice_index, string_bytes, IfOk, IfSome};
 ghost use Rattle.std.specs.Option.{option_map};
 ghost use Rattle.std.specs.List.Sorted.{IsStrictlyIncreasing};
-ghost use Rattle.link_command.specs.Command.{asks, lists_of};
+ghost use Rattle.link_command.specs.Command.{command_view, lists_of};
 ghost use Rattle.link_driver.specs.Certificates as spec;
-ghost use Rattle.link_driver.specs.Contents.{names_of};
-ghost use Rattle.link_driver.specs.Tables.{IsGraph, MayStay};
+ghost use Rattle.link_passes.specs.Contents.{names_of};
+ghost use Rattle.link_passes.specs.Tables.{IsGraph, MayStay};
 ghost use Rattle.link_sections.specs.Edges.{ends_of};
 ghost use Rattle.link_sections.specs.FoldItems.{item_views, sections_of};
 ghost use Rattle.link_sections.specs.Merging.{piece_count};
@@ -21,10 +21,9 @@ ghost use Rattle.why_chain.specs.Aparts.{apart_chain, chain_view};
 ghost use Rattle.why_chain.specs.Walks.{live_chain, sections_in};
 
 use crate::certificate_lines::{chain_text, name_at, name_line, walk_text};
-use crate::collecting::{SectionGraph, find_graph};
-use crate::linking::fold_items;
 use asked_names::sections_of_names;
 use link_command::Command;
+use link_passes::{SectionGraph, find_graph, fold_items};
 use link_sections::FoldItem;
 use lk_base::SecNo;
 use lk_tables::{Binding, Frames, Tables};
@@ -431,14 +430,14 @@ fn apart_text<R: Threads + Sync, G: Gate>(
 
 /// Whether the names of files are wanted: for a map, or for what a command asks why.
 pub fn wants_names(map: bool, command: &Command) -> bool
-    ensures { result ≡ (map || spec.asks_why (asks command.now)) }
+    ensures { result ≡ (map || spec.asks_why (command_view command.now)) }
 {
     map || asks_why(command)
 }
 
 /// Whether a command asks why a section is kept, or why two are not folded.
 pub fn asks_why(command: &Command) -> bool
-    ensures { result ≡ spec.asks_why (asks command.now) }
+    ensures { result ≡ spec.asks_why (command_view command.now) }
 {
     command.why_live.is_some() || command.why_apart.len() != 0
 }
@@ -466,8 +465,8 @@ pub fn why_text<R: Threads + Sync, G: Gate>(
     requires frames { AreFramesOf (files_of tables.now) (binding_view binding.now) frames.now }
     requires stay { MayStay (files_of tables.now) (binding_view binding.now) kept.now }
     requires pieces { piece_count (files_of tables.now) < 2 ^ 31 }
-    requires graph { IfSome graph.now (IsGraph (files_of tables.now) (binding_view binding.now) (asks command.now).undefined) }
-    ensures { IfOk result (λ text. text.items ≡ spec.why_text (asks command.now) (names_of names.now) (files_of tables.now) (binding_view binding.now) kept.now barred.now) }
+    requires graph { IfSome graph.now (IsGraph (files_of tables.now) (binding_view binding.now) (command_view command.now).undefined) }
+    ensures { IfOk result (λ text. text.items ≡ spec.why_text (command_view command.now) (names_of names.now) (files_of tables.now) (binding_view binding.now) kept.now barred.now) }
 {
     if !asks_why(command) {
         return Ok(Vec::new(alloc));

@@ -11,7 +11,7 @@ use link_sections::View;
 /// goes to S + A, and an upper and a lower part of one value add up to it; a shortened call is `jal` with the register of its second instruction,
 /// or `c.j`, and what an alignment keeps are nops (RISC-V ELF psABI, "Relocations" and "Linker Relaxation"). Nothing is done while a program runs:
 /// all that is said here is in the clause.
-pub fn code_stands(view: &View)
+pub fn prove_code_stands(view: &View)
     requires cuts { spec.HaveOwnCuts (files_in view.now) (leaders_in view.now) (laid_in view.now) }
     requires done { relocation_defects (files_in view.now) (binding_in view.now) (leaders_in view.now) (laid_in view.now) ≡ [] }
     ensures { spec.CodeStands (files_in view.now) (binding_in view.now) (leaders_in view.now) (laid_in view.now) }

@@ -3,19 +3,18 @@
 ghost use Rattle.std.specs.Prelude.{◌≡◌, true, IfOk};
 ghost use Rattle.std.specs.List.{list_all};
 ghost use Rattle.lk_base.specs.Lines.{is_shown};
-ghost use Rattle.link_command.specs.Command.{asks};
-ghost use Rattle.link_driver.specs.Contents.{input_contents, input_names, sources_of};
+ghost use Rattle.link_command.specs.Command.{command_view};
+ghost use Rattle.link_passes.specs.Contents.{input_contents, input_names, sources_of};
 ghost use Rattle.link_driver.specs.Endings.{AreLines, map_line};
 ghost use Rattle.link_driver.specs.Link.{about, cannot_write, defect_name, line_in, shown_in};
-ghost use Rattle.link_driver.specs.Given.{names_for};
-ghost use Rattle.link_driver.specs.Sources.{source_at};
+ghost use Rattle.link_passes.specs.Given.{names_for};
+ghost use Rattle.link_passes.specs.Sources.{source_at};
 
-use crate::inputs::Inputs;
 use crate::line::Line;
 use crate::shown::shown_file;
-use crate::sources::Source;
 use crate::symbol_names::symbol_name;
 use link_command::Command;
+use link_passes::{Inputs, Source};
 use lk_base::{Defect, FileNo, line_of, push_escaped};
 use std::alloc::{AllocError, Global};
 
@@ -40,7 +39,7 @@ pub struct Lines {
 /// The line for the map.
 #[tactic(auto, unfolding(crate::specs::Link::cannot_write))]
 fn line_for_map(alloc: Global, command: &Command) -> Result<Line, AllocError>
-    ensures { IfOk result (λ line. line.bytes.items ≡ map_line (asks command.now).map) }
+    ensures { IfOk result (λ line. line.bytes.items ≡ map_line (command_view command.now).map) }
 {
     let Some(map) = &command.map else {
         return line_about(alloc, b"rvld: cannot write ", b"");
@@ -50,7 +49,7 @@ fn line_for_map(alloc: Global, command: &Command) -> Result<Line, AllocError>
 
 #[tactic(auto, unfolding(crate::specs::Link::cannot_write))]
 pub fn lines_for(alloc: Global, command: &Command) -> Result<Lines, AllocError>
-    ensures { IfOk result (λ lines. AreLines (asks command.now) lines) }
+    ensures { IfOk result (λ lines. AreLines (command_view command.now) lines) }
 {
     let output = line_about(
         alloc,
@@ -89,7 +88,7 @@ fn name_for<'a>(
     sources: &[Source<'a>],
     defect: &Defect,
 ) -> Result<&'a [u8], AllocError>
-    ensures { IfOk result (λ name. name.now ≡ defect_name (asks command.now) (sources_of sources.now) defect.now) }
+    ensures { IfOk result (λ name. name.now ≡ defect_name (command_view command.now) (sources_of sources.now) defect.now) }
 {
     if defect.kind.names_symbol() {
         return symbol_of(alloc, sources, defect);
@@ -108,8 +107,8 @@ pub fn line_for(
     sources: &[Source],
     defect: &Defect,
 ) -> Result<Line, AllocError>
-    requires { input_names inputs.now ≡ names_for (asks command.now) }
-    ensures { IfOk result (λ line. line.bytes.items ≡ line_in (asks command.now) (input_contents inputs.now) (sources_of sources.now) defect.now) }
+    requires { input_names inputs.now ≡ names_for (command_view command.now) }
+    ensures { IfOk result (λ line. line.bytes.items ≡ line_in (command_view command.now) (input_contents inputs.now) (sources_of sources.now) defect.now) }
 {
     let file = shown_file(alloc, inputs, sources, defect.file as u64)?;
     let other = shown_file(alloc, inputs, sources, defect.other)?;

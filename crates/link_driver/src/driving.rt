@@ -2,29 +2,28 @@
 
 ghost use Rattle.std.specs.Prelude.{◌≡◌, ℕ, List, ◌⊎◌, ◌≤◌, ◌<◌, [], ◌∷◌, ◌++◌, take, length, slice_index_or, IfOk, IfSome, OnOk, OnErr, None, Some};
 ghost use Rattle.lk_depot.specs.Faults.{HasCause, Rises};
-ghost use Rattle.lk_depot.specs.Files.{told_put};
+ghost use Rattle.lk_depot.specs.Files.{put_if_seen};
 ghost use Rattle.lk_depot.specs.Loading.{name_at};
 ghost use Rattle.lk_depot.specs.declared.kinds.FileKind.TheVariants.{Executable};
 ghost use Rattle.lk_depot.specs.Store.{Store};
-ghost use Rattle.link_command.specs.Command.{asked_of, asks, texts_of};
-ghost use Rattle.link_driver.specs.Contents.{input_contents, input_names};
-ghost use Rattle.link_driver.specs.Given.{contents_for, names_for};
-ghost use Rattle.link_driver.specs.Known.{AreHeads};
+ghost use Rattle.link_command.specs.Command.{command_of_words, command_view, texts_of};
+ghost use Rattle.link_passes.specs.Contents.{input_contents, input_names};
+ghost use Rattle.link_passes.specs.Given.{contents_for, names_for};
+ghost use Rattle.link_passes.specs.Known.{AreHeads};
 ghost use Rattle.link_driver.specs.Link.{cannot_read, line_of_defect};
-ghost use Rattle.link_driver.specs.Sources.{sources};
+ghost use Rattle.link_passes.specs.Sources.{sources};
 ghost use Rattle.lk_base.specs.Limits.{standard};
 ghost use Rattle.link_driver.specs.Phases.{IsLinked};
-ghost use Rattle.link_driver.specs.Ends.{Accepts, HasLine, IsCut, IsTold, Ends, EndsSo};
+ghost use Rattle.link_driver.specs.Ends.{Accepts, HasLine, IsCut, IsReported, Ends, EndsSo};
 ghost use Rattle.link_driver.specs.Promises.{Promises};
-ghost use Rattle.link_driver.specs.Endings.{status_of, told_line, TellsDefect, TellsUnread, TellsStop, TellsLoadStop, IsWithin, AfterReport, map_line, AreLines, AreLoaded, IsReady};
+ghost use Rattle.link_driver.specs.Endings.{status_of, reported_line, ReportsDefect, ReportsUnread, ReportsStop, ReportsLoadStop, IsWithin, AfterReport, map_line, AreLines, AreLoaded, IsReady};
 
 use crate::diagnostics::{Lines, line_about, line_for, lines_for};
-use crate::finding::find_sources;
-use crate::inputs::{Inputs, generated_inputs, inputs_of};
 use crate::line::Line;
 use crate::linked::Linked;
 use crate::linking::link_with_heads;
 use link_command::{Command, Wanted, command_of};
+use link_passes::{Inputs, find_sources, generated_inputs, inputs_of};
 use lk_base::{Defect, Limits, LinkStop};
 use lk_depot::{Depot, Failed, FileKind, LoadAllStop, Sink, put_all, say_all};
 use lk_tables::Head;
@@ -56,8 +55,8 @@ fn write_output<R: Threads + Sync, D: Depot, G: Gate>(
     linked: &mut Linked,
     gate: &G,
 ) -> Result<(), Failed>
-    ensures files { OnOk result ((D.store depot.new).files ≡ told_put name.now linked.old.exe (D.store depot.old).files) }
-    ensures kinds { OnOk result ((D.store depot.new).kinds ≡ told_put name.now Executable (D.store depot.old).kinds) }
+    ensures files { OnOk result ((D.store depot.new).files ≡ put_if_seen name.now linked.old.exe (D.store depot.old).files) }
+    ensures kinds { OnOk result ((D.store depot.new).kinds ≡ put_if_seen name.now Executable (D.store depot.old).kinds) }
     ensures cut { OnErr result (IsCut (D.store depot.old) (D.store depot.new) name.now Executable linked.old.exe) }
     ensures begun { Rises (D.store depot.old).begun (D.store depot.new).begun }
     ensures cause { HasCause (D.store depot.old).faults (D.store depot.new).faults result }
@@ -75,8 +74,8 @@ fn write_file<D: Depot>(
     kind: FileKind,
     bytes: &[u8],
 ) -> Result<(), Failed>
-    ensures files { OnOk result ((D.store depot.new).files ≡ told_put name.now bytes.now (D.store depot.old).files) }
-    ensures kinds { OnOk result ((D.store depot.new).kinds ≡ told_put name.now kind (D.store depot.old).kinds) }
+    ensures files { OnOk result ((D.store depot.new).files ≡ put_if_seen name.now bytes.now (D.store depot.old).files) }
+    ensures kinds { OnOk result ((D.store depot.new).kinds ≡ put_if_seen name.now kind (D.store depot.old).kinds) }
     ensures cut { OnErr result (IsCut (D.store depot.old) (D.store depot.new) name.now kind bytes.now) }
     ensures begun { Rises (D.store depot.old).begun (D.store depot.new).begun }
     ensures cause { HasCause (D.store depot.old).faults (D.store depot.new).faults result }
@@ -99,9 +98,9 @@ fn say_text<S: Sink>(say: &mut S, text: &[u8]) -> Ending
 
 /// That an input could not be read.
 #[tactic(auto, unfolding(crate::specs::Link::cannot_read))]
-fn blame_input(alloc: Global, command: &Command, index: usize) -> Ending
-    requires { index < length (asks command.now).inputs }
-    ensures { TellsUnread (cannot_read (name_at (asks command.now).inputs index)) result }
+fn unreadable_input(alloc: Global, command: &Command, index: usize) -> Ending
+    requires { index < length (command_view command.now).inputs }
+    ensures { ReportsUnread (cannot_read (name_at (command_view command.now).inputs index)) result }
 {
     let name = command.inputs.names()[index].as_str();
     let Ok(line) = line_about(alloc, b"rvld: cannot read ", name.as_bytes()) else {
@@ -112,8 +111,8 @@ fn blame_input(alloc: Global, command: &Command, index: usize) -> Ending
 
 /// The first defect, by the files of the link, which are found once more for its line.
 fn report_defect(alloc: Global, command: &Command, inputs: &Inputs, defect: &Defect) -> Ending
-    requires { input_names inputs.now ≡ names_for (asks command.now) }
-    ensures { TellsDefect (line_of_defect (asks command.now) (input_contents inputs.now) defect.now) result }
+    requires { input_names inputs.now ≡ names_for (command_view command.now) }
+    ensures { ReportsDefect (line_of_defect (command_view command.now) (input_contents inputs.now) defect.now) result }
 {
     let Ok(sources) = find_sources(alloc, &Limits::standard(), inputs) else {
         return Ending::Memory;
@@ -126,8 +125,8 @@ fn report_defect(alloc: Global, command: &Command, inputs: &Inputs, defect: &Def
 
 /// Why there is no link.
 fn report_stop(alloc: Global, command: &Command, inputs: &Inputs, stop: &LinkStop) -> Ending
-    requires { input_names inputs.now ≡ names_for (asks command.now) }
-    ensures { TellsStop (asks command.now) (input_contents inputs.now) stop.now result }
+    requires { input_names inputs.now ≡ names_for (command_view command.now) }
+    ensures { ReportsStop (command_view command.now) (input_contents inputs.now) stop.now result }
 {
     match stop {
         LinkStop::Defect(defect) => report_defect(alloc, command, inputs, defect),
@@ -137,18 +136,18 @@ fn report_stop(alloc: Global, command: &Command, inputs: &Inputs, stop: &LinkSto
 
 /// Why the inputs were not loaded.
 pub fn report_load_stop(alloc: Global, command: &Command, stop: &LoadAllStop) -> Ending
-    requires { IsWithin (asks command.now).inputs stop.now }
-    ensures { TellsLoadStop (asks command.now) stop.now result }
+    requires { IsWithin (command_view command.now).inputs stop.now }
+    ensures { ReportsLoadStop (command_view command.now) stop.now result }
 {
     match stop {
-        LoadAllStop::Absent { index } => blame_input(alloc, command, *index),
-        LoadAllStop::Failed { index } => blame_input(alloc, command, *index),
+        LoadAllStop::Absent { index } => unreadable_input(alloc, command, *index),
+        LoadAllStop::Failed { index } => unreadable_input(alloc, command, *index),
         LoadAllStop::Memory => Ending::Memory,
     }
 }
 
 /// Writes what a link gave, and says what there is to say of it.
-fn conclude<R: Threads + Sync, D: Depot, S: Sink, G: Gate>(
+fn write_outputs<R: Threads + Sync, D: Depot, S: Sink, G: Gate>(
     rt: &R,
     command: &Command,
     linked: &mut Linked,
@@ -157,9 +156,9 @@ fn conclude<R: Threads + Sync, D: Depot, S: Sink, G: Gate>(
     say: &mut S,
     gate: &G,
 ) -> Ending
-    ensures ends { (before : Store) (inputs : List (List ℕ)) → IsReady (asks command.now) before (D.store depot.old) inputs linked.old
-        → AreLines (asks command.now) lines
-        → Ends (Some (asks command.now)) before (D.store depot.new) (S.output say.old) (S.output say.new) (status_of result) (told_line result) }
+    ensures ends { (before : Store) (inputs : List (List ℕ)) → IsReady (command_view command.now) before (D.store depot.old) inputs linked.old
+        → AreLines (command_view command.now) lines
+        → Ends (Some (command_view command.now)) before (D.store depot.new) (S.output say.old) (S.output say.new) (status_of result) (reported_line result) }
     ensures faults { (D.store depot.old).faults ≤ (D.store depot.new).faults }
     ensures begun { (D.store depot.old).begun ≤ (D.store depot.new).begun }
     ensures say_faults { (S.output say.old).faults ≤ (S.output say.new).faults }
@@ -193,10 +192,10 @@ pub fn link_inputs<R: Threads + Sync, D: Depot, S: Sink, G: Gate>(
     requires some { 1 ≤ command.now.threads }
     requires most { command.now.threads ≤ 64 }
     requires known { IfSome known (λ list. AreHeads (sources standard (input_contents inputs.now)) list.items) }
-    requires names { input_names inputs.now ≡ names_for (asks command.now) }
-    ensures ends { (before : Store) (given : List (List ℕ)) → AreLoaded (asks command.now) before (D.store depot.old) given
-        → input_contents inputs.now ≡ contents_for (asks command.now) given
-        → Ends (Some (asks command.now)) before (D.store depot.new) (S.output say.old) (S.output say.new) (status_of result) (told_line result) }
+    requires names { input_names inputs.now ≡ names_for (command_view command.now) }
+    ensures ends { (before : Store) (given : List (List ℕ)) → AreLoaded (command_view command.now) before (D.store depot.old) given
+        → input_contents inputs.now ≡ contents_for (command_view command.now) given
+        → Ends (Some (command_view command.now)) before (D.store depot.new) (S.output say.old) (S.output say.new) (status_of result) (reported_line result) }
     ensures faults { (D.store depot.old).faults ≤ (D.store depot.new).faults }
     ensures begun { (D.store depot.old).begun ≤ (D.store depot.new).begun }
     ensures say_faults { (S.output say.old).faults ≤ (S.output say.new).faults }
@@ -211,7 +210,7 @@ pub fn link_inputs<R: Threads + Sync, D: Depot, S: Sink, G: Gate>(
     };
     // No memory is taken from here on.
     let mut linked = linked;
-    let ending = conclude(rt, command, &mut linked, lines, depot, say, gate);
+    let ending = write_outputs(rt, command, &mut linked, lines, depot, say, gate);
     forget(linked);
     ending
 }
@@ -228,9 +227,9 @@ fn link_files<R: Threads + Sync, D: Depot, S: Sink, G: Gate>(
 ) -> Ending
     requires some { 1 ≤ command.now.threads }
     requires most { command.now.threads ≤ 64 }
-    requires names { texts_of names.now ≡ (asks command.now).inputs }
-    requires files { (asks command.now).generated ≡ None }
-    ensures ends { Ends (Some (asks command.now)) (D.store depot.old) (D.store depot.new) (S.output say.old) (S.output say.new) (status_of result) (told_line result) }
+    requires names { texts_of names.now ≡ (command_view command.now).inputs }
+    requires files { (command_view command.now).generated ≡ None }
+    ensures ends { Ends (Some (command_view command.now)) (D.store depot.old) (D.store depot.new) (S.output say.old) (S.output say.new) (status_of result) (reported_line result) }
     ensures faults { (D.store depot.old).faults ≤ (D.store depot.new).faults }
     ensures begun { (D.store depot.old).begun ≤ (D.store depot.new).begun }
     ensures say_faults { (S.output say.old).faults ≤ (S.output say.new).faults }
@@ -259,9 +258,9 @@ pub fn link_generated<R: Threads + Sync, D: Depot, S: Sink, G: Gate>(
 ) -> Ending
     requires some { 1 ≤ command.now.threads }
     requires most { command.now.threads ≤ 64 }
-    requires files { (asks command.now).inputs ≡ [] }
-    requires generated { (asks command.now).generated ≡ Some objects }
-    ensures ends { Ends (Some (asks command.now)) (D.store depot.old) (D.store depot.new) (S.output say.old) (S.output say.new) (status_of result) (told_line result) }
+    requires files { (command_view command.now).inputs ≡ [] }
+    requires generated { (command_view command.now).generated ≡ Some objects }
+    ensures ends { Ends (Some (command_view command.now)) (D.store depot.old) (D.store depot.new) (S.output say.old) (S.output say.new) (status_of result) (reported_line result) }
     ensures faults { (D.store depot.old).faults ≤ (D.store depot.new).faults }
     ensures begun { (D.store depot.old).begun ≤ (D.store depot.new).begun }
     ensures say_faults { (S.output say.old).faults ≤ (S.output say.new).faults }
@@ -275,7 +274,7 @@ pub fn link_generated<R: Threads + Sync, D: Depot, S: Sink, G: Gate>(
 }
 
 /// Links what an accepted command names.
-fn carry_out<R: Threads + Sync, D: Depot, S: Sink, G: Gate>(
+fn link_accepted<R: Threads + Sync, D: Depot, S: Sink, G: Gate>(
     rt: &R,
     alloc: Global,
     command: &Command,
@@ -285,7 +284,7 @@ fn carry_out<R: Threads + Sync, D: Depot, S: Sink, G: Gate>(
 ) -> Ending
     requires some { 1 ≤ command.now.threads }
     requires most { command.now.threads ≤ 64 }
-    ensures ends { Ends (Some (asks command.now)) (D.store depot.old) (D.store depot.new) (S.output say.old) (S.output say.new) (status_of result) (told_line result) }
+    ensures ends { Ends (Some (command_view command.now)) (D.store depot.old) (D.store depot.new) (S.output say.old) (S.output say.new) (status_of result) (reported_line result) }
     ensures faults { (D.store depot.old).faults ≤ (D.store depot.new).faults }
     ensures begun { (D.store depot.old).begun ≤ (D.store depot.new).begun }
     ensures say_faults { (S.output say.old).faults ≤ (S.output say.new).faults }
@@ -299,7 +298,7 @@ fn carry_out<R: Threads + Sync, D: Depot, S: Sink, G: Gate>(
 }
 
 /// Reads the command and carries it out.
-fn conduct<R: Threads + Sync, D: Depot, S: Sink, G: Gate>(
+fn run_command<R: Threads + Sync, D: Depot, S: Sink, G: Gate>(
     rt: &R,
     alloc: Global,
     words: &[String],
@@ -307,7 +306,7 @@ fn conduct<R: Threads + Sync, D: Depot, S: Sink, G: Gate>(
     say: &mut S,
     gate: &G,
 ) -> Ending
-    ensures ends { Ends (asked_of (texts_of words.now)) (D.store depot.old) (D.store depot.new) (S.output say.old) (S.output say.new) (status_of result) (told_line result) }
+    ensures ends { Ends (command_of_words (texts_of words.now)) (D.store depot.old) (D.store depot.new) (S.output say.old) (S.output say.new) (status_of result) (reported_line result) }
     ensures faults { (D.store depot.old).faults ≤ (D.store depot.new).faults }
     ensures begun { (D.store depot.old).begun ≤ (D.store depot.new).begun }
     ensures say_faults { (S.output say.old).faults ≤ (S.output say.new).faults }
@@ -320,7 +319,7 @@ fn conduct<R: Threads + Sync, D: Depot, S: Sink, G: Gate>(
         Some(command) => command,
         None => return Ending::Refused,
     };
-    carry_out(rt, alloc, &command, depot, say, gate)
+    link_accepted(rt, alloc, &command, depot, say, gate)
 }
 
 /// The status of an ending.
@@ -341,8 +340,8 @@ pub fn status(ending: &Ending) -> u8
 /// The line of an ending.
 #[tactic(auto, unfolding(crate::specs::Link::bad_command, crate::specs::Link::cannot_report))]
 pub fn line(ending: &Ending) -> &[u8]
-    ensures value { result.now ≡ told_line ending.now }
-    ensures one { HasLine (status_of ending.now) (told_line ending.now) }
+    ensures value { result.now ≡ reported_line ending.now }
+    ensures one { HasLine (status_of ending.now) (reported_line ending.now) }
 {
     match ending {
         Ending::Done => &[],
@@ -356,8 +355,8 @@ pub fn line(ending: &Ending) -> &[u8]
 }
 
 /// Tells a line, where there is one.
-pub fn tell<E: Sink>(err: &mut E, line: &[u8])
-    ensures told { IsTold line.now (E.output err.old) (E.output err.new) }
+pub fn report_line<E: Sink>(err: &mut E, line: &[u8])
+    ensures told { IsReported line.now (E.output err.old) (E.output err.new) }
     ensures silent { line.now ≡ [] → (E.output err.new) ≡ (E.output err.old) }
     ensures faults { (E.output err.old).faults ≤ (E.output err.new).faults }
 {
@@ -395,7 +394,7 @@ pub fn run<R: Threads + Sync, D: Depot, S: Sink, E: Sink, G: Gate>(
         (S.output say.old) (S.output say.new) (E.output err.old) (E.output err.new) result }
     ensures promises { Promises (texts_of words.now) (D.store depot.old) (D.store depot.new) (S.output say.old) (S.output say.new) result }
 {
-    let ending = conduct(rt, alloc, words, depot, say, gate);
-    tell(err, line(&ending));
+    let ending = run_command(rt, alloc, words, depot, say, gate);
+    report_line(err, line(&ending));
     status(&ending)
 }

@@ -1,87 +1,30 @@
-//! The unwind records of a link: which function each FDE is for, and what is written of them.
+//! What is written of the unwind records of a link.
 
 ghost use Rattle.std.specs.Prelude.{◌≡◌, ◌≤◌, IfOk};
 ghost use Rattle.elf_out.specs.Standing.{FitFrames};
 ghost use Rattle.elf_out.specs.TablesView.{frame_contents};
 ghost use Rattle.layout.specs.Layout.{frame_sizes};
 ghost use Rattle.layout.specs.Spots.{HasFrames};
-ghost use Rattle.link_sections.specs.Merging.{pools_of};
-ghost use Rattle.link_sections.specs.PoolViews.{pools_view};
 ghost use Rattle.link_sections.specs.Views.{binding_in, files_in, laid_in, leaders_in};
-ghost use Rattle.lk_tables.specs.BindingView.{binding_view};
 ghost use Rattle.lk_tables.specs.FramePlans.{plan_view};
-ghost use Rattle.lk_tables.specs.Frames.{AreListsWithin, all_lists, list_views, lists_of};
-ghost use Rattle.lk_tables.specs.TablesView.{files_of};
+ghost use Rattle.lk_tables.specs.Frames.{AreListsWithin, all_lists, lists_of};
 ghost use Rattle.eh_frame.specs.Bytes.{frame_defects};
 ghost use Rattle.eh_frame.specs.FrameLaws.{ArePlain};
-ghost use Rattle.eh_frame.specs.Laws.{IsSmall};
 ghost use Rattle.eh_frame.specs.Plan.{plan_of};
 ghost use Rattle.lk_base.specs.Firsts.{StopsAt};
 ghost use Rattle.output_sections.specs.Items.{AreLeaders};
 ghost use Rattle.reloc_apply.specs.Relocated.{relocation_defects};
-ghost use Rattle.sec_graph.specs.FrameRelocs.{AreFramesOf};
-ghost use Rattle.link_driver.specs.Link.{leaders_in as leaders_for, plan_in};
-ghost use Rattle.link_driver.specs.Tables.{wished};
 ghost use Rattle.link_driver.specs.Unwound.{Unwinds};
 ghost use Rattle.link_driver.specs.Values as spec;
 
-use crate::linking::Options;
-use eh_frame::{plan, records_stand, table, write};
-use link_sections::{Pools, View};
-use lk_base::{Defect, LinkStop, SecNo};
-use lk_tables::{Binding, FrameBytes, FramePlan, Frames, Record, Tables};
+use eh_frame::{plan, prove_records_stand, write};
+use link_sections::View;
+use lk_base::{Defect, LinkStop};
+use lk_tables::{FrameBytes, FramePlan};
 use reloc_apply::check_relocations;
-use std::alloc::{AllocError, Global};
+use std::alloc::Global;
 use std::thread::Threads;
 use work_split::Gate;
-
-/// Which function each FDE is for, of the unwind records that were read of all files. The only error is out of memory.
-pub fn find_frames<R: Threads + Sync, G: Gate>(
-    rt: &R,
-    alloc: Global,
-    tables: &Tables,
-    binding: &Binding,
-    records: Vec<(SecNo, Vec<Record>)>,
-    workers: u32,
-    gate: &G,
-) -> Result<Frames, AllocError>
-    requires some { 1 ≤ workers }
-    requires most { workers ≤ 64 }
-    requires records { list_views records.items ≡ all_lists (files_of tables.now) }
-    requires within { AreListsWithin (files_of tables.now) (all_lists (files_of tables.now)) }
-    ensures { IfOk result (AreFramesOf (files_of tables.now) (binding_view binding.now)) }
-{
-    table(rt, alloc, tables, binding, records, workers, gate)
-}
-
-/// Which unwind records are written, of a link that keeps these sections, where these lead. The only error is out of memory.
-pub fn find_plan<'t, R: Threads + Sync, G: Gate>(
-    rt: &R,
-    alloc: Global,
-    tables: &Tables,
-    binding: &Binding,
-    frames: &'t Frames,
-    kept: &[bool],
-    barred: &[bool],
-    pools: &Pools,
-    leaders: &[Option<SecNo>],
-    options: Options,
-    workers: u32,
-    gate: &G,
-) -> Result<FramePlan<'t>, AllocError>
-    requires some { 1 ≤ workers }
-    requires most { workers ≤ 64 }
-    requires frames { AreFramesOf (files_of tables.now) (binding_view binding.now) frames.now }
-    requires pools { pools_view (files_of tables.now) pools.now ≡ pools_of (files_of tables.now) kept.now }
-    requires leaders { leaders.now ≡ leaders_for (wished options barred.now) (files_of tables.now) (binding_view binding.now) kept.now }
-    ensures plan { IfOk result (λ plan. plan_view plan ≡ plan_in (wished options barred.now) (files_of tables.now) (binding_view binding.now) kept.now) }
-    ensures lists { IfOk result (λ plan. lists_of plan.frames.now ≡ all_lists (files_of tables.now)) }
-    ensures small { IfOk result (λ plan. IsSmall (plan_view plan)) }
-{
-    plan(
-        rt, alloc, tables, binding, pools, frames, leaders, workers, gate,
-    )
-}
 
 /// What `.eh_frame` and `.eh_frame_hdr` hold. Where a value of an unwind record does not fit, the values of all relocations are tested too, since
 /// the first defect in order of sections is reported. Else the only error is out of memory.
@@ -108,7 +51,7 @@ pub fn write_frames<R: Threads + Sync, G: Gate>(
 {
     match write(rt, alloc, view, plan, workers, gate) {
         Ok(frames) => {
-            records_stand(view, plan, &frames);
+            prove_records_stand(view, plan, &frames);
             Ok(frames)
         }
         Err(stop) => Err(first_stop(rt, alloc, view, plan, stop, workers, gate)),

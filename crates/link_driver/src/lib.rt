@@ -5,11 +5,10 @@
 //! end is out of memory, or follows a failed call of the store of files or of an output, and leaves no more than the first
 //! bytes of a file.
 //!
-//! `linking` runs the phases: `finding` finds the files in the inputs (`sources`), `heads` and `bodies` read them by all workers, the latter with
-//! their unwind records (`records`), names are bound, what is kept is found (`collecting`), what goes into the executable is laid out
-//! (`placing`), and all is made that is written but the executable's bytes (`writing`), the unwind records by `frames`. What a command asks why
-//! is said by `certificates`, in the lines of `certificate_lines`, and is found while the rest is made; the graph by which sections were kept
-//! stays for it. What a link gives (`linked`) owns the tables (`executable`), and makes the executable from them block by block while it is
+//! `linking` runs the phases: those before the layout are calls of link_passes, which find the files in the inputs, read them, bind their names and
+//! find what is kept. What goes into the executable is laid out (`placing`), and all is made that is written but the executable's bytes (`writing`),
+//! the unwind records by `frames`. What a command asks why is said by `certificates`, in the lines of `certificate_lines`, and is found while the
+//! rest is made. What a link gives (`linked`) owns the tables (`executable`), and makes the executable from them block by block while it is
 //! written. `driving` reads the command, loads, links and writes, and says how it ended, by the lines of `diagnostics`. `piped` has `run_piped`,
 //! which reads the inputs while it loads them. The phases up to the layout are public one by one too, for whoever looks at what they hand on.
 //!
@@ -18,9 +17,8 @@
 //! makes one block of the window (`elf_out::fill_window`), then the blocks are added to the file in order, each by a call of its own, and the next
 //! window takes their place.
 //!
-//! `barring` finds the sections that are folded with no other: those in which names stand that are to be kept unique (`asked_names`), and with
-//! `--icf safe` those whose address is taken (`sec_graph::address_taken`). `reports` counts what was shortened: a call that keeps less than
-//! its eight bytes is a cut that is no alignment, and these are counted by section number.
+//! `reports` counts what was shortened: a call that keeps less than its eight bytes is a cut that is no alignment, and these are counted by
+//! section number.
 //!
 //! A shortened call reaches its target (`reaching`): sizes are chosen by the greatest distances, before anything has a place (RISC-V ELF psABI,
 //! "Function Call Relaxation"), so once everything has its place no `jal` and no `c.j` of such a call is odd or out of range. Once all relocations
@@ -28,44 +26,33 @@
 //! Where a section loses bytes is a call's or an alignment's own place (`HaveOwnCuts`), so no relocation fills what these leave.
 #![tactic(auto)]
 
-mod barring;
-mod bodies;
 mod certificate_lines;
 mod certificates;
 mod code;
-mod collecting;
 mod diagnostics;
 mod driving;
 mod executable;
-mod finding;
 mod frames;
-mod heads;
-mod inputs;
 mod line;
 mod linked;
 mod linking;
-mod numbering;
 mod piped;
 mod placing;
 mod reaching;
-mod records;
 mod reports;
-mod sections;
 mod shown;
-mod sources;
 mod symbol_names;
 mod writing;
 
-pub use barring::find_barred;
-pub use collecting::find_kept;
 pub use driving::run;
-pub use finding::find_sources;
-pub use frames::{find_frames, find_plan, write_frames};
-pub use inputs::Inputs;
+pub use frames::write_frames;
 pub use link_command::{Command, IcfMode, Wanted};
+pub use link_passes::{
+    Inputs, Options, Source, bind_names, find_barred, find_frames, find_kept, find_leaders,
+    find_plan, find_sources, read_files,
+};
 pub use linked::Linked;
-pub use linking::{Options, bind_names, find_leaders, lay_out, link, read_files};
+pub use linking::{lay_out, link};
 pub use piped::run_piped;
 pub use piped_reads::{Piped, PipedFile, PipedFlaw, read_piped};
-pub use sources::Source;
 pub use work_split::{Gate, OpenGate};

@@ -9,7 +9,7 @@ ghost use Rattle.link_sections.specs.GotView.{entries_of};
 ghost use Rattle.link_sections.specs.Sound.{IsSound};
 ghost use Rattle.link_sections.specs.Views.{binding_in, files_in, laid_in, leaders_in};
 ghost use Rattle.lk_depot.specs.Faults.{HasCause};
-ghost use Rattle.lk_depot.specs.Files.{told_added};
+ghost use Rattle.lk_depot.specs.Files.{added_if_seen};
 ghost use Rattle.lk_tables.specs.BindingView.{binding_view};
 ghost use Rattle.lk_tables.specs.TablesView.{files_of, have_numbers};
 ghost use Rattle.lk_tables.specs.Uppers.{AreListed, section_uppers};
@@ -17,10 +17,10 @@ ghost use Rattle.link_driver.specs.Linked.{exe_of, laid_of, settled_view, with_w
 ghost use Rattle.link_driver.specs.Placing.{laid_by};
 
 use crate::executable::Executable;
-use crate::numbering::numbers_of;
 use crate::placing::Placement;
 use crate::writing::{Settled, Written};
 use elf_out::{BLOCK, fill_window};
+use link_passes::numbers_of;
 use link_sections::View;
 use lk_depot::{Depot, Failed, put_all};
 use lk_tables::{Binding, Frames, Tables};
@@ -105,9 +105,9 @@ fn fill_from<R: Threads + Sync, G: Gate>(
 
 /// Adds these bytes to the end of a file, block by block.
 fn put_blocks<D: Depot>(depot: &mut D, name: &str, bytes: &[u8]) -> Result<(), Failed>
-    ensures ok { OnOk result ((D.store depot.new).files ≡ told_added name.now bytes.now (D.store depot.old).files) }
+    ensures ok { OnOk result ((D.store depot.new).files ≡ added_if_seen name.now bytes.now (D.store depot.old).files) }
     ensures err { OnErr result ((n : ℕ) × (n < length bytes.now)
-        × ((D.store depot.new).files ≡ told_added name.now (take n bytes.now) (D.store depot.old).files)) }
+        × ((D.store depot.new).files ≡ added_if_seen name.now (take n bytes.now) (D.store depot.old).files)) }
     ensures cause { HasCause (D.store depot.old).faults (D.store depot.new).faults result }
     ensures kinds { (D.store depot.new).kinds ≡ (D.store depot.old).kinds }
     ensures begun { (D.store depot.new).begun ≡ (D.store depot.old).begun }
@@ -144,9 +144,9 @@ fn write_window<R: Threads + Sync, D: Depot, G: Gate>(
     gate: &G,
 ) -> Result<(), Failed>
     requires within { 65536 * k + length window.old ≤ length (exe_of executable.now) }
-    ensures ok { OnOk result ((D.store depot.new).files ≡ told_added name.now (take (length window.old) (drop (65536 * k) (exe_of executable.now))) (D.store depot.old).files) }
+    ensures ok { OnOk result ((D.store depot.new).files ≡ added_if_seen name.now (take (length window.old) (drop (65536 * k) (exe_of executable.now))) (D.store depot.old).files) }
     ensures err { OnErr result ((n : ℕ) × (n < length window.old)
-        × ((D.store depot.new).files ≡ told_added name.now (take n (take (length window.old) (drop (65536 * k) (exe_of executable.now)))) (D.store depot.old).files)) }
+        × ((D.store depot.new).files ≡ added_if_seen name.now (take n (take (length window.old) (drop (65536 * k) (exe_of executable.now)))) (D.store depot.old).files)) }
     ensures cause { HasCause (D.store depot.old).faults (D.store depot.new).faults result }
     ensures kinds { (D.store depot.new).kinds ≡ (D.store depot.old).kinds }
     ensures begun { (D.store depot.new).begun ≡ (D.store depot.old).begun }
@@ -166,9 +166,9 @@ fn write_windows<R: Threads + Sync, D: Depot, G: Gate>(
     gate: &G,
 ) -> Result<(), Failed>
     requires { 65536 ≤ length window.old }
-    ensures ok { OnOk result ((D.store depot.new).files ≡ told_added name.now (exe_of executable.now) (D.store depot.old).files) }
+    ensures ok { OnOk result ((D.store depot.new).files ≡ added_if_seen name.now (exe_of executable.now) (D.store depot.old).files) }
     ensures err { OnErr result ((n : ℕ) × (n < length (exe_of executable.now))
-        × ((D.store depot.new).files ≡ told_added name.now (take n (exe_of executable.now)) (D.store depot.old).files)) }
+        × ((D.store depot.new).files ≡ added_if_seen name.now (take n (exe_of executable.now)) (D.store depot.old).files)) }
     ensures cause { HasCause (D.store depot.old).faults (D.store depot.new).faults result }
     ensures kinds { (D.store depot.new).kinds ≡ (D.store depot.old).kinds }
     ensures begun { (D.store depot.new).begun ≡ (D.store depot.old).begun }
@@ -302,9 +302,9 @@ impl<'a> Linked<'a> {
         name: &str,
         gate: &G,
     ) -> Result<(), Failed>
-        ensures ok { OnOk result ((D.store depot.new).files ≡ told_added name.now self.old.exe (D.store depot.old).files) }
+        ensures ok { OnOk result ((D.store depot.new).files ≡ added_if_seen name.now self.old.exe (D.store depot.old).files) }
         ensures err { OnErr result ((n : ℕ) × (n < length self.old.exe)
-            × ((D.store depot.new).files ≡ told_added name.now (take n self.old.exe) (D.store depot.old).files)) }
+            × ((D.store depot.new).files ≡ added_if_seen name.now (take n self.old.exe) (D.store depot.old).files)) }
         ensures cause { HasCause (D.store depot.old).faults (D.store depot.new).faults result }
         ensures kinds { (D.store depot.new).kinds ≡ (D.store depot.old).kinds }
         ensures begun { (D.store depot.new).begun ≡ (D.store depot.old).begun }

@@ -2,21 +2,23 @@
 
 ghost use Rattle.std.specs.Prelude.{◌≡◌, ℕ, List, ◌≤◌, All, [], ◌∷◌, ◌++◌, true, false, None, Some, map, length, is_some, filter, if◌then◌else◌, IfOk, IfSome, OnOk};
 ghost use Rattle.ar_read.specs.Archives.{is_archive};
-ghost use Rattle.link_command.specs.Command.{asked_of, asks, texts_of};
+ghost use Rattle.link_command.specs.Command.{command_of_words, command_view, texts_of};
 ghost use Rattle.lk_base.specs.Limits.{standard};
-ghost use Rattle.link_driver.specs.Contents.{contents_of};
-ghost use Rattle.link_driver.specs.Endings.{status_of, told_line};
+ghost use Rattle.link_passes.specs.Contents.{contents_of};
+ghost use Rattle.link_driver.specs.Endings.{status_of, reported_line};
 ghost use Rattle.link_driver.specs.Ends.{Ends, EndsSo};
-ghost use Rattle.link_driver.specs.Known.{AreHeads, own_heads};
+ghost use Rattle.link_passes.specs.Known.{AreHeads, own_heads};
 ghost use Rattle.link_driver.specs.Promises.{Promises};
-ghost use Rattle.link_driver.specs.Sources.{sources};
+ghost use Rattle.link_passes.specs.Sources.{sources};
 ghost use Rattle.piped_reads.specs.Loads.{bytes_of_files};
 ghost use Rattle.piped_reads.specs.Readings.{IsPiped};
 
-use crate::driving::{Ending, line, link_generated, link_inputs, report_load_stop, status, tell};
-use crate::inputs::inputs_of;
+use crate::driving::{
+    Ending, line, link_generated, link_inputs, report_line, report_load_stop, status,
+};
 use ar_read::is_archive;
 use link_command::{Command, Wanted, command_of};
+use link_passes::inputs_of;
 use lk_depot::{Depot, Sink};
 use lk_tables::Head;
 use piped_reads::{Piped, PipedFile, PipedFlaw, read_piped};
@@ -136,9 +138,9 @@ fn link_piped<R: Threads + Wait + Sync, D: Depot, S: Sink, G: Gate>(
 ) -> Ending
     requires some { 1 ≤ command.now.threads }
     requires most { command.now.threads ≤ 64 }
-    requires names { texts_of names.now ≡ (asks command.now).inputs }
-    requires files { (asks command.now).generated ≡ None }
-    ensures ends { Ends (Some (asks command.now)) (D.store depot.old) (D.store depot.new) (S.output say.old) (S.output say.new) (status_of result) (told_line result) }
+    requires names { texts_of names.now ≡ (command_view command.now).inputs }
+    requires files { (command_view command.now).generated ≡ None }
+    ensures ends { Ends (Some (command_view command.now)) (D.store depot.old) (D.store depot.new) (S.output say.old) (S.output say.new) (status_of result) (reported_line result) }
     ensures faults { (D.store depot.old).faults ≤ (D.store depot.new).faults }
     ensures begun { (D.store depot.old).begun ≤ (D.store depot.new).begun }
     ensures say_faults { (S.output say.old).faults ≤ (S.output say.new).faults }
@@ -165,7 +167,7 @@ fn link_piped<R: Threads + Wait + Sync, D: Depot, S: Sink, G: Gate>(
 }
 
 /// Links what an accepted command names.
-fn carry_out<R: Threads + Wait + Sync, D: Depot, S: Sink, G: Gate>(
+fn link_accepted<R: Threads + Wait + Sync, D: Depot, S: Sink, G: Gate>(
     rt: &R,
     alloc: Global,
     command: &Command,
@@ -175,7 +177,7 @@ fn carry_out<R: Threads + Wait + Sync, D: Depot, S: Sink, G: Gate>(
 ) -> Ending
     requires some { 1 ≤ command.now.threads }
     requires most { command.now.threads ≤ 64 }
-    ensures ends { Ends (Some (asks command.now)) (D.store depot.old) (D.store depot.new) (S.output say.old) (S.output say.new) (status_of result) (told_line result) }
+    ensures ends { Ends (Some (command_view command.now)) (D.store depot.old) (D.store depot.new) (S.output say.old) (S.output say.new) (status_of result) (reported_line result) }
     ensures faults { (D.store depot.old).faults ≤ (D.store depot.new).faults }
     ensures begun { (D.store depot.old).begun ≤ (D.store depot.new).begun }
     ensures say_faults { (S.output say.old).faults ≤ (S.output say.new).faults }
@@ -189,7 +191,7 @@ fn carry_out<R: Threads + Wait + Sync, D: Depot, S: Sink, G: Gate>(
 }
 
 /// Reads the command and carries it out.
-fn conduct<R: Threads + Wait + Sync, D: Depot, S: Sink, G: Gate>(
+fn run_command<R: Threads + Wait + Sync, D: Depot, S: Sink, G: Gate>(
     rt: &R,
     alloc: Global,
     words: &[String],
@@ -197,7 +199,7 @@ fn conduct<R: Threads + Wait + Sync, D: Depot, S: Sink, G: Gate>(
     say: &mut S,
     gate: &G,
 ) -> Ending
-    ensures ends { Ends (asked_of (texts_of words.now)) (D.store depot.old) (D.store depot.new) (S.output say.old) (S.output say.new) (status_of result) (told_line result) }
+    ensures ends { Ends (command_of_words (texts_of words.now)) (D.store depot.old) (D.store depot.new) (S.output say.old) (S.output say.new) (status_of result) (reported_line result) }
     ensures faults { (D.store depot.old).faults ≤ (D.store depot.new).faults }
     ensures begun { (D.store depot.old).begun ≤ (D.store depot.new).begun }
     ensures say_faults { (S.output say.old).faults ≤ (S.output say.new).faults }
@@ -210,7 +212,7 @@ fn conduct<R: Threads + Wait + Sync, D: Depot, S: Sink, G: Gate>(
         Some(command) => command,
         None => return Ending::Refused,
     };
-    carry_out(rt, alloc, &command, depot, say, gate)
+    link_accepted(rt, alloc, &command, depot, say, gate)
 }
 
 /// Runs a command as [`run`](crate::run) does, and reads its files while it loads them.
@@ -232,7 +234,7 @@ pub fn run_piped<R: Threads + Wait + Sync, D: Depot, S: Sink, E: Sink, G: Gate>(
         (S.output say.old) (S.output say.new) (E.output err.old) (E.output err.new) result }
     ensures promises { Promises (texts_of words.now) (D.store depot.old) (D.store depot.new) (S.output say.old) (S.output say.new) result }
 {
-    let ending = conduct(rt, alloc, words, depot, say, gate);
-    tell(err, line(&ending));
+    let ending = run_command(rt, alloc, words, depot, say, gate);
+    report_line(err, line(&ending));
     status(&ending)
 }

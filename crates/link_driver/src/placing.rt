@@ -1,10 +1,9 @@
 //! What is written, and where: equal pieces are merged, equal code is folded, the linker's table is listed, and all of it is laid out. What needs
 //! none of this is done beside it.
 
-ghost use Rattle.std.specs.Prelude.{◌≡◌, ◌<◌, ◌≤◌, ◌^◌, ◌∷◌, [], length, IfOk};
+ghost use Rattle.std.specs.Prelude.{◌<◌, ◌≤◌, ◌^◌, IfOk};
 ghost use Rattle.layout.specs.Layout.{layout_defects};
-ghost use Rattle.link_sections.specs.Merging.{piece_count, pools_of};
-ghost use Rattle.link_sections.specs.PoolViews.{piece_rows, pool_list, pools_view};
+ghost use Rattle.link_sections.specs.Merging.{piece_count};
 ghost use Rattle.lk_base.specs.Firsts.{Goes};
 ghost use Rattle.lk_base.specs.Limits.{IsWithinStandard};
 ghost use Rattle.lk_tables.specs.Binding.{first_phase};
@@ -15,22 +14,18 @@ ghost use Rattle.lk_tables.specs.TablesView.{files_of};
 ghost use Rattle.lk_tables.specs.Uppers.{AreListed, section_uppers};
 ghost use Rattle.link_driver.specs.Link.{laid_out, placing_phases};
 ghost use Rattle.link_driver.specs.Placing.{IsPlacement};
-ghost use Rattle.link_driver.specs.Tables.{MayStay, wished};
+ghost use Rattle.link_passes.specs.Tables.{MayStay, link_options};
 ghost use Rattle.sec_graph.specs.FrameRelocs.{AreFramesOf};
 ghost use Rattle.sec_graph.specs.Undefined.{undefined_defects};
-ghost use Rattle.str_merge.specs.Small.{AreWritten};
 
-use crate::frames::find_plan;
-use crate::linking::{Options, find_leaders, lay_out};
+use crate::linking::lay_out;
 use got_tls::entries;
+use link_passes::{Options, check_defined, find_leaders, find_plan, find_pools};
 use link_sections::{Got, Layout, Pools};
 use lk_base::{Limits, LinkStop, SecNo};
 use lk_tables::{Binding, FramePlan, Frames, NameNumbers, Tables, Uppers};
-use reloc_apply::find_uppers;
-use sec_graph::undefined;
-use std::alloc::{AllocError, Global};
+use std::alloc::Global;
 use std::thread::{Threads, join_mut};
-use str_merge::merge;
 use work_split::Gate;
 
 /// What is settled of a link before anything is written.
@@ -46,65 +41,6 @@ pub struct Placement<'a, 't> {
     pub got: Got,
     /// Where everything stands.
     pub layout: Layout<'a>,
-}
-
-/// Tests that what kept sections refer to is defined.
-fn check_defined(
-    tables: &Tables,
-    binding: &Binding,
-    frames: &Frames,
-    kept: &[bool],
-) -> Result<(), LinkStop>
-    requires { AreFramesOf (files_of tables.now) (binding_view binding.now) frames.now }
-    ensures { Goes result (undefined_defects (files_of tables.now) (binding_view binding.now) kept.now) }
-{
-    if let Some(defect) = undefined(tables, binding, kept, frames) {
-        return Err(LinkStop::Defect(defect));
-    }
-    Ok(())
-}
-
-/// What is merged, and the upper parts of all sections. With two workers or more another thread lists the upper parts meanwhile. The only error
-/// is out of memory.
-fn find_pools<R: Threads + Sync, G: Gate>(
-    rt: &R,
-    alloc: Global,
-    tables: &Tables,
-    kept: &[bool],
-    workers: u32,
-    gate: &G,
-) -> Result<(Pools, Uppers), AllocError>
-    requires some { 1 ≤ workers }
-    requires most { workers ≤ 64 }
-    requires pieces { piece_count (files_of tables.now) < 2 ^ 31 }
-    requires written { AreWritten (files_of tables.now) kept.now }
-    ensures value { IfOk result (λ both. pools_view (files_of tables.now) both.0 ≡ pools_of (files_of tables.now) kept.now) }
-    ensures rows { IfOk result (λ both. length (piece_rows both.0) ≡ length (pool_list both.0)) }
-    ensures listed { IfOk result (λ both. AreListed (section_uppers (files_of tables.now)) both.1) }
-{
-    if workers == 1 {
-        let pools = merge(rt, alloc, tables, kept, workers, gate)?;
-        let uppers = find_uppers(alloc, tables)?;
-        return Ok((pools, uppers));
-    }
-    let (pools, uppers) = join_mut(
-        rt,
-        &mut || -> Result<Pools, AllocError>
-            requires { (1 ≤ workers) × (workers ≤ 64) × (piece_count (files_of tables.now) < 2 ^ 31) × AreWritten (files_of tables.now) kept.now }
-            ensures { IfOk result (λ pools. pools_view (files_of tables.entry.now) pools ≡ pools_of (files_of tables.entry.now) kept.entry.now) × IfOk result (λ pools. length (piece_rows pools) ≡ length (pool_list pools)) }
-        { merge(rt, alloc, tables, kept, workers, gate) },
-        &mut || -> Result<Uppers, AllocError>
-            ensures { IfOk result (AreListed (section_uppers (files_of tables.entry.now))) }
-        { find_uppers(alloc, tables) },
-    );
-    let pools = match pools {
-        Ok(pools) => pools,
-        Err(stop) => return Err(stop),
-    };
-    match uppers {
-        Ok(uppers) => Ok((pools, uppers)),
-        Err(stop) => Err(stop),
-    }
 }
 
 /// Which sections and pieces are written, and where they stand; and the upper parts of all sections.
@@ -130,9 +66,9 @@ fn find_placement<'a, 't, R: Threads + Sync, G: Gate>(
     requires frames { AreFramesOf (files_of tables.now) (binding_view binding.now) frames.now }
     requires stay { MayStay (files_of tables.now) (binding_view binding.now) kept.now }
     requires pieces { piece_count (files_of tables.now) < 2 ^ 31 }
-    ensures goes { Goes result (layout_defects limits.now (files_of tables.now) (laid_out (wished options barred.now) (files_of tables.now) (binding_view binding.now) kept.now)) }
+    ensures goes { Goes result (layout_defects limits.now (files_of tables.now) (laid_out (link_options options barred.now) (files_of tables.now) (binding_view binding.now) kept.now)) }
     ensures listed { IfOk result (λ both. AreListed (section_uppers (files_of tables.now)) both.0) }
-    ensures placed { IfOk result (λ both. IsPlacement (wished options barred.now) (files_of tables.now) (binding_view binding.now) kept.now both.1) }
+    ensures placed { IfOk result (λ both. IsPlacement (link_options options barred.now) (files_of tables.now) (binding_view binding.now) kept.now both.1) }
 {
     // Equal strings and constants stand once from here on.
     let (pools, uppers) = find_pools(rt, alloc, tables, kept, workers, gate)?;
@@ -187,7 +123,7 @@ fn find_placement<'a, 't, R: Threads + Sync, G: Gate>(
 
 /// The upper parts of all sections, and the placement of a link, if what kept sections refer to is defined. With two workers or more, another
 /// thread tests that meanwhile, since no placement is needed for it.
-pub fn place_beside<'a, 't, R: Threads + Sync, G: Gate>(
+pub fn place_and_check<'a, 't, R: Threads + Sync, G: Gate>(
     rt: &R,
     alloc: Global,
     limits: &Limits,
@@ -209,9 +145,9 @@ pub fn place_beside<'a, 't, R: Threads + Sync, G: Gate>(
     requires frames { AreFramesOf (files_of tables.now) (binding_view binding.now) frames.now }
     requires stay { MayStay (files_of tables.now) (binding_view binding.now) kept.now }
     requires pieces { piece_count (files_of tables.now) < 2 ^ 31 }
-    ensures goes { Goes result (first_phase (placing_phases limits.now (wished options barred.now) (files_of tables.now) (binding_view binding.now) kept.now)) }
+    ensures goes { Goes result (first_phase (placing_phases limits.now (link_options options barred.now) (files_of tables.now) (binding_view binding.now) kept.now)) }
     ensures listed { IfOk result (λ both. AreListed (section_uppers (files_of tables.now)) both.0) }
-    ensures placed { IfOk result (λ both. IsPlacement (wished options barred.now) (files_of tables.now) (binding_view binding.now) kept.now both.1) }
+    ensures placed { IfOk result (λ both. IsPlacement (link_options options barred.now) (files_of tables.now) (binding_view binding.now) kept.now both.1) }
 {
     if workers == 1 {
         let _ = match check_defined(tables, binding, frames, kept) {
@@ -234,7 +170,7 @@ pub fn place_beside<'a, 't, R: Threads + Sync, G: Gate>(
         { check_defined(tables, binding, frames, kept) },
         &mut || -> Result<(Uppers, Placement), LinkStop>
             requires { IsWithinStandard limits.now × (1 ≤ workers) × (workers ≤ 64) × IsBindingOf (files_of tables.now) (binding_view binding.now) × NumbersNames (heads_alone (files_of tables.now)) numbers.now × AreFramesOf (files_of tables.now) (binding_view binding.now) frames.now × MayStay (files_of tables.now) (binding_view binding.now) kept.now × (piece_count (files_of tables.now) < 2 ^ 31) }
-            ensures { Goes result (layout_defects limits.entry.now (files_of tables.entry.now) (laid_out (wished options barred.entry.now) (files_of tables.entry.now) (binding_view binding.entry.now) kept.entry.now)) × IfOk result (λ both. AreListed (section_uppers (files_of tables.entry.now)) both.0) × IfOk result (λ both. IsPlacement (wished options barred.entry.now) (files_of tables.entry.now) (binding_view binding.entry.now) kept.entry.now both.1) }
+            ensures { Goes result (layout_defects limits.entry.now (files_of tables.entry.now) (laid_out (link_options options barred.entry.now) (files_of tables.entry.now) (binding_view binding.entry.now) kept.entry.now)) × IfOk result (λ both. AreListed (section_uppers (files_of tables.entry.now)) both.0) × IfOk result (λ both. IsPlacement (link_options options barred.entry.now) (files_of tables.entry.now) (binding_view binding.entry.now) kept.entry.now both.1) }
         {
             find_placement(
                 rt, alloc, limits, tables, binding, frames, kept, barred, numbers, options,

@@ -17,6 +17,7 @@ ghost use Rattle.layout.specs.Spots.{HaveAlignments};
 ghost use Rattle.relax.specs.CallSizes.{IsLeastSafe, cuts_of};
 ghost use Rattle.link_driver.specs.Code.{HaveOwnCuts};
 ghost use Rattle.link_driver.specs.Reach as spec;
+ghost use Rattle.link_passes.specs.Leaders.{AreAlike};
 
 use link_sections::{Got, Layout, Pools, Sizes};
 use lk_base::{Limits, SecNo};
@@ -27,7 +28,7 @@ use output_sections::OutputSections;
 /// them, of a link that it does not refuse: its relocation is neither odd nor out of range. A section has as many bytes as the one that is
 /// written in its place. Where sections lose bytes they are those of a call or an alignment of their own. Nothing is done while a program runs: all
 /// that is said here is in the clauses.
-pub fn calls_reach(
+pub fn prove_calls_reach(
     tables: &Tables,
     binding: &Binding,
     pools: &Pools,
@@ -42,7 +43,7 @@ pub fn calls_reach(
 )
     requires bound { IsBindingOf (files_of tables.now) (binding_view binding.now) }
     requires leaders { AreLeaders (files_of tables.now) (binding_view binding.now) leaders.now }
-    requires alike { spec.AreAlike (files_of tables.now) (binding_view binding.now) leaders.now }
+    requires alike { AreAlike (files_of tables.now) (binding_view binding.now) leaders.now }
     requires pools { HaveFirsts (files_of tables.now) (binding_view binding.now) (pool_list pools.now) }
     requires order { sections.now.rows ≡ orders_of (items (files_of tables.now) (binding_view binding.now) (pool_list pools.now) (word_count (entries_of got.now)) leaders.now) }
     requires sizes { sizes_of sizes.now ≡ cuts_of (files_of tables.now) (binding_view binding.now) (merged_views pools.now) leaders.now (members_in sections.now.rows) on }
@@ -54,5 +55,5 @@ pub fn calls_reach(
     ensures reach { spec.CallsReach (files_of tables.now) (binding_view binding.now) leaders.now (with_contents (layout_view layout.now) (pools_view (files_of tables.now) pools.now) (entries_of got.now)) }
     ensures cuts { HaveOwnCuts (files_of tables.now) leaders.now (with_contents (layout_view layout.now) (pools_view (files_of tables.now) pools.now) (entries_of got.now)) }
 {
-    tables.is_few();
+    tables.prove_few();
 }

@@ -52,7 +52,7 @@ fn short_calls(cuts: &[Cut]) -> u64
 fn relaxed_count(view: &View) -> u128
     ensures { result ≡ spec.relaxed_count (files_in view.now) (laid_in view.now) }
 {
-    view.tables.is_few();
+    view.tables.prove_few();
     let mut count: u128 = 0;
     for section in 0..view.tables.section_count() {
         count += short_calls(view.layout.sizes.cuts(section as u32)) as u128;
@@ -61,7 +61,7 @@ fn relaxed_count(view: &View) -> u128
 }
 
 /// There are not more pools than section numbers of 32 bits.
-fn few_pools(pools: &[Pool]) -> usize
+fn prove_few_pools(pools: &[Pool]) -> usize
     requires { AreRising pools.now }
     ensures { length pools.now ≤ 2 ^ 32 }
 {
@@ -91,7 +91,7 @@ fn piece_total(view: &View) -> u128
     ensures { result ≡ spec.piece_total (laid_in view.now) }
 {
     let pools = view.pools.pools();
-    few_pools(pools);
+    prove_few_pools(pools);
     let mut count: u128 = 0;
     for pool in 0..pools.len() {
         count += piece_count(view.pools, pool as u32) as u128;

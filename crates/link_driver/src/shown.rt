@@ -1,11 +1,10 @@
 //! The names by which files are shown: those of their inputs, and for the members of archives both names.
 
 ghost use Rattle.std.specs.Prelude.{◌≡◌, true, [], length, map, slice_index_or, IfOk};
-ghost use Rattle.link_driver.specs.Contents.{input_contents, input_names, names_of, source_view, sources_of};
-ghost use Rattle.link_driver.specs.Sources.{input_at, shown_file, shown_files, shown_source};
+ghost use Rattle.link_passes.specs.Contents.{input_contents, input_names, names_of, source_view, sources_of};
+ghost use Rattle.link_passes.specs.Sources.{input_at, shown_file, shown_files, shown_source};
 
-use crate::inputs::Inputs;
-use crate::sources::Source;
+use link_passes::{Inputs, Source};
 use lk_tables::text_of;
 use std::alloc::{AllocError, Global};
 
@@ -30,7 +29,7 @@ fn input_bytes(inputs: &Inputs, input: usize) -> &[u8]
 }
 
 /// The name of a file.
-#[tactic(auto, unfolding(crate::specs::Sources::shown_source))]
+#[tactic(auto, unfolding(link_passes::specs::Sources::shown_source))]
 fn shown_source(alloc: Global, inputs: &Inputs, source: &Source) -> Result<Vec<u8>, AllocError>
     ensures { IfOk result (λ name. name.items ≡ shown_source (input_names inputs.now) (input_contents inputs.now) (source_view source.now)) }
 {

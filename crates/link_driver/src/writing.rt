@@ -21,24 +21,24 @@ ghost use Rattle.lk_tables.specs.Frames.{AreListsWithin, all_lists, lists_of as 
 ghost use Rattle.lk_tables.specs.NameNumbers.{NumbersNames, heads_alone};
 ghost use Rattle.lk_tables.specs.TablesView.{files_of};
 ghost use Rattle.lk_tables.specs.Uppers.{AreListed, section_uppers};
-ghost use Rattle.link_driver.specs.Contents.{names_of};
+ghost use Rattle.link_passes.specs.Contents.{names_of};
 ghost use Rattle.link_driver.specs.Linked.{IsMade, written_view};
 ghost use Rattle.link_driver.specs.Phases.{IsWritten, StandsWhole};
 ghost use Rattle.link_driver.specs.Symbols.{SymbolsStand};
 ghost use Rattle.link_driver.specs.Placing.{laid_by};
-ghost use Rattle.link_driver.specs.Tables.{wished};
+ghost use Rattle.link_passes.specs.Tables.{link_options};
 ghost use Rattle.link_driver.specs.Unwound.{Unwinds};
 ghost use Rattle.link_driver.specs.Values.{Leaves, contents_with, value_defects};
 ghost use Rattle.reloc_apply.specs.Relocated.{relocation_defects};
 ghost use Rattle.map_file.specs.MapView.{map_in};
 ghost use Rattle.output_sections.specs.Items.{AreLeaders};
 
-use crate::code::code_stands;
+use crate::code::prove_code_stands;
 use crate::frames::write_frames;
-use crate::linking::Options;
 use crate::placing::Placement;
 use crate::reports::report_if;
-use elf_out::{BLOCK, Prepared, file_stands, prepare};
+use elf_out::{BLOCK, Prepared, prepare, prove_file_stands};
+use link_passes::Options;
 use link_sections::{Addresses, View};
 use lk_base::LinkStop;
 use lk_tables::{Binding, File, FrameBytes, FramePlan, NameNumbers, Tables, Uppers};
@@ -144,7 +144,7 @@ fn window_for(
 /// What `.eh_frame` and `.eh_frame_hdr` hold, and what else is made of the executable before its first block. With two workers or more another
 /// thread makes the bytes of the unwind records meanwhile, since neither needs the other. Where a value of one does not fit, its answer is the
 /// first defect of all values in order of sections, and else that of the relocations.
-fn make_beside<R: Threads + Sync, G: Gate>(
+fn make_in_parallel<R: Threads + Sync, G: Gate>(
     rt: &R,
     alloc: Global,
     view: &View,
@@ -218,9 +218,9 @@ pub fn write<R: Threads + Sync, G: Gate>(
     requires symbols { SymbolsStand (files_of tables.now) (binding_view binding.now) kept.now placement.now.leaders.items (laid_by (files_of tables.now) placement.now) }
     ensures goes { Goes result (value_defects (files_of tables.now) (binding_view binding.now) placement.now.leaders.items (laid_by (files_of tables.now) placement.now) (plan_view placement.now.plan)) }
     ensures made { IfOk result (IsMade (files_of tables.now) (binding_view binding.now) kept.now options.strip placement.now.leaders.items (laid_by (files_of tables.now) placement.now)) }
-    ensures written { IfOk result (λ written. IsWritten (wished options barred.now) (names_of names.now) (files_of tables.now) (binding_view binding.now) kept.now placement.now.leaders.items (laid_by (files_of tables.now) placement.now) (plan_view placement.now.plan)
+    ensures written { IfOk result (λ written. IsWritten (link_options options barred.now) (names_of names.now) (files_of tables.now) (binding_view binding.now) kept.now placement.now.leaders.items (laid_by (files_of tables.now) placement.now) (plan_view placement.now.plan)
         (written_view (files_of tables.now) (binding_view binding.now) kept.now options.strip placement.now.leaders.items (laid_by (files_of tables.now) placement.now) written)) }
-    ensures stands { IfOk result (λ written. StandsWhole (wished options barred.now) (files_of tables.now) (binding_view binding.now) kept.now placement.now.leaders.items (laid_by (files_of tables.now) placement.now) (plan_view placement.now.plan)
+    ensures stands { IfOk result (λ written. StandsWhole (link_options options barred.now) (files_of tables.now) (binding_view binding.now) kept.now placement.now.leaders.items (laid_by (files_of tables.now) placement.now) (plan_view placement.now.plan)
         (written_view (files_of tables.now) (binding_view binding.now) kept.now options.strip placement.now.leaders.items (laid_by (files_of tables.now) placement.now) written).exe) }
 {
     let leaders = placement.leaders.as_slice();
@@ -250,7 +250,7 @@ pub fn write<R: Threads + Sync, G: Gate>(
         names,
         strip: options.strip,
     };
-    let (framed, made) = make_beside(rt, alloc, &view, &placement.plan, workers, gate);
+    let (framed, made) = make_in_parallel(rt, alloc, &view, &placement.plan, workers, gate);
     let frames = match framed {
         Ok(frames) => frames,
         Err(stop) => return Err(stop),
@@ -259,8 +259,8 @@ pub fn write<R: Threads + Sync, G: Gate>(
         Ok(prepared) => prepared,
         Err(stop) => return Err(stop),
     };
-    file_stands(&view, &frames);
-    code_stands(&view);
+    prove_file_stands(&view, &frames);
+    prove_code_stands(&view);
     let map = map_if(rt, alloc, &view, options.map, workers, gate)?;
     let report = report_if(alloc, &view, options.generated)?;
     let window = window_for(alloc, tables, &prepared, workers)?;

@@ -3,7 +3,7 @@ use Rattle.std.specs.Prelude.{ℕ, ◌+◌, Option, List, [], map, slice_index, 
 use Rattle.lk_tables.specs.declared.classes.Class.{Class}
 use Rattle.link_sections.specs.declared.layouts.Bounds.{Bounds}
 use Rattle.link_sections.specs.declared.layouts.Layout.{Layout}
-use Rattle.link_sections.specs.declared.layouts.Output.{Output}
+use Rattle.link_sections.specs.declared.layouts.OutputSection.{OutputSection as HeldSection}
 use Rattle.link_sections.specs.declared.layouts.OutputPlace.{OutputPlace as HeldPlace}
 use Rattle.link_sections.specs.declared.got.GotEntry.{GotEntry}
 use Rattle.link_sections.specs.declared.members.Member.{Member}
@@ -23,7 +23,7 @@ pub record OutputSection : Type 0 where
   pub align : ℕ
   pub count : ℕ
 
-abbrev pub output_view : Output → OutputSection
+abbrev pub output_view : HeldSection → OutputSection
 output_view o = record {
   name = o.name.now;
   class = o.class;
@@ -51,7 +51,7 @@ place_view p = record { name = p.name.now; class = p.class; start = p.start; end
 pub record LaidOut : Type 0 where
   pub outputs : List OutputSection
   pub members : List Member
-  pub zeros : List Member
+  pub nobits_members : List Member
   pub places : List OutputPlace
   pub starts : List ℕ
   pub pools : List ℕ
@@ -69,7 +69,7 @@ unfoldable pub with_contents : LaidOut → PoolsView → List GotEntry → LaidO
 with_contents l pools table = record {
   outputs = l.outputs;
   members = l.members;
-  zeros = l.zeros;
+  nobits_members = l.nobits_members;
   places = l.places;
   starts = l.starts;
   pools = l.pools;
@@ -84,7 +84,7 @@ unfoldable pub layout_view : Layout → LaidOut
 layout_view l = record {
   outputs = map output_view l.outputs.items;
   members = l.members.items;
-  zeros = l.zeros.items;
+  nobits_members = l.nobits_members.items;
   places = map place_view l.places.items;
   starts = l.starts.items;
   pools = l.pools.items;

@@ -123,7 +123,7 @@ pub fn key_of(tables: &Tables, numbers: &NameNumbers, file: FileNo, symbol: SymN
     requires symbol { symbol < length (file_at (files_of tables.now) file).head.symbols }
     ensures { result ≡ spec.key_of (files_of tables.now) file symbol }
 {
-    tables.is_few();
+    tables.prove_few();
     if !is_visible(&tables.file(file).symbol(symbol as usize)) {
         return tables.symbol_no(file as usize, symbol as usize) as u32;
     }

@@ -142,7 +142,7 @@ pub fn may_stay(tables: &Tables, binding: &Binding, file: FileNo, index: u32) ->
 pub fn all_kept(alloc: Global, tables: &Tables, binding: &Binding) -> Result<Vec<bool>, AllocError>
     ensures { IfOk result (λ kept. kept.items ≡ spec.all_kept (files_of tables.now) (binding_view binding.now)) }
 {
-    tables.is_few();
+    tables.prove_few();
     let mut kept = Vec::with_capacity(alloc, tables.section_count())?;
     for file in 0..tables.file_count() as u32 {
         push_file(&mut kept, tables, binding, file)?;
@@ -160,7 +160,7 @@ fn push_file(
     requires { file < length (files_of tables.now) }
     ensures { OnOk result (kept.new.items ≡ kept.old.items ++ section_row (files_of tables.now) (spec.may_stay (files_of tables.now) (binding_view binding.now)) file) }
 {
-    tables.is_few();
+    tables.prove_few();
     for index in 0..section_count(tables.file(file)) {
         kept.push(may_stay(tables, binding, file, index as u32))?;
     }

@@ -6,7 +6,7 @@ use lk_tables::Class;
 
 /// An output section that is not empty, as its header says it (System V gABI, "Sections").
 #[derive(Clone, Copy, Debug, PartialEq, Eq)]
-pub struct Output<'a> {
+pub struct OutputSection<'a> {
     /// Its name.
     pub name: &'a [u8],
     /// Its class.
@@ -93,11 +93,11 @@ pub struct Bounds {
 #[derive(Debug, Drop)]
 pub struct Layout<'a> {
     /// The output sections that are not empty, in order of their classes and addresses.
-    pub outputs: Vec<Output<'a>>,
+    pub outputs: Vec<OutputSection<'a>>,
     /// The members of those in classes with bytes in the file, in order of address.
     pub members: Vec<Member>,
     /// The members of those in classes without bytes in the file: first the thread-local ones, then the others, each in order of address.
-    pub zeros: Vec<Member>,
+    pub nobits_members: Vec<Member>,
     /// Where all output sections are, the empty ones too, in order of their classes and addresses.
     pub places: Vec<OutputPlace<'a>>,
     /// By section number the first address of each section that is its own leader; 0 for each other.

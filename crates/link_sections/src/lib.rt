@@ -35,7 +35,7 @@ pub use fold_items::{FoldFrame, FoldItem, FoldReloc};
 pub use got::{Got, GotEntry, GotUse};
 pub use got_lists::{key_of, use_of};
 pub use input_sections::{InputSection, all_kept, input_in, input_section, may_stay};
-pub use layouts::{Bounds, Layout, Output, OutputPlace};
+pub use layouts::{Bounds, Layout, OutputPlace, OutputSection};
 pub use leaders::{fold_leaders, leads, own_leaders};
 pub use links::LaidLink;
 pub use members::{Content, Member};

@@ -6,7 +6,7 @@ use Rattle.std.proofs.lemmas.List.FromFn.{get_or-range_with_len}
 use Rattle.std.proofs.lemmas.List.Sums.{AllPass-from_list_all}
 use Rattle.std.proofs.lemmas.Nat.{div-add-mod'}
 use Rattle.std.proofs.Math.Nat.{div-lt_iff_lt-mul, mod-lt}
-use Rattle.lk_base.specs.Lines.{IsTold, escaped, escaped_byte, hex_digit, is_plain}
+use Rattle.lk_base.specs.Lines.{IsRecoverable, escaped, escaped_byte, hex_digit, is_plain}
 
 -- what a hexadecimal digit counts
 abbrev digit_value : ℕ → ℕ
@@ -50,8 +50,8 @@ nonempty b rest = by_kind (is_plain b)
     by_kind false e = omega (arith, ap (length {A = ℕ}) e)
 
 -- the first byte is known, and so are the bytes after it
-first_told : (a b : ℕ) (xs ys : List ℕ) → a < 256 → b < 256 → escaped_byte a ++ xs ≡ escaped_byte b ++ ys → (a ≡ b) × (xs ≡ ys)
-first_told a b xs ys a_byte b_byte = by_kinds (is_plain a) refl (is_plain b) refl
+first_recoverable : (a b : ℕ) (xs ys : List ℕ) → a < 256 → b < 256 → escaped_byte a ++ xs ≡ escaped_byte b ++ ys → (a ≡ b) × (xs ≡ ys)
+first_recoverable a b xs ys a_byte b_byte = by_kinds (is_plain a) refl (is_plain b) refl
   where
     high : (n : ℕ) → n < 256 → n / 16 < 16
     high n small = (div-lt_iff_lt-mul {k = 16} {x = n} {y = 16} (omega arith)).1 small
@@ -77,9 +77,9 @@ alike [] (n ∷ ns) m_bytes n_bytes e = absurd (nonempty n (escaped ns) e)
 alike (m ∷ ms) [] m_bytes n_bytes e = absurd (nonempty m (escaped ms) (sym e))
 alike (m ∷ ms) (n ∷ ns) m_bytes n_bytes e =
     let first : (m ≡ n) × (escaped ms ≡ escaped ns) =
-    first_told m n (escaped ms) (escaped ns) (All-head (λ b. b < 256) m ms m_bytes) (All-head (λ b. b < 256) n ns n_bytes) e in
+    first_recoverable m n (escaped ms) (escaped ns) (All-head (λ b. b < 256) m ms m_bytes) (All-head (λ b. b < 256) n ns n_bytes) e in
     ap₂ (λ x xs. x ∷ xs) first.0
     (alike ms ns (All-tail (λ b. b < 256) m ms m_bytes) (All-tail (λ b. b < 256) n ns n_bytes) first.1)
 
-pub name_told : (name : List ℕ) → All (λ b. b < 256) name → IsTold name
-name_told name bytes = record { alone = λ other other_bytes same. alike other name other_bytes bytes same }
+pub name_recoverable : (name : List ℕ) → All (λ b. b < 256) name → IsRecoverable name
+name_recoverable name bytes = record { alone = λ other other_bytes same. alike other name other_bytes bytes same }

@@ -25,7 +25,7 @@ abbrev pub escaped : List ℕ → List ℕ
 escaped name = flat_map escaped_byte name
 
 -- the name is known from what is shown: no other name of bytes is shown so
-pub record IsTold (name : List ℕ) : Type 0 where
+pub record IsRecoverable (name : List ℕ) : Type 0 where
   pub alone : (other : List ℕ) → All (λ b. b < 256) other → escaped other ≡ escaped name → other ≡ name
 
 -- how a line starts

@@ -2,7 +2,7 @@
 
 ghost use Rattle.std.specs.Prelude.{◌≡◌, ℕ, ◌+◌, ◌<◌, ◌++◌, ◌∷◌, [], List, take, length, codes, IfOk, OnOk, OnErr};
 ghost use Rattle.std.specs.Fmt.{decimal};
-ghost use Rattle.lk_base.specs.Lines.{IsOneLine, IsTold, defect_line, escaped, escaped_byte, hex_digit, shown_file, shown_other, title_of};
+ghost use Rattle.lk_base.specs.Lines.{IsOneLine, IsRecoverable, defect_line, escaped, escaped_byte, hex_digit, shown_file, shown_other, title_of};
 
 use crate::defects::Defect;
 use crate::kinds::DefectKind;
@@ -42,7 +42,7 @@ fn push_each_escaped(line: &mut Vec<u8>, name: &[u8]) -> Result<(), AllocError>
 pub fn push_escaped(line: &mut Vec<u8>, name: &[u8]) -> Result<(), AllocError>
     ensures ok { OnOk result (line.new.items ≡ line.old.items ++ escaped name.now) }
     ensures err { OnErr result (line.new.items ≡ line.old.items) }
-    ensures told { IsTold name.now }
+    ensures told { IsRecoverable name.now }
 {
     let start = line.len();
     let pushed = push_each_escaped(line, name);

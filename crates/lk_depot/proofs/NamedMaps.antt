@@ -8,7 +8,7 @@ use Rattle.std.specs.declared.cmp.Ordering.TheVariants.{Less, Equal, Greater}
 use Rattle.std.specs.Cmp.{eq_by_cmp_equiv}
 use Rattle.std.specs.Cmp.Lexicographic.{slice_cmp, nat_list_cmp_total}
 use Rattle.std.specs.FinMap.{get, insert, get-insert, same_map, slice_cmp-IsAntisymmetric, nat_cmp-IsAntisymmetric}
-use Rattle.lk_depot.specs.Files.{Named, Files, content, added, told_added, told_put}
+use Rattle.lk_depot.specs.Files.{Named, Files, content, added, added_if_seen, put_if_seen}
 
 -- The test by which a map finds a name.
 abbrev pub is_name : List ℕ → List ℕ → Bool
@@ -115,22 +115,22 @@ get_added_other name q [] files apart = refl
 get_added_other name q (b ∷ bytes) files apart = get_put_other files name q (content files name ++ b ∷ bytes) apart
 
 -- The same laws of maps that may be told.
-pub told_put_twice : {X : Type 0} (name : List ℕ) (v w : X) (names : Option (Named X)) → told_put name w (told_put name v names) ≡ told_put name w names
-told_put_twice name v w None = refl
-told_put_twice name v w (Some m) = ap Some (put_twice m name v w)
+pub put_if_seen_twice : {X : Type 0} (name : List ℕ) (v w : X) (names : Option (Named X)) → put_if_seen name w (put_if_seen name v names) ≡ put_if_seen name w names
+put_if_seen_twice name v w None = refl
+put_if_seen_twice name v w (Some m) = ap Some (put_twice m name v w)
 
-pub told_put_swapped : {X : Type 0} (a b : List ℕ) (v w : X) (names : Option (Named X)) → a ≢ b → told_put b w (told_put a v names) ≡ told_put a v (told_put b w names)
-told_put_swapped a b v w None apart = refl
-told_put_swapped a b v w (Some m) apart = ap Some (put_swapped m a b v w apart)
+pub put_if_seen_swapped : {X : Type 0} (a b : List ℕ) (v w : X) (names : Option (Named X)) → a ≢ b → put_if_seen b w (put_if_seen a v names) ≡ put_if_seen a v (put_if_seen b w names)
+put_if_seen_swapped a b v w None apart = refl
+put_if_seen_swapped a b v w (Some m) apart = ap Some (put_swapped m a b v w apart)
 
-pub told_added_nothing : (name : List ℕ) (files : Option Files) → told_added name [] files ≡ files
-told_added_nothing name None = refl
-told_added_nothing name (Some m) = ap Some (added_nothing name m)
+pub added_if_seen_nothing : (name : List ℕ) (files : Option Files) → added_if_seen name [] files ≡ files
+added_if_seen_nothing name None = refl
+added_if_seen_nothing name (Some m) = ap Some (added_nothing name m)
 
-pub told_added_twice : (name first second : List ℕ) (files : Option Files) → told_added name second (told_added name first files) ≡ told_added name (first ++ second) files
-told_added_twice name first second None = refl
-told_added_twice name first second (Some m) = ap Some (added_twice name first second m)
+pub added_if_seen_twice : (name first second : List ℕ) (files : Option Files) → added_if_seen name second (added_if_seen name first files) ≡ added_if_seen name (first ++ second) files
+added_if_seen_twice name first second None = refl
+added_if_seen_twice name first second (Some m) = ap Some (added_twice name first second m)
 
-pub told_added_to_new : (name bytes : List ℕ) (files : Option Files) → told_added name bytes (told_put name [] files) ≡ told_put name bytes files
-told_added_to_new name bytes None = refl
-told_added_to_new name bytes (Some m) = ap Some (added_to_new name bytes m)
+pub added_if_seen_to_new : (name bytes : List ℕ) (files : Option Files) → added_if_seen name bytes (put_if_seen name [] files) ≡ put_if_seen name bytes files
+added_if_seen_to_new name bytes None = refl
+added_if_seen_to_new name bytes (Some m) = ap Some (added_to_new name bytes m)

@@ -36,9 +36,9 @@ added name [] files = files
 added name (byte ∷ bytes) files = insert files name (content files name ++ byte ∷ bytes)
 
 -- The same of files that may be told.
-abbrev pub told_added : List ℕ → List ℕ → Option Files → Option Files
-told_added name bytes files = option_map (added name bytes) files
+abbrev pub added_if_seen : List ℕ → List ℕ → Option Files → Option Files
+added_if_seen name bytes files = option_map (added name bytes) files
 
 -- A map that may be told, once the name has this value: files after a file was made, kinds after it was begun.
-abbrev pub told_put : {X : Type 0} → List ℕ → X → Option (Named X) → Option (Named X)
-told_put name value names = option_map (λ m. insert m name value) names
+abbrev pub put_if_seen : {X : Type 0} → List ℕ → X → Option (Named X) → Option (Named X)
+put_if_seen name value names = option_map (λ m. insert m name value) names

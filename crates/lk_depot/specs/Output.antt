@@ -8,5 +8,5 @@ pub record Output : Type 0 where
   pub faults : ℕ
 
 -- What was written, once these bytes follow.
-abbrev pub told_said : List ℕ → Option (List ℕ) → Option (List ℕ)
-told_said bytes written = option_map (λ before. before ++ bytes) written
+abbrev pub said_if_seen : List ℕ → Option (List ℕ) → Option (List ℕ)
+said_if_seen bytes written = option_map (λ before. before ++ bytes) written

@@ -3,7 +3,7 @@
 
 ghost use Rattle.std.specs.Prelude.{◌≡◌, ◌<◌, ◌≤◌, take, length, IfOk, MatchResult};
 ghost use Rattle.lk_depot.specs.Faults.{HasCause};
-ghost use Rattle.lk_depot.specs.Output.{Output, told_said};
+ghost use Rattle.lk_depot.specs.Output.{Output, said_if_seen};
 
 use crate::stops::Failed;
 
@@ -21,7 +21,7 @@ pub trait Sink {
         ensures some { IfOk result (λ n. 0 < n) }
         ensures most { IfOk result (λ n. n ≤ length piece.now) }
         ensures written { MatchResult result
-            (λ n. (output self.new).written ≡ told_said (take n piece.now) (output self.old).written)
+            (λ n. (output self.new).written ≡ said_if_seen (take n piece.now) (output self.old).written)
             (λ _. (output self.new).written ≡ (output self.old).written) }
         ensures cause { HasCause (output self.old).faults (output self.new).faults result };
 }

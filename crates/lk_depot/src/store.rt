@@ -4,7 +4,7 @@
 ghost use Rattle.std.specs.Prelude.{◌≡◌, ◌<◌, ◌≤◌, [], map, take, length, string_bytes, if◌then◌else◌, is_ok, IfOk, IsErrOf, MatchResult};
 ghost use Rattle.std.specs.Thread.{IsSync};
 ghost use Rattle.lk_depot.specs.Faults.{Rose, Rises, HasCause};
-ghost use Rattle.lk_depot.specs.Files.{IsFile, Lacks, told_added, told_put};
+ghost use Rattle.lk_depot.specs.Files.{IsFile, Lacks, added_if_seen, put_if_seen};
 ghost use Rattle.lk_depot.specs.Loading.{AfterLoads};
 ghost use Rattle.lk_depot.specs.Store.{Store, unread_after};
 
@@ -72,9 +72,9 @@ pub trait Depot {
     /// If it fails, the file is left as it was.
     fn begin(&mut self, name: &str, kind: FileKind) -> Result<(), Failed>
         ensures files { let old = (store self.old).files in
-            (store self.new).files ≡ (if is_ok result then told_put name.now [] old else old) }
+            (store self.new).files ≡ (if is_ok result then put_if_seen name.now [] old else old) }
         ensures kinds { let old = (store self.old).kinds in
-            (store self.new).kinds ≡ (if is_ok result then told_put name.now kind old else old) }
+            (store self.new).kinds ≡ (if is_ok result then put_if_seen name.now kind old else old) }
         ensures begun { Rises (store self.old).begun (store self.new).begun }
         ensures cause { HasCause (store self.old).faults (store self.new).faults result }
         ensures unread { (store self.new).unread ≡ (store self.old).unread };
@@ -87,7 +87,7 @@ pub trait Depot {
         ensures some { IfOk result (λ n. 0 < n) }
         ensures most { IfOk result (λ n. n ≤ length piece.now) }
         ensures files { MatchResult result
-            (λ n. (store self.new).files ≡ told_added name.now (take n piece.now) (store self.old).files)
+            (λ n. (store self.new).files ≡ added_if_seen name.now (take n piece.now) (store self.old).files)
             (λ _. (store self.new).files ≡ (store self.old).files) }
         ensures cause { HasCause (store self.old).faults (store self.new).faults result }
         ensures kinds { (store self.new).kinds ≡ (store self.old).kinds }

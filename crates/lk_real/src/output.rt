@@ -116,7 +116,7 @@ fn new_file(rt: &HostRuntime, name: &str, kind: FileKind) -> io::Result<File> {
 fn replacement(rt: &HostRuntime, name: &str, kind: FileKind) -> io::Result<File> {
     let process = process::id(rt.process());
     for turn in 0..MOST_TRIES {
-        let beside = name_beside(name, process, turn)?;
+        let beside = sibling_name(name, process, turn)?;
         match new_file(rt, beside.as_str(), kind) {
             Ok(file) => return renamed(rt, file, beside.as_str(), name),
             Err(error) => {
@@ -130,7 +130,7 @@ fn replacement(rt: &HostRuntime, name: &str, kind: FileKind) -> io::Result<File>
 }
 
 /// A name in the folder of `name`. It is short whatever that is, and its process does not try it twice for one file.
-fn name_beside(name: &str, process: u32, turn: u32) -> io::Result<ArrayString<MOST_PATH>> {
+fn sibling_name(name: &str, process: u32, turn: u32) -> io::Result<ArrayString<MOST_PATH>> {
     let mut beside = match name.rsplit_once('/') {
         Some((folder, _)) => kept_name(folder)?,
         None => kept_name(".")?,

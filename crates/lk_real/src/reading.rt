@@ -38,7 +38,7 @@ fn make_room(alloc: Global) -> Result<(), AllocError> {
 }
 
 /// How many files are worth a thread.
-const FILES_PER_WORKER: usize = 32;
+const FILES_PER_WORKER: usize = 24;
 
 /// The bytes of a file as seeking tells them, `MOST_READ` where they are more; 0 where it does not tell them, as at a pipe, and such a file is
 /// then at its start. It takes less time than `metadata`, which fills a buffer for a path.

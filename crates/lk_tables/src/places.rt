@@ -84,7 +84,7 @@ impl<'a> Tables<'a> {
     }
 
     /// There are no more files, symbols and sections than a link has at most. Nothing is done while a program runs: the clause is all.
-    pub fn is_few(&self)
+    pub fn prove_few(&self)
         ensures { AreFew (files_of self.now) }
     {}
 }

@@ -115,11 +115,11 @@ module _ (names : List (List ℕ)) (files : List File) (b : Bindings) where
         ++ flat_map (folded_line number) (range_with_len 0 (section_total files)))
 
     -- the output sections from this number on, whose members stand in one of two lists
-    unfoldable pub output_blocks : (number : ℕ) → List OutputSection → (bits zeros : List Member) → List ℕ
-    output_blocks number [] bits zeros = []
-    output_blocks number (o ∷ os) bits zeros = if is_nobits o.class
-        then output_block number o (take o.count zeros) ++ output_blocks (number + 1) os bits (drop o.count zeros)
-        else output_block number o (take o.count bits) ++ output_blocks (number + 1) os (drop o.count bits) zeros
+    unfoldable pub output_blocks : (number : ℕ) → List OutputSection → (bits nobits_members : List Member) → List ℕ
+    output_blocks number [] bits nobits_members = []
+    output_blocks number (o ∷ os) bits nobits_members = if is_nobits o.class
+        then output_block number o (take o.count nobits_members) ++ output_blocks (number + 1) os bits (drop o.count nobits_members)
+        else output_block number o (take o.count bits) ++ output_blocks (number + 1) os (drop o.count bits) nobits_members
 
     -- where the executable starts
     unfoldable pub entry_line : List ℕ
@@ -128,7 +128,7 @@ module _ (names : List (List ℕ)) (files : List File) (b : Bindings) where
     -- the whole text: where the executable starts; the output sections; what was not kept; what was discarded; the symbols
     unfoldable pub map_text : (kept : List Bool) → List ℕ
     map_text kept = codes "rvld map 1\n" ++ (entry_line
-        ++ (output_blocks 1 laid.outputs laid.members laid.zeros
+        ++ (output_blocks 1 laid.outputs laid.members laid.nobits_members
         ++ (flat_map (dropped_line kept) (range_with_len 0 (section_total files))
         ++ (flat_map discarded_line (range_with_len 0 (section_total files))
         ++ flat_map symbol_line (table_symbols files b kept leaders laid)))))

@@ -44,5 +44,5 @@ folded_line view number n = text.folded_line (names_in view) (files_in view) (bi
 abbrev pub output_block : View → (number : ℕ) → OutputSection → List Member → List ℕ
 output_block view number o members = text.output_block (names_in view) (files_in view) (binding_in view) (leaders_in view) (laid_in view) number o members
 
-abbrev pub output_blocks : View → (number : ℕ) → List OutputSection → (bits zeros : List Member) → List ℕ
-output_blocks view number os bits zeros = text.output_blocks (names_in view) (files_in view) (binding_in view) (leaders_in view) (laid_in view) number os bits zeros
+abbrev pub output_blocks : View → (number : ℕ) → List OutputSection → (bits nobits_members : List Member) → List ℕ
+output_blocks view number os bits nobits_members = text.output_blocks (names_in view) (files_in view) (binding_in view) (leaders_in view) (laid_in view) number os bits nobits_members

@@ -10,7 +10,7 @@ ghost use Rattle.map_file.specs.MapView as spec;
 ghost use Rattle.map_file.specs.MapView.{lists_view};
 
 use crate::lines::{push_folded, push_member, push_output};
-use link_sections::{Member, Output, View};
+use link_sections::{Member, OutputSection, View};
 use lk_base::SecNo;
 use lk_tables::Class;
 use std::alloc::AllocError;
@@ -23,16 +23,16 @@ pub fn push_outputs(
     folded: &[Vec<SecNo>],
 ) -> Result<(), AllocError>
     requires { AreFolded view.now (section_total (files_in view.now)) (lists_view folded.now) }
-    ensures { OnOk result (text.new.items ≡ text.old.items ++ spec.output_blocks view.now 1 (laid_in view.now).outputs (laid_in view.now).members (laid_in view.now).zeros) }
+    ensures { OnOk result (text.new.items ≡ text.old.items ++ spec.output_blocks view.now 1 (laid_in view.now).outputs (laid_in view.now).members (laid_in view.now).nobits_members) }
 {
     let outputs = view.layout.outputs.as_slice();
     let mut bits = view.layout.members.as_slice();
-    let mut zeros = view.layout.zeros.as_slice();
+    let mut nobits_members = view.layout.nobits_members.as_slice();
     for (i, output) in outputs.iter().enumerate() {
-        let members = members_of(output, bits, zeros);
+        let members = members_of(output, bits, nobits_members);
         push_block(text, view, output, members, folded[i + 1].as_slice())?;
         bits = bits_after(output, bits);
-        zeros = zeros_after(output, zeros);
+        nobits_members = nobits_after(output, nobits_members);
     }
     Ok(())
 }
@@ -41,7 +41,7 @@ pub fn push_outputs(
 fn push_block(
     text: &mut Vec<u8>,
     view: &View,
-    output: &Output,
+    output: &OutputSection,
     members: &[Member],
     sections: &[SecNo],
 ) -> Result<(), AllocError>
@@ -81,17 +81,21 @@ fn is_nobits(class: Class) -> bool
 }
 
 /// The members of an output section, which stand first in the list of those with bytes, or without.
-fn members_of<'t>(output: &Output, bits: &'t [Member], zeros: &'t [Member]) -> &'t [Member]
-    ensures { result.now ≡ (if lines.is_nobits output.now.class then take output.now.count zeros.now else take output.now.count bits.now) }
+fn members_of<'t>(
+    output: &OutputSection,
+    bits: &'t [Member],
+    nobits_members: &'t [Member],
+) -> &'t [Member]
+    ensures { result.now ≡ (if lines.is_nobits output.now.class then take output.now.count nobits_members.now else take output.now.count bits.now) }
 {
     if is_nobits(output.class) {
-        return first(zeros, output.count);
+        return first(nobits_members, output.count);
     }
     first(bits, output.count)
 }
 
 /// The members with bytes of the output sections after one.
-fn bits_after<'t>(output: &Output, bits: &'t [Member]) -> &'t [Member]
+fn bits_after<'t>(output: &OutputSection, bits: &'t [Member]) -> &'t [Member]
     ensures { result.now ≡ (if lines.is_nobits output.now.class then bits.now else drop output.now.count bits.now) }
 {
     if is_nobits(output.class) {
@@ -101,13 +105,13 @@ fn bits_after<'t>(output: &Output, bits: &'t [Member]) -> &'t [Member]
 }
 
 /// The members without bytes of the output sections after one.
-fn zeros_after<'t>(output: &Output, zeros: &'t [Member]) -> &'t [Member]
-    ensures { result.now ≡ (if lines.is_nobits output.now.class then drop output.now.count zeros.now else zeros.now) }
+fn nobits_after<'t>(output: &OutputSection, nobits_members: &'t [Member]) -> &'t [Member]
+    ensures { result.now ≡ (if lines.is_nobits output.now.class then drop output.now.count nobits_members.now else nobits_members.now) }
 {
     if is_nobits(output.class) {
-        return rest(zeros, output.count);
+        return rest(nobits_members, output.count);
     }
-    zeros
+    nobits_members
 }
 
 /// So many members from the first on.

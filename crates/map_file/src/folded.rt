@@ -21,7 +21,7 @@ use symbol_table::{Outputs, TablePlace};
 pub fn folded_of(alloc: Global, view: &View) -> Result<Vec<Vec<SecNo>>, AllocError>
     ensures { IfOk result (λ lists. AreFolded view.now (section_total (files_in view.now)) (lists_view lists.items)) }
 {
-    view.tables.is_few();
+    view.tables.prove_few();
     let outputs = Outputs::of(alloc, view.layout.outputs.as_slice())?;
     let mut lists = no_lists(alloc, view.layout.outputs.len() + 1)?;
     for section in 0..view.tables.section_count() {

@@ -28,7 +28,7 @@ pub enum Left {
 pub fn push_left(text: &mut Vec<u8>, view: &View, left: Left) -> Result<(), AllocError>
     ensures { OnOk result (text.new.items ≡ text.old.items ++ flat_map (spec.left_line view.now left) (range_with_len 0 (section_total (files_in view.now)))) }
 {
-    view.tables.is_few();
+    view.tables.prove_few();
     for file in 0..view.tables.file_count() {
         push_left_in(text, view, left, file as u32)?;
     }
@@ -40,7 +40,7 @@ fn push_left_in(text: &mut Vec<u8>, view: &View, left: Left, file: FileNo) -> Re
     requires { file < length (files_in view.now) }
     ensures { OnOk result (text.new.items ≡ text.old.items ++ flat_map (spec.left_line view.now left) (range_with_len (section_no (files_in view.now) file 0) (section_count (file_at (files_in view.now) file)))) }
 {
-    view.tables.is_few();
+    view.tables.prove_few();
     let first = view.tables.section_no(file as usize, 0);
     let end = first + section_count(view.tables.file(file));
     for section in first..end {

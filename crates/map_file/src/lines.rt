@@ -9,7 +9,7 @@ ghost use Rattle.symbol_table.specs.SymbolViews.{symbol_view};
 
 use crate::numbers::push_hex;
 use crate::places::{place_of, push_place};
-use link_sections::{Content, Member, Output, View, entry_address, leader_of, start_of};
+use link_sections::{Content, Member, OutputSection, View, entry_address, leader_of, start_of};
 use lk_base::{SecNo, push_escaped};
 use lk_tables::SectionPlace;
 use std::alloc::AllocError;
@@ -63,7 +63,7 @@ pub fn push_entry(text: &mut Vec<u8>, view: &View) -> Result<(), AllocError>
 
 /// Adds the line of an output section.
 #[tactic(auto, unfolding(crate::specs::MapText::output_line))]
-pub fn push_output(text: &mut Vec<u8>, output: &Output) -> Result<(), AllocError>
+pub fn push_output(text: &mut Vec<u8>, output: &OutputSection) -> Result<(), AllocError>
     ensures { OnOk result (text.new.items ≡ text.old.items ++ lines.output_line (output_view output.now)) }
 {
     push_extent(text, b"section", output.address, output.size)?;

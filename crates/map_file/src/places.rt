@@ -57,7 +57,7 @@ fn name_of<'a>(view: &View<'_, 'a>, place: SectionPlace) -> &'a [u8]
     if (place.file as usize) < view.tables.file_count() {
         return input_in(view.tables, view.binding, place.file, place.index).name;
     }
-    view.tables.is_few();
+    view.tables.prove_few();
     let number = view.tables.section_count() + place.index as usize;
     if view.binding.room(place.file as usize, number).is_some() {
         return b"COMMON";

@@ -1,6 +1,6 @@
 //! About how many bytes the text has, so that it is not moved as it grows.
 
-use link_sections::{Output, View};
+use link_sections::{OutputSection, View};
 use lk_tables::{File, Section, section_count};
 use symbol_table::TableSymbol;
 
@@ -15,7 +15,7 @@ pub fn room_of(view: &View, symbols: &[TableSymbol]) -> usize {
 }
 
 /// About how many bytes the lines of output sections, of pools and of the linker's table have.
-fn outputs_room(outputs: &[Output]) -> usize {
+fn outputs_room(outputs: &[OutputSection]) -> usize {
     let mut room: usize = LINE;
     for output in outputs {
         room = room.saturating_add(LINE).saturating_add(output.name.len());

@@ -25,29 +25,29 @@ use Rattle.lk_tables.specs.Files.{File, file_at, symbol_at, symbol_name, first_s
 use Rattle.lk_tables.specs.Names.{text_of}
 use Rattle.lk_tables.specs.NameNumbers.{is_named}
 use Rattle.name_numbers.specs.declared.sorting.Key.{Key}
-use Rattle.name_numbers.specs.Keys.{KeyView, key_view, key_views, key_of, key_in, keys_in, keys, first_in, first_no, no_key, key_cmp, key_text, text_of_key, place_of_key, AreTagged}
+use Rattle.name_numbers.specs.Keys.{KeyView, key_view, key_views, key_of, key_in, keys_in, keys, first_in, first_no, no_key, key_cmp, key_text, text_of_key, place_of_key, HaveHashes}
 use Rattle.name_numbers.specs.Marks.{Marks}
 use Rattle.name_numbers.specs.Spans.{symbol_in, first_span, first_or_none}
 use Rattle.intern_race.specs.Hash.{hash_of}
 use Rattle.name_numbers.proofs.Runs.{Runs, Marked, marks_all, marks_viewed, runs_by, runs_sorted, Exact, same_number, then_second, first_tie}
 use Rattle.name_numbers.proofs.Walks.{all_range, all_if, in_range, in_if}
 
-abbrev pub view_of : (tag : ℕ) (text : List ℕ) (at : ℕ) → KeyView
-view_of tag text at = record { tag = tag; text = text; at = at }
+abbrev pub view_of : (hash : ℕ) (text : List ℕ) (at : ℕ) → KeyView
+view_of hash text at = record { hash = hash; text = text; at = at }
 
--- a tag with a text, in order
-pub record TagText : Type 0 where
-  pub tag : ℕ
+-- a hash with a text, in order
+pub record HashText : Type 0 where
+  pub hash : ℕ
   pub text : List ℕ
 
-abbrev tag_text : (tag : ℕ) → List ℕ → TagText
-tag_text tag text = record { tag = tag; text = text }
+abbrev hash_text : (hash : ℕ) → List ℕ → HashText
+hash_text hash text = record { hash = hash; text = text }
 
-abbrev tag_cmp : TagText → TagText → Ordering
-tag_cmp x y = ordering_then (nat_cmp x.tag y.tag) (slice_cmp nat_cmp x.text y.text)
+abbrev hash_text_cmp : HashText → HashText → Ordering
+hash_text_cmp x y = ordering_then (nat_cmp x.hash y.hash) (slice_cmp nat_cmp x.text y.text)
 
-tag_total : IsTotalOrder tag_cmp
-tag_total = then_total (on_total (λ (x : TagText). x.tag) nat_cmp_total) (on_total (λ (x : TagText). x.text) nat_list_cmp_total)
+hash_text_total : IsTotalOrder hash_text_cmp
+hash_text_total = then_total (on_total (λ (x : HashText). x.hash) nat_cmp_total) (on_total (λ (x : HashText). x.text) nat_list_cmp_total)
 
 tied : (o p : Ordering) → p ≡ ordering_reverse o → is_lt o ≡ false → is_lt p ≡ false → is_eq o ≡ true
 tied Less p back not_less also = absurd cc
@@ -65,26 +65,26 @@ equal_if Less e = absurd cc
 equal_if Equal e = refl
 equal_if Greater e = absurd cc
 
-tag_exact : Exact tag_cmp
-tag_exact x y a b =
-    let same : is_lt (nat_cmp x.tag y.tag) ≡ false → is_lt (nat_cmp y.tag x.tag) ≡ false → x.tag ≡ y.tag = same_number x.tag y.tag in
-    let t = first_tie (nat_cmp x.tag y.tag) (slice_cmp nat_cmp x.text y.text) (nat_cmp y.tag x.tag) (slice_cmp nat_cmp y.text x.text) a b
-    (λ p q. sym (nat_cmp_is x.tag y.tag Equal (same p q))) (λ p q. sym (nat_cmp_is y.tag x.tag Equal (sym (same p q)))) in
+hash_text_exact : Exact hash_text_cmp
+hash_text_exact x y a b =
+    let same : is_lt (nat_cmp x.hash y.hash) ≡ false → is_lt (nat_cmp y.hash x.hash) ≡ false → x.hash ≡ y.hash = same_number x.hash y.hash in
+    let t = first_tie (nat_cmp x.hash y.hash) (slice_cmp nat_cmp x.text y.text) (nat_cmp y.hash x.hash) (slice_cmp nat_cmp y.text x.text) a b
+    (λ p q. sym (nat_cmp_is x.hash y.hash Equal (same p q))) (λ p q. sym (nat_cmp_is y.hash x.hash Equal (sym (same p q)))) in
     let P : Ordering → Type 0 = λ o. is_lt o ≡ false in
-    let tag : x.tag ≡ y.tag = same (subst P (sym t.0) refl) (subst P (sym t.1) refl) in
-    let text : x.text ≡ y.text = same_text x.text y.text (then_second (nat_cmp x.tag y.tag) _ t.0 a) (then_second (nat_cmp y.tag x.tag) _ t.1 b) in
-    ap (λ k. tag_text k x.text) tag ∙ ap (tag_text y.tag) text
+    let hash : x.hash ≡ y.hash = same (subst P (sym t.0) refl) (subst P (sym t.1) refl) in
+    let text : x.text ≡ y.text = same_text x.text y.text (then_second (nat_cmp x.hash y.hash) _ t.0 a) (then_second (nat_cmp y.hash x.hash) _ t.1 b) in
+    ap (λ k. hash_text k x.text) hash ∙ ap (hash_text y.hash) text
 
-tag_ties : (x y : TagText) → x ≡ y → tag_cmp x y ≡ Equal
-tag_ties x y e =
+hash_text_ties : (x y : HashText) → x ≡ y → hash_text_cmp x y ≡ Equal
+hash_text_ties x y e =
     let d = bytes_eq-Decides x.text x.text in
     let second : slice_cmp nat_cmp x.text x.text ≡ Equal = equal_if (slice_cmp nat_cmp x.text x.text) (is_eq-slice_cmp x.text x.text ∙ d.1 refl) in
-    let own : tag_cmp x x ≡ Equal = ap (λ o. ordering_then o (slice_cmp nat_cmp x.text x.text)) (sym (nat_cmp_is x.tag x.tag Equal refl)) ∙ second in
-    let P : TagText → Type 0 = λ z. tag_cmp x z ≡ Equal in
+    let own : hash_text_cmp x x ≡ Equal = ap (λ o. ordering_then o (slice_cmp nat_cmp x.text x.text)) (sym (nat_cmp_is x.hash x.hash Equal refl)) ∙ second in
+    let P : HashText → Type 0 = λ z. hash_text_cmp x z ≡ Equal in
     subst P e own
 
 abbrev pub no_view : KeyView
-no_view = record { tag = 0; text = []; at = 0 }
+no_view = record { hash = 0; text = []; at = 0 }
 
 -- by position, of the keys themselves and of their views
 pub view_at : (list : List Key) (k : ℕ) → k < length list → get_or (key_views list) k no_view ≡ key_view (get_or list k no_key)
@@ -95,28 +95,28 @@ view_in list k lt =
     let P : KeyView → Type 0 = Contains (key_views list) in
     subst P (view_at list k lt) (Contains-get_or (key_views list) k no_view (omega (arith, length-map list key_view)))
 
-tagged_at : (list : List Key) → AreTagged (key_views list) → (k : ℕ) → k < length list → (get_or list k no_key).name.tag ≡ hash_of (get_or list k no_key).name.text.now
-tagged_at list tagged k lt = All-contains (λ (v : KeyView). v.tag ≡ hash_of v.text) (key_views list) (key_view (get_or list k no_key)) tagged (view_in list k lt)
+own_hash_at : (list : List Key) → HaveHashes (key_views list) → (k : ℕ) → k < length list → (get_or list k no_key).name.hash ≡ hash_of (get_or list k no_key).name.text.now
+own_hash_at list right_hashes k lt = All-contains (λ (v : KeyView). v.hash ≡ hash_of v.text) (key_views list) (key_view (get_or list k no_key)) right_hashes (view_in list k lt)
 
-abbrev tag_text_of : Key → TagText
-tag_text_of key = tag_text key.name.tag key.name.text.now
+abbrev hash_text_of : Key → HashText
+hash_text_of key = hash_text key.name.hash key.name.text.now
 
-pub keys_run : (list : List Key) → IsSorted key_cmp list → AreTagged (key_views list) → ((v w : KeyView) → Contains (key_views list) v → Contains (key_views list) w → v.at ≡ w.at → v.text ≡ w.text) → Runs (λ j. (get_or list j no_key).name.text.now) (λ j. (get_or list j no_key).at) (length list)
-keys_run list up tagged once =
+pub keys_run : (list : List Key) → IsSorted key_cmp list → HaveHashes (key_views list) → ((v w : KeyView) → Contains (key_views list) v → Contains (key_views list) w → v.at ≡ w.at → v.text ≡ w.text) → Runs (λ j. (get_or list j no_key).name.text.now) (λ j. (get_or list j no_key).at) (length list)
+keys_run list up right_hashes once =
     let place : Key → ℕ = λ key. key.at in
-    let tag_is : (k : ℕ) → k < length list → (get_or list k no_key).name.tag ≡ hash_of (get_or list k no_key).name.text.now = tagged_at list tagged in
-    let same : (i j : ℕ) → i < length list → j < length list → (get_or list i no_key).name.text.now ≡ (get_or list j no_key).name.text.now → tag_text_of (get_or list i no_key) ≡ tag_text_of (get_or list j no_key) = λ i j lt less e.
-    ap (λ t. tag_text t (get_or list i no_key).name.text.now) (tag_is i lt ∙ ap hash_of e ∙ sym (tag_is j less)) ∙ ap (tag_text (get_or list j no_key).name.tag) e in
+    let own_hash : (k : ℕ) → k < length list → (get_or list k no_key).name.hash ≡ hash_of (get_or list k no_key).name.text.now = own_hash_at list right_hashes in
+    let same : (i j : ℕ) → i < length list → j < length list → (get_or list i no_key).name.text.now ≡ (get_or list j no_key).name.text.now → hash_text_of (get_or list i no_key) ≡ hash_text_of (get_or list j no_key) = λ i j lt less e.
+    ap (λ t. hash_text t (get_or list i no_key).name.text.now) (own_hash i lt ∙ ap hash_of e ∙ sym (own_hash j less)) ∙ ap (hash_text (get_or list j no_key).name.hash) e in
     let view : (x : Key) → Contains list x → (k : ℕ) × ((k < length list) × (get_or list k no_key ≡ x)) = λ x has. (has.0, (has.1, get_or_default list has.0 no_key x has.1 ∙ has.2)) in
-    runs_by (λ j. tag_text_of (get_or list j no_key)) (λ j. (get_or list j no_key).name.text.now) (λ j. (get_or list j no_key).at) (length list)
-    (λ i j lt less e. ap (λ (x : TagText). x.text) e) same
-    (runs_sorted tag_text_of place tag_cmp tag_total tag_exact tag_ties list no_key up (λ x y has also e.
+    runs_by (λ j. hash_text_of (get_or list j no_key)) (λ j. (get_or list j no_key).name.text.now) (λ j. (get_or list j no_key).at) (length list)
+    (λ i j lt less e. ap (λ (x : HashText). x.text) e) same
+    (runs_sorted hash_text_of place hash_text_cmp hash_text_total hash_text_exact hash_text_ties list no_key up (λ x y has also e.
     let a = view x has in
     let b = view y also in
     let i : ℕ = a.0 in
     let j : ℕ = b.0 in
     let ats : (get_or list i no_key).at ≡ (get_or list j no_key).at = ap place a.1.1 ∙ e ∙ sym (ap place b.1.1) in
-    sym (ap tag_text_of a.1.1) ∙ same i j a.1.0 b.1.0 (once (key_view (get_or list i no_key)) (key_view (get_or list j no_key)) (view_in list i a.1.0) (view_in list j b.1.0) ats) ∙ ap tag_text_of b.1.1))
+    sym (ap hash_text_of a.1.1) ∙ same i j a.1.0 b.1.0 (once (key_view (get_or list i no_key)) (key_view (get_or list j no_key)) (view_in list i a.1.0) (view_in list j b.1.0) ats) ∙ ap hash_text_of b.1.1))
 
 -- a key of the list, and the key of a symbol
 pub record IsKey (files : List File) (v : KeyView) : Type 0 where
@@ -216,10 +216,10 @@ module _ (lent : List LentFile) (starts : List ℕ) (is : starts ≡ map (first_
       ∙ ap (λ s. map (first_in (file_at (file_views lent) f).head.symbols s) (range_with_len 0 (length (file_at (file_views lent) f).head.symbols))) (start_at f lt)
 
 -- all keys have their tags
-pub keys_tagged : (files : List File) → AreTagged (keys files)
+pub keys_hashed : (files : List File) → HaveHashes (keys files)
 unfolding keys keys_in key_in
-keys_tagged files =
-    let P : KeyView → Type 0 = λ v. v.tag ≡ hash_of v.text in
+keys_hashed files =
+    let P : KeyView → Type 0 = λ v. v.hash ≡ hash_of v.text in
     all_range P (keys_in files) 0 (length files) (λ f low high.
     all_range P (key_in (file_at files f).bytes (file_at files f).head.symbols (first_symbol files f)) 0 (length (file_at files f).head.symbols) (λ i low2 high2.
     all_if P _ (key_of (text_of (file_at files f).bytes (symbol_in (file_at files f).head.symbols i).name) (first_symbol files f + i)) (λ both. refl)))

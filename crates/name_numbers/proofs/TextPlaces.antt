@@ -14,7 +14,7 @@ use Rattle.std.proofs.lemmas.Bool.{cases_Bool, cases_lt, both_ways}
 use Rattle.std.proofs.lemmas.Slice.Eq.{bytes_eq-Decides}
 use Rattle.intern_race.specs.Hash.{hash_of}
 use Rattle.name_numbers.specs.declared.sorting.Key.{Key}
-use Rattle.name_numbers.specs.Keys.{KeyView, key_of, key_view, key_views, text_of_key, place_of_key, AreTagged}
+use Rattle.name_numbers.specs.Keys.{KeyView, key_of, key_view, key_views, text_of_key, place_of_key, HaveHashes}
 use Rattle.name_numbers.specs.Marks.{Marks}
 use Rattle.name_numbers.specs.Texts.{lent_texts, text_at, text_keys, text_number, text_numbers}
 use Rattle.name_numbers.proofs.Runs.{marks_moved}
@@ -28,10 +28,10 @@ key_at texts i = key_of (text_at texts i) i
 pub record IsTextKey (texts : List (List ℕ)) (v : KeyView) : Type 0 where
   pub within : v.at < length texts
   pub text : v.text ≡ text_at texts v.at
-  pub tag : v.tag ≡ hash_of v.text
+  pub hash : v.hash ≡ hash_of v.text
 
 text_key_of : (texts : List (List ℕ)) (i : ℕ) → i < length texts → IsTextKey texts (key_at texts i)
-text_key_of texts i lt = record { within = lt; text = refl; tag = refl }
+text_key_of texts i lt = record { within = lt; text = refl; hash = refl }
 
 pub text_key_is : (texts : List (List ℕ)) (v : KeyView) → Contains (text_keys texts) v → IsTextKey texts v
 unfolding text_keys
@@ -50,10 +50,10 @@ text_key_has texts i lt = (
   get_or-map-range_with_len (key_at texts) 0 (length texts) i i (key_at texts i) lt (omega arith),
 )
 
-pub text_keys_tagged : (texts : List (List ℕ)) → AreTagged (text_keys texts)
-text_keys_tagged texts =
-    let P : KeyView → Type 0 = λ v. v.tag ≡ hash_of v.text in
-    All-weaker (Contains (text_keys texts)) P (λ v has. (text_key_is texts v has).tag) (text_keys texts) (All-contains_itself (text_keys texts))
+pub text_keys_hashed : (texts : List (List ℕ)) → HaveHashes (text_keys texts)
+text_keys_hashed texts =
+    let P : KeyView → Type 0 = λ v. v.hash ≡ hash_of v.text in
+    All-weaker (Contains (text_keys texts)) P (λ v has. (text_key_is texts v has).hash) (text_keys texts) (All-contains_itself (text_keys texts))
 
 pub text_keys_once : (texts : List (List ℕ)) (v w : KeyView) → Contains (text_keys texts) v → Contains (text_keys texts) w → v.at ≡ w.at → v.text ≡ w.text
 text_keys_once texts v w has also e = (text_key_is texts v has).text ∙ ap (text_at texts) e ∙ sym (text_key_is texts w also).text
@@ -152,11 +152,11 @@ pub number_tells : (texts : List (List ℕ)) (s t : List ℕ) → Contains texts
 number_tells texts s t has also e = sym (number_of_text texts s has).same ∙ ap (text_at texts) e ∙ (number_of_text texts t also).same
 
 -- a loop that lists keys
-pub text_key_next : (texts : List (List ℕ)) (i : ℕ) (key : Key) (old new : List Key) → key.name.text.now ≡ text_at texts i → key.name.tag ≡ hash_of key.name.text.now → key.at ≡ i
+pub text_key_next : (texts : List (List ℕ)) (i : ℕ) (key : Key) (old new : List Key) → key.name.text.now ≡ text_at texts i → key.name.hash ≡ hash_of key.name.text.now → key.at ≡ i
     → new ≡ old ++ key ∷ [] → key_views old ≡ map (key_at texts) (range_with_len 0 i) → key_views new ≡ map (key_at texts) (range_with_len 0 (i + 1))
-text_key_next texts i key old new text tag at push before =
+text_key_next texts i key old new text hash at push before =
     let one : key_view key ≡ key_at texts i =
-    ap (λ t. view_of t key.name.text.now key.at) tag ∙ ap (λ t. view_of (hash_of t) t key.at) text ∙ ap (view_of (hash_of (text_at texts i)) (text_at texts i)) at in
+    ap (λ t. view_of t key.name.text.now key.at) hash ∙ ap (λ t. view_of (hash_of t) t key.at) text ∙ ap (view_of (hash_of (text_at texts i)) (text_at texts i)) at in
     walk_map (key_at texts) [] (key_views old) (key_views new) (key_view key) i before (ap key_views push ∙ map_push key_view old key) one
 
 pub text_keys_all : (texts : List (List ℕ)) (i : ℕ) (keys : List Key) → i ≡ length texts → key_views keys ≡ map (key_at texts) (range_with_len 0 i) → key_views keys ≡ text_keys texts

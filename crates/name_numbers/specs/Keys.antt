@@ -10,23 +10,23 @@ use Rattle.lk_tables.specs.Files.{File, file_at, first_symbol, by_symbol}
 use Rattle.lk_tables.specs.Names.{text_of}
 use Rattle.lk_tables.specs.NameNumbers.{is_named}
 use Rattle.name_numbers.specs.declared.sorting.Key.{Key}
-use Rattle.name_numbers.specs.declared.sorting.TaggedText.{TaggedText}
+use Rattle.name_numbers.specs.declared.sorting.HashedText.{HashedText}
 use Rattle.name_numbers.specs.Spans.{symbol_in, first_span}
 
 -- a key as a plain record
 pub record KeyView : Type 0 where
-  pub tag : ℕ
+  pub hash : ℕ
   pub text : List ℕ
   pub at : ℕ
 
 abbrev pub key_view : Key → KeyView
-key_view key = record { tag = key.name.tag; text = key.name.text.now; at = key.at }
+key_view key = record { hash = key.name.hash; text = key.name.text.now; at = key.at }
 
 abbrev pub key_views : List Key → List KeyView
 key_views list = map key_view list
 
-abbrev pub tag_of_key : KeyView → ℕ
-tag_of_key v = v.tag
+abbrev pub hash_of_key : KeyView → ℕ
+hash_of_key v = v.hash
 
 abbrev pub text_of_key : KeyView → List ℕ
 text_of_key v = v.text
@@ -34,12 +34,12 @@ text_of_key v = v.text
 abbrev pub place_of_key : KeyView → ℕ
 place_of_key v = v.at
 
-abbrev pub AreTagged : List KeyView → Type 0
-AreTagged list = All (λ v. v.tag ≡ hash_of v.text) list
+abbrev pub HaveHashes : List KeyView → Type 0
+HaveHashes list = All (λ v. v.hash ≡ hash_of v.text) list
 
 -- the key of symbol i of a file, whose first symbol has the number `start`: if its name counts, and it is the first of its span
 abbrev pub key_of : (text : List ℕ) (at : ℕ) → KeyView
-key_of text at = record { tag = hash_of text; text = text; at = at }
+key_of text at = record { hash = hash_of text; text = text; at = at }
 
 unfoldable pub key_in : (b : List ℕ) → List Symbol → (start i : ℕ) → List KeyView
 key_in b symbols start i = if is_named (symbol_in symbols i) && first_span symbols i == i
@@ -65,15 +65,15 @@ firsts_in files f = map (first_no files f) (range_with_len 0 (length (file_at fi
 unfoldable pub firsts : List File → List ℕ
 firsts files = by_symbol files (first_no files)
 
--- by the tag, then by the name, then by the place
-abbrev pub name_cmp : TaggedText → TaggedText → Ordering
-name_cmp x y = ordering_then (nat_cmp x.tag y.tag) (slice_cmp nat_cmp x.text.now y.text.now)
+-- by the hash, then by the name, then by the place
+abbrev pub name_cmp : HashedText → HashedText → Ordering
+name_cmp x y = ordering_then (nat_cmp x.hash y.hash) (slice_cmp nat_cmp x.text.now y.text.now)
 
 abbrev pub key_cmp : Key → Key → Ordering
 key_cmp x y = ordering_then (name_cmp x.name y.name) (nat_cmp x.at y.at)
 
 abbrev pub no_key : Key
-no_key = record { name = record { tag = 0; text = record { ref_ptr = (0, 0); now = [] } }; at = 0 }
+no_key = record { name = record { hash = 0; text = record { ref_ptr = (0, 0); now = [] } }; at = 0 }
 
 abbrev pub key_text : List Key → ℕ → List ℕ
 key_text list k = (slice_index_or list k no_key).name.text.now

@@ -148,7 +148,7 @@ fn find_near<'t>(
 {
     read_homes(table, hashes, block.met.as_mut_slice());
     own_numbers(block.alike.as_mut_slice(), hashes.len(), from);
-    tell_near(
+    note_near(
         tags,
         hashes,
         block.met.as_slice(),
@@ -204,7 +204,7 @@ fn own_numbers(alike: &mut [u32], count: usize, from: usize)
 }
 
 /// Notes for each of these hashes whether what stands at its home has its tag, by 1 or 0. The loop does nothing else, so that many tags are read at once.
-fn tell_near(tags: &[u8], hashes: &[u64], met: &[u32], told: &mut [u32])
+fn note_near(tags: &[u8], hashes: &[u64], met: &[u32], told: &mut [u32])
     requires met { length hashes.now ≤ length met.now }
     requires told { length hashes.now ≤ length told.old }
     ensures { length told.new ≡ length told.old }

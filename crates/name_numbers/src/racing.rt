@@ -161,7 +161,7 @@ pub fn number_by_all<R: Threads + Sync, G: Gate>(
 {
     let list = pieces(alloc, texts.len(), workers)?;
     let cuts = list.as_slice();
-    let (hashed, opened) = open_beside(rt, alloc, texts, cuts);
+    let (hashed, opened) = hash_and_open(rt, alloc, texts, cuts);
     let known = hashed?;
     let (table, mut seat) = opened?;
     let found = place_all(rt, alloc, gate, &table, texts, &known, &mut seat, cuts)?;
@@ -170,7 +170,7 @@ pub fn number_by_all<R: Threads + Sync, G: Gate>(
 }
 
 /// The hashes of the texts, and meanwhile a table for them, which needs only to know how many there are.
-fn open_beside<'t, R: Threads + Sync>(
+fn hash_and_open<'t, R: Threads + Sync>(
     rt: &R,
     alloc: Global,
     texts: &'t Texts<'t>,
@@ -194,7 +194,7 @@ fn open_beside<'t, R: Threads + Sync>(
         &mut || -> Result<(Interner, InternSeat), AllocError>
             requires { length texts.now ≤ 2 ^ 31 }
             ensures { IfOk result (λ r. (r.0.texts ≡ texts.entry.now) × (r.1 ≡ first_seat r.0)) }
-        { Interner::open_beside(rt, alloc, texts) },
+        { Interner::open_in_parallel(rt, alloc, texts) },
     )
 }
 

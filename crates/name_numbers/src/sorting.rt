@@ -3,23 +3,23 @@
 ghost use Rattle.std.specs.Prelude.{◌≡◌, ℕ, ◌<◌, ◌==◌, ◌||◌, ◌-◌, not, length, Contains};
 ghost use Rattle.std.specs.Str.{bytes_eq};
 ghost use Rattle.std.specs.List.Sorted.{IsPermutation, IsSorted};
-ghost use Rattle.name_numbers.specs.Keys.{AreTagged, KeyView, key_cmp, key_text, key_views, place_of_key, text_of_key};
+ghost use Rattle.name_numbers.specs.Keys.{HaveHashes, KeyView, key_cmp, key_text, key_views, place_of_key, text_of_key};
 ghost use Rattle.name_numbers.specs.Marks.{Marks};
 
 use rayon::prelude::*;
 use std::thread::Threads;
 
-/// A text, after its tag: texts are in order by their tags, then by their bytes.
+/// A text, after its hash: texts are in order by their tags, then by their bytes.
 #[derive(Clone, Copy, PartialEq, Eq, PartialOrd, Ord)]
-pub struct TaggedText<'a> {
-    pub tag: u64,
+pub struct HashedText<'a> {
+    pub hash: u64,
     pub text: &'a [u8],
 }
 
 /// A text and its index. Keys are in order by their texts, then by their indexes.
 #[derive(Clone, Copy, PartialEq, Eq, PartialOrd, Ord)]
 pub struct Key<'a> {
-    pub name: TaggedText<'a>,
+    pub name: HashedText<'a>,
     pub at: u32,
 }
 
@@ -40,7 +40,7 @@ pub fn sort_keys<R: Threads + Sync>(rt: &R, list: &mut [Key], workers: u32)
 /// Writes to the index of each key that of the first one with the same text. Keys of one text stand side by side.
 pub fn mark_keys(firsts: &mut [u32], keys: &[Key])
     requires sorted { IsSorted key_cmp keys.now }
-    requires tagged { AreTagged (key_views keys.now) }
+    requires right_hashes { HaveHashes (key_views keys.now) }
     requires within { (v : KeyView) → Contains (key_views keys.now) v → v.at < length firsts.old }
     requires once { (v w : KeyView) → Contains (key_views keys.now) v → Contains (key_views keys.now) w → v.at ≡ w.at → v.text ≡ w.text }
     ensures { Marks text_of_key place_of_key (key_views keys.now) firsts.old firsts.new }

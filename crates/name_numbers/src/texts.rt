@@ -5,7 +5,7 @@ ghost use Rattle.name_numbers.specs.Keys.{key_views};
 ghost use Rattle.name_numbers.specs.Texts.{text_keys, text_numbers};
 
 use crate::racing::{number_by_all, number_by_one};
-use crate::sorting::{Key, TaggedText, mark_keys, sort_keys};
+use crate::sorting::{HashedText, Key, mark_keys, sort_keys};
 use intern_race::{Texts, hash_of};
 use std::alloc::{AllocError, Global};
 use std::thread::Threads;
@@ -20,7 +20,7 @@ const MOST: u32 = 64;
 /// From so many texts on each worker may have several pieces, so many, since one processor may be slower than another.
 const MANY: usize = 262_144;
 
-const EACH: u32 = 4;
+const EACH: u32 = 2;
 
 /// For each text the index of the first that is equal to it. One worker does all by itself; for more, threads are started if there are many texts,
 /// and worker w passes `gate` before and after each of its two tasks.
@@ -127,8 +127,8 @@ fn keys_of_texts<'t>(alloc: Global, texts: &'t Texts) -> Result<Vec<Key<'t>>, Al
     for i in 0..texts.len() {
         let text = texts.text(i);
         keys.push(Key {
-            name: TaggedText {
-                tag: hash_of(text),
+            name: HashedText {
+                hash: hash_of(text),
                 text,
             },
             at: i as u32,

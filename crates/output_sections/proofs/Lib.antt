@@ -1,4 +1,5 @@
 pub mod ClassSums
+pub mod HeadLaw
 pub mod HeadSteps
 pub mod ItemFacts
 pub mod ItemSteps

@@ -56,7 +56,7 @@ pub fn items_of<'a>(
     ensures few { IfOk result (λ items. length items.items ≤ 2 ^ 30) }
     ensures bytes { IfOk result (λ items. sum_by (λ item. item.size) (items_view items.items) < 2 ^ 61 + 2 ^ 40) }
 {
-    tables.is_few();
+    tables.prove_few();
     let merged = pools.pools();
     let mut items = Vec::with_capacity(alloc, room_of(leaders, merged))?;
     let mut next = 0;

@@ -10,6 +10,7 @@ ghost use Rattle.work_split.specs.Pieces.{Tiles};
 ghost use Rattle.lk_tables.specs.BindingView.{binding_view};
 ghost use Rattle.lk_tables.specs.BoundNames.{IsBindingOf};
 ghost use Rattle.lk_tables.specs.TablesView.{files_of};
+ghost use Rattle.output_sections.specs.HeadLaw.{AreHeads};
 ghost use Rattle.output_sections.specs.Items.{AreLeaders, HaveFirsts, IsSized, items};
 ghost use Rattle.output_sections.specs.ItemViews.{items_view};
 ghost use Rattle.output_sections.specs.Order.{IsKnown, IsOrderPart, class_at, lists_view, members_in, orders_between, orders_of, rows_in};
@@ -76,6 +77,7 @@ pub fn order_sections<'a, R: Threads + Sync, G: Gate>(
     ensures items { IfOk result (λ sections. items_view sections.items.items ≡ items (files_of tables.now) (binding_view binding.now) (pool_list pools.now) (word_count (entries_of got.now)) leaders.now) }
     ensures order { IfOk result (λ sections. sections.rows ≡ orders_of (items (files_of tables.now) (binding_view binding.now) (pool_list pools.now) (word_count (entries_of got.now)) leaders.now)) }
     ensures known { IfOk result (λ sections. All (IsKnown (files_of tables.now) (binding_view binding.now)) (members_in sections.rows)) }
+    ensures heads { IfOk result (λ sections. AreHeads (items_view sections.items.items)) }
 {
     let items = items_of(alloc, tables, binding, pools, got, leaders)?;
     let rows = rows_of(rt, alloc, &items, workers, gate)?;

@@ -226,7 +226,7 @@ fn part_of(
     requires within { piece.end ≤ section_total (files_of scene.now.tables.now) }
     ensures { IfOk result (λ parts. AreCutRows (files_of scene.now.tables.now) scene.now.members.now calls.now sizes.now piece.start piece.end (flat_map (λ part. part) parts.items)) }
 {
-    scene.tables.is_few();
+    scene.tables.prove_few();
     let mut rows = Rows::empty(alloc)?;
     let mut cuts = Vec::new(alloc);
     for section in piece.start..piece.end {

@@ -150,7 +150,7 @@ fn part_of(
     requires within { piece.end ≤ length (files_of tables.now) }
     ensures { IfOk result (λ parts. spec.AreUnrelaxed (files_of tables.now) piece.start piece.end (flat_map (λ part. part) parts.items)) }
 {
-    tables.is_few();
+    tables.prove_few();
     let mut rows = Rows::empty(alloc)?;
     for file in piece.start..piece.end {
         push_file(alloc, &mut rows, tables, file as FileNo)?;
@@ -170,7 +170,7 @@ fn push_file(
     ensures views { OnOk result (map cut_views rows.new ≡ map cut_views rows.old ++ section_row (files_of tables.now) (spec.whole_cuts (files_of tables.now)) file) }
     ensures sound { OnOk result (All AreCuts rows.old → All AreCuts rows.new) }
 {
-    tables.is_few();
+    tables.prove_few();
     for index in 0..section_count(tables.file(file)) {
         let cuts = whole_cuts(alloc, tables, file, index as u32)?;
         rows.push(cuts.as_slice())?;

@@ -81,7 +81,7 @@ fn check_numbers(
     requires firsts { (n : ℕ) → n ≤ section_total (files_in view.now) → slice_index firsts.now n ≡ length (flat_map (relocs_of (files_in view.now)) (range_with_len 0 n)) }
     ensures { Goes result (flat_map (λ i. slice_index_or (flat_map (λ n. map (λ k. if leads (leaders_in view.now) n then spec.defects_at (files_in view.now) (binding_in view.now) (leaders_in view.now) (laid_in view.now) n k else []) (range_with_len 0 (length (relocs_of (files_in view.now) n)))) (range_with_len 0 (section_total (files_in view.now)))) i []) (range_with_len piece.start (piece.end - piece.start))) }
 {
-    view.tables.is_few();
+    view.tables.prove_few();
     let from = piece.start as u64;
     let to = piece.end as u64;
     for section in section_of(firsts, from)..view.tables.section_count() {

@@ -28,7 +28,7 @@ pub fn first_numbers(alloc: Global, tables: &Tables) -> Result<Vec<u64>, AllocEr
 fn reloc_counts(alloc: Global, tables: &Tables) -> Result<Vec<u64>, AllocError>
     ensures { IfOk result (λ counts. counts.items ≡ by_section (files_of tables.now) (λ f k. length (relocs_at (file_at (files_of tables.now) f) k))) }
 {
-    tables.is_few();
+    tables.prove_few();
     let mut counts = Vec::with_capacity(alloc, tables.section_count() + 1)?;
     for file in 0..tables.file_count() as u32 {
         push_counts(&mut counts, tables, file)?;
@@ -41,7 +41,7 @@ fn push_counts(counts: &mut Vec<u64>, tables: &Tables, file: FileNo) -> Result<(
     requires { file < length (files_of tables.now) }
     ensures { OnOk result (counts.new.items ≡ counts.old.items ++ section_row (files_of tables.now) (λ f k. length (relocs_at (file_at (files_of tables.now) f) k)) file) }
 {
-    tables.is_few();
+    tables.prove_few();
     for section in 0..section_count(tables.file(file)) {
         counts.push(tables.relocs(file, section as u32).len() as u64)?;
     }

@@ -17,7 +17,7 @@ use std::alloc::{AllocError, Global};
 pub fn find_uppers(alloc: Global, tables: &Tables) -> Result<Uppers, AllocError>
     ensures { IfOk result (λ uppers. AreListed (section_uppers (files_of tables.now)) uppers) }
 {
-    tables.is_few();
+    tables.prove_few();
     let mut uppers = Uppers {
         firsts: Vec::with_capacity(alloc, tables.section_count() + 1)?,
         list: Vec::new(alloc),
@@ -34,7 +34,7 @@ fn add_file(uppers: &mut Uppers, tables: &Tables, file: FileNo) -> Result<(), Al
     requires { file < length (files_of tables.now) }
     ensures { OnOk result ((lists : List (List Reloc)) → AreListed lists uppers.old → AreListed (lists ++ section_row (files_of tables.now) (uppers_at (files_of tables.now)) file) uppers.new) }
 {
-    tables.is_few();
+    tables.prove_few();
     for section in 0..section_count(tables.file(file)) {
         add_section(uppers, tables.relocs(file, section as u32))?;
     }

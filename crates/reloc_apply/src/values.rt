@@ -313,7 +313,7 @@ fn uppers_in<'t>(view: &View<'t, '_>, site: Site) -> &'t [Reloc]
     ensures value { result.now ≡ filter (λ r. is_upper r.kind) (relocs_of (files_in view.now) site.section) }
     ensures ordered { IsNonDecreasingBy (λ (r : Reloc). r.offset) result.now }
 {
-    view.tables.is_few();
+    view.tables.prove_few();
     uppers_of(view.uppers, site.section as usize)
 }
 

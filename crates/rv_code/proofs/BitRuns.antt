@@ -87,10 +87,10 @@ high_bit n c i = ap (λ x. x % 2) (shr-shr n c i)
 pub inside : (low high k u v : ℕ) → low ≤ k → k ≤ high → (if nat_le low k && nat_le k high then u else v) ≡ u
 inside low high k u v p q = grind (arith, nat_tests)
 
-under : (low high k u v : ℕ) → k < low → (if nat_le low k && nat_le k high then u else v) ≡ v
+pub under : (low high k u v : ℕ) → k < low → (if nat_le low k && nat_le k high then u else v) ≡ v
 under low high k u v p = grind (arith, nat_tests)
 
-over : (low high k u v : ℕ) → high < k → (if nat_le low k && nat_le k high then u else v) ≡ v
+pub over : (low high k u v : ℕ) → high < k → (if nat_le low k && nat_le k high then u else v) ≡ v
 over low high k u v p = grind (arith, nat_tests)
 
 -- each bit of the new word

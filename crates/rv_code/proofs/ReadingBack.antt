@@ -102,7 +102,7 @@ none_there (r ∷ rs) value rest k out =
     ∙ none_there rs value rest k (λ h. out (inr h))
 
 -- one run that holds the value's bits
-one_held : (low high from word value : ℕ)
+pub one_held : (low high from word value : ℕ)
     → ((i : ℕ) → i < high - low + 1 → bit_at word (low + i) ≡ bit_at value (from + i))
     → word / 2 ^ low % 2 ^ (high - low + 1) ≡ value / 2 ^ from % 2 ^ (high - low + 1)
 one_held low high from word value bits =

@@ -33,7 +33,7 @@ pub fn roots(
     ensures roots { IfOk result (λ list. list.items ≡ spec.roots (files_of tables.now) (binding_view binding.now) (lists_of undefined.now)) }
     ensures within { IfOk result (λ list. All (λ r. r < section_total (files_of tables.now)) list.items) }
 {
-    tables.is_few();
+    tables.prove_few();
     let mut roots = entry_section(alloc, binding.entry_bound(tables))?;
     let asked = sections_of_names(alloc, tables, binding, undefined)?;
     roots.extend_from_slice(asked.as_slice())?;
@@ -64,7 +64,7 @@ fn push_roots(
     requires { file < length (files_of tables.now) }
     ensures { OnOk result (roots.new.items ≡ roots.old.items ++ spec.roots_in (files_of tables.now) (binding_view binding.now) file) }
 {
-    tables.is_few();
+    tables.prove_few();
     for index in 0..section_count(tables.file(file)) {
         let number = tables.section_no(file as usize, index) as u32;
         push_if(roots, is_root(tables, binding, file, index as u32), number)?;

@@ -67,7 +67,7 @@ fn live_ends(
     requires pairs { spec.AreBySection (spec.joined_in (files_of tables.now) (binding_view binding.now) file) pairs.now }
     ensures { IfOk result (λ rows. rows ≡ section_row (files_of tables.now) (spec.ends_in (files_of tables.now) (binding_view binding.now)) file) }
 {
-    tables.is_few();
+    tables.prove_few();
     let mut rows = Rows::empty(alloc)?;
     for index in 0..section_count(tables.file(file)) {
         let ends = section_ends(

@@ -42,7 +42,7 @@ pub fn items<'a>(
     ensures order { IfOk result (λ list. IsStrictlyIncreasing (sections_of (item_views list.items))) }
     ensures few { IfOk result (λ list. length list.items < 2 ^ 31) }
 {
-    tables.is_few();
+    tables.prove_few();
     let mut list = Vec::with_capacity(alloc, tables.section_count())?;
     for section in 0..tables.section_count() {
         push_item(
@@ -72,7 +72,7 @@ pub fn foldable(
     ensures within { IfOk result (λ list. All (λ n. n < section_total (files_of tables.now)) list.items) }
     ensures order { IfOk result (λ list. IsStrictlyIncreasing list.items) }
 {
-    tables.is_few();
+    tables.prove_few();
     let mut list = Vec::with_capacity(alloc, tables.section_count())?;
     for section in 0..tables.section_count() {
         push_foldable(&mut list, tables, binding, kept, barred, section as u32)?;

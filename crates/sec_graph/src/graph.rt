@@ -47,7 +47,7 @@ pub fn edges<R: Threads + Sync, G: Gate>(
     ensures value { IfOk result (λ graph. ends_of graph ≡ spec.edges (files_of tables.now) (binding_view binding.now)) }
     ensures law { IfOk result (λ graph. (s : ℕ → Bool) → IsClosedByRules (files_of tables.now) (binding_view binding.now) s ↔ HasEnds (ends_of graph) s) }
 {
-    tables.is_few();
+    tables.prove_few();
     let pieces = pieces_of(alloc, tables, workers)?;
     let named = named_sections(rt, alloc, tables, binding, pieces.as_slice(), gate)?;
     let parts = find_ends(
@@ -139,7 +139,7 @@ fn ends_between(
     requires within { piece.end ≤ length (files_of tables.now) }
     ensures { IfOk result (λ parts. parts.items ≡ flat_map (rows_of (files_of tables.now) (binding_view binding.now)) (range_with_len piece.start (piece.end - piece.start))) }
 {
-    tables.is_few();
+    tables.prove_few();
     let mut parts = Vec::new(alloc);
     for file in piece.start..piece.end {
         parts.push(file_ends(alloc, tables, binding, frames, named, file as FileNo)?)?;

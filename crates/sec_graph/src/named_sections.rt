@@ -45,7 +45,7 @@ pub fn named_sections<'a, R: Threads + Sync, G: Gate>(
     requires bound { IsBindingOf (files_of tables.now) (binding_view binding.now) }
     ensures { IfOk result (spec.HasNamed (files_of tables.now) (binding_view binding.now)) }
 {
-    tables.is_few();
+    tables.prove_few();
     let asked = find_asked(rt, alloc, tables, binding, pieces, gate)?;
     let names = names_of(alloc, tables, binding, asked.as_slice())?;
     let pairs = pairs_named(alloc, tables, binding, &names)?;
@@ -102,7 +102,7 @@ fn asked_between(
     requires { piece.end ≤ length (files_of tables.now) }
     ensures { IfOk result (λ asked. asked.items ≡ flat_map (spec.asked_in (files_of tables.now) (binding_view binding.now)) (range_with_len piece.start (piece.end - piece.start))) }
 {
-    tables.is_few();
+    tables.prove_few();
     let mut asked = Vec::new(alloc);
     for file in piece.start..piece.end {
         push_asked(&mut asked, tables, binding, file as FileNo)?;
@@ -124,7 +124,7 @@ fn push_asked(
     if !tables.file(file).is_live() {
         return Ok(());
     }
-    tables.is_few();
+    tables.prove_few();
     for symbol in 0..tables.file(file).symbols().len() {
         push_one(asked, tables, binding, file, symbol as u32)?;
     }
@@ -195,7 +195,7 @@ fn all_named<'a>(
 ) -> Result<Vec<Pair>, AllocError>
     ensures { IfOk result (λ pairs. pairs.items ≡ flat_map (spec.named_at (files_of tables.now) (binding_view binding.now) names.now) (range_with_len 0 (section_total (files_of tables.now)))) }
 {
-    tables.is_few();
+    tables.prove_few();
     let mut pairs = Vec::new(alloc);
     if names.is_empty() {
         return Ok(pairs);

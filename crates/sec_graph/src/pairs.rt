@@ -200,7 +200,7 @@ fn own_count(tables: &Tables, file: FileNo) -> u32
     requires live { (file_at (files_of tables.now) file).live ≡ true }
     ensures { result ≡ length (file_at (files_of tables.now) file).head.sections }
 {
-    tables.is_few();
+    tables.prove_few();
     tables.file(file).sections().len() as u32
 }
 
@@ -211,7 +211,7 @@ fn number_of(tables: &Tables, file: FileNo, index: u32) -> SecNo
     requires index { index < length (file_at (files_of tables.now) file).head.sections }
     ensures { result ≡ section_no (files_of tables.now) file index }
 {
-    tables.is_few();
+    tables.prove_few();
     tables.section_no(file as usize, index as usize) as u32
 }
 

@@ -17,7 +17,7 @@ use lk_tables::{Binding, Bound, Place, Symbol, Tables, file_of, is_common, symbo
 pub fn prevailing_stand(tables: &Tables, binding: &Binding) -> bool
     ensures { result ≡ true → spec.PrevailingStand (files_of tables.now) (binding_view binding.now) }
 {
-    tables.is_few();
+    tables.prove_few();
     for file in 0..tables.file_count() {
         if !stand_in_file(tables, binding, file as u32) {
             return false;
@@ -31,7 +31,7 @@ fn stand_in_file(tables: &Tables, binding: &Binding, file: FileNo) -> bool
     requires { file < length (files_of tables.now) }
     ensures { result ≡ true → (i : ℕ) → i < length (file_at (files_of tables.now) file).head.symbols → spec.StandsIfPrevailing (files_of tables.now) (binding_view binding.now) file i }
 {
-    tables.is_few();
+    tables.prove_few();
     let symbols = tables.file(file).symbols();
     for symbol in 0..symbols.len() {
         if !stands_if_prevailing(tables, binding, file, symbol as u32, &symbols[symbol]) {

@@ -28,7 +28,7 @@ pub fn address_taken(
 ) -> Result<Vec<bool>, AllocError>
     ensures { IfOk result (λ taken. taken.items ≡ spec.address_taken (files_of tables.now) (binding_view binding.now) kept.now) }
 {
-    tables.is_few();
+    tables.prove_few();
     let mut taken = vec![in alloc; false; tables.section_count()]?;
     for file in 0..tables.file_count() {
         take_in_file(&mut taken, tables, binding, kept, file as FileNo);
@@ -48,7 +48,7 @@ fn take_in_file(
     requires { file < length (files_of tables.now) }
     ensures { taken.new.items ≡ spec.with_marked taken.old.items (over_file (files_of tables.now) (over_section (files_of tables.now) (spec.taken_at (files_of tables.now) (binding_view binding.now) kept.now)) file) }
 {
-    tables.is_few();
+    tables.prove_few();
     if !tables.file(file).is_live() {
         return;
     }

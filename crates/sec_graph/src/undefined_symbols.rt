@@ -83,7 +83,7 @@ fn has_undefined(test: &SymbolTest, file: FileNo) -> bool
     requires { file < length (files_of test.now.tables.now) }
     ensures { result ≡ false → (i : ℕ) → is_undefined (files_of test.now.tables.now) (binding_view test.now.binding.now) file i ≡ false }
 {
-    test.tables.is_few();
+    test.tables.prove_few();
     let symbols = test.tables.file(file).symbols();
     for symbol in 0..symbols.len() {
         if stands_for_nothing(test, file, symbol as u32, &symbols[symbol]) {

@@ -34,7 +34,7 @@ pub fn walk_edges(
     ensures value { IfOk result (λ walks. ends_of walks ≡ spec.walk_edges (files_of tables.now) (binding_view binding.now)) }
     ensures law { IfOk result (λ walks. (s : ℕ → Bool) → IsClosedByRules (files_of tables.now) (binding_view binding.now) s ↔ HasEnds (ends_of walks) s) }
 {
-    tables.is_few();
+    tables.prove_few();
     let mut rows = Rows::empty(alloc)?;
     for file in 0..tables.file_count() {
         let part = file_walks(alloc, tables, binding, edges, file as FileNo)?;
@@ -76,7 +76,7 @@ fn live_walks(
     requires mates { graph.AreBySection (spec.mates_in (files_of tables.now) (binding_view binding.now) file) mates.now }
     ensures { IfOk result (λ rows. rows ≡ section_row (files_of tables.now) (spec.walk_ends (files_of tables.now) (binding_view binding.now)) file) }
 {
-    tables.is_few();
+    tables.prove_few();
     let mut rows = Rows::empty(alloc)?;
     for index in 0..section_count(tables.file(file)) {
         let number = tables.section_no(file as usize, index);

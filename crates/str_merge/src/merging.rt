@@ -24,12 +24,12 @@ use work_split::Gate;
 
 /// A link in which the sections that are merged are written has neither too many of them, nor too many pieces, nor too many bytes in them.
 /// Nothing is done while a program runs: the clause is all.
-fn are_small(tables: &Tables, kept: &[bool])
+fn prove_small(tables: &Tables, kept: &[bool])
     requires pieces { piece_count (files_of tables.now) < 2 ^ 31 }
     requires written { AreWritten (files_of tables.now) kept.now }
     ensures { AreSmall (files_of tables.now) kept.now }
 {
-    tables.is_few();
+    tables.prove_few();
 }
 
 /// The pools of the sections that are kept, which stand in `kept` by number: the sections that are merged, cut into pieces, of which equal
@@ -50,7 +50,7 @@ pub fn merge<R: Threads + Sync, G: Gate>(
     ensures value { IfOk result (λ pools. pools_view (files_of tables.now) pools ≡ pools_of (files_of tables.now) kept.now) }
     ensures rows { IfOk result (λ pools. length (piece_rows pools) ≡ length (pool_list pools)) }
 {
-    are_small(tables, kept);
+    prove_small(tables, kept);
     let sites = merge_sites(alloc, tables, kept)?;
     let cuts = cut_sites(rt, alloc, tables, sites.as_slice(), workers, gate)?;
     let keys = keys_of(alloc, tables, sites.as_slice())?;

@@ -127,7 +127,7 @@ fn place<R: Threads + Sync>(
     ensures { IfOk result (IsMadeOf cuts.now members.now numbers.now align) }
 {
     if 1 < workers {
-        return place_beside(rt, alloc, cuts, members, numbers, align);
+        return place_in_parallel(rt, alloc, cuts, members, numbers, align);
     }
     let placed = place_distinct(alloc, cuts, members, numbers, align)?;
     let parts = part_rows(alloc, cuts, members, numbers)?;
@@ -135,7 +135,7 @@ fn place<R: Threads + Sync>(
 }
 
 /// The distinct pieces of these sections, placed, and the parts of the sections, with a thread for each of both.
-fn place_beside<R: Threads + Sync>(
+fn place_in_parallel<R: Threads + Sync>(
     rt: &R,
     alloc: Global,
     cuts: &[Cut],

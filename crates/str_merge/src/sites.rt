@@ -28,7 +28,7 @@ pub struct Site {
 pub fn merge_sites(alloc: Global, tables: &Tables, kept: &[bool]) -> Result<Vec<Site>, AllocError>
     ensures { IfOk result (λ list. site_views list.items ≡ spec.sites (files_of tables.now) kept.now) }
 {
-    tables.is_few();
+    tables.prove_few();
     let mut list = Vec::new(alloc);
     for file in 0..tables.file_count() as u32 {
         push_sites(&mut list, tables, kept, file)?;
@@ -47,7 +47,7 @@ fn push_sites(
     requires { file < length (files_of tables.now) }
     ensures { OnOk result (site_views list.new.items ≡ site_views list.old.items ++ spec.sites_in (files_of tables.now) kept.now file) }
 {
-    tables.is_few();
+    tables.prove_few();
     for index in 0..section_count(tables.file(file)) {
         push_site(list, tables, kept, file, index as u32)?;
     }

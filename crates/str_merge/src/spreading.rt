@@ -20,7 +20,7 @@ pub fn spread(
 ) -> Result<Vec<Option<Merged>>, AllocError>
     ensures { IfOk result (λ list. list.items ≡ spread (files_of tables.now) kept.now answers.now) }
 {
-    tables.is_few();
+    tables.prove_few();
     let mut list = Vec::with_capacity(alloc, tables.section_count())?;
     let mut next = 0;
     for file in 0..tables.file_count() as u32 {
@@ -43,7 +43,7 @@ fn spread_file(
     ensures next { IfOk result (λ next. next ≡ sites_before (files_of tables.now) kept.now (file + 1)) }
     ensures list { OnOk result (list.new.items ≡ list.old.items ++ section_row (files_of tables.now) (answer_in (files_of tables.now) kept.now answers.now) file) }
 {
-    tables.is_few();
+    tables.prove_few();
     let mut next = start;
     for index in 0..section_count(tables.file(file)) {
         let merges = is_merge(tables, kept, file, index as u32);

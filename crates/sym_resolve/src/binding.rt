@@ -53,7 +53,7 @@ pub fn bind<R: Threads + Sync, G: Gate>(
     ensures least { IfOk result (λ b. IsLawful (files_of tables.now) discarded.now entry.now (binding_view b)) }
     ensures goes { Goes result (binding_defects (files_of tables.now) discarded.now entry.now) }
 {
-    tables.is_few();
+    tables.prove_few();
     if let Some(clash) = float_clash(tables) {
         return Err(LinkStop::Defect(clash));
     }
@@ -81,7 +81,7 @@ fn bind_names<R: Threads + Sync, G: Gate>(
     ensures bound { IfOk result (λ b. binding_view b ≡ bindings (files_of tables.now) discarded.now entry.now) }
     ensures goes { Goes result (first_phase (duplicate_defects (files_of tables.now) discarded.now ∷ entry_defects (files_of tables.now) discarded.now entry.now ∷ [])) }
 {
-    tables.is_few();
+    tables.prove_few();
     let pieces = pieces_of(alloc, tables, workers)?;
     let offers = offers_of(rt, alloc, tables, names, discarded, pieces.as_slice(), gate)?;
     let words = tables.symbol_count() as u32;

@@ -50,7 +50,7 @@ fn commons_in(
     requires file { f < length (files_of tables.now) }
     ensures { IfOk result (λ commons. commons.items ≡ in_file (files_of tables.now) (common_from (files_of tables.now) least.now rooms.now) f) }
 {
-    tables.is_few();
+    tables.prove_few();
     let mut commons = Vec::new(alloc);
     if common_count(tables, f) == 0 {
         return Ok(commons);
@@ -84,7 +84,7 @@ fn push_common(
     requires section { section ≡ common_no (files_of tables.now) f i }
     ensures { OnOk result (commons.new.items ≡ commons.old.items ++ common_from (files_of tables.now) least.now rooms.now f i) }
 {
-    tables.is_few();
+    tables.prove_few();
     if symbol_rank(tables, names, least, f, i) == rank_of(COMMON, f, i) {
         let room = room_at(rooms, names.number(f, i));
         commons.push(BoundCommon {

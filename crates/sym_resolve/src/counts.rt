@@ -54,7 +54,7 @@ pub fn common_count(tables: &Tables, f: usize) -> usize
     requires { f < length (files_of tables.now) }
     ensures { result ≡ common_count (file_at (files_of tables.now) f) }
 {
-    tables.is_few();
+    tables.prove_few();
     let file = file(tables, f);
     if !file.is_live() {
         return 0;

@@ -16,7 +16,7 @@ use rank_claims::Offer;
 pub fn rank_of_name(tables: &Tables, offers: &[Offer], name: &[u8]) -> u64
     ensures { (gone : List Bool) → offers.now ≡ claims (files_of tables.now) gone → result ≡ bound_rank (files_of tables.now) gone name.now }
 {
-    tables.is_few();
+    tables.prove_few();
     least_named(tables, offers, name)
 }
 

@@ -17,7 +17,7 @@ use lk_tables::Tables;
 pub fn float_clash(tables: &Tables) -> Option<Defect>
     ensures { IsFirst (flag_defects (files_of tables.now)) result }
 {
-    tables.is_few();
+    tables.prove_few();
     let mut first: Option<u32> = None;
     for f in 0..tables.file_count() {
         if !is_live(tables, f) {

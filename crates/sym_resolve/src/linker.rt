@@ -165,7 +165,7 @@ fn section_of(
     ensures value { result ≡ own.first_if (files_of tables.now) (binding_view binding.now) (own.text_if name.entry) }
     ensures few { IfSome result (λ section. section < 2 ^ 28) }
 {
-    tables.is_few();
+    tables.prove_few();
     let Some(text) = name else {
         return None;
     };

@@ -45,7 +45,7 @@ fn sections_of<'a>(
 ) -> Result<Sections<'a>, AllocError>
     ensures { IfOk result (λ sections. spec.IsIndex (files_of tables.now) (binding_view binding.now) (get spec.eq_names sections)) }
 {
-    tables.is_few();
+    tables.prove_few();
     let mut sections = IndexMap::new(alloc);
     for section in 0..tables.section_count() as u32 {
         note_section(&mut sections, tables, binding, section)?;

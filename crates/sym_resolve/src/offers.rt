@@ -83,7 +83,7 @@ fn push_offers(
     requires file { f < length (files_of tables.now) }
     ensures { OnOk result (offers.new.items ≡ offers.old.items ++ in_file (files_of tables.now) (claim_at (files_of tables.now) discarded.now) f) }
 {
-    tables.is_few();
+    tables.prove_few();
     let file = file(tables, f);
     if !file.is_live() {
         return Ok(());

@@ -86,7 +86,7 @@ fn push_unbound(
     requires file { f < length (files_of tables.now) }
     ensures { OnOk result (unbound.new.items ≡ unbound.old.items ++ in_file (files_of tables.now) (unbound_at (files_of tables.now) (binding_view binding.now)) f) }
 {
-    tables.is_few();
+    tables.prove_few();
     let file = file(tables, f);
     if !file.is_live() {
         return Ok(());

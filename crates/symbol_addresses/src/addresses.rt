@@ -130,7 +130,7 @@ fn addresses_in(
     ensures { IfOk result (λ found. found.items ≡ flat_map (own_at sources.now.link) (range_with_len piece.start (piece.end - piece.start))) }
 {
     let tables = sources.link.tables;
-    tables.is_few();
+    tables.prove_few();
     let mut found = Vec::with_capacity(alloc, piece.end.saturating_sub(piece.start))?;
     for file in file_of_symbol(tables, piece.start)..tables.file_count() {
         let first = tables.symbol_no(file, 0);
@@ -171,7 +171,7 @@ fn push_addresses(
     requires file { file < length (link_files sources.now.link) }
     ensures { OnOk result (found.new.items ≡ found.old.items ++ map (own_address sources.now.link file) (range_with_len symbols.start (min symbols.end (length (file_at (link_files sources.now.link) file).head.symbols) - symbols.start))) }
 {
-    sources.link.tables.is_few();
+    sources.link.tables.prove_few();
     let count = sources.link.tables.file(file).symbols().len();
     for symbol in symbols.start..symbols.end.min(count) {
         found.push(own_address(sources, file, symbol as u32))?;

@@ -33,7 +33,7 @@ pub fn take_addresses(link: &LaidLink, addresses: &mut [u64])
     requires own { addresses.old ≡ spec.own_addresses link.now }
     ensures { addresses.new ≡ addresses_of link.now }
 {
-    link.tables.is_few();
+    link.tables.prove_few();
     for symbol in 0..addresses.len() {
         let address = taken_address(link, addresses, symbol);
         addresses[symbol] = address;

@@ -5,18 +5,18 @@ use Rattle.std.specs.HashMap.{HashMap}
 use Rattle.std.specs.Map.{lookup}
 use Rattle.std.specs.Str.{bytes_eq}
 use Rattle.std.proofs.Math.Seq.{drop-cons, drop-length}
-use Rattle.link_sections.specs.declared.layouts.Output.{Output}
+use Rattle.link_sections.specs.declared.layouts.OutputSection.{OutputSection as HeldSection}
 use Rattle.link_sections.specs.LaidOut.{OutputSection, output_view}
 use Rattle.symbol_table.specs.Noted.{AreNoted, HeldKey, has, noted}
 use Rattle.symbol_table.specs.Outputs.{first_passing}
 
-pub none_noted : {S : Type 0} (known : HashMap HeldKey ℕ S) (list : List Output) → known.entries ≡ [] → AreNoted (length list + 1) (map output_view (drop (length list) list)) (noted known)
+pub none_noted : {S : Type 0} (known : HashMap HeldKey ℕ S) (list : List HeldSection) → known.entries ≡ [] → AreNoted (length list + 1) (map output_view (drop (length list) list)) (noted known)
 unfolding noted
 none_noted known list is = λ name class.
     ap (λ (es : List (HeldKey × ℕ)). lookup (λ k. bytes_eq name k.0.now && class == k.1) es) is
-    ∙ ap (λ (os : List Output). first_passing (has name class) (length list + 1) (map output_view os)) (sym (drop-length list))
+    ∙ ap (λ (os : List HeldSection). first_passing (has name class) (length list + 1) (map output_view os)) (sym (drop-length list))
 
-pub more_noted : (list : List Output) (left : ℕ) (d : Output) (old new : List ℕ → ℕ → Option ℕ) → 0 < left → left ≤ length list
+pub more_noted : (list : List HeldSection) (left : ℕ) (d : HeldSection) (old new : List ℕ → ℕ → Option ℕ) → 0 < left → left ≤ length list
     → AreNoted (left + 1) (map output_view (drop left list)) old
     → ((name : List ℕ) (class : ℕ) → new name class ≡ (if has name class (output_view (get_or list (left - 1) d)) then Some left else old name class))
     → AreNoted (left - 1 + 1) (map output_view (drop (left - 1) list)) new
@@ -28,9 +28,9 @@ more_noted list left d old new some le held told = λ name class.
     ∙ ap (λ n. if has name class o then Some left else n) (held name class)
     ∙ ap (λ n. if has name class o then Some n else first_passing (has name class) (n + 1) (map output_view (drop left list))) (sym own)
     ∙ ap (λ k. first_passing (has name class) (left - 1 + 1) (o ∷ map output_view (drop k list))) (sym next)
-    ∙ ap (λ (os : List Output). first_passing (has name class) (left - 1 + 1) (map output_view os)) (sym (drop-cons list (left - 1) d (omega (arith, some, le))))
+    ∙ ap (λ (os : List HeldSection). first_passing (has name class) (left - 1 + 1) (map output_view os)) (sym (drop-cons list (left - 1) d (omega (arith, some, le))))
 
-pub all_noted : (list : List Output) (left : ℕ) (of : List ℕ → ℕ → Option ℕ) → left ≡ 0 → AreNoted (left + 1) (map output_view (drop left list)) of → AreNoted 1 (map output_view list) of
+pub all_noted : (list : List HeldSection) (left : ℕ) (of : List ℕ → ℕ → Option ℕ) → left ≡ 0 → AreNoted (left + 1) (map output_view (drop left list)) of → AreNoted 1 (map output_view list) of
 all_noted list left of none held =
     let P : ℕ → Type 0 = λ n. AreNoted (n + 1) (map output_view (drop n list)) of in
     subst P none held

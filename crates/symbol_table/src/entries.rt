@@ -189,7 +189,7 @@ fn is_taken(view: &View, file: FileNo, symbol: SymNo) -> bool
     requires symbol { symbol < length (file_at (files_in view.now) file).head.symbols }
     ensures { result ≡ spec.is_taken (files_in view.now) (binding_in view.now) file symbol }
 {
-    view.tables.is_few();
+    view.tables.prove_few();
     let own = view.tables.file(file).symbol(symbol as usize);
     let number = view.tables.symbol_no(file as usize, symbol as usize);
     let rank = rank_of(class_of(&own), file as usize, symbol as usize);

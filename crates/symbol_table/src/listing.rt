@@ -119,7 +119,7 @@ fn entries_of<'t, 'a>(
     requires piece { piece.end ≤ length (files_in view.now) }
     ensures { IfOk result (λ list. named_views list.items ≡ flat_map (spec.entries_in (files_in view.now) (binding_in view.now) view.now.kept.now (leaders_in view.now) (laid_in view.now)) (range_with_len piece.start (piece.end - piece.start))) }
 {
-    view.tables.is_few();
+    view.tables.prove_few();
     let mut list = Vec::new(alloc);
     for file in piece.start..piece.end {
         push_file(alloc, &mut list, view, outputs, file as u32)?;
@@ -158,7 +158,7 @@ fn push_symbols<'t, 'a>(
     requires file { file < length (files_in view.now) }
     ensures { OnOk result (named_views list.new.items ≡ named_views list.old.items ++ flat_map (spec.entry_of (files_in view.now) (binding_in view.now) view.now.kept.now (leaders_in view.now) (laid_in view.now) file) (range_with_len 0 (length (file_at (files_in view.now) file).head.symbols))) }
 {
-    view.tables.is_few();
+    view.tables.prove_few();
     let mut seen = Vec::new(alloc);
     seen.resize(section_count(view.tables.file(file)), None)?;
     for symbol in 0..view.tables.file(file).symbols().len() {

@@ -9,7 +9,7 @@ ghost use Rattle.symbol_table.specs.Noted.{AreNoted, class_no as spec_no, has, n
 ghost use Rattle.symbol_table.specs.Outputs.{place_in, place_or};
 
 use crate::symbols::TablePlace;
-use link_sections::{InputSection, Layout, Output};
+use link_sections::{InputSection, Layout, OutputSection};
 use lk_base::abi::{SHF_EXECINSTR, SHF_TLS, SHF_WRITE, SHT_NOBITS};
 use lk_tables::{Class, output_name};
 use std::alloc::{AllocError, Global};
@@ -23,7 +23,7 @@ pub struct Outputs<'a> {
 
 impl<'a> Outputs<'a> {
     /// By name and class, the numbers of these output sections, from 1 on. The only error is out of memory.
-    pub fn of(alloc: Global, list: &[Output<'a>]) -> Result<Outputs<'a>, AllocError>
+    pub fn of(alloc: Global, list: &[OutputSection<'a>]) -> Result<Outputs<'a>, AllocError>
         requires { length list.now < 2 ^ 16 }
         ensures { IfOk result (λ outputs. AreNoted 1 (map output_view list.now) (output_numbers outputs)) }
     {
@@ -63,7 +63,7 @@ impl<'a> Outputs<'a> {
 #[tactic(auto, unfolding(crate::specs::Noted::noted))]
 fn note<'a>(
     known: &mut HashMap<(&'a [u8], u8), u16>,
-    output: &Output<'a>,
+    output: &OutputSection<'a>,
     number: u16,
 ) -> Result<(), AllocError>
     ensures { OnOk result ((name : List ℕ) (class : ℕ) → noted known.new name class ≡ (if has name class (output_view output.now) then Some number else noted known.old name class)) }

@@ -64,7 +64,7 @@ fn items_of(items: &[FoldItem], one: Option<Target>, two: Option<Target>) -> Opt
             section,
             offset,
             rest,
-        } => { items_beside(items, section, offset, rest, two) }
+        } => { items_of_targets(items, section, offset, rest, two) }
         Target::Piece { .. } => None,
         Target::Number(_) => None,
         Target::Zero => None,
@@ -74,7 +74,7 @@ fn items_of(items: &[FoldItem], one: Option<Target>, two: Option<Target>) -> Opt
 }
 
 /// The items of the sections in which two targets stand, if they stand there at one offset and with one rest; the one target is this.
-fn items_beside(
+fn items_of_targets(
     items: &[FoldItem],
     section: SecNo,
     offset: u64,

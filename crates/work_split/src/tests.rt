@@ -6,21 +6,20 @@ ghost use Rattle.work_split.specs.Shares.{IsShare};
 use crate::{Gate, OpenGate, over_pieces, over_shares, pieces, pieces_by_weight};
 use lk_base::LinkStop;
 use std::alloc::{AllocError, Global};
-use std::hint;
 use std::ops::Range;
 use std::sync::atomic::{AtomicBool, AtomicU64, Ordering};
 use std::test::Fail;
-use std::thread::Threads;
+use std::thread::{self, Threads};
 
-const TURNS: u32 = 10_000_000;
-
-// Whether the flag was seen up.
-fn is_up_in_time(flag: &AtomicBool) -> bool {
-    for _ in 0..TURNS {
+// Whether the flag was seen up. Each turn leaves the processor to others four times: all take more than ten seconds, which a full machine does not end first.
+fn is_up(flag: &AtomicBool) -> bool {
+    for _ in 0..10_000_000 {
         if flag.load(Ordering::SeqCst) {
             return true;
         }
-        hint::spin_loop();
+        for _ in 0..4 {
+            thread::yield_now();
+        }
     }
     false
 }
@@ -98,7 +97,7 @@ fn two_tasks_meet(rt: HostRuntime) -> Result<(), Fail> {
             (second, first)
         };
         mine.store(true, Ordering::SeqCst);
-        is_up_in_time(other)
+        is_up(other)
     })?;
     assert_eq!(rt; met.as_slice(), [true, true].as_slice());
     Ok(())
@@ -192,8 +191,7 @@ struct SecondFirst {
 impl Gate for SecondFirst {
     fn at(&self, worker: u32, step: u32) {
         if worker == 0 && step == 0 {
-            self.held
-                .store(is_up_in_time(&self.passed), Ordering::SeqCst);
+            self.held.store(is_up(&self.passed), Ordering::SeqCst);
         }
         if worker == 1 && step == 1 {
             self.passed.store(true, Ordering::SeqCst);

@@ -81,7 +81,7 @@ fn made_layout(alloc: Global) -> Result<Layout<'static>, AllocError>
     Ok(Layout {
         outputs: Vec::new(alloc),
         members: Vec::new(alloc),
-        zeros: Vec::new(alloc),
+        nobits_members: Vec::new(alloc),
         places: places_of(alloc)?,
         starts: Vec::new(alloc),
         pools: Vec::new(alloc),

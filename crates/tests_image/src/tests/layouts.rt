@@ -145,7 +145,7 @@ fn sections_of_each_class_are_laid_out(rt: HostRuntime) -> Result<(), Fail> {
     check(&rt, layout, &starts, &rows, 5, 0x14020);
     assert_eq!(rt; layout.got, 0x14008);
     assert_eq!(rt; layout.members.len(), 4);
-    assert_eq!(rt; layout.zeros.len(), 2);
+    assert_eq!(rt; layout.nobits_members.len(), 2);
     // Where the file ends, before the section with no bytes in it.
     assert_eq!(rt; layout.bounds.file_end, 0x1400c);
     assert_eq!(rt; layout.bounds.tls_start, 0x14000);
@@ -317,6 +317,6 @@ fn thread_local_sections_stand_by_themselves(rt: HostRuntime) -> Result<(), Fail
     let made = run_passes(&rt, rt.alloc(), &inputs, &PLAIN)?;
     // Those with bits, and then those that are written.
     assert!(rt; are_sections(made.layout.members.as_slice(), &[1, 4, 2, 6, 5]));
-    assert!(rt; are_sections(made.layout.zeros.as_slice(), &[3]));
+    assert!(rt; are_sections(made.layout.nobits_members.as_slice(), &[3]));
     Ok(())
 }

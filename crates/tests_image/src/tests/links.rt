@@ -6,7 +6,7 @@ ghost use Rattle.eh_frame.specs.Plan.{plan_of};
 ghost use Rattle.elf_out.specs.Prepared.{IsPreparedFor};
 ghost use Rattle.layout.specs.Layout.{frame_sizes};
 ghost use Rattle.layout.specs.Spots.{HasFrames};
-ghost use Rattle.link_driver.specs.Tables.{MayStay};
+ghost use Rattle.link_passes.specs.Tables.{MayStay};
 ghost use Rattle.link_sections.specs.GotUses.{HasAllUses};
 ghost use Rattle.link_sections.specs.GotView.{entries_of};
 ghost use Rattle.link_sections.specs.LaidOut.{layout_view, with_contents};
@@ -150,7 +150,7 @@ fn push_values(values: &mut Vec<i128>, view: &View, section: SecNo) -> Result<()
 
 /// The values of the relocations of all sections.
 fn values_of(alloc: Global, view: &View) -> Result<Vec<i128>, AllocError> {
-    view.tables.is_few();
+    view.tables.prove_few();
     let mut values = Vec::new(alloc);
     for section in 0..view.tables.section_count() as u32 {
         push_values(&mut values, view, section)?;
@@ -257,7 +257,7 @@ fn kept_made<'a, R: Threads + Sync>(
     requires plain { ArePlain (all_lists (files_of tables.now)) }
     requires stay { MayStay (files_of tables.now) (binding_view binding.now) kept.now }
 {
-    tables.is_few();
+    tables.prove_few();
     let options = asked.options;
     let numbers = number_names(rt, alloc, tables.files(), 2, &OpenGate)?;
     if piece_count(tables) >= 1 << 31 {

@@ -7,12 +7,12 @@ use link_driver::{Gate, run_piped};
 use link_examples::{Store, shared_files, words_of};
 use lk_depot::{Depot, Failed, FileKind, LoadStop, MemDepot, MemSink};
 use std::alloc::{AllocError, Global};
-use std::hint;
 use std::sync::Wait;
 use std::sync::atomic::{AtomicBool, Ordering};
 use std::test::Fail;
-use std::thread::Threads;
+use std::thread::{self, Threads};
 
+/// A turn leaves the processor to others four times: all turns take more than ten seconds, so that a full machine does not end them first.
 const TURNS: u32 = 10_000_000;
 
 /// Notes that the first parser is past a file.
@@ -35,7 +35,9 @@ fn is_passed_in_time(gate: &Passing) -> bool {
         if gate.passed.load(Ordering::SeqCst) {
             return true;
         }
-        hint::spin_loop();
+        for _ in 0..4 {
+            thread::yield_now();
+        }
     }
     false
 }

@@ -12,7 +12,7 @@ overflow_cast-symbol c =
     let files = files_of c.args.tables.now in
     let P : File → Type 0 = λ f. HasName f c.in-Some.symbol c.args.name.now in
     let has = subst P c.file.ensures c.in-Some.ensures.some in
-    omega (arith, index_few files c.loop-file.file c.in-Some.symbol c.is_few.ensures (omega (arith, c.loop-file-test.true, c.file_count-file-end.ensures)) has.inside)
+    omega (arith, index_few files c.loop-file.file c.in-Some.symbol c.prove_few.ensures (omega (arith, c.loop-file-test.true, c.file_count-file-end.ensures)) has.inside)
 
 pub returns-in-Some : goal.returns-in-Some
 returns-in-Some c =
@@ -27,4 +27,4 @@ pub returns : goal.returns
 returns c =
     let files = files_of c.args.tables.now in
     let b = binding_view c.args.binding.now in
-    sym (nowhere files b c.args.name.now c.is_few.ensures (λ f i lt below. c.loop-file.invariant f i (omega (arith, lt, c.loop-file-test.false, c.file_count-file-end.ensures)) below))
+    sym (nowhere files b c.args.name.now c.prove_few.ensures (λ f i lt below. c.loop-file.invariant f i (omega (arith, lt, c.loop-file-test.false, c.file_count-file-end.ensures)) below))

@@ -23,4 +23,4 @@ returns-clause-within c =
     let all : c.loop-name.list.items ≡ named_sections files b names =
     collected (section_named files b) c.args.names.now c.loop-name.name-index c.loop-name.list.items (named_sections files b names)
     (omega (arith, c.loop-name-test.false)) c.loop-name.invariant in
-    subst P (sym all) (named_within files b names c.requires c.is_few.ensures)
+    subst P (sym all) (named_within files b names c.requires c.prove_few.ensures)

@@ -28,8 +28,8 @@ returns-then-len-eq0-clause-discarded g c =
 pub returns-then-len-eq0-clause-kept : goal.returns-then-len-eq0-clause-kept
 returns-then-len-eq0-clause-kept g c = keeps_first (comdats (files_of c.args.tables.now))
 
-pub are_few-requires : goal.are_few-requires
-are_few-requires g c = c.in_ok-groups.ensures ∙ ap comdats c.files.ensures
+pub prove_few_groups-requires : goal.prove_few_groups-requires
+prove_few_groups-requires g c = c.in_ok-groups.ensures ∙ ap comdats c.files.ensures
 
 pub mark_beaten-requires-clause-files : goal.mark_beaten-requires-clause-files
 mark_beaten-requires-clause-files g c =

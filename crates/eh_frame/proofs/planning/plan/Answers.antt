@@ -17,7 +17,7 @@ frame_len-frame_len-requires-clause-cies_most g c =
     let files = files_of c.args.tables.now in
     let lists = lists_of c.args.frames.now in
     let read = subst (All IsRead) (sym c.requires.lists) (lists_read files) in
-    let most = found_cies files lists c.requires.within c.is_few.ensures.section_count_is read (binding_view c.args.binding.now) (merged_views c.args.pools.now) c.args.leaders.now c.in_ok-fdes.field-0 c.in_ok-fdes.ensures in
+    let most = found_cies files lists c.requires.within c.prove_few.ensures.section_count_is read (binding_view c.args.binding.now) (merged_views c.args.pools.now) c.args.leaders.now c.in_ok-fdes.field-0 c.in_ok-fdes.ensures in
     omega (arith, most, ap (sum_by (size_of lists)) c.as_slice.ensures.value)
 
 pub frame_len-frame_len-requires-clause-fdes_most : goal.frame_len-frame_len-requires-clause-fdes_most
@@ -25,7 +25,7 @@ frame_len-frame_len-requires-clause-fdes_most g c =
     let files = files_of c.args.tables.now in
     let lists = lists_of c.args.frames.now in
     let read = subst (All IsRead) (sym c.requires.lists) (lists_read files) in
-    let most = found_fdes files lists c.requires.within c.is_few.ensures.section_count_is read (binding_view c.args.binding.now) (merged_views c.args.pools.now) c.args.leaders.now c.in_ok-fdes.field-0 c.in_ok-fdes.ensures in
+    let most = found_fdes files lists c.requires.within c.prove_few.ensures.section_count_is read (binding_view c.args.binding.now) (merged_views c.args.pools.now) c.args.leaders.now c.in_ok-fdes.field-0 c.in_ok-fdes.ensures in
     omega (arith, most, ap (sum_by (size_of lists)) c.as_slice-2.ensures.value)
 
 pub header_len-header_len-requires : goal.header_len-header_len-requires
@@ -34,7 +34,7 @@ header_len-header_len-requires g c =
     let lists = lists_of c.args.frames.now in
     let found = c.in_ok-fdes.field-0 in
     let read = subst (All IsRead) (sym c.requires.lists) (lists_read files) in
-    let most = found_count files lists c.requires.within c.is_few.ensures.section_count_is read (binding_view c.args.binding.now) (merged_views c.args.pools.now) c.args.leaders.now found c.in_ok-fdes.ensures in
+    let most = found_count files lists c.requires.within c.prove_few.ensures.section_count_is read (binding_view c.args.binding.now) (merged_views c.args.pools.now) c.args.leaders.now found c.in_ok-fdes.ensures in
     omega (arith, most, c.len.ensures, found.fdes.ok.0)
 
 pub returns-clause-plan : goal.returns-clause-plan
@@ -62,4 +62,4 @@ returns-clause-small g c =
     let lists = lists_of c.args.frames.now in
     let read = subst (All IsRead) (sym c.requires.lists) (lists_read files) in
     subst IsSmall (sym (returns-clause-plan g c))
-    (plan_small files lists c.requires.within c.is_few.ensures.section_count_is read (binding_view c.args.binding.now) (merged_views c.args.pools.now) c.args.leaders.now)
+    (plan_small files lists c.requires.within c.prove_few.ensures.section_count_is read (binding_view c.args.binding.now) (merged_views c.args.pools.now) c.args.leaders.now)

@@ -5,4 +5,4 @@ use Rattle.std.proofs.Common.{arith}
 
 pub add-requires : goal.add-requires
 add-requires c =
-    omega (arith, c.key_of.ensures, key_low (files_of c.args.tables.now) c.args.file c.args.reloc.now.symbol c.is_few.ensures c.requires.file c.requires.symbol)
+    omega (arith, c.key_of.ensures, key_low (files_of c.args.tables.now) c.args.file c.args.reloc.now.symbol c.prove_few.ensures c.requires.file c.requires.symbol)

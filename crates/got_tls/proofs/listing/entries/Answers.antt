@@ -13,10 +13,10 @@ loop-section-preserved c =
 pub returns-clause-value : goal.returns-clause-value
 returns-clause-value c =
     table_is (files_of c.args.tables.now) c.args.leaders.now (entries_of c.loop-section.got) (all_sections (files_of c.args.tables.now) c.args.leaders.now (entries_of c.loop-section.got) c.loop-section.section
-    (omega (arith, c.section_count-section-end.ensures, c.is_few.ensures.section_count_is, c.loop-section-test.false)) c.loop-section.invariant)
+    (omega (arith, c.section_count-section-end.ensures, c.prove_few.ensures.section_count_is, c.loop-section-test.false)) c.loop-section.invariant)
 
 pub returns-clause-law : goal.returns-clause-law
 returns-clause-law c =
     has_all (files_of c.args.tables.now) c.args.leaders.now (entries_of c.loop-section.got) (all_sections (files_of c.args.tables.now) c.args.leaders.now (entries_of c.loop-section.got) c.loop-section.section
-    (omega (arith, c.section_count-section-end.ensures, c.is_few.ensures.section_count_is, c.loop-section-test.false)) c.loop-section.invariant)
+    (omega (arith, c.section_count-section-end.ensures, c.prove_few.ensures.section_count_is, c.loop-section-test.false)) c.loop-section.invariant)
     c.loop-section.got.unlike

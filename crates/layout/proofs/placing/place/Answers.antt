@@ -89,11 +89,11 @@ returns-in-Ok-clause-aligned c =
     (sizes_of c.args.sizes.now) (frame_sizes c.args.frames.now) c.requires.leaders c.requires.sizes (all_apart c.args.sizes.now.rows c.args.sizes.now.sound) c.in_ok-layout.ensures.sized
     c.in_ok-layout.ensures.room c.requires.small c.in_ok-layout.ensures.found).aligned
 
-pub returns-in-Ok-clause-zeros : goal.returns-in-Ok-clause-zeros
-returns-in-Ok-clause-zeros c =
+pub returns-in-Ok-clause-nobits_members : goal.returns-in-Ok-clause-nobits_members
+returns-in-Ok-clause-nobits_members c =
     (laws_seen c.in_ok-layout.layout (files_of c.args.tables.now) (binding_view c.args.binding.now) c.args.pools.now.pools.items (word_count (entries_of c.args.got.now)) c.args.leaders.now
     (sizes_of c.args.sizes.now) (frame_sizes c.args.frames.now) c.requires.leaders c.requires.sizes (all_apart c.args.sizes.now.rows c.args.sizes.now.sound) c.in_ok-layout.ensures.sized
-    c.in_ok-layout.ensures.room c.requires.small c.in_ok-layout.ensures.found).zeros
+    c.in_ok-layout.ensures.room c.requires.small c.in_ok-layout.ensures.found).nobits_members
 
 pub returns-in-Ok-clause-framed : goal.returns-in-Ok-clause-framed
 returns-in-Ok-clause-framed c =

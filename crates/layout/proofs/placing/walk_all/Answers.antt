@@ -13,6 +13,6 @@ pub returns-clause-trail : goal.returns-clause-trail
 returns-clause-trail c =
     trail_is (sizes_of c.args.from.now.sizes.now) (items_view c.args.from.now.items.now) c.args.o.now.rows _ c.frame_bounds-last.result (trail_view c.args.walked.now)
     (trail_view c.walk_bits.new.walked) (trail_view c.walk_frames.new.walked) (trail_view c.walk_bits-2.new.walked) (trail_view c.walk_bits-3.new.walked)
-    (trail_view c.walk_zeros.new.walked) (trail_view c.walk_bits-4.new.walked) (trail_view c.walk_zeros-2.new.walked)
+    (trail_view c.walk_nobits.new.walked) (trail_view c.walk_bits-4.new.walked) (trail_view c.walk_nobits-2.new.walked)
     (record { has = refl; header = refl; header_end = refl; frames = refl; frames_end = refl; r_end = refl })
     (search rules) c.in_ok-walk_frames.ensures.trail (search rules) (search rules) (search rules) (search rules) (search rules)

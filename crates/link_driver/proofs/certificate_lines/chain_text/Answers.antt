@@ -5,9 +5,9 @@ use Rattle.link_sections.specs.FoldItems.{item_views}
 use Rattle.why_chain.specs.declared.chains.ApartChain.{ApartChain}
 use Rattle.why_chain.specs.Aparts.{chain_view}
 use Rattle.link_driver.specs.Certificates.{lines_of_chain}
-use Rattle.link_driver.specs.Contents.{names_of}
+use Rattle.link_passes.specs.Contents.{names_of}
 use Rattle.link_driver.proofs.Certifying.{chain_is}
-use Rattle.link_driver.proofs.Handing.{on_each}
+use Rattle.link_passes.proofs.Handing.{on_each}
 use Rattle.link_driver.proofs.certificate_lines.chain_text.Goals as goal
 
 pub returns-in_default : goal.returns-in_default

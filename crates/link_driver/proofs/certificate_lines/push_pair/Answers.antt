@@ -3,7 +3,7 @@ use Rattle.std.proofs.lemmas.List.{length-map}
 use Rattle.lk_tables.specs.Files.{section_total}
 use Rattle.lk_tables.specs.TablesView.{files_of}
 use Rattle.link_sections.specs.FoldItems.{item_view, item_views}
-use Rattle.link_driver.specs.Contents.{names_of}
+use Rattle.link_passes.specs.Contents.{names_of}
 use Rattle.link_driver.proofs.Certifying.{item_below, pair_is}
 use Rattle.link_driver.proofs.certificate_lines.push_pair.Goals as goal
 

@@ -2,7 +2,7 @@ use Rattle.std.proofs.Common.{ap}
 use Rattle.lk_tables.specs.BindingView.{binding_view}
 use Rattle.lk_tables.specs.TablesView.{files_of}
 use Rattle.link_sections.specs.InputSections.{InputSection}
-use Rattle.link_driver.specs.Contents.{names_of}
+use Rattle.link_passes.specs.Contents.{names_of}
 use Rattle.link_driver.proofs.Certifying.{section_is}
 use Rattle.link_driver.proofs.certificate_lines.push_section.Goals as goal
 

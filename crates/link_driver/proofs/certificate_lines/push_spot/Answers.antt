@@ -1,5 +1,5 @@
 use Rattle.lk_tables.specs.TablesView.{files_of}
-use Rattle.link_driver.specs.Contents.{names_of}
+use Rattle.link_passes.specs.Contents.{names_of}
 use Rattle.link_driver.proofs.Certifying.{spot_is}
 use Rattle.link_driver.proofs.certificate_lines.push_spot.Goals as goal
 

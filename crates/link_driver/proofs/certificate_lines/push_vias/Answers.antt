@@ -3,7 +3,7 @@ use Rattle.std.proofs.lemmas.List.{append-nil}
 use Rattle.lk_tables.specs.TablesView.{files_of}
 use Rattle.link_sections.specs.FoldItems.{item_views}
 use Rattle.link_driver.specs.Certificates.{met_line, via_lines}
-use Rattle.link_driver.specs.Contents.{names_of}
+use Rattle.link_passes.specs.Contents.{names_of}
 use Rattle.link_driver.proofs.Certifying.{vias_end, vias_none, vias_on}
 use Rattle.link_driver.proofs.certificate_lines.push_vias.Goals as goal
 

@@ -2,7 +2,7 @@ use Rattle.std.proofs.Common.{◌≡◌, ◌<◌, ◌++◌, drop, length}
 use Rattle.lk_tables.specs.TablesView.{files_of}
 use Rattle.link_sections.specs.FoldItems.{item_views}
 use Rattle.link_driver.specs.Certificates.{via_lines}
-use Rattle.link_driver.specs.Contents.{names_of}
+use Rattle.link_passes.specs.Contents.{names_of}
 use Rattle.link_driver.proofs.certificate_lines.push_vias.Given as goal
 
 -- the rest adds, from the pair at hand on, what is missing of all

@@ -5,9 +5,9 @@ use Rattle.lk_tables.specs.Files.{section_total}
 use Rattle.lk_tables.specs.TablesView.{files_of}
 use Rattle.why_chain.specs.declared.chains.LiveChain.{LiveChain}
 use Rattle.why_chain.specs.Walks.{sections_in}
-use Rattle.link_driver.specs.Contents.{names_of}
+use Rattle.link_passes.specs.Contents.{names_of}
 use Rattle.link_driver.proofs.Certifying.{no_walk, walk_is}
-use Rattle.link_driver.proofs.Handing.{on_each}
+use Rattle.link_passes.proofs.Handing.{on_each}
 use Rattle.link_driver.proofs.certificate_lines.walk_text.Goals as goal
 
 pub returns-in_default : goal.returns-in_default

@@ -4,9 +4,9 @@ use Rattle.std.proofs.lemmas.List.{length-map}
 use Rattle.link_command.specs.Command.{lists_of}
 use Rattle.lk_tables.specs.BindingView.{binding_view}
 use Rattle.lk_tables.specs.TablesView.{files_of}
-use Rattle.link_driver.specs.Contents.{names_of}
+use Rattle.link_passes.specs.Contents.{names_of}
 use Rattle.link_driver.proofs.Certifying.{both_asked, not_two}
-use Rattle.link_driver.proofs.Handing.{on_each}
+use Rattle.link_passes.proofs.Handing.{on_each}
 use Rattle.link_driver.proofs.certificates.apart_text.Goals as goal
 
 pub returns-then-asked-ne2 : goal.returns-then-asked-ne2

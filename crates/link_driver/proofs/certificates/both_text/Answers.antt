@@ -8,10 +8,10 @@ use Rattle.link_sections.specs.FoldItems.{FoldItem, item_views, sections_of}
 use Rattle.link_sections.specs.Merging.{pools_of}
 use Rattle.link_sections.specs.PoolViews.{merged_views}
 use Rattle.sec_graph.specs.Foldable.{items}
-use Rattle.link_driver.specs.Contents.{names_of}
+use Rattle.link_passes.specs.Contents.{names_of}
 use Rattle.link_driver.proofs.Certifying.{both_are, first_unknown, items_are, items_within, second_unknown}
 use Rattle.link_driver.proofs.FewPieces.{kept_written}
-use Rattle.link_driver.proofs.Handing.{on_each}
+use Rattle.link_passes.proofs.Handing.{on_each}
 use Rattle.link_driver.proofs.certificates.both_text.Goals as goal
 
 pub returns-in_default : goal.returns-in_default

@@ -2,8 +2,8 @@ use Rattle.std.proofs.Common.{◌∙◌, ap}
 use Rattle.lk_tables.specs.TablesView.{files_of}
 use Rattle.link_sections.specs.FoldItems.{item_views}
 use Rattle.link_driver.specs.Certificates.{lines_of_chain}
-use Rattle.link_driver.specs.Contents.{names_of}
-use Rattle.link_driver.proofs.Handing.{on_each}
+use Rattle.link_passes.specs.Contents.{names_of}
+use Rattle.link_passes.proofs.Handing.{on_each}
 use Rattle.link_driver.proofs.certificates.chain_lines.Goals as goal
 
 pub returns : goal.returns

@@ -3,7 +3,7 @@ use Rattle.lk_tables.specs.BindingView.{binding_view}
 use Rattle.lk_tables.specs.TablesView.{files_of}
 use Rattle.sec_graph.specs.WalkEdges.{walk_edges}
 use Rattle.why_chain.specs.Walks.{live_chain}
-use Rattle.link_driver.proofs.Handing.{on_each}
+use Rattle.link_passes.proofs.Handing.{on_each}
 use Rattle.link_driver.proofs.certificates.find_walk.Goals as goal
 
 pub returns-clause-walk : goal.returns-clause-walk

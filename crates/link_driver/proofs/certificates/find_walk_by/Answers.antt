@@ -5,9 +5,9 @@ use Rattle.lk_tables.specs.BindingView.{binding_view}
 use Rattle.lk_tables.specs.TablesView.{files_of}
 use Rattle.sec_graph.specs.WalkEdges.{walk_edges}
 use Rattle.why_chain.specs.Walks.{live_chain}
-use Rattle.link_driver.specs.declared.collecting.SectionGraph.{SectionGraph}
-use Rattle.link_driver.specs.Tables.{IsGraph}
-use Rattle.link_driver.proofs.Handing.{on_each}
+use Rattle.link_passes.specs.declared.collecting.SectionGraph.{SectionGraph}
+use Rattle.link_passes.specs.Tables.{IsGraph}
+use Rattle.link_passes.proofs.Handing.{on_each}
 use Rattle.link_driver.proofs.certificates.find_walk_by.Goals as goal
 
 pub walk_in-requires-clause-roots : goal.walk_in-requires-clause-roots

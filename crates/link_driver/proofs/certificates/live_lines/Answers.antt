@@ -6,9 +6,9 @@ use Rattle.lk_tables.specs.BindingView.{binding_view}
 use Rattle.lk_tables.specs.Files.{section_total}
 use Rattle.lk_tables.specs.TablesView.{files_of}
 use Rattle.why_chain.specs.Walks.{sections_in}
-use Rattle.link_driver.specs.Contents.{names_of}
+use Rattle.link_passes.specs.Contents.{names_of}
 use Rattle.link_driver.proofs.Certifying.{no_target, target_is}
-use Rattle.link_driver.proofs.Handing.{on_each}
+use Rattle.link_passes.proofs.Handing.{on_each}
 use Rattle.link_driver.proofs.certificates.live_lines.Goals as goal
 
 pub returns-in_default : goal.returns-in_default

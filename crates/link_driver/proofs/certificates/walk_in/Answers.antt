@@ -5,7 +5,7 @@ use Rattle.lk_tables.specs.TablesView.{files_of}
 use Rattle.link_sections.specs.Edges.{ends_of}
 use Rattle.why_chain.specs.Walks.{live_chain, sections_in}
 use Rattle.link_driver.proofs.Certifying.{walks_count}
-use Rattle.link_driver.proofs.Handing.{on_each}
+use Rattle.link_passes.proofs.Handing.{on_each}
 use Rattle.link_driver.proofs.certificates.walk_in.Goals as goal
 
 pub why_live-requires-clause-roots : goal.why_live-requires-clause-roots

@@ -1,11 +1,11 @@
 use Rattle.std.proofs.Common.{◌∙◌, List, ℕ, ap, subst, sym}
 use Rattle.std.specs.Prelude.{IfSome}
-use Rattle.link_command.specs.Command.{asks, lists_of}
+use Rattle.link_command.specs.Command.{command_view, lists_of}
 use Rattle.lk_tables.specs.BindingView.{binding_view}
 use Rattle.lk_tables.specs.TablesView.{files_of}
 use Rattle.link_driver.specs.Certificates.{apart_text, live_text}
-use Rattle.link_driver.specs.Contents.{names_of}
-use Rattle.link_driver.specs.Tables.{IsGraph}
+use Rattle.link_passes.specs.Contents.{names_of}
+use Rattle.link_passes.specs.Tables.{IsGraph}
 use Rattle.link_driver.proofs.Certifying.{why_is}
 use Rattle.link_driver.proofs.certificates.why_text.Goals as goal
 
@@ -16,7 +16,7 @@ live_text-requires-clause-graph g c = λ κs bound.
 
 pub returns : goal.returns
 returns g c =
-    let asked = asks c.args.command.now in
+    let asked = command_view c.args.command.now in
     let names = names_of c.args.names.now in
     let files = files_of c.args.tables.now in
     let b = binding_view c.args.binding.now in

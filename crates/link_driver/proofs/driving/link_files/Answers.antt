@@ -1,29 +1,29 @@
 use Rattle.std.proofs.Common.{◌∙◌, List, ℕ, ap, sym, subst}
 use Rattle.std.specs.Prelude.{Some}
 use Rattle.lk_depot.specs.Loading.{AreContents}
-use Rattle.link_command.specs.Command.{asks, texts_of}
-use Rattle.link_driver.specs.Contents.{contents_of}
-use Rattle.link_driver.specs.Given.{contents_by, names_by}
+use Rattle.link_command.specs.Command.{command_view, texts_of}
+use Rattle.link_passes.specs.Contents.{contents_of}
+use Rattle.link_passes.specs.Given.{contents_by, names_by}
 use Rattle.link_driver.specs.Ends.{none_failed}
 use Rattle.link_driver.proofs.Starting.{lacking, not_loaded}
 use Rattle.link_driver.proofs.driving.link_files.Goals as goal
 
 pub returns-in-Err-clause-ends : goal.returns-in-Err-clause-ends
 returns-in-Err-clause-ends g c =
-    not_loaded (asks c.args.command.now) (texts_of c.args.names.now) (g.D.Depot.store c.args.depot.now) (g.D.Depot.store c.load_files.new.self)
+    not_loaded (command_view c.args.command.now) (texts_of c.args.names.now) (g.D.Depot.store c.args.depot.now) (g.D.Depot.store c.load_files.new.self)
     (g.S.Sink.output c.args.say.now) c.in-Err.stop c.report_load_stop.result c.requires.names c.in-Err.ensures.loads
     (record { files = c.in-Err.ensures.files; kinds = c.in-Err.ensures.kinds; begun = c.in-Err.ensures.begun })
     c.report_load_stop.ensures
 
 pub returns-in_default-clause-ends : goal.returns-in_default-clause-ends
 returns-in_default-clause-ends g c =
-    lacking (Some (asks c.args.command.now)) (g.D.Depot.store c.args.depot.now) (g.D.Depot.store c.load_files.new.self) (g.S.Sink.output c.args.say.now)
+    lacking (Some (command_view c.args.command.now)) (g.D.Depot.store c.args.depot.now) (g.D.Depot.store c.load_files.new.self) (g.S.Sink.output c.args.say.now)
     (record { files = c.in-Ok.ensures.files; kinds = c.in-Ok.ensures.kinds; begun = c.in-Ok.ensures.begun })
     (none_failed c.in-Ok.ensures.loads.1)
 
 pub link_inputs-ending-requires-clause-names : goal.link_inputs-ending-requires-clause-names
 link_inputs-ending-requires-clause-names g c = λ κs bound.
-    let asked = asks c.args.command.now in
+    let asked = command_view c.args.command.now in
     c.in-Ok-inputs_of.ensures.names ∙ c.requires.names ∙ sym (ap (λ n. names_by n asked.inputs) c.requires.files)
 
 pub returns-clause-ends : goal.returns-clause-ends

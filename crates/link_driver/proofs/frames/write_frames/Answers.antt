@@ -41,16 +41,16 @@ returns-in-Ok-clause-fit g c =
     (planned_none (files_in v) (binding_in v) (laid_in v).merging.merged (all_lists (files_in v)) (leaders_in v) (plan_view plan) c.requires.plan)
     c.in-Ok.ensures.lengths.0 c.in-Ok.ensures.lengths.1
 
-pub records_stand-requires-clause-lists : goal.records_stand-requires-clause-lists
-records_stand-requires-clause-lists g c =
+pub prove_records_stand-requires-clause-lists : goal.prove_records_stand-requires-clause-lists
+prove_records_stand-requires-clause-lists g c =
     let P : List RecordList → Type 0 = AreListsWithin (files_in c.args.view.now) in
     subst P (sym c.requires.lists) c.requires.within
 
-pub records_stand-requires-clause-plain : goal.records_stand-requires-clause-plain
-records_stand-requires-clause-plain g c = subst ArePlain (sym c.requires.lists) c.requires.plain
+pub prove_records_stand-requires-clause-plain : goal.prove_records_stand-requires-clause-plain
+prove_records_stand-requires-clause-plain g c = subst ArePlain (sym c.requires.lists) c.requires.plain
 
-pub records_stand-requires-clause-plan : goal.records_stand-requires-clause-plan
-records_stand-requires-clause-plan g c =
+pub prove_records_stand-requires-clause-plan : goal.prove_records_stand-requires-clause-plan
+prove_records_stand-requires-clause-plan g c =
     let v = c.args.view.now in
     c.requires.plan ∙ ap (λ ls. plan_of (files_in v) (binding_in v) (laid_in v).merging.merged ls (leaders_in v)) (sym c.requires.lists)
 
@@ -60,4 +60,4 @@ returns-in-Ok-clause-records g c =
     let plan = c.args.plan.now in
     let frames = c.in-Ok.frames in
     let P : List RecordList → Type 0 = λ ls. HasUnwindRecords (files_in v) (binding_in v) (leaders_in v) (laid_in v) ls (plan_view plan) frames.frame.items frames.header.items in
-    subst P c.requires.lists c.records_stand.ensures
+    subst P c.requires.lists c.prove_records_stand.ensures

@@ -1,14 +1,14 @@
 use Rattle.std.proofs.Common.{◌+◌, ◌-◌, ◌∙◌, ap, arith, drop, length, refl, sym, take}
-use Rattle.lk_depot.specs.Files.{told_added}
+use Rattle.lk_depot.specs.Files.{added_if_seen}
 use Rattle.lk_depot.proofs.Counts.{later_then_rose}
-use Rattle.lk_depot.proofs.NamedMaps.{told_added_nothing}
+use Rattle.lk_depot.proofs.NamedMaps.{added_if_seen_nothing}
 use Rattle.link_driver.proofs.BlockWise.{added_on, part_added}
 use Rattle.link_driver.proofs.linked.put_blocks.Goals as goal
 
 pub loop-done-init : goal.loop-done-init
 loop-done-init g c = record {
   within = omega arith;
-  files = sym (told_added_nothing c.args.name.now _);
+  files = sym (added_if_seen_nothing c.args.name.now _);
   kinds = refl;
   begun = refl;
   unread = refl;
@@ -18,7 +18,7 @@ loop-done-init g c = record {
 pub loop-done-preserved : goal.loop-done-preserved
 loop-done-preserved g c = record {
   within = omega arith;
-  files = c.in-Ok.ensures.ok ∙ ap (told_added c.args.name.now _) c.loop-done.invariant.files
+  files = c.in-Ok.ensures.ok ∙ ap (added_if_seen c.args.name.now _) c.loop-done.invariant.files
       ∙ added_on c.args.name.now c.args.bytes.now c.loop-done.done _ _ (omega arith);
   kinds = c.in-Ok.ensures.kinds ∙ c.loop-done.invariant.kinds;
   begun = c.in-Ok.ensures.begun ∙ c.loop-done.invariant.begun;

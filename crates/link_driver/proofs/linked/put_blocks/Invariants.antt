@@ -1,5 +1,5 @@
 use Rattle.std.proofs.Common.{length, ◌-◌, ◌≡◌, ◌≤◌, take}
-use Rattle.lk_depot.specs.Files.{told_added}
+use Rattle.lk_depot.specs.Files.{added_if_seen}
 use Rattle.link_driver.proofs.linked.put_blocks.Given as goal
 
 -- a prefix of the bytes was added, and all else is as it was
@@ -9,7 +9,7 @@ invariant-loop-done g l =
     let now = g.D.Depot.store l.depot in
     record {
       within : l.done ≤ length l.bytes;
-      files : now.files ≡ told_added l.name (take l.done l.bytes) before.files;
+      files : now.files ≡ added_if_seen l.name (take l.done l.bytes) before.files;
       kinds : now.kinds ≡ before.kinds;
       begun : now.begun ≡ before.begun;
       unread : now.unread ≡ before.unread;

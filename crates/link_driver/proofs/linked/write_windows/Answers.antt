@@ -1,8 +1,8 @@
 use Rattle.std.proofs.Common.{◌≡◌, ℕ, ◌*◌, ◌+◌, ◌-◌, ◌∙◌, ap, arith, length, refl, sym, take}
 use Rattle.std.proofs.lemmas.List.{length-take-le}
-use Rattle.lk_depot.specs.Files.{told_added}
+use Rattle.lk_depot.specs.Files.{added_if_seen}
 use Rattle.lk_depot.proofs.Counts.{later_then_rose}
-use Rattle.lk_depot.proofs.NamedMaps.{told_added_nothing}
+use Rattle.lk_depot.proofs.NamedMaps.{added_if_seen_nothing}
 use Rattle.link_driver.specs.Linked.{exe_of}
 use Rattle.link_driver.proofs.BlockWise.{window_added, window_cut}
 use Rattle.link_driver.proofs.linked.write_windows.Goals as goal
@@ -13,7 +13,7 @@ loop-done-init g c = record {
   whole = λ lt. omega arith;
   low = omega arith;
   wide = refl;
-  files = sym (told_added_nothing c.args.name.now _);
+  files = sym (added_if_seen_nothing c.args.name.now _);
   kinds = refl;
   begun = refl;
   unread = refl;
@@ -37,8 +37,8 @@ loop-done-preserved g c =
       whole = λ lt. omega (arith, whole, aligned, lt);
       low = omega (arith, whole, aligned, wide);
       wide = omega (arith, wide, long);
-      files = c.in-Ok.ensures.ok ∙ ap (told_added name _) inv.files ∙ window_added name exe l.done l.k (length (take size l.window)) before aligned
-          ∙ ap (λ n. told_added name (take (l.done + n) exe) before) long;
+      files = c.in-Ok.ensures.ok ∙ ap (added_if_seen name _) inv.files ∙ window_added name exe l.done l.k (length (take size l.window)) before aligned
+          ∙ ap (λ n. added_if_seen name (take (l.done + n) exe) before) long;
       kinds = c.in-Ok.ensures.kinds ∙ inv.kinds;
       begun = c.in-Ok.ensures.begun ∙ inv.begun;
       unread = c.in-Ok.ensures.unread ∙ inv.unread;

@@ -1,5 +1,5 @@
 use Rattle.std.proofs.Common.{length, ◌*◌, ◌+◌, ◌-◌, ◌<◌, ◌≡◌, ◌≤◌, take}
-use Rattle.lk_depot.specs.Files.{told_added}
+use Rattle.lk_depot.specs.Files.{added_if_seen}
 use Rattle.link_driver.specs.Linked.{exe_of}
 use Rattle.link_driver.proofs.linked.write_windows.Given as goal
 
@@ -14,7 +14,7 @@ invariant-loop-done g l =
       whole : l.done < length exe → l.done ≡ 65536 * l.k;
       low : 65536 * l.k ≤ length exe + length l.fn.window;
       wide : length l.window ≡ length l.fn.window;
-      files : now.files ≡ told_added l.name (take l.done exe) before.files;
+      files : now.files ≡ added_if_seen l.name (take l.done exe) before.files;
       kinds : now.kinds ≡ before.kinds;
       begun : now.begun ≡ before.begun;
       unread : now.unread ≡ before.unread;

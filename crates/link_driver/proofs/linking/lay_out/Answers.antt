@@ -13,7 +13,7 @@ use Rattle.lk_tables.specs.TablesView.{files_of}
 use Rattle.lk_base.specs.declared.defects.Defect.{Defect}
 use Rattle.lk_base.specs.Firsts.{StopsAt}
 use Rattle.link_sections.specs.LaidOut.{layout_view}
-use Rattle.link_driver.specs.Tables.{wished}
+use Rattle.link_passes.specs.Tables.{link_options}
 use Rattle.link_driver.proofs.Fitting.{firsts_stay, sizes_fit}
 use Rattle.link_driver.proofs.Leading.{defects_are, laid_are}
 use Rattle.link_driver.proofs.SymbolPlaces.{laid_symbols}
@@ -46,7 +46,7 @@ pub returns-in-Ok-clause-goes : goal.returns-in-Ok-clause-goes
 returns-in-Ok-clause-goes g c =
     let files = files_of c.args.tables.now in
     let b = binding_view c.args.binding.now in
-    let w = wished c.args.options c.args.barred.now in
+    let w = link_options c.args.options c.args.barred.now in
     sym (defects_are w files b c.args.kept.now c.args.pools.now c.requires.pools c.args.leaders.now c.requires.leaders (entries_of c.args.got.now) c.requires.table
     c.in_ok-sections.sections.rows c.in_ok-sections.ensures.order (sizes_of c.in_ok-sizes.sizes) c.in_ok-sizes.ensures.cuts (plan_view c.args.plan.now) c.requires.plan c.args.limits.now) ∙ c.in-Ok.ensures.goes
 
@@ -54,7 +54,7 @@ pub returns-in-Ok-clause-laid : goal.returns-in-Ok-clause-laid
 returns-in-Ok-clause-laid g c =
     let files = files_of c.args.tables.now in
     let b = binding_view c.args.binding.now in
-    let w = wished c.args.options c.args.barred.now in
+    let w = link_options c.args.options c.args.barred.now in
     laid_are w files b c.args.kept.now c.args.pools.now c.requires.pools c.args.leaders.now c.requires.leaders (entries_of c.args.got.now) c.requires.table
     c.in_ok-sections.sections.rows c.in_ok-sections.ensures.order (sizes_of c.in_ok-sizes.sizes) c.in_ok-sizes.ensures.cuts (plan_view c.args.plan.now) c.requires.plan (layout_view c.in-Ok.layout) c.in-Ok.ensures.found
 
@@ -62,20 +62,20 @@ pub returns-clause-goes : goal.returns-clause-goes
 returns-clause-goes g c =
     let files = files_of c.args.tables.now in
     let b = binding_view c.args.binding.now in
-    let w = wished c.args.options c.args.barred.now in
+    let w = link_options c.args.options c.args.barred.now in
     let P : List Defect → Type 0 = λ ds. StopsAt c.in-Err.stop ds in
     subst P (defects_are w files b c.args.kept.now c.args.pools.now c.requires.pools c.args.leaders.now c.requires.leaders (entries_of c.args.got.now) c.requires.table
     c.in_ok-sections.sections.rows c.in_ok-sections.ensures.order (sizes_of c.in_ok-sizes.sizes) c.in_ok-sizes.ensures.cuts (plan_view c.args.plan.now) c.requires.plan c.args.limits.now) c.in-Err.ensures.goes
 
-pub calls_reach-requires-clause-pools : goal.calls_reach-requires-clause-pools
-calls_reach-requires-clause-pools g c =
+pub prove_calls_reach-requires-clause-pools : goal.prove_calls_reach-requires-clause-pools
+prove_calls_reach-requires-clause-pools g c =
     let files = files_of c.args.tables.now in
     let b = binding_view c.args.binding.now in
     let P : List Pool → Type 0 = λ pools. HaveFirsts files b pools in
     subst P (sym (ap pool_heads c.requires.pools) ∙ pool_heads_are files c.args.pools.now) (firsts_stay files b c.args.kept.now c.requires.stay)
 
-pub calls_reach-requires-clause-room : goal.calls_reach-requires-clause-room
-calls_reach-requires-clause-room g c =
+pub prove_calls_reach-requires-clause-room : goal.prove_calls_reach-requires-clause-room
+prove_calls_reach-requires-clause-room g c =
     ap (layout_defects c.args.limits.now (files_of c.args.tables.now)) c.in-Ok.ensures.found ∙ c.in-Ok.ensures.goes
 
 pub returns-in-Ok-clause-room : goal.returns-in-Ok-clause-room

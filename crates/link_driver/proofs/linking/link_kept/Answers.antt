@@ -5,10 +5,11 @@ use Rattle.lk_tables.specs.Frames.{AreListsWithin, RecordList}
 use Rattle.lk_tables.specs.BindingView.{binding_view}
 use Rattle.lk_tables.specs.TablesView.{files_of}
 use Rattle.link_driver.specs.declared.writing.Written.{Written}
-use Rattle.link_driver.specs.Contents.{names_of}
-use Rattle.link_driver.specs.Link.{laid_out, leaders_in, placing_phases, plan_in}
+use Rattle.link_passes.specs.Contents.{names_of}
+use Rattle.link_driver.specs.Link.{laid_out, placing_phases}
+use Rattle.link_passes.specs.Passes.{leaders_in, plan_in}
 use Rattle.link_driver.specs.Phases.{ShortenedCallsReach}
-use Rattle.link_driver.specs.Tables.{wished}
+use Rattle.link_passes.specs.Tables.{link_options}
 use Rattle.link_driver.specs.Values.{value_defects}
 use Rattle.link_driver.proofs.Chain.{goes_next}
 use Rattle.link_driver.proofs.Handing.{made_of}
@@ -26,13 +27,13 @@ pub write-requires-clause-plan : goal.write-requires-clause-plan
 write-requires-clause-plan g c = λ κs bound.
     let files = files_of c.args.tables.now in
     let placed = c.in-Ok.ensures.placed in
-    planned_laid (wished c.args.options c.args.barred.now) files (binding_view c.args.binding.now) c.args.kept.now _ _ _ placed.leaders placed.laid placed.plan
+    planned_laid (link_options c.args.options c.args.barred.now) files (binding_view c.args.binding.now) c.args.kept.now _ _ _ placed.leaders placed.laid placed.plan
 
 pub returns-in-Err-write-clause-goes : goal.returns-in-Err-write-clause-goes
 returns-in-Err-write-clause-goes g c =
     let files = files_of c.args.tables.now in
     let b = binding_view c.args.binding.now in
-    let w = wished c.args.options c.args.barred.now in
+    let w = link_options c.args.options c.args.barred.now in
     let kept = c.args.kept.now in
     let placed = c.in-Ok.ensures.placed in
     let r : Result Written LinkStop = Err c.in-Err-write.stop in
@@ -43,7 +44,7 @@ pub returns-clause-goes : goal.returns-clause-goes
 returns-clause-goes g c =
     let files = files_of c.args.tables.now in
     let b = binding_view c.args.binding.now in
-    let w = wished c.args.options c.args.barred.now in
+    let w = link_options c.args.options c.args.barred.now in
     let kept = c.args.kept.now in
     let placed = c.in-Ok.ensures.placed in
     let r : Result Written LinkStop = Ok c.in-Ok-write.written in
@@ -56,14 +57,14 @@ returns-clause-settled g c = record { listed = c.in-Ok.ensures.listed; uses = c.
 pub returns-clause-written : goal.returns-clause-written
 returns-clause-written g c =
     let placed = c.in-Ok.ensures.placed in
-    made_of (wished c.args.options c.args.barred.now) (names_of c.args.names.now) (files_of c.args.tables.now) (binding_view c.args.binding.now) c.args.kept.now _ _ _ _
+    made_of (link_options c.args.options c.args.barred.now) (names_of c.args.names.now) (files_of c.args.tables.now) (binding_view c.args.binding.now) c.args.kept.now _ _ _ _
     placed.leaders placed.laid placed.plan c.in-Ok-write.ensures.written
 
 pub returns-in-Err-clause-reach : goal.returns-in-Err-clause-reach
 returns-in-Err-clause-reach g c =
     let files = files_of c.args.tables.now in
     let b = binding_view c.args.binding.now in
-    let w = wished c.args.options c.args.barred.now in
+    let w = link_options c.args.options c.args.barred.now in
     not_past c.in-Err.stop (first_phase (placing_phases c.args.limits.now w files b c.args.kept.now)) (ShortenedCallsReach w files b c.args.kept.now)
     c.in-Err.ensures.goes
 
@@ -71,7 +72,7 @@ pub returns-in-Err-write-clause-reach : goal.returns-in-Err-write-clause-reach
 returns-in-Err-write-clause-reach g c =
     let files = files_of c.args.tables.now in
     let b = binding_view c.args.binding.now in
-    let w = wished c.args.options c.args.barred.now in
+    let w = link_options c.args.options c.args.barred.now in
     let placed = c.in-Ok.ensures.placed in
     let r : Result Written LinkStop = Err c.in-Err-write.stop in
     past_all r (first_phase (placing_phases c.args.limits.now w files b c.args.kept.now)) (ShortenedCallsReach w files b c.args.kept.now)
@@ -80,10 +81,10 @@ returns-in-Err-write-clause-reach g c =
 pub returns-clause-reach : goal.returns-clause-reach
 returns-clause-reach g c =
     let placed = c.in-Ok.ensures.placed in
-    reaches_so (wished c.args.options c.args.barred.now) (files_of c.args.tables.now) (binding_view c.args.binding.now) c.args.kept.now _ _ placed.leaders placed.laid placed.reach
+    reaches_so (link_options c.args.options c.args.barred.now) (files_of c.args.tables.now) (binding_view c.args.binding.now) c.args.kept.now _ _ placed.leaders placed.laid placed.reach
 
 pub returns-clause-stands : goal.returns-clause-stands
 returns-clause-stands g c =
     let placed = c.in-Ok.ensures.placed in
-    stands_in (wished c.args.options c.args.barred.now) (files_of c.args.tables.now) (binding_view c.args.binding.now) c.args.kept.now _ _ _ _ placed.leaders placed.laid placed.plan
+    stands_in (link_options c.args.options c.args.barred.now) (files_of c.args.tables.now) (binding_view c.args.binding.now) c.args.kept.now _ _ _ _ placed.leaders placed.laid placed.plan
     c.in-Ok-write.ensures.stands

@@ -6,7 +6,7 @@ use Rattle.comdat.specs.Discarded.{discarded}
 use Rattle.elf_out.specs.Executable.{own_tables}
 use Rattle.elf_out.specs.Prepared.{IsPrepared}
 use Rattle.file_live.specs.Live.{IsLive}
-use Rattle.link_command.specs.Command.{Asked, asks, lists_of}
+use Rattle.link_command.specs.Command.{CommandView, command_view, lists_of}
 use Rattle.lk_base.specs.declared.defects.Defect.{Defect}
 use Rattle.lk_base.specs.declared.defects.LinkStop.{LinkStop}
 use Rattle.lk_base.specs.declared.limits.Limits.{Limits}
@@ -19,23 +19,25 @@ use Rattle.link_driver.specs.declared.writing.Settled.{Settled}
 use Rattle.link_driver.specs.Linked.{IsSettled, LinkedView, settled_view, with_why}
 use Rattle.link_driver.specs.Placing.{laid_by}
 use Rattle.link_driver.specs.Certificates.{asks_why, why_text}
-use Rattle.link_driver.specs.Contents.{input_contents, input_names, names_of, sources_of}
-use Rattle.link_driver.specs.Link.{Wishes, barred_of, bound_in, bound_names, defects_in, kept_in, kept_of, last_phases, linked_files, piece_defects, placing_defects, placing_phases, wishes_for, wishes_in, wishes_of}
+use Rattle.link_passes.specs.Contents.{input_contents, input_names, names_of, sources_of}
+use Rattle.link_passes.specs.Passes.{LinkOptions, barred_of, bound_names, kept_of, piece_defects, link_options_for, link_options_of}
+use Rattle.link_driver.specs.Link.{bound_in, defects_in, kept_in, last_phases, linked_files, placing_defects, placing_phases, link_options_in}
 use Rattle.link_driver.specs.Phases.{HoldsAtStop, HoldsPast, LinkStands, Links, Makes, ShortenedCallsReach, Stops}
-use Rattle.link_driver.specs.Sources.{Source, files_in, heads_in, live_in, shown_files}
-use Rattle.link_driver.specs.Tables.{IsCollected, IsGraph, wished}
-use Rattle.link_driver.specs.Defects.{opening_defects, reading_defects}
+use Rattle.link_passes.specs.Sources.{Source, files_in, heads_in, live_in, shown_files}
+use Rattle.link_passes.specs.Tables.{IsCollected, IsGraph, link_options}
+use Rattle.link_passes.specs.Defects.{opening_defects, reading_defects}
 use Rattle.lk_tables.specs.Binding.{first_phase}
 use Rattle.link_driver.proofs.Chain.{at_reading, at_binding, at_last, at_pieces, no_defects}
 use Rattle.link_driver.proofs.FewPieces.{few_pieces}
 use Rattle.link_driver.proofs.FirstLeast.{least_stop}
-use Rattle.link_driver.proofs.Handing.{binding_is, bound_are, gives_all, holds_in, made_as, why_as}
+use Rattle.link_passes.proofs.Handing.{binding_is}
+use Rattle.link_driver.proofs.Handing.{bound_are, gives_all, holds_in, made_as, why_as}
 use Rattle.link_driver.proofs.Passing.{early_binding, early_pieces, early_reading, not_past, past_on, placing_left}
 use Rattle.sym_resolve.specs.Law.{IsLawful}
 use Rattle.link_driver.proofs.linking.link_sources.Goals as goal
 
 -- a stop before the layout
-early : (limits : Limits) → IsWithinStandard limits → (ss : List Source) (asked : Asked) (stop : LinkStop) → StopsAt stop (defects_in limits asked ss)
+early : (limits : Limits) → IsWithinStandard limits → (ss : List Source) (asked : CommandView) (stop : LinkStop) → StopsAt stop (defects_in limits asked ss)
     → StopsAt stop (placing_defects limits asked ss) → Stops limits asked ss stop
 early limits within ss asked stop at before = record {
   ends = least_stop limits within ss asked stop at;
@@ -49,7 +51,7 @@ Undefined undefined limits ss = first_phase (reading_defects limits ss ∷ openi
 pub returns-in-Err : goal.returns-in-Err
 returns-in-Err g c =
     let limits = c.args.limits.now in
-    let asked = asks c.args.command.now in
+    let asked = command_view c.args.command.now in
     let ss = sources_of c.args.sources.now in
     let stop = c.in-Err.stop in
     let P : List (List ℕ) → Type 0 = λ u. StopsAt stop (Undefined u limits ss) in
@@ -66,7 +68,7 @@ told_of {X} {E} P r x is holds = let Q : Result X E → Type 0 = λ s. IfOk s P 
 pub returns-in-Err-few : goal.returns-in-Err-few
 returns-in-Err-few g c =
     let limits = c.args.limits.now in
-    let asked = asks c.args.command.now in
+    let asked = command_view c.args.command.now in
     let ss = sources_of c.args.sources.now in
     let files = files_of c.in-Ok.both.0 in
     let stop = c.in-Err-few.stop in
@@ -74,7 +76,7 @@ returns-in-Err-few g c =
     let U : List (List ℕ) → Type 0 = λ u. Undefined u limits ss ≡ [] in
     let read = subst U same c.in-Ok.ensures.goes in
     let are = c.in-Ok.ensures.tables ∙ ap (λ u. files_in u ss) same in
-    let many = found (piece_defects limits files) c.bind_beside-few.result.0 (Err stop) c.in-Err-few.is c.bind_beside-few.ensures.few in
+    let many = found (piece_defects limits files) c.bind_and_count-few.result.0 (Err stop) c.in-Err-few.is c.bind_and_count-few.ensures.few in
     early limits c.requires.limits ss asked stop
     (at_pieces limits asked ss read files are stop many)
     (early_pieces limits asked ss read files are stop many)
@@ -82,7 +84,7 @@ returns-in-Err-few g c =
 pub returns-in-Err-bound : goal.returns-in-Err-bound
 returns-in-Err-bound g c =
     let limits = c.args.limits.now in
-    let asked = asks c.args.command.now in
+    let asked = command_view c.args.command.now in
     let ss = sources_of c.args.sources.now in
     let files = files_of c.in-Ok.both.0 in
     let stop = c.in-Err-bound.stop in
@@ -90,10 +92,10 @@ returns-in-Err-bound g c =
     let U : List (List ℕ) → Type 0 = λ u. Undefined u limits ss ≡ [] in
     let read = subst U same c.in-Ok.ensures.goes in
     let are = c.in-Ok.ensures.tables ∙ ap (λ u. files_in u ss) same in
-    let few = found (piece_defects limits files) c.bind_beside-few.result.0 (Ok c.in-Ok-few.field-0) c.in-Ok-few.is c.bind_beside-few.ensures.few in
+    let few = found (piece_defects limits files) c.bind_and_count-few.result.0 (Ok c.in-Ok-few.field-0) c.in-Ok-few.is c.bind_and_count-few.ensures.few in
     let P : List ℕ → Type 0 = λ entry. StopsAt stop (binding_defects files (discarded files) entry) in
     let at = subst P c.as_str-entry.ensures.value
-    (found (binding_defects files (discarded files) c.as_str-entry.result.now) c.bind_beside-few.result.1 (Err stop) c.in-Err-bound.is c.bind_beside-few.ensures.goes) in
+    (found (binding_defects files (discarded files) c.as_str-entry.result.now) c.bind_and_count-few.result.1 (Err stop) c.in-Err-bound.is c.bind_and_count-few.ensures.goes) in
     early limits c.requires.limits ss asked stop
     (at_binding limits asked ss read files are few stop at)
     (early_binding limits asked ss read files are few stop at)
@@ -102,22 +104,22 @@ pub find_kept_by-requires-clause-bound : goal.find_kept_by-requires-clause-bound
 find_kept_by-requires-clause-bound g c = λ κs within.
     let files = files_of c.in-Ok.both.0 in
     binding_is c.as_str-entry.result.now files (binding_view c.in-Ok-bound.binding)
-    (told_of (λ binding. binding_view binding ≡ bound_names files c.as_str-entry.result.now) c.bind_beside-few.result.1 c.in-Ok-bound.binding c.in-Ok-bound.is c.bind_beside-few.ensures.names)
+    (told_of (λ binding. binding_view binding ≡ bound_names files c.as_str-entry.result.now) c.bind_and_count-few.result.1 c.in-Ok-bound.binding c.in-Ok-bound.is c.bind_and_count-few.ensures.names)
 
-pub link_beside-made-requires-clause-bound : goal.link_beside-made-requires-clause-bound
-link_beside-made-requires-clause-bound g c = λ κs within.
+pub link_and_explain-made-requires-clause-bound : goal.link_and_explain-made-requires-clause-bound
+link_and_explain-made-requires-clause-bound g c = λ κs within.
     let files = files_of c.in-Ok.both.0 in
     binding_is c.as_str-entry.result.now files (binding_view c.in-Ok-bound.binding)
-    (told_of (λ binding. binding_view binding ≡ bound_names files c.as_str-entry.result.now) c.bind_beside-few.result.1 c.in-Ok-bound.binding c.in-Ok-bound.is c.bind_beside-few.ensures.names)
+    (told_of (λ binding. binding_view binding ≡ bound_names files c.as_str-entry.result.now) c.bind_and_count-few.result.1 c.in-Ok-bound.binding c.in-Ok-bound.is c.bind_and_count-few.ensures.names)
 
-pub link_beside-made-requires-clause-pieces : goal.link_beside-made-requires-clause-pieces
-link_beside-made-requires-clause-pieces g c = λ κs within.
+pub link_and_explain-made-requires-clause-pieces : goal.link_and_explain-made-requires-clause-pieces
+link_and_explain-made-requires-clause-pieces g c = λ κs within.
     let files = files_of c.in-Ok.both.0 in
     few_pieces c.args.limits.now files c.requires.limits
-    (found (piece_defects c.args.limits.now files) c.bind_beside-few.result.0 (Ok c.in-Ok-few.field-0) c.in-Ok-few.is c.bind_beside-few.ensures.few)
+    (found (piece_defects c.args.limits.now files) c.bind_and_count-few.result.0 (Ok c.in-Ok-few.field-0) c.in-Ok-few.is c.bind_and_count-few.ensures.few)
 
-pub link_beside-made-requires-clause-graph : goal.link_beside-made-requires-clause-graph
-link_beside-made-requires-clause-graph g c = λ κs within.
+pub link_and_explain-made-requires-clause-graph : goal.link_and_explain-made-requires-clause-graph
+link_and_explain-made-requires-clause-graph g c = λ κs within.
     let files = files_of c.in-Ok.both.0 in
     let P : List (List ℕ) → Type 0 = λ u. IfSome c.in_ok-kept.graph (IsGraph files (binding_view c.in-Ok-bound.binding) u) in
     subst P (ap lists_of c.as_slice-undefined.ensures.value) c.in_ok-kept.ensures.graph
@@ -126,21 +128,21 @@ pub find_barred-requires : goal.find_barred-requires
 find_barred-requires g c =
     let files = files_of c.in-Ok.both.0 in
     binding_is c.as_str-entry.result.now files (binding_view c.in-Ok-bound.binding)
-    (told_of (λ binding. binding_view binding ≡ bound_names files c.as_str-entry.result.now) c.bind_beside-few.result.1 c.in-Ok-bound.binding c.in-Ok-bound.is c.bind_beside-few.ensures.names)
+    (told_of (λ binding. binding_view binding ≡ bound_names files c.as_str-entry.result.now) c.bind_and_count-few.result.1 c.in-Ok-bound.binding c.in-Ok-bound.is c.bind_and_count-few.ensures.names)
 
 pub returns-in-Err-made : goal.returns-in-Err-made
 returns-in-Err-made g c =
     let limits = c.args.limits.now in
-    let asked = asks c.args.command.now in
+    let asked = command_view c.args.command.now in
     let ss = sources_of c.args.sources.now in
     let files = files_of c.in-Ok.both.0 in
     let asks_for = ap lists_of c.as_slice-undefined.ensures.value in
     let U : List (List ℕ) → Type 0 = λ u. Undefined u limits ss ≡ [] in
     let read = subst U asks_for c.in-Ok.ensures.goes in
     let are = c.in-Ok.ensures.tables ∙ ap (λ u. files_in u ss) asks_for in
-    let few = found (piece_defects c.args.limits.now files) c.bind_beside-few.result.0 (Ok c.in-Ok-few.field-0) c.in-Ok-few.is c.bind_beside-few.ensures.few in
-    let goes = found (binding_defects files (discarded files) c.as_str-entry.result.now) c.bind_beside-few.result.1 (Ok c.in-Ok-bound.binding) c.in-Ok-bound.is c.bind_beside-few.ensures.goes in
-    let same = told_of (λ binding. binding_view binding ≡ bound_names files c.as_str-entry.result.now) c.bind_beside-few.result.1 c.in-Ok-bound.binding c.in-Ok-bound.is c.bind_beside-few.ensures.names in
+    let few = found (piece_defects c.args.limits.now files) c.bind_and_count-few.result.0 (Ok c.in-Ok-few.field-0) c.in-Ok-few.is c.bind_and_count-few.ensures.few in
+    let goes = found (binding_defects files (discarded files) c.as_str-entry.result.now) c.bind_and_count-few.result.1 (Ok c.in-Ok-bound.binding) c.in-Ok-bound.is c.bind_and_count-few.ensures.goes in
+    let same = told_of (λ binding. binding_view binding ≡ bound_names files c.as_str-entry.result.now) c.bind_and_count-few.result.1 c.in-Ok-bound.binding c.in-Ok-bound.is c.bind_and_count-few.ensures.names in
     let b = binding_view c.in-Ok-bound.binding in
     let kept = c.as_slice-2.result.now in
     let stop = c.in-Err-made.stop in
@@ -148,25 +150,25 @@ returns-in-Err-made g c =
     let stays = c.as_slice-2.ensures.value ∙ c.in_ok-kept.ensures.kept ∙ ap (λ u. kept_of asked.gc u files b) asks_for in
     let barred = c.as_slice-3.ensures.value ∙ c.in_ok-barred.ensures ∙ ap (λ u. barred_of asked.icf u files b c.as_slice.result.now) (ap lists_of c.as_slice-unique.ensures.value)
     ∙ ap (barred_of asked.icf asked.unique files b) (c.as_slice.ensures.value ∙ sym c.as_slice-2.ensures.value) in
-    let w = wishes_for asked files b kept in
-    let wished_is : wished c.options_of-options.result c.as_slice-3.result.now ≡ w =
-    c.options_of-options.ensures c.as_slice-3.result.now ∙ ap (wishes_of asked) barred in
+    let w = link_options_for asked files b kept in
+    let link_options_are : link_options c.options_of-options.result c.as_slice-3.result.now ≡ w =
+    c.options_of-options.ensures c.as_slice-3.result.now ∙ ap (link_options_of asked) barred in
     let bound = ap (binding_defects files (discarded files)) (sym c.as_str-entry.ensures.value) ∙ goes in
-    let v = wished c.options_of-options.result c.as_slice-3.result.now in
+    let v = link_options c.options_of-options.result c.as_slice-3.result.now in
     let H : Result Settled LinkStop → Type 0 = λ r. HoldsPast r (first_phase (placing_phases limits v files b kept)) (ShortenedCallsReach v files b kept) in
-    let stops = found (first_phase (last_phases limits v files b kept)) c.link_beside-made.result.0 (Err stop) c.in-Err-made.is c.link_beside-made.ensures.goes in
-    let holds = subst H c.in-Err-made.is c.link_beside-made.ensures.reach in
-    let P : Wishes → Type 0 = λ u. StopsAt stop (first_phase (last_phases limits u files b kept)) in
-    let Q : Wishes → Type 0 = λ u. HoldsAtStop stop (first_phase (placing_phases limits u files b kept)) (ShortenedCallsReach u files b kept) in
+    let stops = found (first_phase (last_phases limits v files b kept)) c.link_and_explain-made.result.0 (Err stop) c.in-Err-made.is c.link_and_explain-made.ensures.goes in
+    let holds = subst H c.in-Err-made.is c.link_and_explain-made.ensures.reach in
+    let P : LinkOptions → Type 0 = λ u. StopsAt stop (first_phase (last_phases limits u files b kept)) in
+    let Q : LinkOptions → Type 0 = λ u. HoldsAtStop stop (first_phase (placing_phases limits u files b kept)) (ShortenedCallsReach u files b kept) in
     record {
       ends = least_stop limits c.requires.limits ss asked stop
           (at_last limits asked ss read files are few bound b named kept stays stop
-          (subst P wished_is stops));
+          (subst P link_options_are stops));
       reach = past_on stop (first_phase (placing_phases limits w files b kept)) (placing_defects limits asked ss) (ShortenedCallsReach w files b kept)
-          (ShortenedCallsReach (wishes_in asked ss) (linked_files asked ss) (bound_in asked ss) (kept_in asked ss))
+          (ShortenedCallsReach (link_options_in asked ss) (linked_files asked ss) (bound_in asked ss) (kept_in asked ss))
           (λ none. sym (placing_left limits asked ss read files are few bound b named kept stays) ∙ none)
           (holds_in asked ss ShortenedCallsReach files b kept are named stays)
-          (subst Q wished_is holds);
+          (subst Q link_options_are holds);
     }
 
 pub of-requires-clause-addresses : goal.of-requires-clause-addresses
@@ -176,7 +178,7 @@ of-requires-clause-addresses g c =
     let strip = c.options_of-options.result.strip in
     let settled = c.in-Ok-made.settled in
     let is : IsSettled files b c.as_slice-2.result.now strip settled =
-    told_of (IsSettled files b c.as_slice-2.result.now strip) c.link_beside-made.result.0 settled c.in-Ok-made.is c.link_beside-made.ensures.settled in
+    told_of (IsSettled files b c.as_slice-2.result.now strip) c.link_and_explain-made.result.0 settled c.in-Ok-made.is c.link_and_explain-made.ensures.settled in
     is.made.addresses
 
 pub of-requires-clause-prepared : goal.of-requires-clause-prepared
@@ -186,7 +188,7 @@ of-requires-clause-prepared g c =
     let strip = c.options_of-options.result.strip in
     let settled = c.in-Ok-made.settled in
     let is : IsSettled files b c.as_slice-2.result.now strip settled =
-    told_of (IsSettled files b c.as_slice-2.result.now strip) c.link_beside-made.result.0 settled c.in-Ok-made.is c.link_beside-made.ensures.settled in
+    told_of (IsSettled files b c.as_slice-2.result.now strip) c.link_and_explain-made.result.0 settled c.in-Ok-made.is c.link_and_explain-made.ensures.settled in
     let leaders = settled.placement.leaders.items in
     let laid = laid_by files settled.placement in
     let P : List Bool → Type 0 = λ k. IsPrepared files b leaders laid (own_tables files b k strip leaders laid) settled.written.prepared in
@@ -199,7 +201,7 @@ of-requires-clause-window g c =
     let strip = c.options_of-options.result.strip in
     let settled = c.in-Ok-made.settled in
     let is : IsSettled files b c.as_slice-2.result.now strip settled =
-    told_of (IsSettled files b c.as_slice-2.result.now strip) c.link_beside-made.result.0 settled c.in-Ok-made.is c.link_beside-made.ensures.settled in
+    told_of (IsSettled files b c.as_slice-2.result.now strip) c.link_and_explain-made.result.0 settled c.in-Ok-made.is c.link_and_explain-made.ensures.settled in
     is.made.window
 
 pub of-requires-clause-listed : goal.of-requires-clause-listed
@@ -209,7 +211,7 @@ of-requires-clause-listed g c =
     let strip = c.options_of-options.result.strip in
     let settled = c.in-Ok-made.settled in
     let is : IsSettled files b c.as_slice-2.result.now strip settled =
-    told_of (IsSettled files b c.as_slice-2.result.now strip) c.link_beside-made.result.0 settled c.in-Ok-made.is c.link_beside-made.ensures.settled in
+    told_of (IsSettled files b c.as_slice-2.result.now strip) c.link_and_explain-made.result.0 settled c.in-Ok-made.is c.link_and_explain-made.ensures.settled in
     is.listed
 
 pub of-requires-clause-uses : goal.of-requires-clause-uses
@@ -219,7 +221,7 @@ of-requires-clause-uses g c =
     let strip = c.options_of-options.result.strip in
     let settled = c.in-Ok-made.settled in
     let is : IsSettled files b c.as_slice-2.result.now strip settled =
-    told_of (IsSettled files b c.as_slice-2.result.now strip) c.link_beside-made.result.0 settled c.in-Ok-made.is c.link_beside-made.ensures.settled in
+    told_of (IsSettled files b c.as_slice-2.result.now strip) c.link_and_explain-made.result.0 settled c.in-Ok-made.is c.link_and_explain-made.ensures.settled in
     is.uses
 
 pub of-requires-clause-sound : goal.of-requires-clause-sound
@@ -229,22 +231,22 @@ of-requires-clause-sound g c =
     let strip = c.options_of-options.result.strip in
     let settled = c.in-Ok-made.settled in
     let is : IsSettled files b c.as_slice-2.result.now strip settled =
-    told_of (IsSettled files b c.as_slice-2.result.now strip) c.link_beside-made.result.0 settled c.in-Ok-made.is c.link_beside-made.ensures.settled in
+    told_of (IsSettled files b c.as_slice-2.result.now strip) c.link_and_explain-made.result.0 settled c.in-Ok-made.is c.link_and_explain-made.ensures.settled in
     is.sound
 
 pub returns : goal.returns
 returns g c =
     let limits = c.args.limits.now in
-    let asked = asks c.args.command.now in
+    let asked = command_view c.args.command.now in
     let ss = sources_of c.args.sources.now in
     let files = files_of c.in-Ok.both.0 in
     let asks_for = ap lists_of c.as_slice-undefined.ensures.value in
     let U : List (List ℕ) → Type 0 = λ u. Undefined u limits ss ≡ [] in
     let read = subst U asks_for c.in-Ok.ensures.goes in
     let are = c.in-Ok.ensures.tables ∙ ap (λ u. files_in u ss) asks_for in
-    let few = found (piece_defects c.args.limits.now files) c.bind_beside-few.result.0 (Ok c.in-Ok-few.field-0) c.in-Ok-few.is c.bind_beside-few.ensures.few in
-    let goes = found (binding_defects files (discarded files) c.as_str-entry.result.now) c.bind_beside-few.result.1 (Ok c.in-Ok-bound.binding) c.in-Ok-bound.is c.bind_beside-few.ensures.goes in
-    let same = told_of (λ binding. binding_view binding ≡ bound_names files c.as_str-entry.result.now) c.bind_beside-few.result.1 c.in-Ok-bound.binding c.in-Ok-bound.is c.bind_beside-few.ensures.names in
+    let few = found (piece_defects c.args.limits.now files) c.bind_and_count-few.result.0 (Ok c.in-Ok-few.field-0) c.in-Ok-few.is c.bind_and_count-few.ensures.few in
+    let goes = found (binding_defects files (discarded files) c.as_str-entry.result.now) c.bind_and_count-few.result.1 (Ok c.in-Ok-bound.binding) c.in-Ok-bound.is c.bind_and_count-few.ensures.goes in
+    let same = told_of (λ binding. binding_view binding ≡ bound_names files c.as_str-entry.result.now) c.bind_and_count-few.result.1 c.in-Ok-bound.binding c.in-Ok-bound.is c.bind_and_count-few.ensures.names in
     let b = binding_view c.in-Ok-bound.binding in
     let shown = shown_files (input_names c.args.inputs.now) (input_contents c.args.inputs.now) ss in
     let named = same ∙ ap (bound_names files) c.as_str-entry.ensures.value in
@@ -252,30 +254,30 @@ returns g c =
     let stays = c.as_slice-2.ensures.value ∙ c.in_ok-kept.ensures.kept ∙ ap (λ u. kept_of asked.gc u files b) asks_for in
     let barred = c.as_slice-3.ensures.value ∙ c.in_ok-barred.ensures ∙ ap (λ u. barred_of asked.icf u files b c.as_slice.result.now) (ap lists_of c.as_slice-unique.ensures.value)
     ∙ ap (barred_of asked.icf asked.unique files b) (c.as_slice.ensures.value ∙ sym c.as_slice-2.ensures.value) in
-    let w = wishes_for asked files b kept in
-    let wished_is : wished c.options_of-options.result c.as_slice-3.result.now ≡ w =
-    c.options_of-options.ensures c.as_slice-3.result.now ∙ ap (wishes_of asked) barred in
+    let w = link_options_for asked files b kept in
+    let link_options_are : link_options c.options_of-options.result c.as_slice-3.result.now ≡ w =
+    c.options_of-options.ensures c.as_slice-3.result.now ∙ ap (link_options_of asked) barred in
     let given = c.as_slice-4.result.now in
     let strip = c.options_of-options.result.strip in
     let settled = c.in-Ok-made.settled in
     let linked : LinkedView = settled_view files b kept strip settled in
     let exe = linked.exe in
-    let v = wished c.options_of-options.result c.as_slice-3.result.now in
-    let made = c.link_beside-made.result.0 in
-    let none = found (first_phase (last_phases limits v files b kept)) made (Ok settled) c.in-Ok-made.is c.link_beside-made.ensures.goes in
-    let stands = told_of (λ s. LinkStands v files b kept (settled_view files b kept strip s).exe) made settled c.in-Ok-made.is c.link_beside-made.ensures.stands in
-    let written = told_of (λ s. Makes v (names_of given) files b kept (settled_view files b kept strip s)) made settled c.in-Ok-made.is c.link_beside-made.ensures.written in
+    let v = link_options c.options_of-options.result c.as_slice-3.result.now in
+    let made = c.link_and_explain-made.result.0 in
+    let none = found (first_phase (last_phases limits v files b kept)) made (Ok settled) c.in-Ok-made.is c.link_and_explain-made.ensures.goes in
+    let stands = told_of (λ s. LinkStands v files b kept (settled_view files b kept strip s).exe) made settled c.in-Ok-made.is c.link_and_explain-made.ensures.stands in
+    let written = told_of (λ s. Makes v (names_of given) files b kept (settled_view files b kept strip s)) made settled c.in-Ok-made.is c.link_and_explain-made.ensures.written in
     let H : Result Settled LinkStop → Type 0 = λ x. HoldsPast x (first_phase (placing_phases limits v files b kept)) (ShortenedCallsReach v files b kept) in
-    let holds = subst H c.in-Ok-made.is c.link_beside-made.ensures.reach in
-    let P : Wishes → Type 0 = λ u. first_phase (last_phases limits u files b kept) ≡ [] in
-    let Q : Wishes → Type 0 = λ u. LinkStands u files b kept exe in
-    let R : Wishes → Type 0 = λ u. Makes u (names_of given) files b kept linked in
-    let S : Wishes → Type 0 = λ u. ShortenedCallsReach u files b kept in
+    let holds = subst H c.in-Ok-made.is c.link_and_explain-made.ensures.reach in
+    let P : LinkOptions → Type 0 = λ u. first_phase (last_phases limits u files b kept) ≡ [] in
+    let Q : LinkOptions → Type 0 = λ u. LinkStands u files b kept exe in
+    let R : LinkOptions → Type 0 = λ u. Makes u (names_of given) files b kept linked in
+    let S : LinkOptions → Type 0 = λ u. ShortenedCallsReach u files b kept in
     let L : List (List ℕ) → Type 0 = λ u. IsLive u (heads_in ss) (live_in u ss) in
     let C : List (List ℕ) → Type 0 = λ u. IsCollected u files b c.in_ok-kept.kept.items in
-    let wanted : Wishes → Type 0 = λ u. u.map ≡ true → names_of given ≡ shown in
+    let wanted : LinkOptions → Type 0 = λ u. u.map ≡ true → names_of given ≡ shown in
     let shows = c.wants_names.ensures in
-    let alike = subst wanted wished_is (λ on. ap names_of c.as_slice-4.ensures.value
+    let alike = subst wanted link_options_are (λ on. ap names_of c.as_slice-4.ensures.value
     ∙ c.in_ok-names.ensures (shows ∙ or_left c.options_of-options.result.map (asks_why asked) on)) in
     let text = c.as_slice-5.result.now in
     let said : LinkedView = with_why text linked in
@@ -286,22 +288,22 @@ returns g c =
     let named_again : asks_why asked ≡ true → names_of given ≡ shown = λ on. ap names_of c.as_slice-4.ensures.value
     ∙ c.in_ok-names.ensures (shows ∙ or_right c.options_of-options.result.map (asks_why asked) on) in
     let why_is : why ≡ why_text asked shown files b kept w.barred =
-    told_of (λ (l : Vec ℕ). l.items ≡ why_text asked (names_of given) files b kept c.as_slice-3.result.now) c.link_beside-made.result.1 c.in-Ok-told.why c.in-Ok-told.is c.link_beside-made.ensures.why
+    told_of (λ (l : Vec ℕ). l.items ≡ why_text asked (names_of given) files b kept c.as_slice-3.result.now) c.link_and_explain-made.result.1 c.in-Ok-told.why c.in-Ok-told.is c.link_and_explain-made.ensures.why
     ∙ ap (why_text asked (names_of given) files b kept) barred ∙ why_as asked (names_of given) shown files b kept w.barred named_again in
     subst Given (sym said_is) (record {
       sound = no_defects limits asked ss read files are few
           (ap (binding_defects files (discarded files)) (sym c.as_str-entry.ensures.value) ∙ goes)
-          b named kept stays (subst P wished_is none);
+          b named kept stays (subst P link_options_are none);
       taking_part = subst L asks_for c.in-Ok.ensures.taking_part;
       bound = bound_are c.as_str-entry.result.now asked.entry files (linked_files asked ss) are c.as_str-entry.ensures.value
-          (told_of (λ _. IsLawful files (discarded files) c.as_str-entry.result.now (bound_names files c.as_str-entry.result.now)) c.bind_beside-few.result.1 c.in-Ok-bound.binding c.in-Ok-bound.is c.bind_beside-few.ensures.least);
+          (told_of (λ _. IsLawful files (discarded files) c.as_str-entry.result.now (bound_names files c.as_str-entry.result.now)) c.bind_and_count-few.result.1 c.in-Ok-bound.binding c.in-Ok-bound.is c.bind_and_count-few.ensures.least);
       collected = λ gc. holds_in asked ss (λ v fs n k. IsCollected asked.undefined fs n k) files b c.in_ok-kept.kept.items are named
           (c.in_ok-kept.ensures.kept ∙ ap (λ u. kept_of asked.gc u files b) asks_for) (subst C asks_for (c.in_ok-kept.ensures.collected gc));
-      stands = holds_in asked ss (λ v fs n k. LinkStands v fs n k exe) files b kept are named stays (subst Q wished_is stands);
-      reach = holds_in asked ss ShortenedCallsReach files b kept are named stays (subst S wished_is holds);
+      stands = holds_in asked ss (λ v fs n k. LinkStands v fs n k exe) files b kept are named stays (subst Q link_options_are stands);
+      reach = holds_in asked ss ShortenedCallsReach files b kept are named stays (subst S link_options_are holds);
       gives = gives_all asked shown ss linked said why
           (holds_in asked ss (λ v fs n k. Makes v shown fs n k linked) files b kept are named stays
-          (made_as w (names_of given) shown files b kept linked alike (subst R wished_is written)))
+          (made_as w (names_of given) shown files b kept linked alike (subst R link_options_are written)))
           refl refl (ap (λ l. linked.report ++ l) c.as_slice-5.ensures.value)
           (holds_in asked ss (λ v fs n k. why ≡ why_text asked shown fs n k v.barred) files b kept are named stays why_is);
     })

@@ -1,5 +1,5 @@
 use Rattle.std.proofs.Common.{◌∙◌, ap}
-use Rattle.link_driver.specs.Contents.{sources_of}
+use Rattle.link_passes.specs.Contents.{sources_of}
 use Rattle.link_driver.proofs.KnownHeads.{known_sources}
 use Rattle.link_driver.proofs.linking.link_with_heads.Goals as goal
 

@@ -2,9 +2,9 @@ use Rattle.std.proofs.Common.{◌∙◌, List, ℕ, ap, sym, subst}
 use Rattle.std.specs.Prelude.{Some, string_bytes}
 use Rattle.std.proofs.lemmas.List.{length-map}
 use Rattle.lk_depot.specs.Loading.{AreContents}
-use Rattle.link_command.specs.Command.{asks, texts_of}
-use Rattle.link_driver.specs.Contents.{contents_of}
-use Rattle.link_driver.specs.Given.{contents_by, names_by}
+use Rattle.link_command.specs.Command.{command_view, texts_of}
+use Rattle.link_passes.specs.Contents.{contents_of}
+use Rattle.link_passes.specs.Given.{contents_by, names_by}
 use Rattle.link_driver.specs.Ends.{none_failed}
 use Rattle.link_driver.proofs.KnownHeads.{all_piped, known_heads, piped_many}
 use Rattle.link_driver.proofs.Starting.{lacking, not_loaded}
@@ -12,7 +12,7 @@ use Rattle.link_driver.proofs.piped.link_piped.Goals as goal
 
 pub returns-in-Err-clause-ends : goal.returns-in-Err-clause-ends
 returns-in-Err-clause-ends g c =
-    not_loaded (asks c.args.command.now) (texts_of c.args.names.now) (g.D.Depot.store c.args.depot.now) (g.D.Depot.store c.read_piped.new.depot)
+    not_loaded (command_view c.args.command.now) (texts_of c.args.names.now) (g.D.Depot.store c.args.depot.now) (g.D.Depot.store c.read_piped.new.depot)
     (g.S.Sink.output c.args.say.now) c.in-Err.stop c.report_load_stop.result c.requires.names c.in-Err.ensures.loads
     (record { files = c.in-Err.ensures.files; kinds = c.in-Err.ensures.kinds; begun = c.in-Err.ensures.begun })
     c.report_load_stop.ensures
@@ -22,7 +22,7 @@ take_apart-requires g c = all_piped c.args.command.now.threads c.in-Ok.piped.fil
 
 pub returns-in_default-clause-ends : goal.returns-in_default-clause-ends
 returns-in_default-clause-ends g c =
-    lacking (Some (asks c.args.command.now)) (g.D.Depot.store c.args.depot.now) (g.D.Depot.store c.read_piped.new.depot) (g.S.Sink.output c.args.say.now)
+    lacking (Some (command_view c.args.command.now)) (g.D.Depot.store c.args.depot.now) (g.D.Depot.store c.read_piped.new.depot) (g.S.Sink.output c.args.say.now)
     (record { files = c.in-Ok.ensures.files; kinds = c.in-Ok.ensures.kinds; begun = c.in-Ok.ensures.begun })
     (none_failed c.in-Ok.ensures.loads.1)
 
@@ -31,7 +31,7 @@ inputs_of-requires g c = piped_many _ _ _ _ c.in-Ok.ensures.loads.0 c.in-Ok-take
 
 pub returns-in_default-inputs_of-clause-ends : goal.returns-in_default-inputs_of-clause-ends
 returns-in_default-inputs_of-clause-ends g c =
-    lacking (Some (asks c.args.command.now)) (g.D.Depot.store c.args.depot.now) (g.D.Depot.store c.read_piped.new.depot) (g.S.Sink.output c.args.say.now)
+    lacking (Some (command_view c.args.command.now)) (g.D.Depot.store c.args.depot.now) (g.D.Depot.store c.read_piped.new.depot) (g.S.Sink.output c.args.say.now)
     (record { files = c.in-Ok.ensures.files; kinds = c.in-Ok.ensures.kinds; begun = c.in-Ok.ensures.begun })
     (none_failed c.in-Ok.ensures.loads.1)
 
@@ -41,7 +41,7 @@ link_inputs-ending-requires-clause-known g c = λ κs bound.
 
 pub link_inputs-ending-requires-clause-names : goal.link_inputs-ending-requires-clause-names
 link_inputs-ending-requires-clause-names g c = λ κs bound.
-    let asked = asks c.args.command.now in
+    let asked = command_view c.args.command.now in
     c.in-Ok-inputs_of.ensures.names ∙ c.requires.names ∙ sym (ap (λ n. names_by n asked.inputs) c.requires.files)
 
 pub returns-clause-ends : goal.returns-clause-ends

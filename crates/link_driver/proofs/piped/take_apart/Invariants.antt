@@ -3,9 +3,9 @@ use Rattle.std.specs.List.{range_with_len}
 use Rattle.std.specs.Vec.Iter.{into_iter_items}
 use Rattle.lk_base.specs.Limits.{standard}
 use Rattle.piped_reads.specs.Loads.{bytes_of_files}
-use Rattle.link_driver.specs.Contents.{contents_of}
-use Rattle.link_driver.specs.Known.{AreHeads}
-use Rattle.link_driver.specs.Sources.{sources_at}
+use Rattle.link_passes.specs.Contents.{contents_of}
+use Rattle.link_passes.specs.Known.{AreHeads}
+use Rattle.link_passes.specs.Sources.{sources_at}
 use Rattle.link_driver.proofs.piped.take_apart.Given as goal
 
 abbrev pub invariant-loop-file : goal.invariant-loop-file

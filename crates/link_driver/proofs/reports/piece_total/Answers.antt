@@ -7,7 +7,7 @@ use Rattle.link_driver.proofs.Counting.{piece_end, piece_step, pieces_are}
 use Rattle.link_driver.proofs.reports.piece_total.Goals as goal
 
 pub overflow_cast-pool : goal.overflow_cast-pool
-overflow_cast-pool c = omega (arith, c.few_pools.ensures, c.loop-pool-test.true)
+overflow_cast-pool c = omega (arith, c.prove_few_pools.ensures, c.loop-pool-test.true)
 
 pub loop-pool-preserved : goal.loop-pool-preserved
 loop-pool-preserved c =

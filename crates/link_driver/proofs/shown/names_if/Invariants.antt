@@ -1,6 +1,6 @@
 use Rattle.std.proofs.Common.{◌≡◌, ◌++◌, drop}
-use Rattle.link_driver.specs.Contents.{input_contents, input_names, names_of, sources_of}
-use Rattle.link_driver.specs.Sources.{shown_files}
+use Rattle.link_passes.specs.Contents.{input_contents, input_names, names_of, sources_of}
+use Rattle.link_passes.specs.Sources.{shown_files}
 use Rattle.link_driver.proofs.shown.names_if.Given as goal
 
 abbrev pub invariant-loop-source : goal.invariant-loop-source

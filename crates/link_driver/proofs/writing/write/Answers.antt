@@ -24,11 +24,11 @@ use Rattle.lk_tables.specs.declared.frames.FrameBytes.{FrameBytes}
 use Rattle.reloc_apply.specs.Relocated.{relocation_defects}
 use Rattle.map_file.specs.MapText.{map_text}
 use Rattle.output_sections.specs.Items.{AreLeaders}
-use Rattle.link_driver.specs.Contents.{names_of}
+use Rattle.link_passes.specs.Contents.{names_of}
 use Rattle.link_driver.specs.Link.{report_by}
 use Rattle.link_driver.specs.Phases.{StandsWhole}
 use Rattle.link_driver.specs.Placing.{laid_by}
-use Rattle.link_driver.specs.Tables.{wished}
+use Rattle.link_passes.specs.Tables.{link_options}
 use Rattle.link_driver.specs.Symbols.{SymbolsStand}
 use Rattle.link_driver.specs.Unwound.{Unwinds}
 use Rattle.link_driver.specs.Values.{Leaves, contents_with, value_defects}
@@ -36,19 +36,19 @@ use Rattle.link_driver.proofs.Counting.{table_is}
 use Rattle.link_driver.proofs.Whole.{stands_so}
 use Rattle.link_driver.proofs.writing.write.Goals as goal
 
-pub make_beside-framed-requires-clause-lead : goal.make_beside-framed-requires-clause-lead
-make_beside-framed-requires-clause-lead g c = λ κs bound.
+pub make_in_parallel-framed-requires-clause-lead : goal.make_in_parallel-framed-requires-clause-lead
+make_in_parallel-framed-requires-clause-lead g c = λ κs bound.
     let P : List (Option ℕ) → Type 0 = AreLeaders (files_of c.args.tables.now) (binding_view c.args.binding.now) in
     subst P (sym c.as_slice-leaders.ensures.value) c.requires.lead
 
-pub make_beside-framed-requires-clause-plan : goal.make_beside-framed-requires-clause-plan
-make_beside-framed-requires-clause-plan g c = λ κs bound.
+pub make_in_parallel-framed-requires-clause-plan : goal.make_in_parallel-framed-requires-clause-plan
+make_in_parallel-framed-requires-clause-plan g c = λ κs bound.
     let files = files_of c.args.tables.now in
     let b = binding_view c.args.binding.now in
     c.requires.plan ∙ ap (plan_of files b (laid_by files c.args.placement.now).merging.merged (all_lists files)) (sym c.as_slice-leaders.ensures.value)
 
-pub code_stands-requires-clause-cuts : goal.code_stands-requires-clause-cuts
-code_stands-requires-clause-cuts g c =
+pub prove_code_stands-requires-clause-cuts : goal.prove_code_stands-requires-clause-cuts
+prove_code_stands-requires-clause-cuts g c =
     let files = files_of c.args.tables.now in
     let P : List (Option ℕ) → Type 0 = λ l. HaveOwnCuts files l (laid_by files c.args.placement.now) in
     subst P (sym c.as_slice-leaders.ensures.value) c.requires.cuts
@@ -62,7 +62,7 @@ returns-in-Err-clause-goes g c =
     let leaders = c.as_slice-leaders.result.now in
     let P : List (Option ℕ) → Type 0 = λ l. StopsAt c.in-Err.stop (value_defects files b l laid plan) in
     let G : Result FrameBytes LinkStop → Type 0 = λ r. Leaves r (value_defects files b leaders laid plan) (relocation_defects files b leaders laid) in
-    subst P c.as_slice-leaders.ensures.value (subst G c.in-Err.is c.make_beside-framed.ensures.goes)
+    subst P c.as_slice-leaders.ensures.value (subst G c.in-Err.is c.make_in_parallel-framed.ensures.goes)
 
 pub returns-in-Err-made-clause-goes : goal.returns-in-Err-made-clause-goes
 returns-in-Err-made-clause-goes g c =
@@ -76,7 +76,7 @@ returns-in-Err-made-clause-goes g c =
     let Q : List Defect → Type 0 = λ ds. StopsAt stop ds in
     let G : Result FrameBytes LinkStop → Type 0 = λ r. Leaves r (value_defects files b leaders laid plan) (relocation_defects files b leaders laid) in
     let H : Result Prepared LinkStop → Type 0 = λ r. Goes r (relocation_defects files b leaders laid) in
-    subst P c.as_slice-leaders.ensures.value (subst Q (sym (subst G c.in-Ok.is c.make_beside-framed.ensures.goes)) (subst H c.in-Err-made.is c.make_beside-framed.ensures.tested))
+    subst P c.as_slice-leaders.ensures.value (subst Q (sym (subst G c.in-Ok.is c.make_in_parallel-framed.ensures.goes)) (subst H c.in-Err-made.is c.make_in_parallel-framed.ensures.tested))
 
 pub returns-clause-goes : goal.returns-clause-goes
 returns-clause-goes g c =
@@ -87,7 +87,7 @@ returns-clause-goes g c =
     let leaders = c.as_slice-leaders.result.now in
     let G : Result FrameBytes LinkStop → Type 0 = λ r. Leaves r (value_defects files b leaders laid plan) (relocation_defects files b leaders laid) in
     let H : Result Prepared LinkStop → Type 0 = λ r. Goes r (relocation_defects files b leaders laid) in
-    ap (λ l. value_defects files b l laid plan) (sym c.as_slice-leaders.ensures.value) ∙ subst G c.in-Ok.is c.make_beside-framed.ensures.goes ∙ subst H c.in-Ok-made.is c.make_beside-framed.ensures.tested
+    ap (λ l. value_defects files b l laid plan) (sym c.as_slice-leaders.ensures.value) ∙ subst G c.in-Ok.is c.make_in_parallel-framed.ensures.goes ∙ subst H c.in-Ok-made.is c.make_in_parallel-framed.ensures.tested
 
 pub returns-clause-made : goal.returns-clause-made
 returns-clause-made g c =
@@ -105,7 +105,7 @@ returns-clause-made g c =
         symbols = c.in_ok-addresses.ensures.symbols ∙ ap (λ l. symbol_addresses files b l laid) value;
         entry = c.in_ok-addresses.ensures.entry ∙ ap (λ l. entry_address files b l laid) value;
       };
-      prepared = subst P value (subst H c.in-Ok-made.is c.make_beside-framed.ensures.prepared);
+      prepared = subst P value (subst H c.in-Ok-made.is c.make_in_parallel-framed.ensures.prepared);
       window = c.in_ok-window.ensures;
     }
 
@@ -123,7 +123,7 @@ returns-clause-written g c =
     let G : Result FrameBytes LinkStop → Type 0 = λ r. IfOk r (λ frames. frame_contents frames ≡ contents_with files b leaders laid plan) in
     record {
       executable = ap (λ (x : FrameContents). executable files b kept options.strip own laid x)
-          (subst G c.in-Ok.is c.make_beside-framed.ensures.contents ∙ ap (λ l. contents_with files b l laid plan) value);
+          (subst G c.in-Ok.is c.make_in_parallel-framed.ensures.contents ∙ ap (λ l. contents_with files b l laid plan) value);
       map = c.in_ok-map.ensures ∙ ap (λ l. if options.map then map_text (names_of c.args.names.now) files b l laid kept else []) value;
       report = c.in_ok-report.ensures ∙ ap (λ l. report_by options.generated files kept l laid) value;
     }
@@ -134,13 +134,13 @@ returns-clause-stands g c =
     let b = binding_view c.args.binding.now in
     let kept = c.args.kept.now in
     let strip = c.args.options.strip in
-    let w = wished c.args.options c.args.barred.now in
+    let w = link_options c.args.options c.args.barred.now in
     let laid = laid_by files c.args.placement.now in
     let plan = plan_view c.args.placement.now.plan in
     let leaders = c.as_slice-leaders.result.now in
     let made : FrameContents = frame_contents c.in-Ok.frames in
     let exe : List (Option ℕ) → List ℕ = λ l. executable files b kept strip l laid made in
-    let told = c.file_stands.ensures in
+    let told = c.prove_file_stands.ensures in
     let P : List (Option ℕ) → Type 0 = λ l. StandsWhole w files b kept l laid plan (exe l) in
     let Q : FrameContents → Type 0 = λ x. FramesStand laid x (exe leaders) in
     let R : FrameContents → Type 0 = λ x. Unwinds files b leaders laid plan x in
@@ -149,8 +149,8 @@ returns-clause-stands g c =
     let F : Result FrameBytes LinkStop → Type 0 = λ r. IfOk r (λ frames. FitFrames bounds (frame_contents frames)) in
     let U : Result FrameBytes LinkStop → Type 0 = λ r. IfOk r (λ frames. Unwinds files b leaders laid plan (frame_contents frames)) in
     let H : Result Prepared LinkStop → Type 0 = λ r. Goes r (relocation_defects files b leaders laid) in
-    let contents = subst C c.in-Ok.is c.make_beside-framed.ensures.contents in
-    let fit = subst F c.in-Ok.is c.make_beside-framed.ensures.fit in
+    let contents = subst C c.in-Ok.is c.make_in_parallel-framed.ensures.contents in
+    let fit = subst F c.in-Ok.is c.make_in_parallel-framed.ensures.fit in
     let S : List (Option ℕ) → Type 0 = λ l. HasAllUses files l (entries_of c.args.placement.now.got) in
     let T : List GotEntry → Type 0 = λ t. HasAllUses files leaders t in
     let Y : List (Option ℕ) → Type 0 = λ l. SymbolsStand files b kept l laid in
@@ -158,6 +158,6 @@ returns-clause-stands g c =
     subst P c.as_slice-leaders.ensures.value
     (stands_so w files b kept leaders laid plan (exe leaders) (exe leaders) refl
     (told.headers c.requires.room fit) (subst Q contents (told.frames fit)) told.pieces told.sections
-    (subst R contents (subst U c.in-Ok.is c.make_beside-framed.ensures.records)) (subst H c.in-Ok-made.is c.make_beside-framed.ensures.tested)
-    c.code_stands.ensures (subst T (sym table) (subst S (sym c.as_slice-leaders.ensures.value) c.requires.uses))
+    (subst R contents (subst U c.in-Ok.is c.make_in_parallel-framed.ensures.records)) (subst H c.in-Ok-made.is c.make_in_parallel-framed.ensures.tested)
+    c.prove_code_stands.ensures (subst T (sym table) (subst S (sym c.as_slice-leaders.ensures.value) c.requires.uses))
     (subst Y (sym c.as_slice-leaders.ensures.value) c.requires.symbols))

@@ -1,5 +1,5 @@
 use Rattle.std.proofs.Common.{length, ◌-◌, ◌≡◌, ◌≤◌, take}
-use Rattle.lk_depot.specs.Output.{told_said}
+use Rattle.lk_depot.specs.Output.{said_if_seen}
 use Rattle.lk_depot.proofs.writing.say_all.Given as goal
 
 -- a prefix of the bytes was written
@@ -9,7 +9,7 @@ invariant-loop-said g l =
     let now = g.S.Sink.output l.sink in
     record {
       within : l.said ≤ length l.bytes;
-      written : now.written ≡ told_said (take l.said l.bytes) before.written;
+      written : now.written ≡ said_if_seen (take l.said l.bytes) before.written;
       later : before.faults ≤ now.faults;
     }
 

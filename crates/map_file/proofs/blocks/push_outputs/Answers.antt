@@ -18,12 +18,12 @@ loop-i-preserved c =
     let below : c.loop-i.i + 1 < length (lists_view c.args.folded.now) = omega (arith, c.requires.enough, outputs) in
     let sections = c.as_slice.ensures.value ∙ listed_at c.args.folded.now (c.loop-i.i + 1) c.index-folded-i.result (omega (arith, below, many)) c.index-folded-i.is
     ∙ c.requires.each (c.loop-i.i + 1) below in
-    block_added v list _ c.loop-i.i c.loop-i.bits.now c.loop-i.zeros.now c.bits_after-bits.result.now c.zeros_after-zeros.result.now c.members_of-members.result.now
-    c.as_slice.result.now c.loop-i.text.items c.push_block.new.text.items _ (omega arith) c.loop-i.invariant c.members_of-members.ensures c.bits_after-bits.ensures c.zeros_after-zeros.ensures
+    block_added v list _ c.loop-i.i c.loop-i.bits.now c.loop-i.nobits_members.now c.bits_after-bits.result.now c.nobits_after-nobits_members.result.now c.members_of-members.result.now
+    c.as_slice.result.now c.loop-i.text.items c.push_block.new.text.items _ (omega arith) c.loop-i.invariant c.members_of-members.ensures c.bits_after-bits.ensures c.nobits_after-nobits_members.ensures
     sections c.in_ok-push_block.ensures
 
 pub returns : goal.returns
 unfolding layout_view with_contents
 returns c =
     let v = c.args.view.now in
-    blocks_end v c.as_slice-outputs.result.now c.loop-i.i c.loop-i.bits.now c.loop-i.zeros.now c.loop-i.text.items _ (omega arith) c.loop-i.invariant
+    blocks_end v c.as_slice-outputs.result.now c.loop-i.i c.loop-i.bits.now c.loop-i.nobits_members.now c.loop-i.text.items _ (omega arith) c.loop-i.invariant

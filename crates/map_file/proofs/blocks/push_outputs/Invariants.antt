@@ -7,5 +7,5 @@ abbrev pub invariant-loop-i : goal.invariant-loop-i
 invariant-loop-i l =
     let v = l.view in
     let laid = v.layout.now in
-    l.text.items ++ output_blocks v (l.i + 1) (map output_view (drop l.i l.outputs)) l.bits l.zeros
-    ≡ l.fn.text.items ++ output_blocks v 1 (map output_view laid.outputs.items) laid.members.items laid.zeros.items
+    l.text.items ++ output_blocks v (l.i + 1) (map output_view (drop l.i l.outputs)) l.bits l.nobits_members
+    ≡ l.fn.text.items ++ output_blocks v 1 (map output_view laid.outputs.items) laid.members.items laid.nobits_members.items

@@ -1,5 +1,5 @@
 use Rattle.std.proofs.Common.{List, length, map, ap, subst, arith, rules}
-use Rattle.link_sections.specs.declared.layouts.Output.{Output}
+use Rattle.link_sections.specs.declared.layouts.OutputSection.{OutputSection as HeldSection}
 use Rattle.link_sections.specs.LaidOut.{layout_view, output_view, with_contents}
 use Rattle.symbol_table.specs.Noted.{AreNoted, noted}
 use Rattle.symbol_table.proofs.OutputPlaces.{few_outputs}
@@ -15,7 +15,7 @@ loop-section-init c = none_folded c.args.view.now c.len.result _ c.in_ok-lists.e
 pub push_if_folded-requires-clause-noted : goal.push_if_folded-requires-clause-noted
 unfolding layout_view with_contents
 push_if_folded-requires-clause-noted c =
-    let P : List Output → Type 0 = λ list. AreNoted 1 (map output_view list) (noted c.in_ok-outputs.outputs.known) in
+    let P : List HeldSection → Type 0 = λ list. AreNoted 1 (map output_view list) (noted c.in_ok-outputs.outputs.known) in
     subst P c.as_slice.ensures.value c.in_ok-outputs.ensures
 
 pub loop-section-preserved : goal.loop-section-preserved

@@ -11,19 +11,19 @@ pub overflow_add-end : goal.overflow_add-end
 overflow_add-end c =
     let files = files_in c.args.view.now in
     let many = c.section_count.ensures ∙ ap section_count c.file.ensures in
-    omega (arith, c.section_no-first.ensures, many, section_within files c.args.file c.requires, c.is_few.ensures.section_count_is)
+    omega (arith, c.section_no-first.ensures, many, section_within files c.args.file c.requires, c.prove_few.ensures.section_count_is)
 
 pub overflow_cast-place : goal.overflow_cast-place
 overflow_cast-place c =
     let files = files_in c.args.view.now in
     let many = c.section_count.ensures ∙ ap section_count c.file.ensures in
-    omega (arith, c.loop-section-test.true, c.section_no-first.ensures, many, section_within files c.args.file c.requires, c.is_few.ensures.section_count_is)
+    omega (arith, c.loop-section-test.true, c.section_no-first.ensures, many, section_within files c.args.file c.requires, c.prove_few.ensures.section_count_is)
 
 pub overflow_cast-section : goal.overflow_cast-section
 overflow_cast-section c =
     let files = files_in c.args.view.now in
     let many = c.section_count.ensures ∙ ap section_count c.file.ensures in
-    omega (arith, c.loop-section-test.true, c.section_no-first.ensures, many, section_within files c.args.file c.requires, c.is_few.ensures.section_count_is)
+    omega (arith, c.loop-section-test.true, c.section_no-first.ensures, many, section_within files c.args.file c.requires, c.prove_few.ensures.section_count_is)
 
 pub push_if_left-requires-clause-place : goal.push_if_left-requires-clause-place
 push_if_left-requires-clause-place c =

@@ -6,18 +6,18 @@ use Rattle.name_numbers.specs.declared.sorting.Key.{Key}
 use Rattle.name_numbers.specs.Keys.{KeyView, key_views}
 use Rattle.intern_race.specs.Hash.{hash_of}
 use Rattle.name_numbers.specs.Texts.{text_keys}
-use Rattle.name_numbers.proofs.TextPlaces.{text_keys_moved, text_keys_tagged, text_key_is, text_keys_once, texts_marked}
+use Rattle.name_numbers.proofs.TextPlaces.{text_keys_moved, text_keys_hashed, text_key_is, text_keys_once, texts_marked}
 use Rattle.name_numbers.proofs.texts.number_by_order.Goals as goal
 
-pub mark_keys-requires-clause-tagged : goal.mark_keys-requires-clause-tagged
-mark_keys-requires-clause-tagged g c =
+pub mark_keys-requires-clause-right_hashes : goal.mark_keys-requires-clause-right_hashes
+mark_keys-requires-clause-right_hashes g c =
     let texts = c.args.texts.now in
     let start = c.in_ok-keys.keys.items in
     let sorted = c.sort_keys.new.list in
     let len : length sorted ≡ c.in_ok-keys.keys.len = c.sort_keys.ensures.len ∙ c.as_mut_slice.ensures.len in
     let P : List Key → Type 0 = λ l. IsPermutation l sorted in
     let moved = text_keys_moved texts start sorted c.as_slice.result.now c.in_ok-keys.ensures (subst P c.as_mut_slice.ensures.value c.sort_keys.ensures.permutation) (c.as_slice.ensures.value ∙ take_at sorted (drop (length sorted) start) c.in_ok-keys.keys.len len) in
-    All-permutation (λ (v : KeyView). v.tag ≡ hash_of v.text) (text_keys texts) (key_views c.as_slice.result.now) moved (text_keys_tagged texts)
+    All-permutation (λ (v : KeyView). v.hash ≡ hash_of v.text) (text_keys texts) (key_views c.as_slice.result.now) moved (text_keys_hashed texts)
 
 pub mark_keys-requires-clause-within : goal.mark_keys-requires-clause-within
 mark_keys-requires-clause-within g c v has =

@@ -59,16 +59,16 @@ pub returns-clause-sized : goal.returns-clause-sized
 returns-clause-sized c =
     rw (whole c)
     (sized_items (files_of c.args.tables.now) (binding_view c.args.binding.now) c.args.pools.now.pools.items (word_count (entries_of c.args.got.now)) c.args.leaders.now
-    (modest_in c) c.requires.leaders c.requires.pools c.args.pools.now.small c.is_few.ensures.section_count_is (few_words c))
+    (modest_in c) c.requires.leaders c.requires.pools c.args.pools.now.small c.prove_few.ensures.section_count_is (few_words c))
 
 pub returns-clause-few : goal.returns-clause-few
 returns-clause-few c =
     let few = few_items (files_of c.args.tables.now) (binding_view c.args.binding.now) c.args.pools.now.pools.items (word_count (entries_of c.args.got.now)) c.args.leaders.now
-    (modest_in c) c.requires.leaders c.requires.pools c.args.pools.now.small c.is_few.ensures.section_count_is (few_words c) in
+    (modest_in c) c.requires.leaders c.requires.pools c.args.pools.now.small c.prove_few.ensures.section_count_is (few_words c) in
     omega (arith, few, ap length (whole c), length-map c.push.new.self.items item_view)
 
 pub returns-clause-bytes : goal.returns-clause-bytes
 returns-clause-bytes c =
     rw (whole c)
     (bytes_items (files_of c.args.tables.now) (binding_view c.args.binding.now) c.args.pools.now.pools.items (word_count (entries_of c.args.got.now)) c.args.leaders.now
-    (modest_in c) c.requires.leaders c.requires.pools c.args.pools.now.small c.is_few.ensures.section_count_is (few_words c))
+    (modest_in c) c.requires.leaders c.requires.pools c.args.pools.now.small c.prove_few.ensures.section_count_is (few_words c))

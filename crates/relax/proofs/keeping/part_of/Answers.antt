@@ -12,7 +12,7 @@ loop-section-init c =
     (omega arith, subst (AreCutRows files s.members.now c.args.calls.now c.args.sizes.now start start) (sym c.in_ok-rows.ensures) (rows_first files s.members.now c.args.calls.now c.args.sizes.now start))
 
 pub overflow_cast-section : goal.overflow_cast-section
-overflow_cast-section c = omega (arith, c.requires.within, c.loop-section-test.true, c.is_few.ensures.section_count_is)
+overflow_cast-section c = omega (arith, c.requires.within, c.loop-section-test.true, c.prove_few.ensures.section_count_is)
 
 pub section_cuts-requires-clause-section : goal.section_cuts-requires-clause-section
 section_cuts-requires-clause-section c = omega (arith, c.requires.within, c.loop-section-test.true)

@@ -12,7 +12,7 @@ overflow_cast-section c =
       arith,
       c.section_count-section-end.ensures,
       ap section_count c.file.ensures,
-      c.is_few.ensures.section_count_is,
+      c.prove_few.ensures.section_count_is,
       section_within (files_of c.args.tables.now) c.args.file c.requires,
     )
 

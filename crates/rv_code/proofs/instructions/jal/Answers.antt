@@ -1,4 +1,4 @@
-use Rattle.std.proofs.Common.{◌≡◌, ◌+◌, ◌*◌, ◌%◌, ◌^◌, ◌<◌, arith, subst, ℤ, to_z, of_z}
+use Rattle.std.proofs.Common.{◌≡◌, ◌+◌, ◌*◌, ◌%◌, ◌^◌, arith, subst, ℤ, to_z, of_z}
 use Rattle.std.specs.Int.{w128}
 use Rattle.std.proofs.lemmas.Int.{ints}
 use Rattle.byteorder.specs.Endian.{little_number}
@@ -14,9 +14,8 @@ returns c =
     let same : to_z w128 (of_z w128 c.from.result) ≡ c.args.offset = omega (arith, ints, c.from.ensures) in
     let read : c.from_le_bytes.result ≡ little_number 4 c.patch.new.place = omega (arith, c.from_le_bytes.ensures) in
     let base : 0x6f + c.args.rd * 128 % 2 ^ 32 ≡ 0x6f + c.args.rd * 2 ^ 7 = omega (arith, c.requires.register) in
-    let below : 0x6f + c.args.rd * 128 % 2 ^ 32 < 256 ^ 4 = omega (arith, c.requires.register) in
     jal_word c.args.rd (0x6f + c.args.rd * 128 % 2 ^ 32) c.from_le_bytes.result c.args.offset c.to_le_bytes-bytes.result c.patch.new.place
-    below base c.to_le_bytes-bytes.ensures
+    c.requires.register base c.to_le_bytes-bytes.ensures
     (subst (λ (v : ℤ). HoldsValue (kind_of R_RISCV_JAL).field c.to_le_bytes-bytes.result v c.patch.new.place) same c.patch.ensures.field)
     (subst (λ (v : ℤ). Goes R_RISCV_JAL v c.patch.new.place) same c.patch.ensures.goes)
     read

@@ -21,15 +21,15 @@ loop-index-init c =
 
 pub section_no-number-requires-clause-section : goal.section_no-number-requires-clause-section
 section_no-number-requires-clause-section c =
-    omega (arith, c.loop-index-test.true, count ((goal.at.section_no-number-requires-clause-section c).After-section_count-index-end), c.is_few.ensures.section_count_is, section_within (files_of c.args.tables.now) c.args.file c.requires)
+    omega (arith, c.loop-index-test.true, count ((goal.at.section_no-number-requires-clause-section c).After-section_count-index-end), c.prove_few.ensures.section_count_is, section_within (files_of c.args.tables.now) c.args.file c.requires)
 
 pub overflow_cast-number : goal.overflow_cast-number
 overflow_cast-number c =
-    omega (arith, c.section_no-number.ensures, c.loop-index-test.true, count ((goal.at.overflow_cast-number c).After-section_count-index-end), c.is_few.ensures.section_count_is, section_within (files_of c.args.tables.now) c.args.file c.requires)
+    omega (arith, c.section_no-number.ensures, c.loop-index-test.true, count ((goal.at.overflow_cast-number c).After-section_count-index-end), c.prove_few.ensures.section_count_is, section_within (files_of c.args.tables.now) c.args.file c.requires)
 
 pub overflow_cast-index : goal.overflow_cast-index
 overflow_cast-index c =
-    omega (arith, c.loop-index-test.true, count ((goal.at.overflow_cast-index c).After-section_count-index-end), c.is_few.ensures.section_count_is, section_within (files_of c.args.tables.now) c.args.file c.requires)
+    omega (arith, c.loop-index-test.true, count ((goal.at.overflow_cast-index c).After-section_count-index-end), c.prove_few.ensures.section_count_is, section_within (files_of c.args.tables.now) c.args.file c.requires)
 
 pub loop-index-preserved : goal.loop-index-preserved
 loop-index-preserved c =

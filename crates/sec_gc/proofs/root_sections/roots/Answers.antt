@@ -20,4 +20,4 @@ returns-clause-within c =
     let undefined = lists_of c.args.undefined.now in
     let P : List ℕ → Type 0 = All (λ r. r < section_total files) in
     let is : c.loop-file.roots.items ≡ roots files b undefined = collect_end (roots_in files b) c.loop-file.file c.file_count-file-end.result c.loop-file.roots.items (roots files b undefined) (omega (arith, c.loop-file-test.false)) c.loop-file.invariant in
-    subst P (sym is) (roots_within files b undefined c.requires.bound c.is_few.ensures)
+    subst P (sym is) (roots_within files b undefined c.requires.bound c.prove_few.ensures)

@@ -13,7 +13,7 @@ overflow_cast-index c =
       arith,
       c.section_count-index-end.ensures,
       ap section_count c.file.ensures,
-      c.is_few.ensures.section_count_is,
+      c.prove_few.ensures.section_count_is,
       section_within (files_of c.args.tables.now) c.args.file c.requires.file,
     )
 

@@ -10,7 +10,7 @@ use Rattle.sec_graph.proofs.FoldOrder.{foldable_rise, foldable_within, passing_m
 use Rattle.sec_graph.proofs.fold_lists.foldable.Goals as goal
 
 pub overflow_cast-section : goal.overflow_cast-section
-overflow_cast-section c = omega (arith, c.is_few.ensures.section_count_is, c.section_count-section-end.ensures, c.loop-section-test.true)
+overflow_cast-section c = omega (arith, c.prove_few.ensures.section_count_is, c.section_count-section-end.ensures, c.loop-section-test.true)
 
 pub loop-section-preserved : goal.loop-section-preserved
 loop-section-preserved c =

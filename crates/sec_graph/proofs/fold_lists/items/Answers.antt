@@ -14,7 +14,7 @@ use Rattle.sec_graph.proofs.FoldOrder.{items_rise, items_few}
 use Rattle.sec_graph.proofs.fold_lists.items.Goals as goal
 
 pub overflow_cast-section : goal.overflow_cast-section
-overflow_cast-section c = omega (arith, c.is_few.ensures.section_count_is, c.section_count-section-end.ensures, c.loop-section-test.true)
+overflow_cast-section c = omega (arith, c.prove_few.ensures.section_count_is, c.section_count-section-end.ensures, c.loop-section-test.true)
 
 pub loop-section-preserved : goal.loop-section-preserved
 loop-section-preserved c =
@@ -40,4 +40,4 @@ returns-clause-few c =
     let merged = merged_views c.args.pools.now in
     let n : c.loop-section.section ≡ section_total files = omega (arith, c.section_count-section-end.ensures) in
     let all : item_views c.loop-section.list.items ≡ spec.items files b merged c.args.kept.now c.args.barred.now = c.loop-section.invariant ∙ ap (λ k. flat_map (spec.item_if files b merged c.args.kept.now c.args.barred.now) (range_with_len 0 k)) n in
-    omega (arith, items_few files b merged c.args.kept.now c.args.barred.now, sym (length-map c.loop-section.list.items item_view) ∙ ap length all, c.is_few.ensures.section_count_is)
+    omega (arith, items_few files b merged c.args.kept.now c.args.barred.now, sym (length-map c.loop-section.list.items item_view) ∙ ap length all, c.prove_few.ensures.section_count_is)

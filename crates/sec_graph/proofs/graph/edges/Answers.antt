@@ -16,11 +16,11 @@ rows_are g c =
 
 pub from_rows-requires-clause-within : goal.from_rows-requires-clause-within
 from_rows-requires-clause-within g c =
-    rows_within (files_of c.args.tables.now) (binding_view c.args.binding.now) c.in_ok-rows.rows c.requires.bound c.is_few.ensures (rows_are g c)
+    rows_within (files_of c.args.tables.now) (binding_view c.args.binding.now) c.in_ok-rows.rows c.requires.bound c.prove_few.ensures (rows_are g c)
 
 pub from_rows-requires-clause-few : goal.from_rows-requires-clause-few
 from_rows-requires-clause-few g c =
-    omega (arith, c.is_few.ensures.section_count_is, row_count (files_of c.args.tables.now) (binding_view c.args.binding.now) c.in_ok-rows.rows (rows_are g c))
+    omega (arith, c.prove_few.ensures.section_count_is, row_count (files_of c.args.tables.now) (binding_view c.args.binding.now) c.in_ok-rows.rows (rows_are g c))
 
 pub returns-clause-value : goal.returns-clause-value
 returns-clause-value g c = c.from_rows.ensures ∙ rows_are g ((goal.at.returns-clause-value g c).In_ok-rows)

@@ -14,7 +14,7 @@ names_of-requires g c =
     let files = files_of c.args.tables.now in
     let b = binding_view c.args.binding.now in
     let P : List ℕ → Type 0 = All (λ n. n < section_total files) in
-    subst P (sym (c.as_slice.ensures.value ∙ c.in_ok-asked.ensures)) (asked_within files b c.requires.bound c.is_few.ensures)
+    subst P (sym (c.as_slice.ensures.value ∙ c.in_ok-asked.ensures)) (asked_within files b c.requires.bound c.prove_few.ensures)
 
 pub returns : goal.returns
 unfolding all_named

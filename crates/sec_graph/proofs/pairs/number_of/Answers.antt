@@ -12,7 +12,7 @@ overflow_cast-result c =
       arith,
       c.section_no.ensures,
       c.requires.index,
-      c.is_few.ensures.section_count_is,
+      c.prove_few.ensures.section_count_is,
       counted (file_at files c.args.file) c.requires.live,
       section_within files c.args.file c.requires.file,
     )

@@ -8,7 +8,7 @@ pub overflow_cast-result : goal.overflow_cast-result
 overflow_cast-result c =
     omega (
       arith,
-      few_sections (files_of c.args.tables.now) c.args.file c.is_few.ensures c.requires.file c.requires.live,
+      few_sections (files_of c.args.tables.now) c.args.file c.prove_few.ensures c.requires.file c.requires.live,
       ap length c.sections.ensures,
       ap (λ (file : File). length file.head.sections) c.file.ensures,
     )

@@ -10,6 +10,6 @@ overflow_cast-symbol c =
       arith,
       ap length c.symbols-symbols.ensures,
       ap (λ (file : File). length file.head.symbols) c.file.ensures,
-      c.is_few.ensures.symbol_count,
+      c.prove_few.ensures.symbol_count,
       first_within (files_of c.args.tables.now) c.args.file c.requires,
     )

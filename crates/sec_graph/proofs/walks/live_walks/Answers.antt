@@ -17,7 +17,7 @@ overflow_cast-number c =
       c.loop-index-test.true,
       c.section_count-index-end.ensures,
       ap section_count c.file.ensures,
-      c.is_few.ensures.section_count_is,
+      c.prove_few.ensures.section_count_is,
       section_within (files_of c.args.tables.now) c.args.file c.requires.file,
     )
 
@@ -28,7 +28,7 @@ section_no-number-requires-clause-section c =
       c.loop-index-test.true,
       c.section_count-index-end.ensures,
       ap section_count c.file.ensures,
-      c.is_few.ensures.section_count_is,
+      c.prove_few.ensures.section_count_is,
       section_within (files_of c.args.tables.now) c.args.file c.requires.file,
     )
 

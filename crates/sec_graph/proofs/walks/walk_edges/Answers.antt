@@ -19,13 +19,13 @@ rows_are c = walk_rows (files_of c.args.tables.now) (binding_view c.args.binding
 
 pub from_rows-requires-clause-within : goal.from_rows-requires-clause-within
 from_rows-requires-clause-within c =
-    walks_within (files_of c.args.tables.now) (binding_view c.args.binding.now) c.loop-file.rows c.requires.bound c.is_few.ensures (rows_are (goal.at.from_rows-requires-clause-within c).After-loop-file)
+    walks_within (files_of c.args.tables.now) (binding_view c.args.binding.now) c.loop-file.rows c.requires.bound c.prove_few.ensures (rows_are (goal.at.from_rows-requires-clause-within c).After-loop-file)
 
 pub from_rows-requires-clause-few : goal.from_rows-requires-clause-few
 from_rows-requires-clause-few c =
     omega (
       arith,
-      c.is_few.ensures.section_count_is,
+      c.prove_few.ensures.section_count_is,
       walk_count (files_of c.args.tables.now) (binding_view c.args.binding.now) c.loop-file.rows (rows_are (goal.at.from_rows-requires-clause-few c).After-loop-file),
     )
 

@@ -25,7 +25,7 @@ cut_sites-requires-clause-short g c κs bound =
     let files = files_of c.args.tables.now in
     let P : List HeldSite → Type 0 = All (λ (s : HeldSite). IsShort files (site_view s)) in
     subst P (sym c.as_slice.ensures.value)
-    (held_all (IsShort files) (sites files c.args.kept.now) c.in_ok-sites.sites.items c.in_ok-sites.ensures c.are_small.ensures.short)
+    (held_all (IsShort files) (sites files c.args.kept.now) c.in_ok-sites.sites.items c.in_ok-sites.ensures c.prove_small.ensures.short)
 
 pub keys_of-requires : goal.keys_of-requires
 keys_of-requires g c =
@@ -35,7 +35,7 @@ keys_of-requires g c =
 pub number_keys-requires : goal.number_keys-requires
 number_keys-requires g c =
     let files = files_of c.args.tables.now in
-    let few = c.are_small.ensures.sections in
+    let few = c.prove_small.ensures.sections in
     let keyed : key_views c.in_ok-keys.keys.items ≡ map (site_key files) (sites files c.args.kept.now) =
     c.in_ok-keys.ensures ∙ ap (λ (l : List HeldSite). map (site_key files) (site_views l)) c.as_slice-2.ensures.value ∙ ap (map (site_key files)) c.in_ok-sites.ensures in
     omega (
@@ -51,7 +51,7 @@ pub order_of-requires : goal.order_of-requires
 order_of-requires g c =
     let files = files_of c.args.tables.now in
     let kept = c.args.kept.now in
-    let few = c.are_small.ensures.sections in
+    let few = c.prove_small.ensures.sections in
     let keyed : key_views c.in_ok-keys.keys.items ≡ map (site_key files) (sites files kept) =
     c.in_ok-keys.ensures ∙ ap (λ (l : List HeldSite). map (site_key files) (site_views l)) c.as_slice-2.ensures.value ∙ ap (map (site_key files)) c.in_ok-sites.ensures in
     let numbered : c.as_slice-4.result.now ≡ site_numbers files kept =
@@ -76,7 +76,7 @@ pub members_of-requires-clause-few : goal.members_of-requires-clause-few
 members_of-requires-clause-few g c =
     let files = files_of c.args.tables.now in
     let kept = c.args.kept.now in
-    let few = c.are_small.ensures.sections in
+    let few = c.prove_small.ensures.sections in
     let keyed : key_views c.in_ok-keys.keys.items ≡ map (site_key files) (sites files kept) =
     c.in_ok-keys.ensures ∙ ap (λ (l : List HeldSite). map (site_key files) (site_views l)) c.as_slice-2.ensures.value ∙ ap (map (site_key files)) c.in_ok-sites.ensures in
     let numbered : c.as_slice-4.result.now ≡ site_numbers files kept =
@@ -105,7 +105,7 @@ fill-requires-clause-work g c = λ κs bound.
     (ap cut_views c.as_slice-7.ensures.value ∙ c.in_ok-cuts.ensures.pieces
     ∙ ap (λ (l : List HeldSite). map (site_pieces files) (site_views l)) c.as_slice.ensures.value ∙ ap (map (site_pieces files)) c.in_ok-sites.ensures)
     (ap key_views c.as_slice-8.ensures.value ∙ keyed)
-    numbered (c.as_slice-9.ensures.value ∙ c.in_ok-order.ensures.firsts) ranked (subst P (sym c.as_slice-10.ensures.value) c.in_ok-members.ensures) counted c.are_small.ensures
+    numbered (c.as_slice-9.ensures.value ∙ c.in_ok-order.ensures.firsts) ranked (subst P (sym c.as_slice-10.ensures.value) c.in_ok-members.ensures) counted c.prove_small.ensures
 
 pub finish-requires-clause-work : goal.finish-requires-clause-work
 finish-requires-clause-work g c =
@@ -128,4 +128,4 @@ finish-requires-clause-work g c =
     (ap cut_views c.as_slice-7.ensures.value ∙ c.in_ok-cuts.ensures.pieces
     ∙ ap (λ (l : List HeldSite). map (site_pieces files) (site_views l)) c.as_slice.ensures.value ∙ ap (map (site_pieces files)) c.in_ok-sites.ensures)
     (ap key_views c.as_slice-8.ensures.value ∙ keyed)
-    numbered (c.as_slice-9.ensures.value ∙ c.in_ok-order.ensures.firsts) ranked (subst P (sym c.as_slice-10.ensures.value) c.in_ok-members.ensures) counted c.are_small.ensures
+    numbered (c.as_slice-9.ensures.value ∙ c.in_ok-order.ensures.firsts) ranked (subst P (sym c.as_slice-10.ensures.value) c.in_ok-members.ensures) counted c.prove_small.ensures

@@ -18,7 +18,7 @@ overflow_cast-index c =
       arith,
       c.section_count-index-end.ensures,
       ap section_count c.file.ensures,
-      c.is_few.ensures.section_count_is,
+      c.prove_few.ensures.section_count_is,
       section_within (files_of c.args.tables.now) c.args.file c.requires.file,
     )
 
@@ -32,7 +32,7 @@ after-next-requires c =
       upto_most files c.args.kept.now c.args.file c.loop-index.index c.requires.file,
       c.section_count-index-end.ensures,
       ap section_count c.file.ensures,
-      c.is_few.ensures.section_count_is,
+      c.prove_few.ensures.section_count_is,
       section_within files c.args.file c.requires.file,
     )
 

@@ -25,7 +25,7 @@ returns-in-Some-clause-goes g c =
     let gone = c.args.discarded.now in
     let row = c.in_ok-least.least.items in
     let is = claimed_row files gone row c.symbol_count-words.result c.as_slice-2.result.now c.in_ok-least.ensures.alone c.symbol_count-words.ensures (c.as_slice-2.ensures.value ∙ c.in_ok-offers.ensures) in
-    let few = c.is_few.ensures in
+    let few = c.prove_few.ensures in
     first_stops (duplicate_defects files gone) (entry_defects files gone c.args.entry.now ∷ []) c.in-Some.duplicate
     (duplicate_found files gone row is c.as_slice-3.result.now c.as_slice-4.result.now (Some c.in-Some.duplicate) few.file_count few.symbol_count c.as_slice-3.ensures.value (c.as_slice-4.ensures.value ∙ c.in_ok-offers.ensures) c.in-Some.ensures)
 
@@ -43,7 +43,7 @@ returns-then-entry_rank-clause-goes g c =
     let gone = c.args.discarded.now in
     let row = c.in_ok-least.least.items in
     let is = claimed_row files gone row c.symbol_count-words.result c.as_slice-2.result.now c.in_ok-least.ensures.alone c.symbol_count-words.ensures (c.as_slice-2.ensures.value ∙ c.in_ok-offers.ensures) in
-    let few = c.is_few.ensures in
+    let few = c.prove_few.ensures in
     let entry = c.args.entry.now in
     let once = duplicate_found files gone row is c.as_slice-3.result.now c.as_slice-4.result.now None few.file_count few.symbol_count c.as_slice-3.ensures.value (c.as_slice-4.ensures.value ∙ c.in_ok-offers.ensures) c.in_default.ensures in
     let rank = c.rank_of_name-rank.ensures gone (c.as_slice-5.ensures.value ∙ c.in_ok-offers.ensures) in
@@ -67,7 +67,7 @@ returns-clause-goes g c =
     let gone = c.args.discarded.now in
     let row = c.in_ok-least.least.items in
     let is = claimed_row files gone row c.symbol_count-words.result c.as_slice-2.result.now c.in_ok-least.ensures.alone c.symbol_count-words.ensures (c.as_slice-2.ensures.value ∙ c.in_ok-offers.ensures) in
-    let few = c.is_few.ensures in
+    let few = c.prove_few.ensures in
     let entry = c.args.entry.now in
     let once = duplicate_found files gone row is c.as_slice-3.result.now c.as_slice-4.result.now None few.file_count few.symbol_count c.as_slice-3.ensures.value (c.as_slice-4.ensures.value ∙ c.in_ok-offers.ensures) c.in_default.ensures in
     let rank = c.rank_of_name-rank.ensures gone (c.as_slice-5.ensures.value ∙ c.in_ok-offers.ensures) in

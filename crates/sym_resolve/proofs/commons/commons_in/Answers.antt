@@ -22,7 +22,7 @@ pub overflow_cast-section : goal.overflow_cast-section
 overflow_cast-section c =
     let files = files_of c.args.tables.now in
     let f = c.args.f in
-    let few = c.is_few.ensures.section_count_is in
+    let few = c.prove_few.ensures.section_count_is in
     let live = common_live (file_at files f) (λ e. c.if-common_count-eq0.false (c.common_count.ensures ∙ e)) in
     let long : length c.sections.result.now ≡ length (file_at files f).head.sections = ap length c.sections.ensures ∙ ap (λ (x : File). length x.head.sections) c.file-file.ensures in
     omega (arith, c.section_no-section.ensures, section_below files f c.requires.file live)
@@ -32,7 +32,7 @@ overflow_add-section c =
     let files = files_of c.args.tables.now in
     let f = c.args.f in
     let i = c.loop-i.i in
-    let few = c.is_few.ensures.section_count_is in
+    let few = c.prove_few.ensures.section_count_is in
     let live = common_live (file_at files f) (λ e. c.if-common_count-eq0.false (c.common_count.ensures ∙ e)) in
     let own : c.symbol.result ≡ symbol_at (file_at files f) i = c.symbol.ensures ∙ ap (λ (x : File). symbol_at x i) c.file-file.ensures in
     let common = ap (λ (s : Symbol). is_common s.place) (sym own) ∙ sym c.is_common.ensures in

@@ -12,13 +12,13 @@ use Rattle.sym_resolve.proofs.commons.push_common.Goals as goal
 
 pub rank_of-requires-clause-symbol : goal.rank_of-requires-clause-symbol
 rank_of-requires-clause-symbol c =
-    let few = c.is_few.ensures.symbol_count in
+    let few = c.prove_few.ensures.symbol_count in
     let inside = c.requires.symbol in
     omega (arith, first_within (files_of c.args.tables.now) c.args.f c.requires.file)
 
 pub overflow_cast-i : goal.overflow_cast-i
 overflow_cast-i c =
-    let few = c.is_few.ensures.symbol_count in
+    let few = c.prove_few.ensures.symbol_count in
     let inside = c.requires.symbol in
     omega (arith, first_within (files_of c.args.tables.now) c.args.f c.requires.file)
 

@@ -10,4 +10,4 @@ returns-in-Some-get-clause-few c =
     let files = files_of c.args.tables.now in
     let b = binding_view c.args.binding.now in
     let is : Some c.in-Some-get.section.now ≡ first_named files b c.in-Some.text.now = search rules in
-    first_below files b c.in-Some.text.now c.in-Some-get.section.now c.is_few.ensures is
+    first_below files b c.in-Some.text.now c.in-Some-get.section.now c.prove_few.ensures is

@@ -16,7 +16,7 @@ use Rattle.sym_resolve.proofs.offers.push_offers.Goals.{then-is_offered+in_ok-pu
 pub rank_of-requires-clause-symbol : goal.rank_of-requires-clause-symbol
 rank_of-requires-clause-symbol c =
     let files = files_of c.args.tables.now in
-    let few = c.is_few.ensures.symbol_count in
+    let few = c.prove_few.ensures.symbol_count in
     let long : length c.symbols-i-end.result.now ≡ length (file_at files c.args.f).head.symbols = ap length c.symbols-i-end.ensures ∙ ap (λ (x : File). length x.head.symbols) c.file-file.ensures in
     let sum = first_within files c.args.f c.requires.file in
     omega arith

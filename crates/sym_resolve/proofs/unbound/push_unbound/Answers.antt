@@ -16,7 +16,7 @@ use Rattle.sym_resolve.proofs.unbound.push_unbound.Goals.{then-is_unbound+in_ok-
 pub symbol_no-number-requires-clause-symbol : goal.symbol_no-number-requires-clause-symbol
 symbol_no-number-requires-clause-symbol c =
     let files = files_of c.args.tables.now in
-    let few = c.is_few.ensures.symbol_count in
+    let few = c.prove_few.ensures.symbol_count in
     let long : length c.symbols-i-end.result.now ≡ length (file_at files c.args.f).head.symbols = ap length c.symbols-i-end.ensures ∙ ap (λ (x : File). length x.head.symbols) c.file-file.ensures in
     let sum = first_within files c.args.f c.requires.file in
     omega arith
@@ -24,7 +24,7 @@ symbol_no-number-requires-clause-symbol c =
 pub overflow_cast-i : goal.overflow_cast-i
 overflow_cast-i c =
     let files = files_of c.args.tables.now in
-    let few = c.is_few.ensures.symbol_count in
+    let few = c.prove_few.ensures.symbol_count in
     let long : length c.symbols-i-end.result.now ≡ length (file_at files c.args.f).head.symbols = ap length c.symbols-i-end.ensures ∙ ap (λ (x : File). length x.head.symbols) c.file-file.ensures in
     let sum = first_within files c.args.f c.requires.file in
     omega arith

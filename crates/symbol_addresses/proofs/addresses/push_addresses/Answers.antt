@@ -12,7 +12,7 @@ overflow_cast-symbol c =
       arith,
       ap length c.symbols-count.ensures,
       ap (λ (file : File). length file.head.symbols) c.file.ensures,
-      c.is_few.ensures.symbol_count,
+      c.prove_few.ensures.symbol_count,
       first_within (link_files c.args.sources.now.link) c.args.file c.requires.file,
     )
 

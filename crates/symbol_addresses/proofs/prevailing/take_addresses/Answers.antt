@@ -10,7 +10,7 @@ use Rattle.symbol_addresses.proofs.prevailing.take_addresses.Goals.{In-loop-symb
 leads : (c : In-loop-symbol) → LeadsOn (link_files c.args.link.now) (link_binding c.args.link.now) (addresses_of c.args.link.now) (own_addresses c.args.link.now) c.loop-symbol.symbol
 leads c =
     let link = c.args.link.now in
-    number_leads link c.loop-symbol.symbol c.requires.bound c.is_few.ensures
+    number_leads link c.loop-symbol.symbol c.requires.bound c.prove_few.ensures
     (omega (arith, c.loop-symbol-test.true, ap length c.requires.own, length_by_symbol (link_files link) (own_address link)))
 
 pub loop-symbol-init : goal.loop-symbol-init

@@ -1,5 +1,5 @@
 use Rattle.std.proofs.Common.{List, map, length, ap, subst, arith}
-use Rattle.link_sections.specs.declared.layouts.Output.{Output}
+use Rattle.link_sections.specs.declared.layouts.OutputSection.{OutputSection as HeldSection}
 use Rattle.link_sections.specs.LaidOut.{layout_view, output_view, with_contents}
 use Rattle.symbol_table.specs.Noted.{AreNoted, noted}
 use Rattle.symbol_table.proofs.OutputPlaces.{few_outputs}
@@ -12,5 +12,5 @@ of-requires g c =
 pub all_entries-requires-clause-noted : goal.all_entries-requires-clause-noted
 unfolding layout_view with_contents
 all_entries-requires-clause-noted g c κs within =
-    let P : List Output → Type 0 = λ list. AreNoted 1 (map output_view list) (noted c.in_ok-outputs.outputs.known) in
+    let P : List HeldSection → Type 0 = λ list. AreNoted 1 (map output_view list) (noted c.in_ok-outputs.outputs.known) in
     subst P c.as_slice.ensures.value c.in_ok-outputs.ensures

@@ -1,5 +1,5 @@
 use Rattle.std.proofs.Common.{ℕ, ◌∙◌, List, [], Option, subst, sym}
-use Rattle.link_driver.specs.Tables.{wished}
+use Rattle.link_passes.specs.Tables.{link_options}
 use Rattle.link_driver.proofs.FewPieces.{kept_written}
 use Rattle.link_driver.proofs.Leading.{planned_laid}
 use Rattle.link_sections.specs.GotUses.{HasAllUses}
@@ -29,5 +29,5 @@ pub answers_of-requires-clause-plan : goal.answers_of-requires-clause-plan
 answers_of-requires-clause-plan g c = λ κs bound.
     let files = files_of c.args.tables.now in
     let laid = with_contents (layout_view c.in-Ok.layout) (pools_view files c.in_ok-pools.pools) (entries_of c.in_ok-got.got) in
-    planned_laid (wished c.args.asked.now.options []) files (binding_view c.args.binding.now) c.args.kept.now c.as_slice-4.result.now laid (plan_view c.in_ok-plan.plan)
+    planned_laid (link_options c.args.asked.now.options []) files (binding_view c.args.binding.now) c.args.kept.now c.as_slice-4.result.now laid (plan_view c.in_ok-plan.plan)
     (c.as_slice-4.ensures.value ∙ c.in_ok-leaders.ensures.leaders) c.in-Ok.ensures.laid c.in_ok-plan.ensures.plan

@@ -1,6 +1,6 @@
 use Rattle.lk_tables.specs.BindingView.{binding_view}
 use Rattle.lk_tables.specs.TablesView.{files_of}
-use Rattle.link_driver.proofs.Handing.{binding_is}
+use Rattle.link_passes.proofs.Handing.{binding_is}
 use Rattle.tests_image.proofs.tests.links.run_within.Goals as goal
 
 pub find_kept-requires-clause-bound : goal.find_kept-requires-clause-bound

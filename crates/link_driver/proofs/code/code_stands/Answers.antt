@@ -1,8 +1,0 @@
-use Rattle.link_sections.specs.Views.{binding_in, laid_in, leaders_in}
-use Rattle.link_driver.proofs.CodeLaws.{code_stands}
-use Rattle.link_driver.proofs.code.code_stands.Goals as goal
-
-pub returns : goal.returns
-returns c =
-    let v = c.args.view.now in
-    code_stands v.tables.now (binding_in v) (leaders_in v) (laid_in v) v.sound c.requires.cuts c.requires.done

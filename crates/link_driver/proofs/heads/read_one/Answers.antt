@@ -1,7 +1,0 @@
-use Rattle.std.proofs.Common.{rules}
-use Rattle.link_driver.specs.Contents.{source_view}
-use Rattle.link_driver.proofs.FileFacts.{head_read}
-use Rattle.link_driver.proofs.heads.read_one.Goals as goal
-
-pub returns-in-Ok-clause-head : goal.returns-in-Ok-clause-head
-returns-in-Ok-clause-head c = head_read (source_view c.args.source.now) c.in-Ok.head (search rules) (search rules) (search rules)

@@ -1,5 +1,0 @@
-use Rattle.link_driver.proofs.InsideTables.{inside_on}
-use Rattle.link_driver.proofs.linking.read_files.Goals as goal
-
-pub returns-clause-inside : goal.returns-clause-inside
-returns-clause-inside g c = inside_on c.read_files_after.result

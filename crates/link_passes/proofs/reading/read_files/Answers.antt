@@ -1,0 +1,5 @@
+use Rattle.link_passes.proofs.InsideTables.{inside_on}
+use Rattle.link_passes.proofs.reading.read_files.Goals as goal
+
+pub returns-clause-inside : goal.returns-clause-inside
+returns-clause-inside g c = inside_on c.read_files_after.result

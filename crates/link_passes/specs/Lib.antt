@@ -1,0 +1,12 @@
+pub mod Contents
+pub mod Counts
+pub mod Defects
+pub mod Frames
+pub mod Given
+pub mod Known
+pub mod Leaders
+pub mod Passes
+pub mod Reading
+pub mod Sources
+pub mod Stops
+pub mod Tables
