@@ -13,7 +13,7 @@ use std::time::Instant;
 use std::{env, io};
 use work_split::OpenGate;
 
-/// Offers in turn on each word, with ranks that jump about.
+/// Offers in turn on each word, with pseudo-random ranks.
 fn offers_of(alloc: Global, words: u32, count: u32) -> Result<Vec<Offer>, AllocError>
     requires { 0 < words }
     ensures { IfOk result (λ offers. AllInRow words offers.items) }

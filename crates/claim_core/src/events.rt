@@ -1,4 +1,5 @@
-// Events on a row of words.
+//! Events on a row of words.
+
 ghost use Rattle.std.specs.Prelude.{◌≡◌, ◌<◌, ◌↔◌, length, IsTrue, Contains};
 ghost use Rattle.claim_core.specs.Events.{event, lowered, after, AllInRow, IsReached};
 ghost use Rattle.claim_core.specs.Events.{EachIsOffered, EndsAtLeast};

@@ -1,4 +1,5 @@
-// The workers' shares of one table.
+//! The least rank on offer for each word: the workers claim their pieces of the offers by seats of one table, and the caller's seat closes it.
+
 ghost use Rattle.std.specs.Prelude.{◌≡◌, ◌<◌, ◌≤◌, length, vec_len, All, IfOk, OnOk};
 ghost use Rattle.claim_core.specs.Events.{none_of, after, AllInRow, EachIsLeast};
 ghost use Rattle.rank_claims.specs.Claims.{SitsAt, HasClaimedEach};
@@ -61,7 +62,7 @@ pub fn claim_each<R: Threads + Sync, G: Gate>(
     Ok(())
 }
 
-// A seat for each worker.
+/// A seat for each worker.
 fn seats_for(
     alloc: Global,
     claims: &Claims,
@@ -81,7 +82,7 @@ fn seats_for(
     Ok(seats)
 }
 
-// Each worker claims the offers of its piece.
+/// Each worker claims the offers of its piece.
 fn claim_pieces<R: Threads + Sync, G: Gate>(
     rt: &R,
     alloc: Global,
@@ -114,7 +115,7 @@ fn claim_pieces<R: Threads + Sync, G: Gate>(
     )
 }
 
-// Claims the offers of one piece.
+/// Claims the offers of one piece.
 fn claim_piece(
     claims: &Claims,
     mut seat: ClaimSeat,
@@ -133,7 +134,7 @@ fn claim_piece(
     seat
 }
 
-// The seat takes the other seats' steps.
+/// The seat takes the other seats' steps.
 fn join_all(claims: &Claims, seat: &mut ClaimSeat, others: Vec<ClaimSeat>)
     requires seat { SitsAt claims.now seat.old }
     requires others { All (SitsAt claims.now) others.items }

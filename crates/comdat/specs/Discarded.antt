@@ -19,7 +19,7 @@ abbrev pub comdat_of : (bytes : List ℕ) (f : ℕ) → GroupView → List Comda
 comdat_of bytes f g = if g.comdat
     then record { file = f; section = g.section; signature = text_of bytes g.signature; members = g.members } ∷ [] else []
 
--- those of file f if it takes part, and those of all files, in order of file and section
+-- the COMDAT groups of file f if it takes part, and of all files, in order of file and section
 unfoldable pub comdats_in : File → ℕ → List Comdat
 comdats_in file f = if file.live then flat_map (comdat_of file.bytes f) file.object.groups else []
 

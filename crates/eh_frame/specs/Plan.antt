@@ -37,7 +37,7 @@ same_reloc r q = r.offset == q.offset && (r.kind == q.kind && (same_target r.tar
 unfoldable pub same_cie : CieKey → CieKey → Bool
 same_cie c d = bytes_eq c.bytes d.bytes && pointwise same_reloc c.relocs d.relocs
 
--- the same as numbers: a target, a relocation
+-- what decides whether CIEs are one, as numbers: of a target, and of a relocation
 abbrev pub target_words : Option Target → List ℕ
 target_words None = 0 ∷ 0 ∷ 0 ∷ 0 ∷ 0 ∷ 0 ∷ []
 target_words (Some (targets.Section section offset rest)) = 1 ∷ section ∷ offset ∷ 0 ∷ signed_words rest
@@ -68,7 +68,7 @@ pub record IsTextOf (c : CieKey) (text : List ℕ) : Type 0 where
   pub text_is : text ≡ cie_text c
   pub fit : IsFit c
 
--- a section's own bytes are written: it leads itself, or it is merged, and they stand in a pool
+-- a section's own bytes are written: it is its own leader, or it is merged, and they stand in a pool
 abbrev pub is_in_place : (leaders : List (Option ℕ)) → (merged : List (Option Merged)) → (section : ℕ) → Bool
 is_in_place leaders merged a = leads leaders a || is_merged merged a
 

@@ -15,6 +15,6 @@ module _ (files : List File) (b : Bindings) (leaders : List (Option ℕ)) (laid 
   abbrev pub fde_at : ℕ → List ℕ
   fde_at k = fde_bytes files b leaders laid lists start (slice_index (map (λ (c : Placed). c.at) cies) (slice_index uses k)) (slice_index_or fdes k no_placed)
 
-  -- the same, and before the first those of the CIEs
+  -- the bytes of FDE k, and before the first those of the CIEs
   abbrev pub bytes_at : ℕ → List ℕ
   bytes_at k = (if k == 0 then flat_map (cie_bytes files b leaders laid lists start) cies else []) ++ fde_at k

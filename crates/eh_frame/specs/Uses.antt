@@ -55,7 +55,7 @@ pub record AreUses (key : FrameNo → CieKey) (cie_of : FrameNo → FrameNo) (fd
   pub uses_are : found.uses.items ≡ map (λ (fde : FrameNo). use_of key (cies_for key cie_of fdes) (cie_of fde)) fdes
   pub held : AreHeld key (cies_for key cie_of fdes) found.firsts
 
--- the same within a section
+-- these FDEs were found, and these numbers are known of the CIEs of a section
 pub record AreUsesIn (key : FrameNo → CieKey) (cie_of : FrameNo → FrameNo) (fdes : List FrameNo) (section : ℕ) (known : List (Option ℕ)) (found : Uses) : Type 0 where
   pub uses : AreUses key cie_of fdes found
   pub are_known : AreKnown key (cies_for key cie_of fdes) section known

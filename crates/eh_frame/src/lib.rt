@@ -9,7 +9,7 @@
 //! `checking` what is wrong with these values, `relocating` does the relocations of a record, `contents` and `header` give the bytes, and
 //! `standing` says what of all this stands in them.
 //!
-//! The records of a file are read by the worker that reads its body (`records` of link_driver). `checking` and `strays` find the first that
+//! The records of a file are read by the worker that reads its body (`records` of link_passes). `checking` and `strays` find the first that
 //! is broken; the lists of all files come in order of section number, since workers read runs of files. Once names are bound, workers find
 //! which section each record's function is in, and one walk notes each FDE under that (`owners`). Whoever follows the relocations of a
 //! section (`sec_graph`) follows those of its FDEs and their CIEs too. Once leaders are known, one walk takes the FDEs of leaders, whose

@@ -272,7 +272,7 @@ fn used_cie(
     unwind_record.cie
 }
 
-/// Whether a section's own bytes are written: it leads itself, or it is merged, and they stand in a pool.
+/// Whether a section's own bytes are written: it is its own leader, or it is merged, and they stand in a pool.
 fn is_in_place(pools: &Pools, leaders: &[Option<SecNo>], section: SecNo) -> bool
     ensures { result ≡ spec.is_in_place leaders.now (merged_views pools.now) section }
 {

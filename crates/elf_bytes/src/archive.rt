@@ -41,7 +41,7 @@ fn push_field(out: &mut Vec<u8>, text: &[u8], width: usize) -> Result<(), AllocE
     Ok(())
 }
 
-/// Adds a header and the data behind it, up to an even size.
+/// Adds a header and the data after it, up to an even size.
 fn push_data(alloc: Global, out: &mut Vec<u8>, name: &[u8], data: &[u8]) -> Result<(), AllocError> {
     push_field(out, name, 16)?;
     push_field(out, b"0", 12)?;

@@ -2,7 +2,7 @@
 //! `archive` those of an archive from its members, and `image` those of an executable.
 #![tactic(auto)]
 
-/// Numbers, each behind its width in bytes.
+/// Numbers, each after its width in bytes.
 macro_rules! numbers {
     ($($width:literal => $number:expr);+ $(;)?) => {
         [$(($number, $width)),+]

@@ -1,5 +1,5 @@
 //! Objects and executables as rows: each macro writes the value of one struct, its usual fields by their order and the others by name. After
-//! `BASE =>` stand the fields in which a value differs from another. What stands behind a `;` keeps its lines, so a row stays on one.
+//! `BASE =>` stand the fields in which a value differs from another. What stands after a `;` keeps its lines, so a row stays on one.
 
 /// A struct of this name: all its fields, or those in which it differs from another.
 #[macro_export]
@@ -75,7 +75,7 @@ macro_rules! object {
     };
 }
 
-/// An executable: the fields in which it differs from another; or all fields, behind a `;`.
+/// An executable: the fields in which it differs from another; or all fields, after a `;`.
 #[macro_export]
 macro_rules! image {
     (; $($field:ident: $value:expr),+) => {

@@ -53,7 +53,7 @@ module _ (v : View) (frames : FrameContents) (tables : Option SymbolTables) wher
       (relocated_pieces (files_in v) (binding_in v) (leaders_in v) (laid_in v)) (end_pieces (laid_in v) tables)
       (laid_up v from above le) (ends_up (laid_in v) tables)
 
-  -- what stands behind the file header
+  -- what stands after the file header
   pub pieces_stand : PiecesStand (files_in v) (binding_in v) (leaders_in v) (laid_in v) tables file
   unfolding file_with pieces_with
   pieces_stand =
@@ -64,7 +64,7 @@ module _ (v : View) (frames : FrameContents) (tables : Option SymbolTables) wher
   file_long : (laid_in v).bounds.file_end - IMAGE_BASE ≤ file_length (laid_in v) tables
   file_long = up_within ((laid_in v).bounds.file_end - IMAGE_BASE) (file_length (laid_in v) tables) (end_pieces (laid_in v) tables) (ends_up (laid_in v) tables)
 
-  -- a piece of the unwind records has no byte in common with those behind
+  -- a piece of the unwind records has no byte in common with those after it
   away_behind : (p : Piece) → (laid_in v).bounds.frame_header - IMAGE_BASE ≤ p.at → p.at + length p.bytes ≤ (laid_in v).bounds.frames_end - IMAGE_BASE → All (IsAway p) behind
   unfolding relocated_pieces
   away_behind p start end =

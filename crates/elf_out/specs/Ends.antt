@@ -5,7 +5,7 @@ use Rattle.elf_out.specs.declared.ends.Ends.{Ends}
 use Rattle.elf_out.specs.Executable.{names_bytes, names_offset, symbols_offset, table_offset, file_length}
 use Rattle.elf_out.specs.Symbols.{SymbolTables}
 
--- those of the layout's file, in order; 63 bits hold them
+-- where the tables at the file's end stand, in order; 63 bits hold them
 pub record AreEnds (laid : LaidOut) (tables : Option SymbolTables) (ends : Ends) : Type 0 where
   pub symbols_at : ends.symbols_at ≡ symbols_offset laid tables
   pub names_at : ends.names_at ≡ names_offset laid tables

@@ -150,7 +150,7 @@ abbrev pub output_headers : (name : ℕ) → List OutputSection → List ℕ
 output_headers name [] = []
 output_headers name (s ∷ ss) = section_header (output_section name s) ++ output_headers (name + length s.name + 1) ss
 
--- those of the symbol table, which stands at the file offset `at`, and of its names: their own names start at `name`, the second of them has
+-- the section headers of the symbol table, which stands at the file offset `at`, and of its names: their own names start at `name`, the second of them has
 -- the number `strings`
 abbrev pub table_headers : (name at strings : ℕ) → Option SymbolTables → List ℕ
 table_headers name at strings None = []

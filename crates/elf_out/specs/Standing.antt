@@ -53,7 +53,7 @@ module _ (files : List File) (b : Bindings) (leaders : List (Option ℕ)) (laid 
   StandsWhole file n =
       take (length (section_bytes files b leaders laid n)) (drop (start_at laid n - IMAGE_BASE) file) ≡ section_bytes files b leaders laid n
 
-  -- those of each section that leads itself and has bytes in its file: none is left out
+  -- each section that is its own leader and has bytes in its file stands whole: none is left out
   abbrev pub SectionsStand : (file : List ℕ) → Type 0
   SectionsStand file = (n : ℕ) → n < section_total files → leads leaders n ≡ true → has_bits files b leaders laid n ≡ true
       → 0 < (input_at files b n).size → StandsWhole file n

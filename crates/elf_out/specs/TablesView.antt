@@ -17,7 +17,7 @@ tables_if t = option_map tables_view t
 abbrev pub frame_contents : FrameBytes → FrameContents
 frame_contents f = record { header = f.header.items; frame = f.frame.items }
 
--- those of a view
+-- the symbol table and its names, by a view
 abbrev pub tables_in : View → Option SymbolTables
 tables_in view = own_tables (files_in view) (binding_in view) view.kept.now view.strip (leaders_in view) (laid_in view)
 

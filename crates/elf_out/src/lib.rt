@@ -2,7 +2,7 @@
 //! header and the program headers, the unwind records and the sections at their places with their relocations done, and after them the symbol
 //! table, the names of the sections and the section headers. The executable is written block by block, each block by itself.
 //!
-//! Workers test all relocations of kept sections, and beside them the symbol table and the headers are made (`prepare`; `prepare_unchecked` makes them
+//! Workers test all relocations of written sections, and beside them the symbol table and the headers are made (`prepare`; `prepare_unchecked` makes them
 //! without a test, and each `block` then tests the relocations that touch it). From then on no memory is taken: each block of 65,536 bytes is
 //! made by itself, where it is wanted, and the whole file is nowhere. A window of some blocks is filled by as many workers. A relocation whose
 //! field reaches over the end of a block is done in both, of which each keeps its own bytes. Of pools and of the global offset table what

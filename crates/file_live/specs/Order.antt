@@ -1,4 +1,4 @@
--- The same files in another order, in which members come one after another as before: objects of the command were moved among its archives.
+-- Files in another order, in which members come one after another as before: objects of the command were moved among its archives.
 use Rattle.std.specs.Prelude.{◌≡◌, ℕ, ◌<◌, ◌≤◌, true, false, List, length, slice_index_or}
 use Rattle.lk_tables.specs.Files.{File, file_at}
 use Rattle.file_live.specs.Live.{live_of}

@@ -9,6 +9,8 @@
 //! An archive may stand anywhere among the objects: `order` says so.
 //!
 //! Without an archive all files take part, and nothing is listed. `asked` finds the members that the names of the command ask for.
+//!
+//! `claims` has the offers as claims, `pulls` says which members a file pulls, `search` follows the pulls, and `live_files` does all of it in order.
 #![tactic(auto)]
 
 mod asked;

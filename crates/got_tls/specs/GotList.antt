@@ -1,5 +1,5 @@
 -- Which entries the linker's global offset table has (RISC-V ELF psABI, "Global Offset Table"): one for each symbol and use for which
--- relocations ask of sections that lead themselves, in order of the first of these, and the words of each behind those of the one before.
+-- relocations ask of sections that are their own leaders, in order of the first of these, and the words of each after those of the one before.
 use Rattle.std.specs.Prelude.{ℕ, ◌+◌, Bool, Option, Some, None, if◌then◌else◌, List, [], ◌∷◌, flat_map}
 use Rattle.std.specs.List.{range_with_len}
 use Rattle.lk_tables.specs.declared.objects.Reloc.{Reloc}
@@ -33,11 +33,11 @@ wanted_use files f r (Some usage) = record { key = key_of files f r.symbol; usag
 unfoldable pub wanted_by : List File → (f : ℕ) → Reloc → List Wanted
 wanted_by files f r = wanted_use files f r (use_of r.kind)
 
--- those of section n, if it leads itself
+-- what the relocations of section n ask for, if it is its own leader
 unfoldable pub wanted_in : List File → (leaders : List (Option ℕ)) → (n : ℕ) → List Wanted
 wanted_in files leaders n = if leads leaders n then flat_map (wanted_by files (place_of files n).file) (relocs_of files n) else []
 
--- those of all sections, in order of section number
+-- what those of all sections ask for, in order of section number
 unfoldable pub wanted : List File → (leaders : List (Option ℕ)) → List Wanted
 wanted files leaders = flat_map (wanted_in files leaders) (range_with_len 0 (section_total files))
 
@@ -50,7 +50,7 @@ numbered word (w ∷ ws) = record { key = w.key; usage = w.usage; file = w.file;
 unfoldable pub got_of : List File → (leaders : List (Option ℕ)) → List GotEntry
 got_of files leaders = numbered 0 (distinct same_wanted no_wanted (wanted files leaders))
 
--- the same one at a time
+-- the entries by uses added one at a time
 abbrev pub all_added : List GotEntry → List Wanted → List GotEntry
 all_added entries [] = entries
 all_added entries (w ∷ ws) = all_added (with_use entries w.key w.usage w.file w.symbol) ws

@@ -15,7 +15,7 @@ use lk_base::{FileNo, SecNo};
 use lk_tables::{NameNumbers, Reloc, Tables, Uppers};
 use std::alloc::{AllocError, Global};
 
-/// The linker's global offset table: an entry for each symbol and use for which a relocation asks of a section that leads itself, in order
+/// The linker's global offset table: an entry for each symbol and use for which a relocation asks of a section that is its own leader, in order
 /// of the first such relocation, by section number and then by the section's stable order of offset. A local symbol has entries of its own;
 /// others share those of their name. `leaders` are by section number. What goes by the table is an upper part, so a section that has none among
 /// `uppers` is not read. The only error is out of memory.
@@ -39,7 +39,7 @@ pub fn entries(
     Ok(got)
 }
 
-/// Adds what the relocations of a section ask for, if it leads itself and has an upper part.
+/// Adds what the relocations of a section ask for, if it is its own leader and has an upper part.
 fn add_by_uppers(
     got: &mut Got,
     tables: &Tables,
@@ -78,7 +78,7 @@ fn first_at(uppers: &Uppers, section: usize) -> usize
     }
 }
 
-/// Adds what the relocations of a section ask for, if it leads itself.
+/// Adds what the relocations of a section ask for, if it is its own leader.
 #[tactic(auto, unfolding(crate::specs::GotList::wanted_in))]
 fn add_section(
     got: &mut Got,

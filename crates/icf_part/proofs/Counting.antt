@@ -127,7 +127,7 @@ pub not_any : (b : Bool) → (b ≡ true → ⊥) → not b ≡ true
 not_any true no_one = absurd (no_one refl)
 not_any false no_one = refl
 
--- items that lead themselves are those of whose class there is none before
+-- items that are their own leaders are those of whose class there is none before
 pub news_lead : (n : ℕ) (alike : ℕ → ℕ → Bool) (c : List ℕ) → AreFirsts n c → ((b a : ℕ) → b < n → a < n → alike b a ≡ true → get_or c b 0 ≡ get_or c a 0) →
     ((b a : ℕ) → b < n → a < n → get_or c b 0 ≡ get_or c a 0 → alike b a ≡ true) → how_many (is_new alike) n ≡ leader_count c
 news_lead n alike c firsts tells says =

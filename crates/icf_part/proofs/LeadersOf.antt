@@ -100,7 +100,7 @@ leaders_at_most items leaders are a = elim (cases_lt a (length leaders)) [
   | inr le ↦ omega (arith, get_or_past leaders a 0 le)
 ]
 
--- and leads itself
+-- and is its own leader
 pub leaders_own : (items : List FoldItem) (leaders : List ℕ) → AreLeaders items leaders → HoldsAll items leaders → (a : ℕ) → get_or leaders (get_or leaders a 0) 0 ≡ get_or leaders a 0
 leaders_own items leaders are holds a = elim (cases_lt a (length leaders)) [
   | inl lt ↦

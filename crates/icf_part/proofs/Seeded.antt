@@ -39,7 +39,7 @@ longer_one waits queue class lt = record {
       (Contains-append_cases queue (class ∷ []) label q);
 }
 
--- what is told of one item's first places
+-- what is known of one item's first places
 abbrev pub Told : (classes own first : List ℕ) → (count : ℕ) → (waits : List Bool) → Type 0
 Told classes own first count waits =
     (k : ℕ) → k < count → (get_or classes (get_or own k 0) 0 ≡ get_or classes (get_or first k 0) 0) ⊎ Waits waits (get_or classes (get_or own k 0) 0)
@@ -60,7 +60,7 @@ told_next classes own first k w q w2 q2 class other longer told is_class is_othe
     last)
     (cases_lt j k)
 
--- what is told of the items before one
+-- what is known of the items before one
 pub record AreWaitingUpto (ends : List (List ℕ)) (labels : List ℕ) (n : ℕ) (waits : List Bool) (queue : List ℕ) : Type 0 where
   pub count : length waits ≡ length labels
   pub told : (a k : ℕ) → a < n → k < length (get_or ends a []) →

@@ -242,7 +242,7 @@ module _ (items some : List FoldItem) (sharers : AreSharers items some) (own : L
   pub sharers_lead : IsFolded items (leaders_of items)
   sharers_lead = all_lead items sharers.chosen sharers.among own folded_some
 
-  -- the sections of the others lead themselves, and those of the sharers have the leaders that these have
+  -- the sections of the others are their own leaders, and those of the sharers have the leaders that these have
   pub leaders_shared : IsStrictlyIncreasing (sections_of items) → (l : List (Option ℕ)) → folded_leaders some own (own_leading (map section_of items) l) ≡ folded_leaders items (leaders_of items) l
   leaders_shared order l =
       ap (λ s. folded_leaders s own (own_leading (map section_of items) l)) sharers.some_are ∙ sections_lead items sharers.chosen sharers.among own folded_some order l

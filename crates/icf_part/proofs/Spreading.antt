@@ -1,4 +1,4 @@
--- Some items are folded among themselves, and any other leads itself: so all of them are folded.
+-- Some items are folded among themselves, and any other is its own leader: so all of them are folded.
 use Rattle.std.proofs.Common.{◌≡◌, ◌≢◌, ◌⊎◌, ℕ, ◌+◌, ◌<◌, ◌≤◌, ◌==◌, All, Bool, true, false, true≢false, not, List, length, map, get_or, Option, Some, Contains, refl, sym, ap, ◌∙◌, subst, inl, inr, ⊎_elim, arith}
 use Rattle.std.specs.List.{filter, list_any, range_with_len}
 use Rattle.std.specs.List.Sorted.{IsStrictlyIncreasing}

@@ -1,4 +1,4 @@
--- Some of the items: those whose contents another item has. Any other is folded with none, and leads itself.
+-- Some of the items: those whose contents another item has. Any other is folded with none, and is its own leader.
 use Rattle.std.specs.Prelude.{◌≡◌, ◌≢◌, ℕ, ◌<◌, ◌==◌, ◌||◌, not, Bool, false, true, Option, Some, List, [], ◌∷◌, length, map, slice_index, slice_index_or, slice_set}
 use Rattle.std.specs.List.{filter, range_with_len}
 use Rattle.link_sections.specs.declared.fold_items.FoldItem.{FoldItem as LentItem}
@@ -45,12 +45,12 @@ pub record AreSharers (items some : List FoldItem) : Type 0 where
   pub among : AreChosen items chosen
   pub some_are : some ≡ items_at items chosen
 
--- sections that lead themselves, one after the other
+-- sections that are their own leaders, one after the other
 abbrev pub own_leading : (sections : List ℕ) → List (Option ℕ) → List (Option ℕ)
 own_leading [] leaders = leaders
 own_leading (n ∷ ns) leaders = own_leading ns (slice_set leaders n (Some n))
 
--- of n items the first k chosen ones have the leaders that these are among the chosen, and all others lead themselves
+-- of n items the first k chosen ones have the leaders that these are among the chosen, and all others are their own leaders
 pub record AreSpread (n : ℕ) (chosen : List ℕ) (k : ℕ) (leaders list : List ℕ) : Type 0 where
   pub wide : length list ≡ n
   pub each : (i : ℕ) → i < k → slice_index list (slice_index chosen i) ≡ slice_index chosen (slice_index leaders i)

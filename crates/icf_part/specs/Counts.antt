@@ -13,7 +13,7 @@ how_many test n = length (filter test (range_with_len 0 n))
 abbrev pub is_new : (same : ℕ → ℕ → Bool) → (a : ℕ) → Bool
 is_new same a = not (list_any (λ b. same b a) (range_with_len 0 a))
 
--- the classes of leaders: items that lead themselves
+-- the classes of leaders: items that are their own leaders
 abbrev pub leader_count : (leaders : List ℕ) → ℕ
 leader_count leaders = how_many (λ a. slice_index leaders a == a) (length leaders)
 

@@ -8,6 +8,6 @@ pub record IsPlaceTable (n : ℕ) (sections : List ℕ) (k : ℕ) (table : List 
   pub low : (section : ℕ) → slice_index table section ≤ k
   pub others : (section : ℕ) → 1 ≤ slice_index table section → slice_index sections (slice_index table section - 1) ≡ section
 
--- the place that a number of a table tells
+-- the place that a number of a table stands for: none for 0, else one less than the number
 unfoldable pub place_in_table : ℕ → Option ℕ
 place_in_table number = if number == 0 then None else Some (number - 1)

@@ -91,7 +91,7 @@ places sections i = flat_map (reloc_places sections) i.relocs
 unfoldable pub all_places : List FoldItem → List (List ℕ)
 all_places items = map (places (sections_of items)) items
 
--- those of the items from one on and before another
+-- the places to which the items from one on and before another lead
 abbrev pub places_from : (sections : List ℕ) → List FoldItem → (start end : ℕ) → List (List ℕ)
 places_from sections items start end = map (λ a. places sections (item_at items a)) (range_with_len start (end - start))
 

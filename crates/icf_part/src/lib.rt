@@ -6,12 +6,17 @@
 //! `refining` goes on until none waits, and `steps` counts how many classes became two. A label that some of its items leave keeps its list of
 //! members, which is cleared of them in its turn: a list is read in that way once for each time that it was made.
 //!
-//! An item whose contents no other has leads itself, and no more of it is compared. The others are put into classes. At first a class has
+//! An item whose contents no other has is its own leader, and no more of it is compared. The others are put into classes. At first a class has
 //! the items of one shape: equal bytes, headers and relocations, where a relocation that stands for another of them counts by its offset and
 //! rest alone. Then classes take turns, those first to which items of one class lead in
 //! part: in its turn a class splits each class of which some items lead to it in one place of their relocations and some do not. Of the
 //! two that come of a split one waits for its turn, until none waits. No two items that some congruence pairs are ever split, and the
 //! classes that stay are a congruence, so they are the greatest one. At the end a class's number is the place of its first item.
+//!
+//! `keys` has what must be equal of two items, whatever is folded, and `rests` what is compared of their targets. `places` says which items the
+//! targets of an item are, by a table (`place_table`), and `incoming` which items lead to each. `parts` cuts the items into runs and joins the rows
+//! that workers make of them, `words` writes a row as bytes, and `numbering` numbers them. `classes`, `walks` and `relabel` have the classes by
+//! labels, `runs` finds the runs of a sorted list, and `folding` gives the leaders.
 #![tactic(auto)]
 
 mod classes;

@@ -88,7 +88,7 @@ fn number_at(numbers: &[u32], place: usize) -> u32
     }
 }
 
-/// The place that a number of a table tells.
+/// The place that a number of a table stands for: none for 0, else one less than the number.
 #[tactic(auto, unfolding(crate::specs::PlaceTables::place_in_table))]
 fn place_of_entry(number: u32) -> Option<u32>
     ensures { result ≡ place_in_table number }

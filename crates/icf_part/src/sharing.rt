@@ -1,4 +1,4 @@
-//! Items whose contents another has, the only ones that are compared further: any other leads itself.
+//! Items whose contents another has, the only ones that are compared further: any other is its own leader.
 
 ghost use Rattle.std.specs.Prelude.{◌≡◌, ℕ, ◌<◌, ◌^◌, All, if◌then◌else◌, length, map, slice_index, slice_index_or, slice_set, true, false, Some, IfOk};
 ghost use Rattle.std.specs.List.{filter, range_with_len};
@@ -34,7 +34,7 @@ pub fn shared_texts<'a, R: Threads + Sync, G: Gate>(
     Ok(list)
 }
 
-/// Has each of some sections lead itself, if it has a number in the list. Takes no memory.
+/// Makes each of some sections its own leader, if it has a number in the list. Takes no memory.
 pub fn lead_themselves(leaders: &mut Vec<Option<SecNo>>, sections: &[SecNo])
     ensures { leaders.new.items ≡ spec.own_leading sections.now leaders.old.items }
 {
@@ -43,7 +43,7 @@ pub fn lead_themselves(leaders: &mut Vec<Option<SecNo>>, sections: &[SecNo])
     }
 }
 
-/// Has a section lead itself.
+/// Makes a section its own leader.
 fn lead_itself(leaders: &mut Vec<Option<SecNo>>, section: SecNo)
     ensures { leaders.new.items ≡ slice_set leaders.old.items section (Some section) }
 {

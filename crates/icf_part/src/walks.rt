@@ -36,7 +36,7 @@ fn firsts_by(alloc: Global, labels: &[u32], count: usize) -> Result<Vec<u32>, Al
     Ok(firsts)
 }
 
-/// How many items lead themselves.
+/// How many items are their own leaders.
 #[tactic(auto, unfolding(crate::specs::Counts::how_many))]
 pub fn count_leaders(leaders: &[u32]) -> usize
     ensures { result ≡ leader_count leaders.now }

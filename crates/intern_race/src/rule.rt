@@ -1,4 +1,5 @@
-// What a seat knows, as plain data that exists in proofs alone, and the rule that each step keeps.
+//! What a seat knows, as plain data that exists in proofs alone, and the rule that each step keeps.
+
 use crate::texts::Texts;
 use atomic_table::{Join, Play, Split, TableRule};
 use std::collections::LinkedList;
@@ -49,7 +50,7 @@ impl<'a> TableRule<(), View, Key<'a>> for Held {
     ghost first = { λ key. founder key.texts.now };
 }
 
-// A load tells what it found.
+// What a load found.
 pub struct Looking;
 
 impl Play<(), View> for Looking {
@@ -58,7 +59,7 @@ impl Play<(), View> for Looking {
     ghost then = { λ step before found after. TellsLoad step before found after };
 }
 
-// A try to fill a slot tells what it found.
+// What a try to fill a slot found.
 pub struct Filling;
 
 impl Play<(), View> for Filling {
@@ -67,7 +68,7 @@ impl Play<(), View> for Filling {
     ghost then = { λ step before found after. TellsTry step before found after };
 }
 
-// An offer of a number tells what it found.
+// What an offer of a number found.
 pub struct Lowering;
 
 impl Play<(), View> for Lowering {
@@ -76,7 +77,7 @@ impl Play<(), View> for Lowering {
     ghost then = { λ step before found after. TellsLower step before found after };
 }
 
-// A load that leaves the view, and tells that what the seat knows was so at one moment.
+// A load that leaves the view, and shows that what the seat knows was so at one moment.
 pub struct Learning;
 
 impl Play<(), View> for Learning {

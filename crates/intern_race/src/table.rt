@@ -1,4 +1,5 @@
-// The table of slots and the seats at it.
+//! The table of slots and the seats at it.
+
 ghost use Rattle.std.specs.Prelude.{◌≡◌, ◌≢◌, ◌+◌, ◌%◌, ◌<◌, ◌≤◌, ◌^◌, ◌==◌, ◌&&◌, [], ◌∷◌, ◌++◌, List, ℕ, length, nat_lt, not, replicate, slice_index, true, vec_capacity, Contains, IfOk, IfErr};
 ghost use mathlib.Core.Logic.{◌↔◌};
 ghost use Rattle.std.specs.Str.{bytes_eq};

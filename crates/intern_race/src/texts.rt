@@ -190,7 +190,7 @@ fn text_in_rows<'a>(rows: &[Row<'a>], notes: &[usize], i: usize) -> &'a [u8]
     text_of_row(rows, r, i)
 }
 
-// The same, if it stands in this row.
+// Text `i` of the rows, which stands in row `r`.
 fn text_of_row<'a>(rows: &[Row<'a>], r: usize, i: usize) -> &'a [u8]
     requires rows { AreCounted rows.now }
     requires row { IsRowOf rows.now i r }

@@ -1,4 +1,4 @@
--- Each section that leads itself, each pool and the table starts at a multiple of its alignment, whether its output section has bytes or not.
+-- Each section that is its own leader, each pool and the table starts at a multiple of its alignment, whether its output section has bytes or not.
 use Rattle.std.proofs.Common.{◌≡◌, ℕ, ◌+◌, ◌%◌, ◌<◌, ◌≤◌, Bool, true, false, if◌then◌else◌, max, Option, List, [], ◌∷◌, get_or, length, All, refl, ap, sym, ◌∙◌, subst, arith, inl, inr, count_ones}
 use Rattle.std.specs.Int.{is_power_of_two}
 use Rattle.std.specs.Int.Count.{ones_step}

@@ -1,4 +1,4 @@
--- Each section that leads itself, each pool and the table is held by an output section of the layout.
+-- Each section that is its own leader, each pool and the table is held by an output section of the layout.
 use Rattle.std.proofs.Common.{◌≡◌, ℕ, zero, suc, ◌+◌, ◌*◌, ◌^◌, ◌<◌, ◌≤◌, ◌==◌, ◌&&◌, ◌||◌, Bool, true, false, if◌then◌else◌, Option, Some, List, [], ◌∷◌, ◌++◌, flat_map, get_or, length, All, refl, ap, sym, ◌∙◌, subst, append-nil, codes, arith}
 use Rattle.std.specs.Prelude.{slice_get}
 use Rattle.std.specs.List.{list_any, range_with_len}

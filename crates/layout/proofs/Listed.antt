@@ -1,4 +1,4 @@
--- Each section that leads itself and has bytes in its file is a member, and so are the pools and the table that have bytes.
+-- Each section that is its own leader and has bytes in its file is a member, and so are the pools and the table that have bytes.
 use Rattle.std.proofs.Common.{◌≡◌, ◌≢◌, ℕ, zero, suc, ◌+◌, ◌<◌, ◌==◌, ◌&&◌, ◌||◌, not, Bool, true, false, if◌then◌else◌, Option, List, [], ◌∷◌, ◌++◌, flat_map, get_or, length, refl, ap, ◌∙◌, subst, arith}
 use Rattle.std.specs.List.{list_any, range_with_len}
 use Rattle.std.proofs.lemmas.Bool.{and_from, and_parts, eq-eqb, ne_eqb}
@@ -86,7 +86,7 @@ module _ (files : List File) (b : Bindings) (pools : List Pool) (words : ℕ) (l
       any_here test (flat_map (items_at files b pools leaders) (range_with_len 0 (section_total files))) (got_item words ∷ [])
       (flat_listed test (items_at files b pools leaders) 0 (section_total files) n lt (subst (λ m. list_any test (items_at files b pools leaders m) ≡ true) e is))
 
-  -- the item of a section that leads itself, of a pool, and of the table
+  -- the item of a section that is its own leader, of a pool, and of the table
   pub section_listed : (n : ℕ) → n < section_total files → leads leaders n ≡ true → test (section_item n (input_at files b n)) ≡ true
       → list_any test (items files b pools words leaders) ≡ true
   unfolding items_at own_item

@@ -63,7 +63,7 @@ module _ (P : Row → Type 0) (Q : Member → Type 0) (sizes : List (List Cut)) 
       All-append Q _ _ (each_of (cursor_at b.headers_end) (rows_in o R) (all R)) (All-append Q _ _ (each_of (cursor_at b.rx_start) (rows_in o Rx) (all Rx))
       (All-append Q _ _ (each_of (tls_cursor sizes o b.rw_start b.tls_align) (rows_in o TlsBits) (all TlsBits)) (each_of (cursor_at b.tls_bits_end) (rows_in o RwBits) (all RwBits))))
 
--- a member that is a section leads itself, and has the bytes of that section that stay where it stands; a pool and the table have all of theirs
+-- a member that is a section is its own leader, and has the bytes of that section that stay where it stands; a pool and the table have all of theirs
 pub record IsMade (files : List File) (b : Bindings) (pools : List Pool) (words : ℕ) (leaders : List (Option ℕ)) (sizes : List (List Cut)) (m : Member) : Type 0 where
   pub leads_is : (n : ℕ) → m.content ≡ Section n → leads leaders n ≡ true
   pub sized : (n : ℕ) → m.content ≡ Section n → m.size ≡ new_offset (laid_cuts m.start (get_or sizes n [])) (input_at files b n).size

@@ -163,7 +163,7 @@ found_all sizes o b s it room once =
     part_all (λ (m : Member). m.content ≡ it → stand_at it (all_put (all_stands sizes o b) s) ≡ m.start) sizes o b
     (λ k d lt same. found_at it (all_stands sizes o b) s k d lt same once room)
 
--- each section that leads itself and has bytes in its file is one of these members
+-- each section that is its own leader and has bytes in its file is one of these members
 abbrev pub AreListed : List File → Bindings → List (Option ℕ) → List Member → Type 0
 AreListed files b leaders members = (n : ℕ) → n < section_total files → leads leaders n ≡ true → (input_at files b n).sh_type ≢ SHT_NOBITS
     → 0 < (input_at files b n).size → is_listed n members ≡ true

@@ -27,7 +27,7 @@ pub record IsHeld (outputs : List OutputSection) (item : Item) (start size : ℕ
   pub there : 0 < item.size → (o : OutputSection) × ((find (takes item) outputs ≡ Some o) × (0 < o.count))
   pub within : (o : OutputSection) → find (takes item) outputs ≡ Some o → 0 < o.count → Holds start size o
 
--- the sections that lead themselves, with the bytes of them that stay; the pools; and the linker's table
+-- the sections that are their own leaders, with the bytes of them that stay; the pools; and the linker's table
 pub record AreHeld (files : List File) (b : Bindings) (pools : List Pool) (got_words : ℕ) (leaders : List (Option ℕ)) (laid : LaidOut) : Type 0 where
   pub sections : (n : ℕ) → n < section_total files → leads leaders n ≡ true
       → IsHeld laid.outputs (section_item n (input_at files b n)) (start_at laid n) (new_offset (cuts_at laid n) (input_at files b n).size)

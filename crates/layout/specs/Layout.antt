@@ -293,7 +293,7 @@ no_trail sections pools = record {
   stands = record { starts = replicate sections 0; pools = replicate pools 0; got = 0 };
 }
 
--- the cuts of each section that leads itself, by section number, once the sections stand at `starts`
+-- the cuts of each section that is its own leader, by section number, once the sections stand at `starts`
 unfoldable pub cuts_of : (leaders : List (Option ℕ)) → (sizes : List (List Cut)) → (starts : List ℕ) → (section : ℕ) → List Cut
 cuts_of leaders sizes starts section = if leads leaders section then laid_cuts (slice_index starts section) (slice_index_or sizes section []) else []
 

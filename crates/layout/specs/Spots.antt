@@ -33,8 +33,8 @@ pub record AreRising (b : Bounds) : Type 0 where
   pub room : b.nobits_end + 2 ^ 31 < 2 ^ 63
   pub tls_room : b.tls_end + 2 ^ 31 < 2 ^ 63
 
--- the headers, and the segments that have bytes: each ends within the file, and with its zeros within the image; the thread-local one
--- starts at a multiple of its alignment
+-- the headers, and the segments that have bytes: each ends within the file, and with its nobits members within the image; the
+-- thread-local one starts at a multiple of its alignment
 pub record HaveSegments (b : Bounds) : Type 0 where
   pub headers : b.headers ≡ 2 + count_of b.has_rx + count_of b.has_rw + count_of b.has_tls + count_of b.has_frames
   pub headers_end : b.headers_end ≡ IMAGE_BASE + (EHDR_SIZE + PHDR_SIZE * b.headers)
@@ -108,7 +108,8 @@ abbrev pub AreInOrder : ℕ → List Member → Type 0
 AreInOrder from [] = Unit {0}
 AreInOrder from (m ∷ ms) = (from ≤ m.start) × AreInOrder (m.start + m.size) ms
 
--- the members without bytes in the file: those that are thread-local, one after the other in their class, and then the others in theirs
+-- the members without bytes in the file are two runs, each one after the other: one from the end of the thread-local bytes of the file on, and one from the
+-- end of the other bytes on
 pub record HaveNobits (laid : LaidOut) : Type 0 where
   pub threads : List Member
   pub others : List Member
@@ -123,7 +124,7 @@ pub record HaveAlignments (files : List File) (b : Bindings) (laid : LaidOut) : 
   pub members : All (λ m. (n : ℕ) → m.content ≡ Section n → m.start % (input_at files b n).align ≡ 0) laid.members
   pub nobits_members : All (λ m. (n : ℕ) → m.content ≡ Section n → m.start % (input_at files b n).align ≡ 0) laid.nobits_members
 
--- each section that leads itself starts at a multiple of its alignment, each pool at one of its first section's, and the table of words of eight
+-- each section that is its own leader starts at a multiple of its alignment, each pool at one of its first section's, and the table of words of eight
 -- bytes at one of 8; whether their output sections have bytes or not
 pub record StartAligned (files : List File) (b : Bindings) (pools : List Pool) (leaders : List (Option ℕ)) (laid : LaidOut) : Type 0 where
   pub sections : (n : ℕ) → n < section_total files → leads leaders n ≡ true → start_at laid n % (input_at files b n).align ≡ 0

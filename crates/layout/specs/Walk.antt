@@ -156,7 +156,7 @@ module _ (sizes : List (List Cut)) where
   unfoldable pub place_in : List Item → Class → Cursor → List Row → OutputPlace
   place_in items class c rows = place_of items class rows (start_of c rows) (if is_empty rows then start_of c rows else past sizes (start_of c rows) rows)
 
-  -- the same of the output sections of a class one after the other, and the cursor after them
+  -- the members, the output sections and the places of a class, one output section after the other, and the cursor after them
   abbrev pub stands_along : Cursor → List (List Row) → List Member
   stands_along c [] = []
   stands_along c (o ∷ os) = stands_in c o ++ stands_along (after c o) os

@@ -20,7 +20,7 @@ use lk_base::{LinkStop, SecNo};
 use lk_tables::Tables;
 use std::alloc::Global;
 
-/// By section number the cuts of each section that leads itself, once the sections stand at `starts`; none of the others. Refuses an
+/// By section number the cuts of each section that is its own leader, once the sections stand at `starts`; none of the others. Refuses an
 /// alignment that needs more bytes than it has, or half a nop: the first, in order of section and offset.
 pub fn lay_rows(
     alloc: Global,

@@ -38,7 +38,7 @@ use lk_tables::{Binding, Class, FramePlan, Tables};
 use output_sections::{OutputSections, Row};
 use std::alloc::{AllocError, Global};
 
-/// Lays out a link: the sections that lead themselves, the pools of merged pieces, and last the linker's global offset table; and where an FDE is
+/// Lays out a link: the sections that are their own leaders, the pools of merged pieces, and last the linker's global offset table; and where an FDE is
 /// written, `.eh_frame_hdr` and `.eh_frame` after all else that is only read. `sizes` has by section number where each section loses bytes: a
 /// call keeps what it has there, and what an alignment keeps is found here. Refuses an alignment that needs more bytes than it has, the first in
 /// order of section and offset; then a count of output sections above its limit; then an image that is not below its limit, however large the

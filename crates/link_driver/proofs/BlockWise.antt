@@ -86,7 +86,7 @@ window_added name bytes done k size files is =
     ap (λ xs. added_if_seen name xs (added_if_seen name (take done bytes) files)) (sym (take-take size size (drop (65536 * k) bytes) (omega arith)))
     ∙ block_added name bytes done k size size files is (omega arith)
 
--- a part of which some first bytes were added, behind what stands before it
+-- a part of which some first bytes were added, after what stands before it
 pub part_added : (name bytes : List ℕ) (done end : ℕ) (before now after : Option Files) → done ≤ end → end ≤ length bytes
     → now ≡ added_if_seen name (take done bytes) before
     → (n : ℕ) × (n < length (take (end - done) (drop done bytes))) × (after ≡ added_if_seen name (take n (take (end - done) (drop done bytes))) now)

@@ -1,14 +1,17 @@
 -- What the lines of the table say of the kinds of code: jumps and calls, upper and lower parts.
-use Rattle.std.proofs.Common.{◌≡◌, ℕ, ◌==◌, Bool, true, false, List, [], ◌∷◌, refl, subst, inl, inr, ℤ}
+use Rattle.std.proofs.Common.{◌≡◌, ℕ, ◌==◌, Bool, true, false, if◌then◌else◌, Some, None, List, [], ◌∷◌, refl, sym, subst, inl, inr, ℤ}
 use Rattle.std.proofs.lemmas.Bool.{eqb-true, or_cases}
 use Rattle.lk_base.specs.Formats.{i_format, plain, s_format, upper}
 use Rattle.lk_base.specs.RelocKinds.{far, is_among, is_lower, is_uleb, is_upper, kind_of}
 use Rattle.lk_base.specs.declared.abi.TheConstants.{R_RISCV_BRANCH, R_RISCV_CALL, R_RISCV_CALL_PLT, R_RISCV_GOT_HI20, R_RISCV_HI20, R_RISCV_JAL, R_RISCV_LO12_I, R_RISCV_LO12_S, R_RISCV_PCREL_HI20, R_RISCV_PCREL_LO12_I, R_RISCV_PCREL_LO12_S, R_RISCV_RVC_BRANCH, R_RISCV_RVC_JUMP, R_RISCV_TLS_GD_HI20, R_RISCV_TLS_GOT_HI20, R_RISCV_TPREL_HI20, R_RISCV_TPREL_LO12_I, R_RISCV_TPREL_LO12_S}
 use Rattle.lk_base.specs.declared.relocations.Calculation.{Calculation}
 use Rattle.lk_base.specs.declared.relocations.Calculation.TheVariants.{Nothing, Hint, Padding, Address, Distance, Partner, GotDistance, ThreadOffset, Increase, Decrease}
+use Rattle.link_sections.specs.declared.got.GotUse.{GotUse}
+use Rattle.link_sections.specs.declared.got.GotUse.TheVariants as uses
 use Rattle.link_sections.specs.Calls.{is_call}
+use Rattle.link_sections.specs.GotEntries.{use_of}
 use Rattle.reloc_apply.specs.Values.{computed}
-use Rattle.link_driver.specs.Code.{lower_i_kinds, lower_s_kinds, upper_kinds}
+use Rattle.link_driver.specs.Code.{address_kinds, lower_i_kinds, lower_s_kinds, thread_kinds, upper_kinds}
 
 -- what holds of each of some numbers
 abbrev pub Each : (P : ℕ → Type 0) → List ℕ → Type 0
@@ -168,3 +171,55 @@ lower_i_is kind is = among_all IsLowerI lower_i_kinds kind is (pcrel_i, (absolut
 
 pub lower_s_is : (kind : ℕ) → is_among lower_s_kinds kind ≡ true → IsLowerS kind
 lower_s_is kind is = among_all IsLowerS lower_s_kinds kind is (pcrel_s, (absolute_s, (thread_s, tt)))
+
+-- what is computed for the two parts of an address and of an offset in thread-local storage, for the upper part of a distance, and for those that ask for
+-- an entry of the linker's table
+abbrev pub Computes : Calculation → (kind : ℕ) → Type 0
+Computes c kind = (kind_of kind).calculation ≡ c
+
+all_addresses : Each (Computes Address) (R_RISCV_HI20 ∷ R_RISCV_LO12_I ∷ R_RISCV_LO12_S ∷ [])
+unfolding kind_of
+all_addresses = (refl, (refl, (refl, tt)))
+
+pub address_is : (kind : ℕ) → is_among address_kinds kind ≡ true → Computes Address kind
+address_is kind is = among_all (Computes Address) address_kinds kind is all_addresses
+
+all_threads : Each (Computes ThreadOffset) (R_RISCV_TPREL_HI20 ∷ R_RISCV_TPREL_LO12_I ∷ R_RISCV_TPREL_LO12_S ∷ [])
+unfolding kind_of
+all_threads = (refl, (refl, (refl, tt)))
+
+pub thread_is : (kind : ℕ) → is_among thread_kinds kind ≡ true → Computes ThreadOffset kind
+thread_is kind is = among_all (Computes ThreadOffset) thread_kinds kind is all_threads
+
+pcrel_computes : Computes Distance R_RISCV_PCREL_HI20
+unfolding kind_of
+pcrel_computes = refl
+
+pub here_is : (kind : ℕ) → kind ≡ R_RISCV_PCREL_HI20 → Computes Distance kind
+here_is kind same = subst (Computes Distance) (sym same) pcrel_computes
+
+got_computes : Computes GotDistance R_RISCV_GOT_HI20
+unfolding kind_of
+got_computes = refl
+
+tls_got_computes : Computes GotDistance R_RISCV_TLS_GOT_HI20
+unfolding kind_of
+tls_got_computes = refl
+
+tls_gd_computes : Computes GotDistance R_RISCV_TLS_GD_HI20
+unfolding kind_of
+tls_gd_computes = refl
+
+pub asks_is : (kind : ℕ) (usage : GotUse) → use_of kind ≡ Some usage → Computes GotDistance kind
+unfolding use_of
+asks_is kind usage is = by (kind == R_RISCV_GOT_HI20) refl (kind == R_RISCV_TLS_GOT_HI20) refl (kind == R_RISCV_TLS_GD_HI20) refl is
+  where
+    same : (j : ℕ) → (kind == j) ≡ true → Computes GotDistance j → Computes GotDistance kind
+    same j is own = subst (Computes GotDistance) (sym (eqb-true kind j is)) own
+
+    by : (p : Bool) → (kind == R_RISCV_GOT_HI20) ≡ p → (q : Bool) → (kind == R_RISCV_TLS_GOT_HI20) ≡ q → (t : Bool) → (kind == R_RISCV_TLS_GD_HI20) ≡ t
+        → (if p then Some uses.Address else (if q then Some uses.ThreadOffset else (if t then Some uses.GeneralDynamic else None))) ≡ Some usage → Computes GotDistance kind
+    by true first q second t third is = same R_RISCV_GOT_HI20 first got_computes
+    by false first true second t third is = same R_RISCV_TLS_GOT_HI20 second tls_got_computes
+    by false first false second true third is = same R_RISCV_TLS_GD_HI20 third tls_gd_computes
+    by false first false second false third is = let none : ⊥ = cc in absurd none

@@ -1,6 +1,6 @@
 -- What code does at the places of relocations, in a link whose relocations can all be done.
 use Rattle.std.proofs.Common.{◌≡◌, ◌≢◌, ℕ, ◌+◌, ◌-◌, ◌<◌, ◌≤◌, ◌⊎◌, ◌==◌, ◌&&◌, not, Bool, true, false, if◌then◌else◌, Option, Some, None, List, [], ◌∷◌, length, take, drop, find, flat_map, get_or, slice_index, refl, sym, ap, ◌∙◌, subst, arith, inl, inr, ℤ, pos, ◌-ℤ◌}
-use Rattle.std.specs.Prelude.{is_some, option_and_then}
+use Rattle.std.specs.Prelude.{◌*◌, ◌+ℤ◌, is_some, option_and_then, option_map, unwrap_or}
 use Rattle.std.specs.Int.{to_le_bytes, w16, w32}
 use Rattle.std.specs.List.{range_with_len}
 use Rattle.std.proofs.lemmas.Bool.{and_parts, cases_lt, eq-eqb, eqb-true, false≢true}
@@ -10,12 +10,14 @@ use Rattle.std.proofs.lemmas.List.FromFn.{length-map-range_with_len}
 use Rattle.byteorder.specs.Endian.{little_number}
 use Rattle.lk_base.specs.Formats.{Field, i_format, plain, s_format, upper}
 use Rattle.lk_base.specs.Reaches.{Reach, Takes, misfit_of}
-use Rattle.lk_base.specs.RelocKinds.{far, is_among, is_lower, is_uleb, is_upper, kind_of}
+use Rattle.lk_base.specs.RelocKinds.{far, is_among, is_lower, is_partner, is_uleb, is_upper, kind_of}
 use Rattle.lk_base.specs.declared.abi.TheConstants.{R_RISCV_BRANCH, R_RISCV_CALL, R_RISCV_CALL_PLT, R_RISCV_JAL, R_RISCV_RVC_BRANCH, R_RISCV_RVC_JUMP, SHT_NOBITS}
 use Rattle.lk_base.specs.declared.defects.Defect.{Defect}
 use Rattle.lk_base.specs.declared.defects.Misfit.{Misfit}
 use Rattle.lk_base.specs.declared.defects.Misfit.TheVariants.{Odd, Range}
 use Rattle.lk_base.specs.declared.kinds.TheConstants as kinds
+use Rattle.lk_base.specs.declared.relocations.Calculation.{Calculation}
+use Rattle.lk_base.specs.declared.relocations.Calculation.TheVariants.{Address, Distance, GotDistance, ThreadOffset}
 use Rattle.lk_tables.specs.declared.objects.Reloc.{Reloc}
 use Rattle.lk_tables.specs.declared.section_places.SectionPlace.{SectionPlace}
 use Rattle.lk_tables.specs.declared.tables.Tables.{Tables}
@@ -23,16 +25,18 @@ use Rattle.lk_tables.specs.Binding.{Bindings}
 use Rattle.lk_tables.specs.Files.{File, file_at, no_reloc, section_at, section_total}
 use Rattle.lk_tables.specs.Sites.{contents_at, place_of as site_of, relocs_of}
 use Rattle.lk_tables.specs.TablesView.{files_of}
+use Rattle.link_sections.specs.declared.got.GotEntry.{GotEntry}
 use Rattle.link_sections.specs.declared.members.Content.{Content}
 use Rattle.link_sections.specs.declared.members.Content.TheVariants.{Section, Pool, Got}
 use Rattle.link_sections.specs.declared.members.Member.{Member}
 use Rattle.link_sections.specs.Calls.{acting_number, acting_kind, call_size, is_call, kind_by_size}
 use Rattle.link_sections.specs.Cuts.{Cut, new_offset}
+use Rattle.link_sections.specs.GotEntries.{key_of, use_of}
 use Rattle.link_sections.specs.InputSections.{input_at}
 use Rattle.link_sections.specs.LaidOut.{LaidOut, cuts_at}
 use Rattle.link_sections.specs.Leaders.{is_number, leads}
 use Rattle.link_sections.specs.Sound.{IsSound, is_section}
-use Rattle.rv_code.specs.Instructions.{IsJal, IsShortJump, nop_byte}
+use Rattle.rv_code.specs.Instructions.{AreNops, IsJal, IsShortJump, nop_byte, rd_of}
 use Rattle.rv_code.specs.Places.{HoldsValue, ReadsBack, number_of}
 use Rattle.rv_code.specs.Transfers.{Goes}
 use Rattle.rv_code.proofs.Going.{goes}
@@ -41,15 +45,15 @@ use Rattle.relax.proofs.Fitting.{call_kind, call_width, end_is, sound_of}
 use Rattle.reloc_apply.specs.Founds.{no_member}
 use Rattle.reloc_apply.specs.Relocated.{bytes_after, has_bits, is_laid, misfit_defects, operand, reach_in, reloc_defect, reloc_defects, relocation_defects, section_bytes, section_defects, staying_at, value_at, value_defects, width_at, written_in}
 use Rattle.reloc_apply.specs.Staying.{call_bytes, jal_word, kept_bytes, no_cut, nops, register_of, staying}
-use Rattle.reloc_apply.specs.Values.{computed, direct_value, entry_of, is_upper_at, label_in, partner_of, place_of, spot_in, sum_of, thread_of, value_of}
+use Rattle.reloc_apply.specs.Values.{computed, direct_value, entry_of, is_upper_at, label_in, partner_of, place_of, spot_in, sum_of, thread_of, value_of, word_at, word_for}
 use Rattle.reloc_apply.proofs.BytesAfter.{AllFit, after_none, whole_length}
 use Rattle.reloc_apply.proofs.LaidFacts.{IsKnown, any_at, cuts_apart, known, raw_size, stay_size}
 use Rattle.reloc_apply.proofs.MemberFacts.{any_from, file_sound}
 use Rattle.reloc_apply.proofs.SoundLists.{all_sound}
 use Rattle.reloc_apply.proofs.States.{at_of, kind_at, plain_width, width_of}
 use Rattle.reloc_apply.proofs.StayingSizes.{AreIn}
-use Rattle.link_driver.specs.Code.{AddUp, AreNops, CodeStands, HasBytes, HaveOwnCuts, IsLast, at, cut, distance, placed, rd_of, reloc, second_word, upper_kinds, width}
-use Rattle.link_driver.proofs.CodeKinds.{IsJumpLine, IsUpperLine, call_is, computed_same, jump_is, jump_kinds, label_is, lower_i_is, lower_s_is, upper_is}
+use Rattle.link_driver.specs.Code.{AddUp, CodeStands, HasBytes, HasEntry, HaveOwnCuts, IsLast, at, cut, distance, placed, reloc, second_word, thread_offset, upper_kinds, width}
+use Rattle.link_driver.proofs.CodeKinds.{Computes, IsJumpLine, IsUpperLine, address_is, asks_is, call_is, computed_same, here_is, jump_is, jump_kinds, label_is, lower_i_is, lower_s_is, thread_is, upper_is}
 use Rattle.link_driver.proofs.CodePlaces.{IsCutOf, away_from_call, away_from_nops, cut_of_call}
 use Rattle.link_driver.proofs.FieldParts.{sum_i, sum_s, taken_if}
 use Rattle.link_driver.proofs.KeptCuts.{are_nops, kept_at_cut}
@@ -130,13 +134,46 @@ line_of cuts r among = by (is_call r.kind) refl
     by true call = call_is r.kind call
     by false other = jump_is r.kind (sym (ap (is_among jump_kinds) (acting_same cuts r other)) ∙ among)
 
+-- what takes no value of a partner is no lower part of a distance
+no_lower : (kind : ℕ) (c : Calculation) → Computes c kind → is_partner c ≡ false → is_lower kind ≡ false
+unfolding is_lower
+no_lower kind c is own = ap is_partner is ∙ own
+
 module _ (files : List File) (b : Bindings) (leaders : List (Option ℕ)) (laid : LaidOut) where
+  -- the value of a kind by what is computed for it
+  own_value : (n : ℕ) (r : Reloc) (held : ℤ) (c : Calculation) → Computes c r.kind → is_lower r.kind ≡ false
+      → value_of files b leaders laid n r held ≡ computed c (sum_of files b leaders laid n r) (place_of files b leaders laid n r) (thread_of files b leaders laid n r) (entry_of files b leaders laid n r) held
+  unfolding value_of direct_value
+  own_value n r held c is other =
+      ap (λ t. if t then option_and_then (λ (q : Reloc). direct_value files b leaders laid n q (pos 0)) (partner_of files b leaders laid n r) else computed (kind_of r.kind).calculation (sum_of files b leaders laid n r) (place_of files b leaders laid n r) (thread_of files b leaders laid n r) (entry_of files b leaders laid n r) held) other
+      ∙ ap (λ x. computed x (sum_of files b leaders laid n r) (place_of files b leaders laid n r) (thread_of files b leaders laid n r) (entry_of files b leaders laid n r) held) is
+
   -- the values of these kinds, whatever a place holds
   jump_value : (n : ℕ) (r : Reloc) (held : ℤ) → IsJumpLine r.kind → value_of files b leaders laid n r held ≡ Some (sum_of files b leaders laid n r -ℤ place_of files b leaders laid n r)
-  unfolding value_of direct_value
-  jump_value n r held line =
-      ap (λ t. if t then option_and_then (λ (q : Reloc). direct_value files b leaders laid n q (pos 0)) (partner_of files b leaders laid n r) else computed (kind_of r.kind).calculation (sum_of files b leaders laid n r) (place_of files b leaders laid n r) (thread_of files b leaders laid n r) (entry_of files b leaders laid n r) held) line.lower
-      ∙ ap (λ c. computed c (sum_of files b leaders laid n r) (place_of files b leaders laid n r) (thread_of files b leaders laid n r) (entry_of files b leaders laid n r) held) line.calculation
+  jump_value n r held line = own_value n r held Distance line.calculation line.lower
+
+  address_value : (n : ℕ) (r : Reloc) (held : ℤ) → Computes Address r.kind → value_of files b leaders laid n r held ≡ Some (sum_of files b leaders laid n r)
+  address_value n r held is = own_value n r held Address is (no_lower r.kind Address is refl)
+
+  here_value : (n : ℕ) (r : Reloc) (held : ℤ) → Computes Distance r.kind → value_of files b leaders laid n r held ≡ Some (sum_of files b leaders laid n r -ℤ place_of files b leaders laid n r)
+  here_value n r held is = own_value n r held Distance is (no_lower r.kind Distance is refl)
+
+  thread_value : (n : ℕ) (r : Reloc) (held : ℤ) → Computes ThreadOffset r.kind → value_of files b leaders laid n r held ≡ Some (thread_of files b leaders laid n r)
+  thread_value n r held is = own_value n r held ThreadOffset is (no_lower r.kind ThreadOffset is refl)
+
+  entry_value : (n : ℕ) (r : Reloc) (held : ℤ) → Computes GotDistance r.kind → value_of files b leaders laid n r held ≡ Some (entry_of files b leaders laid n r -ℤ place_of files b leaders laid n r)
+  entry_value n r held is = own_value n r held GotDistance is (no_lower r.kind GotDistance is refl)
+
+  -- the address of an entry of the linker's table, and the addend
+  entry_is : (n k : ℕ) (e : GotEntry) → HasEntry files b leaders laid n k e
+      → entry_of files b leaders laid n (reloc files b leaders laid n k) ≡ pos (laid.got + 8 * e.word) +ℤ (reloc files b leaders laid n k).addend
+  unfolding entry_of word_at
+  entry_is n k e has =
+      let r : Reloc = reloc files b leaders laid n k in
+      let key : ℕ = key_of files (site_of files n).file r.symbol in
+      let word : word_for files b leaders laid laid.table key (use_of r.kind) ≡ e.word =
+      ap (word_for files b leaders laid laid.table key) has.asks ∙ ap (λ (o : Option GotEntry). unwrap_or (option_map (λ (x : GotEntry). x.word) o) 0) has.there in
+      ap (λ w. pos (laid.got + 8 * w) +ℤ r.addend) word
 
   upper_value : (n : ℕ) (r : Reloc) (held : ℤ) → IsUpperLine r.kind → value_of files b leaders laid n r held ≡ direct_value files b leaders laid n r (pos 0)
   unfolding value_of direct_value
@@ -161,6 +198,29 @@ module _ (files : List File) (b : Bindings) (leaders : List (Option ℕ)) (laid 
   value_jump : (n k : ℕ) → IsJumpLine (reloc files b leaders laid n k).kind → value_at files b leaders laid n k ≡ Some (distance files b leaders laid n k)
   unfolding value_at
   value_jump n k line = jump_value n (reloc files b leaders laid n k) _ line
+
+  value_address : (n k : ℕ) → Computes Address (reloc files b leaders laid n k).kind → value_at files b leaders laid n k ≡ Some (sum_of files b leaders laid n (reloc files b leaders laid n k))
+  unfolding value_at
+  value_address n k is = address_value n (reloc files b leaders laid n k) _ is
+
+  value_here : (n k : ℕ) → Computes Distance (reloc files b leaders laid n k).kind → value_at files b leaders laid n k ≡ Some (distance files b leaders laid n k)
+  unfolding value_at
+  value_here n k is = here_value n (reloc files b leaders laid n k) _ is
+
+  value_thread : (n k : ℕ) → Computes ThreadOffset (reloc files b leaders laid n k).kind → value_at files b leaders laid n k ≡ Some (thread_offset files b leaders laid n k)
+  unfolding value_at thread_of
+  value_thread n k is = thread_value n (reloc files b leaders laid n k) _ is
+
+  value_got : (n k : ℕ) → Computes GotDistance (reloc files b leaders laid n k).kind
+      → value_at files b leaders laid n k ≡ Some (entry_of files b leaders laid n (reloc files b leaders laid n k) -ℤ place_of files b leaders laid n (reloc files b leaders laid n k))
+  unfolding value_at
+  value_got n k is = entry_value n (reloc files b leaders laid n k) _ is
+
+  value_entry : (n k : ℕ) (e : GotEntry) → HasEntry files b leaders laid n k e
+      → value_at files b leaders laid n k ≡ Some ((pos (laid.got + 8 * e.word) +ℤ (reloc files b leaders laid n k).addend) -ℤ place_of files b leaders laid n (reloc files b leaders laid n k))
+  value_entry n k e has =
+      let r : Reloc = reloc files b leaders laid n k in
+      value_got n k (asks_is r.kind has.usage has.asks) ∙ ap (λ (x : ℤ). Some (x -ℤ place_of files b leaders laid n r)) (entry_is n k e has)
 
   value_upper : (n k : ℕ) → IsUpperLine (reloc files b leaders laid n k).kind → value_at files b leaders laid n k ≡ direct_value files b leaders laid n (reloc files b leaders laid n k) (pos 0)
   unfolding value_at
@@ -460,6 +520,10 @@ module _ (tables : Tables) (b : Bindings) (leaders : List (Option ℕ)) (laid : 
     goes = λ n k is. goes_kept n k is.section is.among (kept_if n k is);
     pairs = λ n k m j first second high v one two. pair_at n k m j first second high v one two;
     partners = λ n k p lower is. partners_are files b leaders laid n k p lower is;
+    address = λ n k among. value_address files b leaders laid n k (address_is (reloc files b leaders laid n k).kind among);
+    here = λ n k same. value_here files b leaders laid n k (here_is (reloc files b leaders laid n k).kind same);
+    thread = λ n k among. value_thread files b leaders laid n k (thread_is (reloc files b leaders laid n k).kind among);
+    entry = λ n k e has. value_entry files b leaders laid n k e has;
     jal = λ n k is lt call size. jal_at n k is lt call size;
     short_jump = λ n k is lt call size. (own_register n k is lt call size, short_jump_at n k is lt call size);
     nops = λ n i is lt align. nops_at n i is lt align;

@@ -60,7 +60,7 @@ needed_at b a even some is =
       | inr none ↦ omega (arith, whole, q, none)
     ]
 
-above_some : (s power n : ℕ) → 0 < power → 0 < power_above s power n
+pub above_some : (s power n : ℕ) → 0 < power → 0 < power_above s power n
 above_some zero power n some = some
 above_some (suc s) power n some = by (nat_lt n power) (above_some s (2 * power) n (omega (arith, some)))
   where

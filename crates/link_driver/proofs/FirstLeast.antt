@@ -47,7 +47,7 @@ none_over limit count none = ltb-false limit count (off (nat_lt limit count) non
 
 module _ (limits : Limits) (within : IsWithinStandard limits) (ss : List Source) where
   -- what is known once all is read
-  counted : reading_defects limits ss ≡ [] → AreCounted ss
+  pub counted : reading_defects limits ss ≡ [] → AreCounted ss
   unfolding reading_defects
   counted none =
       let files = count_defects limits.files (length ss) in

@@ -218,7 +218,7 @@ sections_apart files j k d e lt below here there = elim (places_up files j k lt 
       )
 ]
 
--- a section that has unwind records is not written by itself, so it does not lead itself
+-- a section that has unwind records is not written by itself, so it is not its own leader
 not_both : (b : List ℕ) (s : Section) → is_written b s ≡ true → is_frame b s ≡ true → ⊥
 unfolding is_written is_frame
 not_both b s written frame =

@@ -1,4 +1,4 @@
--- A link whose leaders are kept sections that lead themselves, and whose sections lose bytes only where they may, can be laid out.
+-- A link whose leaders are kept sections that are their own leaders, and whose sections lose bytes only where they may, can be laid out.
 use Rattle.std.proofs.Common.{◌≡◌, ℕ, ◌+◌, ◌<◌, Bool, true, List, length, map, filter, get_or, sym, ◌∙◌, subst, arith}
 use Rattle.std.specs.List.{All, range_with_len}
 use Rattle.std.proofs.lemmas.Bool.{and_parts}

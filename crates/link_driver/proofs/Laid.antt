@@ -271,8 +271,9 @@ own_cuts_of tables b held words leaders table limits sizes fs on _ few bound are
     let L : LaidOut → Type 0 = λ l. HaveOwnCuts files leaders (with_contents l view table) in
     let U : LaidOut → Type 0 = λ l. IsSound files b leaders (with_contents l view table) in
     subst L (sym laid_is)
-    (own_cuts files leaders (with_contents (layout_of files b pools words leaders sizes fs) view table) sizes (cuts_fit tables sizes ms rows z (safe_sizes ms rows z least.safe) sizes_are)
-    (λ n lt leader. laid_cuts_are files b pools words leaders sizes fs view table n lt leader)
+    (own_cuts files b leaders (with_contents (layout_of files b pools words leaders sizes fs) view table) sizes (λ n. size_in rows z (place_in ms n))
+    (cuts_fit tables sizes ms rows z (safe_sizes ms rows z least.safe) sizes_are) (λ n lt. ap (λ (l : List (List Cut)). get_or l n []) sizes_are ∙ cuts_before files ms rows z n lt)
+    (subst U laid_is sound) (λ n lt leader. laid_cuts_are files b pools words leaders sizes fs view table n lt leader)
     (registers tables b pools words leaders view table limits sizes fs few bound are alike firsts (subst U laid_is sound) (subst (HaveAlignments files b) laid_is aligned)
     (subst (λ l. layout_defects limits files l ≡ []) laid_is none) on z least.safe sizes_are))
 

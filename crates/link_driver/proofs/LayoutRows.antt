@@ -191,7 +191,7 @@ same_groups class its r s one other same = (
   one.has.rank ∙ ap (λ n. output_rank class (head_of class its n).sh_type n) same ∙ sym other.has.rank,
 )
 
--- the items of a link: sections that lead themselves, pools, and the table
+-- the items of a link: sections that are their own leaders, pools, and the table
 abbrev pub no_pool : Pool
 no_pool = record { first = 0; size = 0 }
 
@@ -449,7 +449,7 @@ number_in Got = 0
 abbrev pub no_row : Row
 no_row = record { number = 0; content = Got; group = 0; rank = 0; priority = 0; sh_type = SHT_NULL; flags = 0; size = 0; align = 1 }
 
--- the row of a section that leads itself, at a place among those of its class
+-- the row of a section that is its own leader, at a place among those of its class
 pub record SectionRow (class : Class) (its : List Item) (n : ℕ) (s : InputSection) (place : ℕ) : Type 0 where
   pub low : place < length (order_of class its)
   pub is : IsRowOf class its (get_or (order_of class its) place no_row)

@@ -1,3 +1,5 @@
+pub mod Alignments
+pub mod AtStops
 pub mod BlockWise
 pub mod CallChain
 pub mod Certifying

@@ -208,7 +208,7 @@ module _ (files : List File) (b : Bindings) (pools : List Pool) (words : ℕ) (l
         | inr past ↦ omega (arith, past, most)
       ]
 
-  -- a section that leads itself is one
+  -- a section that is its own leader is one
   pub place_low : (n : ℕ) → n < section_total files → leads leaders n ≡ true → place_in ms n < length ms
   place_low n lt leader =
       let some = class_some (input_at files b n).sh_type (input_at files b n).flags in

@@ -14,7 +14,7 @@ use Rattle.link_driver.proofs.Laws.{are_least, link_of_any}
 use Rattle.link_driver.proofs.Sparing.{spares}
 use Rattle.link_driver.proofs.Unwinding.{plans}
 
--- told files have one list of contents
+-- files that are seen have one list of contents
 one_content : (files : Option Files) (names a b : List (List ℕ)) → IsSome files → AreContents files names a → AreContents files names b → a ≡ b
 one_content None names a b told left right = cc
 one_content (Some m) names a b told left right = same_contents m names a b left right

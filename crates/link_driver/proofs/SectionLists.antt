@@ -1,4 +1,4 @@
--- A section that leads itself: its offsets as it is laid, and at most; and that they stay even.
+-- A section that is its own leader: its offsets as it is laid, and at most; and that they stay even.
 use Rattle.std.proofs.Common.{◌≡◌, ◌≢◌, ℕ, ◌+◌, ◌<◌, ◌≤◌, ◌%◌, ◌==◌, ◌&&◌, ◌||◌, Bool, true, false, if◌then◌else◌, max, Option, Some, None, List, [], ◌∷◌, length, flat_map, get_or, refl, sym, ap, ◌∙◌, subst, arith, inl, inr, nat_lt}
 use Rattle.std.specs.Prelude.{All, is_some, not, unsigned_abs, pos}
 use Rattle.std.specs.Ordering.{int_eq}
@@ -203,7 +203,7 @@ module _ (tables : Tables) (b : Bindings) (pools : List Pool) (merged : List (Op
       most : (s : ℕ) → IsOneSize s → s ≤ 8
       most s one = elim one [ inl two ↦ omega (arith, two) | inr more ↦ elim more [ inl four ↦ omega (arith, four) | inr eight ↦ omega (arith, eight) ] ]
 
-  -- a section that leads itself
+  -- a section that is its own leader
   module _ (n : ℕ) (n_low : n < section_total files) (leader : leads leaders n ≡ true) where
     abbrev pub i : ℕ
     i = place_in (the_members tables b pools merged words leaders laid sizes z) n

@@ -20,8 +20,8 @@ use Rattle.relax.specs.declared.calls.Call.{Call}
 use Rattle.relax.specs.CallSizes.{all_calls, bytes_at, call_no, file_of, first_call, has_rvc, least_of, place_in, rd_at, reloc_of, size_in}
 use Rattle.relax.specs.Jumps.{size_at}
 use Rattle.relax.proofs.PointSteps.{first_most}
+use Rattle.rv_code.specs.Instructions.{rd_of}
 use Rattle.rv_code.specs.Places.{number_of}
-use Rattle.link_driver.specs.Code.{rd_of}
 use Rattle.link_driver.proofs.Given.{IsGiven, the_members, the_rows}
 use Rattle.link_driver.proofs.SectionLists.{cuts_are, has_call, i_low, rows_are_sound}
 use Rattle.link_driver.proofs.Shortened.{numbered_call, one_call, safe_fits, short_call}

@@ -88,7 +88,7 @@ found_defect asked before now say given defect later (Unwritten line) loaded fou
 found_defect asked before now say given defect later Refused loaded found telling = absurd telling
 found_defect asked before now say given defect later Unreported loaded found telling = absurd telling
 
--- a line was told, or some of its first bytes
+-- a line was written, or some of its first bytes
 pub told_so : (r : Result (Unit {0}) Failed) (line : List ℕ) (err err' : Output)
     → OnOk r (err'.written ≡ said_if_seen line err.written)
     → OnErr r ((n : ℕ) × (n < length line) × (err'.written ≡ said_if_seen (take n line) err.written))

@@ -51,7 +51,7 @@ use Rattle.symbol_table.specs.declared.symbols.TablePlace.TheVariants.{Output}
 use Rattle.symbol_table.specs.Outputs.{first_passing, goes_to, place_in, place_or}
 use Rattle.symbol_table.specs.SymbolTable.{TableSymbol, entry_by, entry_of, is_taken, own_symbol, section_in, size_in, table_value}
 use Rattle.link_passes.specs.Leaders.{AreAlike, GoWithLeaders}
-use Rattle.link_driver.specs.Symbols.{HasItsSection, StandsIn, SymbolsStand}
+use Rattle.link_driver.specs.Symbols.{HasItsSection, HasNumber, IsListed, StandsIn, SymbolsStand}
 use Rattle.link_driver.proofs.TargetsLie.{LiesIn, bound_lies}
 
 -- the first that passes a test, and its number
@@ -75,6 +75,18 @@ first_at test from number (o ∷ os) is = by (test o) is (first_at test (from + 
         let more = later is in
         let next : number - from ≡ suc (number - (from + 1)) = omega (arith, more.low) in
         record { output = more.output; is = more.is; there = ap (slice_get (o ∷ os)) next ∙ more.there; low = omega (arith, more.low) }
+
+found_first : (test : OutputSection → Bool) (from : ℕ) (os : List OutputSection) (o : OutputSection) → find test os ≡ Some o → (number : ℕ) × (first_passing test from os ≡ Some number)
+found_first test from [] o is = let none : ⊥ = cc in absurd none
+found_first test from (x ∷ xs) o is = by (test x) is (found_first test (from + 1) xs o)
+  where
+    by : (t : Bool) → cond t (Some x) (find test xs) ≡ Some o → (find test xs ≡ Some o → (number : ℕ) × (first_passing test (from + 1) xs ≡ Some number))
+        → (number : ℕ) × ((if t then Some from else first_passing test (from + 1) xs) ≡ Some number)
+    by true is later = (from, refl)
+    by false is later = later is
+
+has_members : (x y : OutputSection) → Some x ≡ Some y → 0 < x.count → 0 < y.count
+has_members x y is some = let same : x ≡ y = cc in subst (λ (o : OutputSection). 0 < o.count) same some
 
 find_same : (p q : OutputSection → Bool) (os : List OutputSection) → ((o : OutputSection) → p o ≡ q o) → find p os ≡ find q os
 find_same p q [] same = refl
@@ -250,6 +262,37 @@ module _ (tables : Tables) (b : Bindings) (kept : List Bool) (leaders : List (Op
   AreSectionsHeld = (n : ℕ) → n < section_total files → leads leaders n ≡ true
       → IsHeld laid.outputs (section_item n (input_at files b n)) (start_at laid n) (new_offset (cuts_at laid n) (input_at files b n).size)
 
+  -- it goes where the section goes that is written in its place
+  same_output : (n m : ℕ) → GoWithLeaders files b kept laid.merging.merged leaders → leader_at leaders n ≡ Some m
+      → find (goes_to (input_at files b n)) laid.outputs ≡ find (takes (section_item m (input_at files b m))) laid.outputs
+  same_output n m go led =
+      let s : InputSection = input_at files b n in
+      let l : InputSection = input_at files b m in
+      find_same (goes_to s) (takes (section_item m l)) laid.outputs (λ x.
+      ap (λ name. bytes_eq x.name name && is_in x.class s.sh_type s.flags) (go.output n m led)
+      ∙ ap (λ sort. bytes_eq x.name (output_name l.name) && is_in x.class sort s.flags) (go.sh_type n m led)
+      ∙ ap (λ flags. bytes_eq x.name (output_name l.name) && is_in x.class l.sh_type flags) (go.flags n m led))
+
+  named_at : (n m : ℕ) → AreLeaders files b leaders → AreAlike files b leaders → GoWithLeaders files b kept laid.merging.merged leaders → AreSectionsHeld → leader_at leaders n ≡ Some m
+      → 0 < (input_at files b n).size → (t : TableSymbol) → t.section ≡ place_in laid (input_at files b n) → HasNumber laid t
+  unfolding place_in
+  named_at n m lead alike go held led some t is =
+      let s : InputSection = input_at files b n in
+      let l : InputSection = input_at files b m in
+      let here = held m (lead.stay n m led).number (lead.own n m led) in
+      let bytes : 0 < l.size = omega (arith, some, alike n m led) in
+      let there = here.there bytes in
+      let found : find (goes_to s) laid.outputs ≡ Some there.0 = same_output n m go led ∙ there.1.0 in
+      let number = found_first (goes_to s) 1 laid.outputs there.0 found in
+      let first = first_at (goes_to s) 1 number.0 laid.outputs number.1 in
+      record {
+        number = number.0;
+        output = first.output;
+        section = is ∙ ap place_or number.1;
+        header = first.there;
+        members = has_members there.0 first.output (sym found ∙ first.is) there.1.1;
+      }
+
   stands_at : (f i n offset m number : ℕ) → IsBindingOf files b → AreLeaders files b leaders → AreAlike files b leaders → GoWithLeaders files b kept laid.merging.merged leaders
       → IsSound files b leaders laid → AreSectionsHeld → f < length files → (file_at files f).live ≡ true → bound files b f i ≡ InSection n offset → is_merged laid.merging.merged n ≡ false
       → leader_at leaders n ≡ Some m → place_in laid (input_at files b n) ≡ Output number → StandsIn laid number (symbol_address files b leaders laid f i)
@@ -258,11 +301,7 @@ module _ (tables : Tables) (b : Bindings) (kept : List Bool) (leaders : List (Op
       let l : InputSection = input_at files b m in
       let first = first_at (goes_to s) 1 number laid.outputs (place_is_first laid s number place) in
       let o : OutputSection = first.output in
-      let same : find (goes_to s) laid.outputs ≡ find (takes (section_item m l)) laid.outputs =
-      find_same (goes_to s) (takes (section_item m l)) laid.outputs (λ x.
-      ap (λ name. bytes_eq x.name name && is_in x.class s.sh_type s.flags) (go.output n m led)
-      ∙ ap (λ sort. bytes_eq x.name (output_name l.name) && is_in x.class sort s.flags) (go.sh_type n m led)
-      ∙ ap (λ flags. bytes_eq x.name (output_name l.name) && is_in x.class l.sh_type flags) (go.flags n m led)) in
+      let same = same_output n m go led in
       let here = held m (lead.stay n m led).number (lead.own n m led) in
       let lies : offset ≤ s.size = subst (LiesIn files b) bound_is (bound_lies tables b f i is tables.few lt live) in
       let rises : new_offset (cuts_at laid m) offset ≤ new_offset (cuts_at laid m) l.size =
@@ -276,14 +315,25 @@ module _ (tables : Tables) (b : Bindings) (kept : List Bool) (leaders : List (Op
         to = λ some. let h : Holds (start_at laid m) (new_offset (cuts_at laid m) l.size) o = here.within o (sym same ∙ first.is) some in omega (arith, at, h.to, rises);
       }
 
+  -- its entry has the section of the output section to which its section goes
+  section_at_is : (f i n : ℕ) (t : TableSymbol) → IsBindingOf files b → IsListed files b kept leaders laid f i n t → t.section ≡ place_in laid (input_at files b n)
+  section_at_is f i n t is has =
+      let own = entry_is files b kept leaders laid f i n has.offset t has.target has.entry in
+      own.section ∙ ap (place_in laid) (taken_section files b f i n has.offset is tables.few has.file has.live has.symbol own.taken has.target)
+
   symbols_stand : IsBindingOf files b → AreLeaders files b leaders → AreAlike files b leaders → GoWithLeaders files b kept laid.merging.merged leaders
       → IsSound files b leaders laid → AreSectionsHeld → SymbolsStand files b kept leaders laid
-  symbols_stand is lead alike go sound held = λ f i n offset number t lt below live bound_is other entry section.
-      let own = entry_is files b kept leaders laid f i n offset t bound_is entry in
-      let same = taken_section files b f i n offset is tables.few lt live below own.taken bound_is in
-      let place : place_in laid (input_at files b n) ≡ Output number = ap (place_in laid) (sym same) ∙ sym own.section ∙ section in
-      let led = go.led n own.stays other in
-      record { value = own.value; stands = stands_at f i n offset led.0 number is lead alike go sound held lt live bound_is other led.1 place }
+  symbols_stand is lead alike go sound held = record {
+    stand = λ f i n number t has section.
+        let own = entry_is files b kept leaders laid f i n has.offset t has.target has.entry in
+        let place : place_in laid (input_at files b n) ≡ Output number = sym (section_at_is f i n t is has) ∙ section in
+        let led = go.led n own.stays has.apart in
+        record { value = own.value; stands = stands_at f i n has.offset led.0 number is lead alike go sound held has.file has.live has.target has.apart led.1 place };
+    named = λ f i n t has some.
+        let own = entry_is files b kept leaders laid f i n has.offset t has.target has.entry in
+        let led = go.led n own.stays has.apart in
+        named_at n led.0 lead alike go held led.1 some t (section_at_is f i n t is has);
+  }
 
 -- what is held of a layout is held of it with what stands in pools and table
 held_with : (files : List File) (b : Bindings) (pools : List Pool) (words : ℕ) (leaders : List (Option ℕ)) (l : LaidOut) (merging : PoolsView) (table : List GotEntry)

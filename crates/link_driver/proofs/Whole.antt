@@ -4,7 +4,7 @@ use Rattle.lk_base.specs.declared.abi.TheConstants.{EHDR_SIZE, IMAGE_BASE, PF_R,
 use Rattle.lk_tables.specs.Binding.{Bindings}
 use Rattle.lk_tables.specs.Files.{File}
 use Rattle.lk_tables.specs.FramePlans.{PlanView}
-use Rattle.link_driver.specs.Code.{CodeStands}
+use Rattle.link_driver.specs.Code.{CodeStands, HaveOwnCuts}
 use Rattle.link_sections.specs.declared.layouts.Bounds.{Bounds}
 use Rattle.link_sections.specs.LaidOut.{LaidOut}
 use Rattle.layout.specs.Layout.{count_of}
@@ -40,15 +40,16 @@ pub stands_so : (w : LinkOptions) (files : List File) (b : Bindings) (kept : Lis
     → HeadersStand files b leaders laid (own_tables files b kept w.strip leaders laid) exe → FramesStand laid (contents_with files b leaders laid plan) exe
     → PiecesStand files b leaders laid (own_tables files b kept w.strip leaders laid) exe → SectionsStand files b leaders laid exe
     → Unwinds files b leaders laid plan (contents_with files b leaders laid plan) → relocation_defects files b leaders laid ≡ [] → CodeStands files b leaders laid → HasAllUses files leaders laid.table
-    → SymbolsStand files b kept leaders laid
+    → SymbolsStand files b kept leaders laid → HaveOwnCuts files leaders laid
     → StandsWhole w files b kept leaders laid plan made
-stands_so w files b kept leaders laid plan exe made is head records others stand unwound done code uses symbols =
+stands_so w files b kept leaders laid plan exe made is head records others stand unwound done code uses symbols cuts =
     let whole : StandsWhole w files b kept leaders laid plan exe = record {
       pieces = all_stand files b leaders laid (contents_with files b leaders laid plan) (own_tables files b kept w.strip leaders laid) exe head records others;
       sections = stand;
       records = unwound;
       done = done;
       code = code;
+      cuts = cuts;
       uses = uses;
       symbols = symbols;
     } in

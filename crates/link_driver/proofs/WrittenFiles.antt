@@ -6,12 +6,12 @@ use Rattle.lk_depot.specs.Store.{Store}
 use Rattle.lk_depot.proofs.NamedMaps.{added_if_seen_to_new}
 use Rattle.link_driver.specs.Ends.{IsCut, cut_short}
 
--- all bytes behind an empty file
+-- all bytes after an empty file
 pub whole_behind : (name bytes : List ℕ) (before begun after : Option Files)
     → begun ≡ put_if_seen name [] before → after ≡ added_if_seen name bytes begun → after ≡ put_if_seen name bytes before
 whole_behind name bytes before begun after was is = is ∙ ap (added_if_seen name bytes) was ∙ added_if_seen_to_new name bytes before
 
--- some bytes behind an empty file
+-- some bytes after an empty file
 pub cut_behind : (store store' store'' : Store) (name bytes : List ℕ) (kind : FileKind)
     → store'.files ≡ put_if_seen name [] store.files → store'.kinds ≡ put_if_seen name kind store.kinds → store''.kinds ≡ store'.kinds
     → (n : ℕ) × (n < length bytes) × (store''.files ≡ added_if_seen name (take n bytes) store'.files)

@@ -116,7 +116,7 @@ module _ (names : List (List ℕ)) (files : List File) (b : Bindings) (kept barr
   apart_text (one ∷ two ∷ []) = text_of_both one two
   apart_text asked = []
 
--- such a text is asked for
+-- a text that says why is asked for
 abbrev pub asks_why : CommandView → Bool
 asks_why asked = is_some asked.why_live || not (length asked.why_apart == 0)
 

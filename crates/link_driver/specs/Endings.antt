@@ -1,4 +1,4 @@
--- How an ending inside the program is told, and what the steps of a run hand on.
+-- How an ending inside the program is reported, and what the steps of a run hand on.
 use Rattle.std.specs.Prelude.{◌≡◌, ℕ, ◌<◌, ◌≤◌, List, [], length, take, Option, None, Some}
 use Rattle.lk_depot.specs.Faults.{Rose}
 use Rattle.lk_depot.specs.Store.{Store}
@@ -35,13 +35,13 @@ reported_line (Defective line) = line.bytes.items
 reported_line (Unread line) = line.bytes.items
 reported_line (Unwritten line) = line.bytes.items
 
--- a defect is told with this line, or memory ran out
+-- a defect is reported by this line, or memory ran out
 abbrev pub ReportsDefect : List ℕ → Ending → Type 0
 ReportsDefect line Memory = Unit {0}
 ReportsDefect line (Defective told) = told.bytes.items ≡ line
 ReportsDefect line _ = ⊥
 
--- an input that could not be read is told with this line, or memory ran out
+-- an input that could not be read is reported by this line, or memory ran out
 abbrev pub ReportsUnread : List ℕ → Ending → Type 0
 ReportsUnread line Memory = Unit {0}
 ReportsUnread line (Unread told) = told.bytes.items ≡ line

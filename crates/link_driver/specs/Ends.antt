@@ -49,7 +49,7 @@ with_file name kind bytes store = record {
   unread = store.unread;
 }
 
--- an end with this status, from the store and the output before the run to those after it, with this line to be told
+-- an end with this status, from the store and the output before the run to those after it, with this line to be reported
 module _ (wanted : Option CommandView) (before after : Store) (say say' : Output) (status : ℕ) (line : List ℕ) where
   -- 0: no defect; the executable, and the map where one is asked, stand whole beside the other files, begun as what they
   -- are; the report was said
@@ -83,7 +83,7 @@ module _ (wanted : Option CommandView) (before after : Store) (say say' : Output
     pub quiet : say' ≡ say
     pub line_is : line ≡ bad_command
 
-  -- 3: the load of an input failed, or the told files lack it, as the first; nothing begun, nothing said
+  -- 3: the load of an input failed, or the files, where they are seen, lack it, as the first; nothing begun, nothing said
   pub record CannotRead : Type 0 where
     pub asked : CommandView
     pub index : ℕ
@@ -155,7 +155,7 @@ module _ (wanted : Option CommandView) (before after : Store) (say say' : Output
     cannot_say : CannotReport → Ends
     lacks_memory : LacksMemory → Ends
 
--- the line was told, or its first bytes, less than all, and then the count of faults rose
+-- the line was written, or its first bytes, less than all, and then the count of faults rose
 pub data IsReported (line : List ℕ) (err err' : Output) : Type 0 where
   reported_whole : err'.written ≡ said_if_seen line err.written → IsReported line err err'
   reported_cut : (size : ℕ) → size < length line → Rose err.faults err'.faults

@@ -20,7 +20,7 @@ use Rattle.sym_resolve.specs.Law.{IsLawful}
 abbrev pub sources_for : CommandView → List (List ℕ) → List Source
 sources_for asked given = sources standard (contents_for asked given)
 
--- the same command with another number of workers
+-- a command with another number of workers
 abbrev pub with_workers : ℕ → CommandView → CommandView
 with_workers n asked = record {
   output = asked.output;

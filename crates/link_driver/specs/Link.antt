@@ -64,7 +64,7 @@ module _ (limits : Limits) (w : LinkOptions) (files : List File) (b : Bindings) 
   abbrev pub last_phases : List (List Defect)
   last_phases = undefined_defects files b kept ∷ final_phases
 
-  -- those of them before values are computed
+  -- the phases before values are computed
   abbrev pub placing_phases : List (List Defect)
   placing_phases = undefined_defects files b kept ∷ layout_defects limits files (laid_out w files b kept) ∷ []
 
@@ -88,7 +88,7 @@ unfoldable pub defects_in : Limits → CommandView → List Source → List Defe
 defects_in limits asked ss =
     first_phase (reading_defects limits ss ∷ opening_defects limits asked.undefined ss ∷ later_phases limits asked (files_in asked.undefined ss))
 
--- the same of the phases up to the layout alone: if there is none, only the values of relocations are left to fail
+-- the defects of the phases up to the layout alone: if there is none, only the values of relocations are left to fail
 unfoldable pub placing_defects : Limits → CommandView → List Source → List Defect
 placing_defects limits asked ss =
     let files = files_in asked.undefined ss in
@@ -184,7 +184,7 @@ line_in asked inputs ss defect = defect_line defect (shown_file (names_for asked
 unfoldable pub line_of_defect : CommandView → List (List ℕ) → Defect → List ℕ
 line_of_defect asked inputs defect = line_in asked inputs (sources standard inputs) defect
 
--- what a user gets: the status, the bytes of the executable and of the map, and what is said and told as an error
+-- what a user gets: the status, the bytes of the executable and of the map, and what goes to the standard output and to the standard error
 pub record Link : Type 0 where
   pub status : ℕ
   pub executable : List ℕ

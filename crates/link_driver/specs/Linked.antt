@@ -24,7 +24,7 @@ pub record LinkedView : Type 0 where
   pub map : List ℕ
   pub report : List ℕ
 
--- the same lists, where this is said too
+-- the lists of a link, with what is asked why in the report
 abbrev pub with_why : (why : List ℕ) → LinkedView → LinkedView
 with_why why l = record { exe = l.exe; map = l.map; report = l.report ++ why }
 

@@ -10,7 +10,7 @@ use Rattle.link_driver.specs.Link.{link}
 use Rattle.link_driver.specs.Spared.{Spares}
 use Rattle.link_driver.specs.Unwound.{Plans}
 
--- an accepted command over a store that tells its files, with these contents as its inputs
+-- an accepted command over a store whose files are seen, with these contents as its inputs
 pub record IsGiven (words : List (List ℕ)) (before : Store) (asked : CommandView) (inputs : List (List ℕ)) : Type 0 where
   pub asks : command_of_words words ≡ Some asked
   pub told : IsSome before.files
@@ -23,15 +23,15 @@ pub record IsFaultless (before after : Store) (say say' : Output) : Type 0 where
 
 module _ (words : List (List ℕ)) (before after : Store) (say say' : Output) (status : ℕ) where
   pub record Promises : Type 0 where
-    -- 2 exactly where the command is refused, memory aside; then nothing was asked of the store
+    -- 2 exactly where the command is refused, unless memory ran out; then nothing was asked of the store
     pub refused : command_of_words words ≡ None → (status ≡ 2) ⊎ (status ≡ 4)
     pub only_refused : status ≡ 2 → (command_of_words words ≡ None) × (after ≡ before)
-    -- 1 exactly where the command is accepted, the loads were Ok and the inputs have a defect, memory aside
+    -- 1 exactly where the command is accepted, the loads were Ok and the inputs have a defect, unless memory ran out
     pub defective : (asked : CommandView) (inputs : List (List ℕ)) → IsGiven words before asked inputs → after.unread ≡ before.unread
         → (link (Some asked) inputs).status ≡ 1 → (status ≡ 1) ⊎ (status ≡ 4)
     pub only_defective : status ≡ 1 → (asked : CommandView) (inputs : List (List ℕ)) → IsGiven words before asked inputs
         → ((link (Some asked) inputs).status ≡ 1) × (after.unread ≡ before.unread)
-    -- 0 where there is no defect and nothing failed, memory aside; and never where there is one
+    -- 0 where there is no defect and nothing failed, unless memory ran out; and never where there is one
     pub sound : (asked : CommandView) (inputs : List (List ℕ)) → IsGiven words before asked inputs → IsFaultless before after say say'
         → (link (Some asked) inputs).status ≡ 0 → (status ≡ 0) ⊎ (status ≡ 4)
     pub only_sound : status ≡ 0 → (asked : CommandView) (inputs : List (List ℕ)) → IsGiven words before asked inputs

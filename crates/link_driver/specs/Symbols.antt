@@ -7,6 +7,7 @@ use Rattle.lk_tables.specs.Binding.{Bindings}
 use Rattle.lk_tables.specs.Files.{File, file_at}
 use Rattle.lk_tables.specs.Targets.{bound}
 use Rattle.link_sections.specs.Addresses.{symbol_address}
+use Rattle.link_sections.specs.InputSections.{input_at}
 use Rattle.link_sections.specs.LaidOut.{LaidOut, OutputSection}
 use Rattle.link_sections.specs.PoolViews.{is_merged}
 use Rattle.symbol_table.specs.declared.symbols.TablePlace.TheVariants.{Output}
@@ -27,9 +28,25 @@ pub record HasItsSection (files : List File) (b : Bindings) (kept : List Bool) (
   pub value : t.value ≡ table_value files b kept leaders laid f i
   pub stands : StandsIn laid number (symbol_address files b leaders laid f i)
 
--- of each symbol i of each file f that takes part
-abbrev pub SymbolsStand : List File → Bindings → (kept : List Bool) → (leaders : List (Option ℕ)) → LaidOut → Type 0
-SymbolsStand files b kept leaders laid =
-    (f i n offset number : ℕ) (t : TableSymbol) → f < length files → i < length (file_at files f).head.symbols → (file_at files f).live ≡ true
-    → bound files b f i ≡ InSection n offset → is_merged laid.merging.merged n ≡ false → entry_of files b kept leaders laid f i ≡ t ∷ [] → t.section ≡ Output number
-    → HasItsSection files b kept leaders laid f i number t
+-- the section of an entry is that of the header of an output section with members
+pub record HasNumber (laid : LaidOut) (t : TableSymbol) : Type 0 where
+  pub number : ℕ
+  pub output : OutputSection
+  pub section : t.section ≡ Output number
+  pub header : slice_get laid.outputs (number - 1) ≡ Some output
+  pub members : 0 < output.count
+
+-- symbol i of file f, which takes part, stands in section n, which is not merged, and has this entry
+pub record IsListed (files : List File) (b : Bindings) (kept : List Bool) (leaders : List (Option ℕ)) (laid : LaidOut) (f i n : ℕ) (t : TableSymbol) : Type 0 where
+  pub offset : ℕ
+  pub file : f < length files
+  pub symbol : i < length (file_at files f).head.symbols
+  pub live : (file_at files f).live ≡ true
+  pub target : bound files b f i ≡ InSection n offset
+  pub apart : is_merged laid.merging.merged n ≡ false
+  pub entry : entry_of files b kept leaders laid f i ≡ t ∷ []
+
+-- each such symbol whose entry has the number of a section lies in that section; and if its section has bytes in the input, its entry has such a number
+pub record SymbolsStand (files : List File) (b : Bindings) (kept : List Bool) (leaders : List (Option ℕ)) (laid : LaidOut) : Type 0 where
+  pub stand : (f i n number : ℕ) (t : TableSymbol) → IsListed files b kept leaders laid f i n t → t.section ≡ Output number → HasItsSection files b kept leaders laid f i number t
+  pub named : (f i n : ℕ) (t : TableSymbol) → IsListed files b kept leaders laid f i n t → 0 < (input_at files b n).size → HasNumber laid t

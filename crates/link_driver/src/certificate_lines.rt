@@ -1,4 +1,4 @@
-//! The lines that tell why a section is kept, and why two are not folded.
+//! The lines that say why a section is kept, and why two are not folded.
 
 ghost use Rattle.std.specs.Prelude.{◌≡◌, ◌<◌, ◌++◌, [], All, codes, decimal, length, slice_index_or, IfOk, IfSome, OnOk};
 ghost use Rattle.std.specs.Option.{option_map};

@@ -297,7 +297,7 @@ fn link_accepted<R: Threads + Sync, D: Depot, S: Sink, G: Gate>(
     }
 }
 
-/// Reads the command and carries it out.
+/// Reads the words of a command, and links what it asks for.
 fn run_command<R: Threads + Sync, D: Depot, S: Sink, G: Gate>(
     rt: &R,
     alloc: Global,
@@ -354,7 +354,7 @@ pub fn line(ending: &Ending) -> &[u8]
     }
 }
 
-/// Tells a line, where there is one.
+/// Writes a line to the standard error, where there is one.
 pub fn report_line<E: Sink>(err: &mut E, line: &[u8])
     ensures told { IsReported line.now (E.output err.old) (E.output err.new) }
     ensures silent { line.now ≡ [] → (E.output err.new) ≡ (E.output err.old) }

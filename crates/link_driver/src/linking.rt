@@ -103,16 +103,20 @@ pub fn lay_out<'a, R: Threads + Sync, G: Gate>(
     ensures symbols { IfOk result (λ layout. SymbolsStand (files_of tables.now) (binding_view binding.now) kept.now leaders.now (with_contents (layout_view layout) (pools_view (files_of tables.now) pools.now) (entries_of got.now))) }
 {
     let on = options.relax;
+    // Each output section and its members have their order from here on.
     let sections = order_sections(
         rt, alloc, tables, binding, pools, got, leaders, workers, gate,
     )?;
+    // Each call has its size from here on.
     let sizes = sizes(
         rt, alloc, tables, binding, pools, leaders, &sections, on, workers, gate,
     )?;
+    // Everything has its address, and each alignment the bytes that it keeps, from here on.
     match place(
         alloc, tables, binding, pools, got, leaders, &sections, &sizes, plan, limits,
     ) {
         Ok(layout) => {
+            // A law of these sizes and this layout; nothing is computed.
             prove_calls_reach(
                 tables, binding, pools, got, leaders, &sections, &sizes, plan, &layout, limits, on,
             );
@@ -271,13 +275,14 @@ pub fn link_sources<'a, R: Threads + Sync, G: Gate>(
     let workers = command.threads;
     let undefined = command.undefined.as_slice();
     let unique = command.unique.as_slice();
+    // The heads of all files are read, unless they are known, and the bodies of those that take part.
     let (tables, records) = match read_files_after(
         rt, alloc, limits, sources, known, undefined, workers, gate,
     ) {
         Ok(both) => both,
         Err(stop) => return Err(stop),
     };
-    // All names are bound from here on.
+    // Of copies of groups one stays, all names are bound, and there are no more pieces than a link may have, from here on.
     let entry = command.entry.as_str();
     let (few, bound) = bind_and_count(rt, alloc, limits, &tables, entry, workers, gate);
     match few {
@@ -288,9 +293,9 @@ pub fn link_sources<'a, R: Threads + Sync, G: Gate>(
         Ok(binding) => binding,
         Err(stop) => return Err(stop),
     };
-    // Each FDE has its function from here on.
+    // Each FDE has the section of its function from here on.
     let frames = find_frames(rt, alloc, &tables, &binding, records, workers, gate)?;
-    // What nothing refers to is left out from here on.
+    // With `--gc-sections` what is neither a root nor reached from one is left out from here on.
     let (kept, graph) = find_kept_by(
         rt,
         alloc,
@@ -303,6 +308,7 @@ pub fn link_sources<'a, R: Threads + Sync, G: Gate>(
         workers,
         gate,
     )?;
+    // What is folded with no other: the sections of `--keep-unique`, and with `--icf safe` those whose address is taken.
     let barred = find_barred(
         alloc,
         &tables,
@@ -312,7 +318,9 @@ pub fn link_sources<'a, R: Threads + Sync, G: Gate>(
         unique,
     )?;
     let options = options_of(command);
+    // Files are shown by these names, in the map and in what is said of what the command asks why.
     let names = names_if(alloc, wants_names(options.map, command), inputs, sources)?;
+    // The passes from what is undefined to what is written; and beside them the answers to `--why-live` and `--why-apart`.
     let (made, told) = link_and_explain(
         rt,
         alloc,
@@ -337,6 +345,7 @@ pub fn link_sources<'a, R: Threads + Sync, G: Gate>(
     let Ok(why) = told else {
         return Err(LinkStop::Memory);
     };
+    // The tables, and what was made of them, are the answer's own from here on.
     let Ok(linked) = Linked::of(
         tables,
         binding,
@@ -397,6 +406,7 @@ pub fn link_with_heads<'a, R: Threads + Sync, G: Gate>(
     requires most { command.now.threads ≤ 64 }
     ensures { AfterLink limits.now (command_view command.now) (shown_files (input_names inputs.now) (input_contents inputs.now) (sources limits.now (input_contents inputs.now))) (sources limits.now (input_contents inputs.now)) result }
 {
+    // The files of the link: the inputs, each archive followed by its members.
     let sources = find_sources(alloc, limits, inputs)?;
     link_sources(
         rt,

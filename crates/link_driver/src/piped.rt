@@ -190,7 +190,7 @@ fn link_accepted<R: Threads + Wait + Sync, D: Depot, S: Sink, G: Gate>(
     }
 }
 
-/// Reads the command and carries it out.
+/// Reads the words of a command, and links what it asks for.
 fn run_command<R: Threads + Wait + Sync, D: Depot, S: Sink, G: Gate>(
     rt: &R,
     alloc: Global,

@@ -76,6 +76,7 @@ fn find_placement<'a, 't, R: Threads + Sync, G: Gate>(
     let leaders = find_leaders(
         rt, alloc, tables, binding, frames, kept, barred, &pools, options, workers, gate,
     )?;
+    // Which unwind records are written is settled from here on.
     let plan = find_plan(
         rt,
         alloc,
@@ -90,6 +91,7 @@ fn find_placement<'a, 't, R: Threads + Sync, G: Gate>(
         workers,
         gate,
     )?;
+    // The global offset table has all its entries from here on.
     let got = entries(alloc, tables, numbers, &uppers, leaders.as_slice())?;
     // Nothing moves from here on.
     let layout = match lay_out(
@@ -150,6 +152,7 @@ pub fn place_and_check<'a, 't, R: Threads + Sync, G: Gate>(
     ensures placed { IfOk result (λ both. IsPlacement (link_options options barred.now) (files_of tables.now) (binding_view binding.now) kept.now both.1) }
 {
     if workers == 1 {
+        // What kept sections refer to is defined from here on.
         let _ = match check_defined(tables, binding, frames, kept) {
             Ok(defined) => defined,
             Err(stop) => return Err(stop),

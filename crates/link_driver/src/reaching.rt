@@ -26,8 +26,8 @@ use output_sections::OutputSections;
 
 /// That each shortened call reaches its target, where `sizes` are those of `relax::sizes` and the layout is that of `layout::place` over
 /// them, of a link that it does not refuse: its relocation is neither odd nor out of range. A section has as many bytes as the one that is
-/// written in its place. Where sections lose bytes they are those of a call or an alignment of their own. Nothing is done while a program runs: all
-/// that is said here is in the clauses.
+/// written in its place. Where sections lose bytes they are those of a call or an alignment of their own, and what stands after an alignment is
+/// aligned. Nothing is done while a program runs: all that is said here is in the clauses.
 pub fn prove_calls_reach(
     tables: &Tables,
     binding: &Binding,

@@ -224,6 +224,7 @@ pub fn write<R: Threads + Sync, G: Gate>(
         (written_view (files_of tables.now) (binding_view binding.now) kept.now options.strip placement.now.leaders.items (laid_by (files_of tables.now) placement.now) written).exe) }
 {
     let leaders = placement.leaders.as_slice();
+    // Each symbol, and the entry, has its address from here on.
     let addresses = find_addresses(
         rt,
         alloc,
@@ -236,6 +237,7 @@ pub fn write<R: Threads + Sync, G: Gate>(
         workers,
         gate,
     )?;
+    // One view lends all tables to the passes that follow.
     let view = View {
         tables,
         binding,
@@ -250,6 +252,7 @@ pub fn write<R: Threads + Sync, G: Gate>(
         names,
         strip: options.strip,
     };
+    // Each relocation can be done from here on; headers, symbols and unwind records are made.
     let (framed, made) = make_in_parallel(rt, alloc, &view, &placement.plan, workers, gate);
     let frames = match framed {
         Ok(frames) => frames,
@@ -259,10 +262,13 @@ pub fn write<R: Threads + Sync, G: Gate>(
         Ok(prepared) => prepared,
         Err(stop) => return Err(stop),
     };
+    // Laws of what was made; nothing is computed.
     prove_file_stands(&view, &frames);
     prove_code_stands(&view);
+    // The map and the report, where they are asked for.
     let map = map_if(rt, alloc, &view, options.map, workers, gate)?;
     let report = report_if(alloc, &view, options.generated)?;
+    // Room for the blocks that are made at the same time.
     let window = window_for(alloc, tables, &prepared, workers)?;
     Ok(Written {
         addresses,

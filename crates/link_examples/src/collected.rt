@@ -24,7 +24,7 @@ const FIRST_INPUTS: &[Input] = inputs!(
     // `_start`, and two that ask for each other.
     "ring.o" => object!([RETURN, section!(b".text.a", 1, 6, 4; b"\xef\0\0\0"; relocs: &[TO_SECOND]),
         section!(b".text.b", 1, 6, 4; b"\xef\0\0\0"; relocs: &[reloc!(0, 17, 1, 0)])]; [A_IN_2, B_IN_3, START]),
-    // The same, and one of them is told to stay.
+    // `_start`, and two that ask for each other, of which one is told to stay.
     "held.o" => object!([RETURN, section!(b".text.a", 1, 0x200006, 4; b"\xef\0\0\0"; relocs: &[TO_SECOND]),
         section!(b".text.b", 1, 6, 4; b"\xef\0\0\0"; relocs: &[reloc!(0, 17, 1, 0)])]; [A_IN_2, B_IN_3, START]),
     // Code that runs before and after all else.
@@ -39,7 +39,7 @@ const FIRST_INPUTS: &[Input] = inputs!(
     // A jump to one of two in a COMDAT group.
     "together.o" => object!([text!(b"\xef\0\0\0"; reloc!(0, 17, 1, 0)), section!(GROUP => bytes: b"\x01\0\0\0\x03\0\0\0\x04\0\0\0"), A_RETURNS,
         B_BREAKS, section!(b".text.c", 1, 6, 4; b"\x73\0\x10\0")]; [A_IN_3, START]),
-    // The same in a group of flag word 0.
+    // A jump to one of two in a group of flag word 0.
     "zero.o" => object!([text!(b"\xef\0\0\0"; reloc!(0, 17, 1, 0)), section!(GROUP => bytes: b"\0\0\0\0\x03\0\0\0\x04\0\0\0"), A_RETURNS, B_BREAKS,
         section!(b".text.c", 1, 6, 4; b"\x73\0\x10\0")]; [A_IN_3, START]),
     // A group that nothing asks for.

@@ -22,7 +22,7 @@ pub fn push_words(all: &mut Vec<String>, alloc: Global, words: &[&str]) -> Resul
     Ok(())
 }
 
-/// The words of an example, and behind them those that ask for a number of workers.
+/// The words of an example, and after them those that ask for a number of workers.
 pub fn words_of(
     alloc: Global,
     words: &[&str],

@@ -45,7 +45,7 @@ const FIRST_INPUTS: &[Input] = inputs!(
     "weak.o" => object!([section!(GROUP => bytes: b"\x01\0\0\0\x02\0\0\0"), N_BREAKS]; [symbol!(b"n", 2, 2, 2, 0, 4)]),
     // A group of flag word 0, which has no copies: `n` of one `ret`, weak.
     "zero.o" => object!([section!(GROUP => bytes: b"\0\0\0\0\x02\0\0\0"), N_RETURNS]; [symbol!(b"n", 2, 2, 2, 0, 4)]),
-    // The same, strong.
+    // `n` of one `ret` in a group of flag word 0, strong.
     "held.o" => object!([section!(GROUP => bytes: b"\0\0\0\0\x02\0\0\0"), N_RETURNS]; [N_IN_2]),
     // The signature is the name of a section, `.text.n`.
     "sec.o" => object!([section!(GROUP => bytes: b"\x01\0\0\0\x02\0\0\0"), N_RETURNS]; [symbol!(b"", 0, 3, 2, 0, 0), N_IN_2]),

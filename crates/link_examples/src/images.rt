@@ -16,7 +16,7 @@ pub const NAMES_WITH_BSS: &[u8] = b"\0.text\0.bss\0.shstrtab\0";
 
 pub const NAMES_WITH_DATA: &[u8] = b"\0.text\0.data\0.shstrtab\0";
 
-/// A jump to the function behind it.
+/// A jump to the function after it.
 pub const FIRST: Image = Image {
     entry: 0x11000,
     flags: 0,
@@ -32,7 +32,7 @@ pub const FIRST: Image = Image {
 
 /// A call of what is not defined goes to 0.
 pub const WEAK_CALL: Image = code!(8 => 0x1020; b"\x97\xf0\xfe\xff\xe7\x80\0\0");
-/// The first with a `ret` of another file behind it.
+/// The first with a `ret` of another file after it.
 pub const TWO_FILES: Image = code!(12 => 0x1020; b"\xef\0\x40\0\x67\x80\0\0\x67\x80\0\0");
 
 /// The first with two of them.
@@ -68,7 +68,7 @@ pub const ASKED_BREAK: Image = code!(12 => 0x1020; b"\xef\0\x80\0\x67\x80\0\0\x7
 pub const ASKED_BEFORE: Image =
     code!(12 => 0x1020; b"\x67\x80\0\0\xef\xf0\xdf\xff\x67\x80\0\0"; entry: 0x11004);
 
-/// A jump to a file behind another, and from there a jump back to that.
+/// A jump to a file after another, and from there a jump back to that.
 pub const ASKED_TWICE: Image =
     code!(20 => 0x1028; b"\xef\0\xc0\0\x67\x80\0\0\x67\x80\0\0\xef\xf0\xdf\xff\x67\x80\0\0");
 

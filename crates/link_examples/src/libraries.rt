@@ -128,7 +128,7 @@ pub const NO_MEMBERS_BYTES: Library = library!("lib.a"; ; magic: THIN);
 pub const CUT_HEADER: Library =
     library!("lib.a"; ; tail: b"one.o/          0           0     0     644     456       `");
 
-/// A name in the manner of BSD, in the first header and behind a member.
+/// A name in the manner of BSD, in the first header and after a member.
 pub const BSD_FIRST: Library =
     library!("lib.a"; ; tail: b"#1/20           0           0     0     644     24        `\nmember_of_20_bytes.otext");
 
@@ -151,6 +151,6 @@ pub const NO_TABLE: Library =
 pub const NO_END: Library =
     library!("lib.a"; ONE; tail: b"x.o/            0           0     0     644     4         ``text");
 
-/// Data that end behind the file.
+/// Data that end past the file's end.
 pub const CUT_DATA: Library =
     library!("lib.a"; ONE; tail: b"x.o/            0           0     0     644     5         `\ntext");

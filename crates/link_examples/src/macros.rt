@@ -1,6 +1,6 @@
 //! Inputs, archives, links and refusals as rows, as the macros of `elf_bytes` write objects.
 
-/// Inputs: the name and the object of each, and behind a `;` how many of the object's bytes it has, where not all.
+/// Inputs: the name and the object of each, and after a `;` how many of the object's bytes it has, where not all.
 #[macro_export]
 macro_rules! inputs {
     ($($name:literal => $object:expr $(; $most:literal)?),+ $(,)?) => {
@@ -96,7 +96,7 @@ macro_rules! call {
     };
 }
 
-/// A command that links: its words behind the program's name; its executable, where that is not the first link's; and other fields by name.
+/// A command that links: its words after the program's name; its executable, where that is not the first link's; and other fields by name.
 #[macro_export]
 macro_rules! link {
     ($($word:literal),* $(=> $image:expr)? $(; $($field:ident: $value:expr),+)?) => {

@@ -29,7 +29,7 @@ pub const TO_SECOND: Reloc = reloc!(0, 17, 2, 0);
 /// A word of 8 bytes at the beginning, of symbol 1.
 pub const WORD: Reloc = reloc!(0, 2, 1, 0);
 
-/// A jump to the function behind it.
+/// A jump to the function after it.
 pub const A: Object =
     object!([text!(b"\xef\0\0\0\x67\x80\0\0"; TO_SECOND)]; [START, symbol!(b"f", 1, 2, 1, 4, 4)]);
 
@@ -103,19 +103,19 @@ pub const INPUTS: &[Input] = inputs!(
     "double.o" => object!(H => flags: 4),
     // A jump at 4 to `k`, which nothing defines.
     "u.o" => object!([text!(b"\x13\0\0\0\xef\0\0\0"; reloc!(4, 17, 1, 0))]; [symbol!(b"k", 1, 0, 0, 0, 0), START]),
-    // A jump to 2^20 behind the begin of its section.
+    // A jump to 2^20 past the start of its section.
     "far.o" => object!([text!(b"\xef\0\0\0"; reloc!(0, 17, 1, 1_048_576))]; [symbol!(b"", 0, 3, 1, 0, 0), START]),
-    // A jump to 3 behind `_start`.
+    // A jump to 3 past `_start`.
     "uneven.o" => object!([text!(b"\xef\0\0\0"; reloc!(0, 17, 1, 3))]; [START]),
     // The low half of an address, without the high one.
     "alone.o" => object!([text!(b"\x13\x05\x05\0"; reloc!(0, 24, 1, 0))]; [LABEL, START]),
     // A call of `w`.
     "call.o" => object!([text!(b"\x97\0\0\0\xe7\x80\0\0"; reloc!(0, 19, 1, 0))]; [WEAKLY, START]),
-    // Both halves of the address 0x800 behind `d`; at `d` the word of `w` plus 7.
+    // Both halves of the address 0x800 past `d`; at `d` the word of `w` plus 7.
     "halves.o" => object!([text!(b"\x17\x05\0\0\x13\x05\x05\0"; reloc!(0, 23, 2, 0x800), reloc!(4, 24, 1, 0)),
         data!(b"\xff\xff\xff\xff\xff\xff\xff\xff"; reloc!(0, 2, 3, 7))]; [LABEL, symbol!(b"d", 1, 1, 2, 0, 8), WEAKLY, START]),
     "m.o" => ASKER, "both.o" => ASKER_OF_BOTH,
-    // A jump to the function behind it; `x` is of another file.
+    // A jump to the function after it; `x` is of another file.
     "x.o" => object!(A => symbols: &[START, symbol!(b"f", 1, 2, 1, 4, 4), symbol!(b"x", 1, 0, 0, 0, 0)]),
     // A weak `n` of one `ebreak`.
     "n.o" => object!([BREAK]; [symbol!(b"n", 2, 2, 1, 0, 4)]),

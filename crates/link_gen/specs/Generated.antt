@@ -86,7 +86,7 @@ unfoldable pub symbol_table : List Symbol → List ℕ
 symbol_table named = symbol_entry (entry_of 0 0 0 0)
     ++ (symbol_entry (entry_of 0 (STB_LOCAL * 16 + STT_SECTION) rodata_section 0) ++ symbol_entries 1 named)
 
--- the symbol of the function that call i of object k is to: behind the two symbols without names, and _start in object 0, stand f, g, d
+-- the symbol of the function that call i of object k is to: after the two symbols without names, and _start in object 0, stand f, g, d
 -- and the others; call 0 is of g, call 1 of the first of the others
 abbrev pub callee : (k i : ℕ) → ℕ
 callee k i = 2 + (if k == 0 then 1 else 0) + (if i == 0 then 1 else 2 + i)

@@ -75,7 +75,7 @@ fn callee(k: u32, call: u32) -> u32
     requires { call ≤ 3 }
     ensures { result ≡ spec.callee k call }
 {
-    // The first function's symbol stands behind those without names and `_start`.
+    // The first function's symbol stands after those without names and `_start`.
     let first = 2 + u32::from(k == 0);
     if call == 0 {
         return first + 1;

@@ -182,7 +182,7 @@ fn push_entry(
     push_symbol_entry(out, &entry)
 }
 
-/// Adds the entries of symbols whose names stand one after the other, the first behind the zero byte.
+/// Adds the entries of symbols whose names stand one after the other, the first after the zero byte.
 fn push_entries(out: &mut Vec<u8>, symbols: &[Symbol]) -> Result<(), AllocError>
     requires { length symbols.now ≤ 6 }
     ensures { OnOk result (out.new.items ≡ out.old.items ++ elf.symbol_entries 1 (map symbol_view symbols.now)) }

@@ -84,16 +84,21 @@ whole_one false b e = let no : false ≡ true = e in cc
 whole_of : (ss : List Source) (live : List Bool) (f : ℕ) → has_body ss live f ≡ true → (source_at ss f).archive ≡ false
 whole_of ss live f has = whole_one (slice_index_or live f false) (source_at ss f).archive has
 
--- after the first phase each file that has a body has its head
-pub each_headed : (limits : Limits) (list : List LentSource) (live : List Bool) → reading_defects limits (sources_of list) ≡ [] → length (sources_of list) ≤ limits.files →
-    (f : ℕ) → f < length (sources_of list) → has_body (sources_of list) live f ≡ true → IsHeaded (source_at (sources_of list) f).bytes
+-- after the first phase each file that is no archive has its head
+pub each_whole : (limits : Limits) (list : List LentSource) → reading_defects limits (sources_of list) ≡ [] → length (sources_of list) ≤ limits.files →
+    (f : ℕ) → f < length (sources_of list) → (source_at (sources_of list) f).archive ≡ false → IsHeaded (source_at (sources_of list) f).bytes
 unfolding reading_defects
-each_headed limits list live none few f lt has =
-    headed_source (source_at (sources_of list) f) f (whole_of (sources_of list) live f has) (all_short list f lt)
+each_whole limits list none few f lt whole =
+    headed_source (source_at (sources_of list) f) f whole (all_short list f lt)
     (none_in (head_defects_at (sources_of list)) (min (length (sources_of list)) limits.files) 0 f (first_none _ _ none) (omega arith) (omega arith))
 
+-- and so each that has a body
+pub each_headed : (limits : Limits) (list : List LentSource) (live : List Bool) → reading_defects limits (sources_of list) ≡ [] → length (sources_of list) ≤ limits.files →
+    (f : ℕ) → f < length (sources_of list) → has_body (sources_of list) live f ≡ true → IsHeaded (source_at (sources_of list) f).bytes
+each_headed limits list live none few f lt has = each_whole limits list none few f lt (whole_of (sources_of list) live f has)
+
 -- its head in the tables is that of its bytes
-head_whole : (s : Source) → s.archive ≡ false → head_in s ≡ fields_of s.bytes
+pub head_whole : (s : Source) → s.archive ≡ false → head_in s ≡ fields_of s.bytes
 head_whole s whole = ap (λ (t : Bool). if t then no_head else fields_of s.bytes) whole
 
 -- a sound head has few symbols

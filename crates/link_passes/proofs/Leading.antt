@@ -77,7 +77,7 @@ planned_are w files b kept pools lists leaders plan are listed lead is =
     ∙ ap (plan_of files b (merged_views pools) (all_lists files)) lead
     ∙ ap (λ (v : PoolsView). plan_of files b v.merged (all_lists files) (leaders_in w files b kept)) are
 
--- folded sections have leaders that may stay and lead themselves
+-- folded sections have leaders that may stay and are their own leaders
 pub folded_stay : (files : List File) (b : Bindings) (kept barred : List Bool) (pools : Pools) (own leaders : List (Option ℕ)) (list : List FoldItem) (places : List ℕ) →
     own ≡ own_leaders kept (merged_views pools) → list ≡ items files b (merged_views pools) kept barred → IsStrictlyIncreasing (sections_of list) →
     LeadItems (length list) places → leaders ≡ folded_leaders list places own → MayStay files b kept → AreLeaders files b leaders

@@ -187,7 +187,7 @@ module _ (files : List File) (sound : (f : ℕ) → f < length files → (file_a
     order = lists_in_order files;
   }
 
-  -- and its relocations stand behind its second word
+  -- and its relocations stand after its second word
   abbrev IsPlainList : RecordList → Type 0
   IsPlainList l = All HasPlain l.records
 

@@ -4,11 +4,11 @@ use Rattle.std.specs.List.{range_with_len}
 use Rattle.lk_tables.specs.Files.{File, section_no}
 use Rattle.lk_tables.specs.Frames.{RecordList, records_in}
 
--- those of section k of a file, if it has some, under its index
+-- the unwind records of section k of a file, if it has some, under its index
 abbrev pub list_in : File → (k : ℕ) → List RecordList
 list_in file k = records_in file k k
 
--- those of all its sections
+-- the unwind records of all its sections
 unfoldable pub lists_in : File → List RecordList
 lists_in file = flat_map (list_in file) (range_with_len 0 (length file.head.sections))
 

@@ -41,7 +41,7 @@ abbrev pub is_apart : IcfMode → (unique : List (List ℕ)) → List File → B
 is_apart icf unique files b kept section =
     list_any (λ s. s == section) (named_sections files b unique) || (is_safe icf && is_barred (address_taken files b kept) section)
 
--- the same of all sections, by their numbers
+-- which sections are barred, by their numbers
 unfoldable pub barred_of : IcfMode → (unique : List (List ℕ)) → List File → Bindings → (kept : List Bool) → List Bool
 barred_of icf unique files b kept = map (is_apart icf unique files b kept) (range_with_len 0 (section_total files))
 

@@ -109,7 +109,7 @@ labelled name b (Some label) = name ++ (codes "(" ++ (text_of b label ++ codes "
 unfoldable pub shown_source : (names : List (List ℕ)) → List (List ℕ) → Source → List ℕ
 shown_source names inputs s = labelled (slice_index_or names s.input []) (input_at inputs s.input) s.label
 
--- that of file f, none where there is no such file
+-- how file f is shown, nothing where there is no such file
 abbrev pub shown_file : (names : List (List ℕ)) → List (List ℕ) → List Source → ℕ → List ℕ
 shown_file names inputs ss f = if nat_lt f (length ss) then shown_source names inputs (source_at ss f) else []
 

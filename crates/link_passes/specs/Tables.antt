@@ -1,5 +1,5 @@
 -- What the steps of a link hand on.
-use Rattle.std.specs.Prelude.{◌≡◌, ◌<◌, ℕ, true, All, Bool, List, length, ◌↔◌}
+use Rattle.std.specs.Prelude.{◌≡◌, ◌<◌, ℕ, true, false, All, Bool, List, length, ◌↔◌}
 use Rattle.lk_tables.specs.Binding.{Bindings}
 use Rattle.lk_tables.specs.Files.{File, file_at, section_total}
 use Rattle.lk_tables.specs.Inside.{IsBodyInside, IsHeadInside}
@@ -10,6 +10,7 @@ use Rattle.link_sections.specs.Leaders.{is_kept}
 use Rattle.link_passes.specs.declared.collecting.SectionGraph.{SectionGraph}
 use Rattle.link_passes.specs.declared.options.Options.{Options}
 use Rattle.link_passes.specs.Passes.{LinkOptions}
+use Rattle.link_passes.specs.Sources.{Source, source_at}
 use Rattle.sec_gc.specs.Roots.{roots}
 use Rattle.sec_graph.specs.Graph.{edges}
 use Rattle.sec_graph.specs.Kept.{HasEnds, IsClosedByRules}
@@ -22,6 +23,10 @@ link_options o barred = record { gc = o.gc; icf = o.icf; barred = barred; relax 
 abbrev pub AreInside : List File → Type 0
 AreInside files = (f : ℕ) → (file_at files f).live ≡ true
     → IsHeadInside (file_at files f).bytes (file_at files f).head × IsBodyInside (file_at files f).bytes (file_at files f).head (file_at files f).object
+
+-- of each file, whether it takes part or not, each index, offset and size of its head lies where it must; an archive by itself has no head
+abbrev pub AreHeadsInside : List Source → List File → Type 0
+AreHeadsInside ss files = (f : ℕ) → f < length files → (source_at ss f).archive ≡ false → IsHeadInside (file_at files f).bytes (file_at files f).head
 
 -- by section number, and each that is kept may be
 pub record MayStay (files : List File) (b : Bindings) (kept : List Bool) : Type 0 where

@@ -85,8 +85,8 @@ pub fn find_leaders<R: Threads + Sync, G: Gate>(
     Ok(leaders)
 }
 
-/// What decides of those of some sections whose contents another of them has with which others each is folded, in order: any other leads
-/// itself. The only error is out of memory.
+/// What decides of those of some sections whose contents another of them has with which others each is folded, in order: any other is
+/// its own leader. The only error is out of memory.
 fn shared_items<'a, R: Threads + Sync, G: Gate>(
     rt: &R,
     alloc: Global,

@@ -125,7 +125,7 @@ fn read_and_number<R: Threads + Sync, G: Gate>(
             ensures { IsShare (body_defects_at (sources_of sources.entry.now) live.entry.now) (IsBodyAt (sources_of sources.entry.now) live.entry.now) 0 (length sources.entry.now) result }
         { read_each(rt, alloc, sources, live, files, workers, gate) },
     );
-    // A defect of a body is told even where there is no memory for the names.
+    // A defect of a body is reported even where there is no memory for the names.
     let bodies = match bodies {
         Ok(bodies) => bodies,
         Err(stop) => return Err(stop),

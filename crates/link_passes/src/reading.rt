@@ -13,7 +13,7 @@ ghost use Rattle.link_passes.specs.Contents.{sources_of};
 ghost use Rattle.link_passes.specs.Defects.{opening_defects, reading_defects};
 ghost use Rattle.link_passes.specs.Known.{AreHeads};
 ghost use Rattle.link_passes.specs.Sources.{files_in, heads_in, live_in, sources};
-ghost use Rattle.link_passes.specs.Tables.{AreInside};
+ghost use Rattle.link_passes.specs.Tables.{AreHeadsInside, AreInside};
 
 use crate::bodies::read_bodies;
 use crate::heads::read_heads;
@@ -52,6 +52,7 @@ pub fn read_files<'a, R: Threads + Sync, G: Gate>(
     ensures numbered { IfOk result (λ both. have_numbers both.0 ≡ true) }
     ensures taking_part { IfOk result (λ _. IsLive (lists_of undefined.now) (heads_in (sources_of sources.now)) (live_in (lists_of undefined.now) (sources_of sources.now))) }
     ensures inside { IfOk result (λ both. AreInside (files_of both.0)) }
+    ensures heads_inside { IfOk result (λ both. AreHeadsInside (sources_of sources.now) (files_of both.0)) }
 {
     read_files_after(rt, alloc, limits, sources, None, undefined, workers, gate)
 }
@@ -79,6 +80,7 @@ pub fn read_files_after<'a, R: Threads + Sync, G: Gate>(
     ensures numbered { IfOk result (λ both. have_numbers both.0 ≡ true) }
     ensures taking_part { IfOk result (λ _. IsLive (lists_of undefined.now) (heads_in (sources_of sources.now)) (live_in (lists_of undefined.now) (sources_of sources.now))) }
     ensures inside { IfOk result (λ both. AreInside (files_of both.0)) }
+    ensures heads_inside { IfOk result (λ both. AreHeadsInside (sources_of sources.now) (files_of both.0)) }
 {
     let mut heads = match read_heads(rt, alloc, limits, sources, known, workers, gate) {
         Ok(heads) => heads,

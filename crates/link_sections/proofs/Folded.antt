@@ -103,7 +103,7 @@ where_is (m ∷ ns) n = ⊎_elim
     (λ (apart : m ≢ n). later m ns n apart (where_is ns n))
     (cases_eq m n)
 
--- for each of n items the place of the one that leads it, which leads itself
+-- for each of n items the place of the one that leads it, which is its own leader
 pub record LeadItems (n : ℕ) (places : List ℕ) : Type 0 where
   pub count : length places ≡ n
   pub within : (a : ℕ) → a < n → get_or places a 0 < n
@@ -136,7 +136,7 @@ module _ (kept : List Bool) (merged : List (Option Merged)) (items : List FoldIt
       folded_at items ns places own k rise (omega (arith, lt, wide)) (omega (arith, lt, lead.count))
       (omega (arith, kept_below kept (get_or ns k 0) (kept_at k lt), own_count kept merged))
 
-  -- the leader of an item leads itself, and is kept
+  -- the leader of an item is its own leader, and is kept
   of_item : (k m : ℕ) → k < length items → leader_at all (get_or ns k 0) ≡ Some m → (is_kept kept m ≡ true) × (leads all m ≡ true)
   of_item k m lt leader =
       let p = get_or places k 0 in
@@ -161,7 +161,7 @@ module _ (kept : List Bool) (merged : List (Option Merged)) (items : List FoldIt
       (λ (other : IsNone items ns n). of_other n m other leader)
       (where_is ns n)
 
-  -- of all leaders each is kept and leads itself
+  -- of all leaders each is kept and is its own leader
   pub folded_lead : LeadThemselves kept (folded_leaders items places (own_leaders kept merged))
   unfolding folded_leaders
   folded_lead = record {

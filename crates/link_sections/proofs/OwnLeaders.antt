@@ -1,4 +1,4 @@
--- Leaders that are kept sections and lead themselves: those of a link that folds nothing.
+-- Leaders that are kept sections and their own leaders: those of a link that folds nothing.
 use Rattle.std.proofs.Common.{◌≡◌, ℕ, ◌<◌, ◌&&◌, not, Bool, true, false, Option, Some, None, List, length, refl, sym, ap, ◌∙◌, subst, arith, inl, inr}
 use Rattle.std.specs.Prelude.{if◌then◌else◌}
 use Rattle.std.proofs.lemmas.Bool.{and_parts, cases_lt, eq-eqb}
@@ -7,13 +7,13 @@ use Rattle.std.proofs.lemmas.List.FromFn.{get_or-map-range_with_len, length-map-
 use Rattle.link_sections.specs.Leaders.{is_kept, is_number, leader_at, leads, own_leaders}
 use Rattle.link_sections.specs.PoolViews.{Merged, is_merged}
 
--- a leader or none by section number, and each leader is kept and leads itself
+-- a leader or none by section number, and each leader is kept and is its own leader
 pub record LeadThemselves (kept : List Bool) (leaders : List (Option ℕ)) : Type 0 where
   pub count : length leaders ≡ length kept
   pub kept_are : (n m : ℕ) → leader_at leaders n ≡ Some m → is_kept kept m ≡ true
   pub own : (n m : ℕ) → leader_at leaders n ≡ Some m → leads leaders m ≡ true
 
--- the section of a number leads itself
+-- the section of a number is its own leader
 pub leads_at : (leaders : List (Option ℕ)) (n : ℕ) → leader_at leaders n ≡ Some n → leads leaders n ≡ true
 leads_at leaders n is =
     let P : Option ℕ → Type 0 = λ o. is_number o n ≡ true in

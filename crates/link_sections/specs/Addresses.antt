@@ -57,7 +57,7 @@ module _ (laid : LaidOut) where
   unfoldable pub rw_place : (name : List ℕ) → Option OutputPlace
   rw_place name = find (has_name_in_rw name) laid.places
 
-  -- that of a list of functions to call: the one that is written, else the first of its name
+  -- the place of a list of functions to call: the one that is written, else the first of its name
   abbrev pub or_first : (name : List ℕ) → Option OutputPlace → Option OutputPlace
   or_first name (Some p) = Some p
   or_first name None = first_place name

@@ -41,6 +41,6 @@ acting_kind cuts r = kind_of (acting_number cuts r)
 abbrev pub acting_width : List Cut → Reloc → ℕ
 acting_width cuts r = (acting_kind cuts r).width
 
--- the same in a section of these contents: a ULEB128 number is as long as its bytes say
+-- how many bytes its place has in a section of these contents: a ULEB128 number is as long as its bytes say
 unfoldable pub width_in : (contents : List ℕ) → List Cut → Reloc → ℕ
 width_in contents cuts r = if is_uleb r.kind then value_len contents r else acting_width cuts r

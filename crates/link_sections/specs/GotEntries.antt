@@ -44,7 +44,7 @@ word_of entries key usage = option_map (λ (e : GotEntry). e.word) (entry_of ent
 unfoldable pub word_count : List GotEntry → ℕ
 word_count entries = sum_by (λ (e : GotEntry). words_of e.usage) entries
 
--- the entries once a use is added: one more, behind all words, for a key and a use that none of them has
+-- the entries once a use is added: one more, after all words, for a key and a use that none of them has
 unfoldable pub with_use : List GotEntry → (key : ℕ) → GotUse → (file symbol : ℕ) → List GotEntry
 with_use entries key usage file symbol = if is_some (entry_of entries key usage) then entries
     else entries ++ record { key = key; usage = usage; file = file; symbol = symbol; word = word_count entries } ∷ []

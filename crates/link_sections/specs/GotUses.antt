@@ -14,7 +14,7 @@ abbrev pub HasUse : List File → (n : ℕ) → List GotEntry → Reloc → Type
 HasUse files n entries r = (usage : GotUse) → use_of r.kind ≡ Some usage → is_some (entry_of entries (key_of files (place_of files n).file r.symbol) usage) ≡ true
 
 -- each key and use has one entry at most; a kind of relocation has a use exactly if its value is computed from the table (RISC-V ELF psABI,
--- "Relocations": G); and each relocation that asks for one in a section that leads itself has its entry
+-- "Relocations": G); and each relocation that asks for one in a section that is its own leader has its entry
 pub record HasAllUses (files : List File) (leaders : List (Option ℕ)) (entries : List GotEntry) : Type 0 where
   pub unlike : AreUnlike entries
   pub asked : (kind : ℕ) → is_some (use_of kind) ≡ goes_by_got kind

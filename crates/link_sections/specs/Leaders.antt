@@ -10,7 +10,7 @@ use Rattle.link_sections.specs.PoolViews.{Merged, is_merged}
 abbrev pub is_kept : (kept : List Bool) → (section : ℕ) → Bool
 is_kept kept section = slice_index_or kept section false
 
--- each kept section that is not merged leads itself; each other has no leader
+-- each kept section that is not merged is its own leader; each other has no leader
 unfoldable pub own_leaders : (kept : List Bool) → (merged : List (Option Merged)) → List (Option ℕ)
 own_leaders kept merged = map (λ n. if is_kept kept n && not (is_merged merged n) then Some n else None) (range_with_len 0 (length kept))
 

@@ -22,7 +22,7 @@ link_leaders link = link.leaders.now
 abbrev pub link_laid : LaidLink → LaidOut
 link_laid link = with_contents (layout_view link.layout.now) (pools_view (link_files link) link.pools.now) (entries_of link.got.now)
 
--- those of all tables of a link
+-- the tables of a link, by its view
 abbrev pub link_in : View → LaidLink
 link_in view = record {
   tables = view.tables;

@@ -25,7 +25,7 @@ abbrev pub in_section : Option Merged → (section offset : ℕ) → (rest : ℤ
 in_section None section offset rest = targets.Section section offset rest
 in_section (Some m) section offset rest = in_part m.pool (part_at m.parts offset) offset rest
 
--- the same target, in a piece if its section is merged
+-- the target of a spot, in a piece if its section is merged
 unfoldable pub piece_target : List (Option Merged) → Spot → Target
 piece_target merged (spots.Section section offset rest) = in_section (merged_at merged section) section offset rest
 piece_target merged (spots.Number n) = targets.Number n

@@ -36,7 +36,7 @@ is_table Got = true
 abbrev pub is_listed : (n : ℕ) → List Member → Bool
 is_listed n members = list_any (λ m. is_section n m.content) members
 
--- a member that is section n: that one leads itself and may be kept, it stands where the layout says, and its cuts and the places of its
+-- a member that is section n: that one is its own leader and may be kept, it stands where the layout says, and its cuts and the places of its
 -- relocations lie in it
 pub record IsSectionMember (files : List File) (b : Bindings) (leaders : List (Option ℕ)) (laid : LaidOut) (n : ℕ) (m : Member) : Type 0 where
   pub number : n < section_total files
@@ -70,7 +70,7 @@ pub record HaveFrameRoom (laid : LaidOut) : Type 0 where
   pub none : laid.bounds.has_frames ≡ false → laid.bounds.frames_end ≡ IMAGE_BASE
   pub apart : All (λ m. laid.bounds.frame_header < m.start + m.size → laid.bounds.frames_end ≤ m.start) laid.members
 
--- the members with bytes stand one after the other, from the headers on, within the file; each section that leads itself and has bytes in its
+-- the members with bytes stand one after the other, from the headers on, within the file; each section that is its own leader and has bytes in its
 -- file is one of them
 pub record IsSound (files : List File) (b : Bindings) (leaders : List (Option ℕ)) (laid : LaidOut) : Type 0 where
   pub sections : All (λ m. (n : ℕ) → m.content ≡ Section n → IsSectionMember files b leaders laid n m) laid.members

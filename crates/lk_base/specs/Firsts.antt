@@ -18,7 +18,7 @@ abbrev pub Passes : {X : Type 0} → Result X Defect → List Defect → Type 0
 Passes (Ok value) defects = defects ≡ []
 Passes (Err first) defects = BeginsWith defects first
 
--- the same, unless memory runs out
+-- a step stopped at the first of these defects, unless memory ran out
 abbrev pub StopsAt : LinkStop → List Defect → Type 0
 StopsAt (stops.Defect first) defects = BeginsWith defects first
 StopsAt stops.Memory defects = Unit {0}

@@ -41,7 +41,7 @@ Refuses (from_to low high) v Range = IsOutside low high v
 Refuses (even_from_to low high) v Odd = IsOdd v
 Refuses (even_from_to low high) v Range = IsEven v × IsOutside low high v
 
--- the same as a function: why a value is not taken, if it is not
+-- as a function: why a value is not taken, if it is not
 abbrev pub is_within : (low high v : ℤ) → Bool
 is_within low high v = not (int_lt v low) && not (int_lt high v)
 

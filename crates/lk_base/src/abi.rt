@@ -31,7 +31,7 @@ pub const RELA_SIZE: u64 = 24;
 pub const EF_RISCV_RVC: u32 = 1;
 /// Which registers calls pass floating-point numbers in.
 pub const EF_RISCV_FLOAT_ABI: u32 = 6;
-/// Of these: registers that hold double precision.
+/// Of the bits for floating point: registers that hold double precision.
 pub const EF_RISCV_FLOAT_ABI_DOUBLE: u32 = 4;
 /// The code has 16 registers alone.
 pub const EF_RISCV_RVE: u32 = 8;

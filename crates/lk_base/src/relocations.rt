@@ -82,7 +82,7 @@ pub enum Format {
     LowSix,
 }
 
-/// What there is to know of a kind.
+/// The properties of a kind of relocation.
 #[derive(Clone, Copy, Debug, PartialEq, Eq)]
 pub struct Kind {
     /// The bytes of its place; 0 if nothing is written, and 1 if the place is a ULEB128 number, which has one byte at least.

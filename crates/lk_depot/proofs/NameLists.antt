@@ -68,7 +68,7 @@ same_values (x ∷ a) (y ∷ b) e =
     let rest = same_values a b parts.1 in
     λ i. first i ∷ rest i
 
--- Told files have one list of contents for a list of names.
+-- Files that are seen have one list of contents for a list of names.
 pub same_contents : (m : Files) (names a b : List (List ℕ)) → AreContents (Some m) names a → AreContents (Some m) names b → a ≡ b
 same_contents m names a b left right = same_values a b (sym left.found ∙ right.found)
 

@@ -114,7 +114,7 @@ unfolding added
 get_added_other name q [] files apart = refl
 get_added_other name q (b ∷ bytes) files apart = get_put_other files name q (content files name ++ b ∷ bytes) apart
 
--- The same laws of maps that may be told.
+-- These laws of maps that contracts may not see.
 pub put_if_seen_twice : {X : Type 0} (name : List ℕ) (v w : X) (names : Option (Named X)) → put_if_seen name w (put_if_seen name v names) ≡ put_if_seen name w names
 put_if_seen_twice name v w None = refl
 put_if_seen_twice name v w (Some m) = ap Some (put_twice m name v w)

@@ -22,11 +22,11 @@ Kinds = Named FileKind
 abbrev pub content : Files → List ℕ → List ℕ
 content files name = unwrap_or (get files name) []
 
--- If the files are told, these are the bytes of that one.
+-- If the files are seen, these are the bytes of that one.
 abbrev pub IsFile : Option Files → List ℕ → List ℕ → Type 0
 IsFile files name bytes = IfSome files (λ m. get m name ≡ Some bytes)
 
--- The files are told, and there is none of this name.
+-- The files are seen, and there is none of this name.
 abbrev pub Lacks : Option Files → List ℕ → Type 0
 Lacks files name = IsSomeAnd files (λ m. get m name ≡ None)
 
@@ -35,10 +35,10 @@ unfoldable pub added : List ℕ → List ℕ → Files → Files
 added name [] files = files
 added name (byte ∷ bytes) files = insert files name (content files name ++ byte ∷ bytes)
 
--- The same of files that may be told.
+-- The files once these bytes stand at the end of that file, where the files are seen.
 abbrev pub added_if_seen : List ℕ → List ℕ → Option Files → Option Files
 added_if_seen name bytes files = option_map (added name bytes) files
 
--- A map that may be told, once the name has this value: files after a file was made, kinds after it was begun.
+-- A map that contracts may not see, once the name has this value: files after a file was made, kinds after it was begun.
 abbrev pub put_if_seen : {X : Type 0} → List ℕ → X → Option (Named X) → Option (Named X)
 put_if_seen name value names = option_map (λ m. insert m name value) names

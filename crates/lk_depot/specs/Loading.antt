@@ -8,7 +8,7 @@ use Rattle.lk_depot.specs.Store.{Store}
 use Rattle.lk_depot.specs.declared.stops.LoadAllStop.{LoadAllStop}
 use Rattle.lk_depot.specs.declared.stops.LoadAllStop.TheVariants.{Absent, Failed, Memory}
 
--- As many contents as names, and, if the files are told, each is the file of its name.
+-- As many contents as names, and, if the files are seen, each is the file of its name.
 pub record AreContents (files : Option Files) (names contents : List (List ℕ)) : Type 0 where
   pub as_many : length contents ≡ length names
   pub found : IfSome files (λ m. map (get m) names ≡ map Some contents)
@@ -21,7 +21,7 @@ HaveContents files names = (contents : List (List ℕ)) × AreContents files nam
 abbrev pub name_at : List (List ℕ) → ℕ → List ℕ
 name_at names index = slice_index_or names index []
 
--- The files are told, they lack the name at this index, and they have each name before it.
+-- The files are seen, they lack the name at this index, and they have each name before it.
 pub record IsFirstLacking (files : Option Files) (names : List (List ℕ)) (index : ℕ) : Type 0 where
   pub within : index < length names
   pub lacks : Lacks files (name_at names index)

@@ -2,7 +2,7 @@
 use Rattle.std.specs.Prelude.{ℕ, List, ◌++◌, Option}
 use Rattle.std.specs.Option.{option_map}
 
--- `written` is `None` if the sink does not tell it. `faults` counts failed calls.
+-- `written` is `None` if the sink does not show it. `faults` counts failed calls.
 pub record Output : Type 0 where
   pub written : Option (List ℕ)
   pub faults : ℕ

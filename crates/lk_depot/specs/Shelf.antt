@@ -22,7 +22,7 @@ pub record Shelf : Type 0 where
   pub most : ℕ
   pub room : ℕ
 
--- What it means as a depot: it tells all its files and their kinds.
+-- What it means as a depot: it shows all its files and their kinds.
 abbrev pub store_of : Shelf → Store
 store_of shelf = record {
   files = Some shelf.files;

@@ -24,7 +24,7 @@ pub record StoppedAt (before after : Shelf) (names : List (List ℕ)) (index : �
   pub cause : MayStop (after_calls before index) (name_at names index) stop
   pub left : after ≡ after_load {T = List ℕ} (after_calls before index) (name_at names index) (Err stop)
 
--- All loads gave files, or one of them was the last. Want of memory does not tell which.
+-- All loads gave files, or one of them was the last. Want of memory does not say which.
 abbrev pub LoadsEnd : {T : Type 0} → Shelf → Shelf → List (List ℕ) → Result T LoadAllStop → Type 0
 LoadsEnd before after names (Ok _) = GiveFiles before names (length names) × (after ≡ after_calls before (length names))
 LoadsEnd before after names (Err (stops.Absent index)) = StoppedAt before after names index Absent

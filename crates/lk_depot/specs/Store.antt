@@ -4,7 +4,7 @@ use Rattle.lk_depot.specs.Files.{Files, Kinds}
 use Rattle.lk_depot.specs.declared.stops.LoadStop.{LoadStop}
 use Rattle.lk_depot.specs.declared.stops.LoadStop.TheVariants.{Absent, Failed, Memory}
 
--- `files` and `kinds` are `None` if the depot does not tell them. `faults` counts failed calls, `begun` the files that
+-- `files` and `kinds` are `None` if the depot does not show them. `faults` counts failed calls, `begun` the files that
 -- were begun, and `unread` lists the names whose load failed.
 pub record Store : Type 0 where
   pub files : Option Files

@@ -12,7 +12,7 @@ pub record Tape : Type 0 where
   pub fails : List ℕ
   pub room : ℕ
 
--- What it means as a sink: it tells all that was written.
+-- What it means as a sink: it shows all that was written.
 abbrev pub output_of : Tape → Output
 output_of tape = record { written = Some tape.written; faults = tape.faults }
 

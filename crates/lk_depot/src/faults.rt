@@ -1,4 +1,4 @@
-// Counting faults.
+//! Counting faults.
 #![tactic(auto)]
 
 ghost use Rattle.std.specs.Prelude.{◌≡◌};

@@ -1,4 +1,4 @@
-// What a file is made for.
+//! What a file is made for.
 
 /// What a file is begun as. A depot of real files gives the two kinds different permissions.
 #[derive(Clone, Copy, Debug, PartialEq, Eq)]

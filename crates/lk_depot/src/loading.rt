@@ -1,4 +1,4 @@
-// Loading a list of files in order.
+//! Loading a list of files in order.
 #![tactic(auto)]
 
 ghost use Rattle.std.specs.Prelude.{◌≡◌, ◌≤◌, map, string_bytes};
@@ -12,8 +12,8 @@ use std::alloc::Global;
 ///
 /// The first load that does not answer Ok ends the call, and the files that were loaded before it are dropped. So at
 /// `Absent` and `Failed` each load before `index` was made and answered Ok, and none was made after it. The clauses say this
-/// of every depot, by what it means: if it tells its files it has that of each name before `index`, and `unread` has no new
-/// name but the one at `index`, though each load more could add one. Since a depot does not count its loads, no clause says
+/// of every depot, by its ghost view: if contracts can see its files it has that of each name before `index`, and `unread` has no
+/// new name but the one at `index`, though each load more could add one. Since a depot does not count its loads, no clause says
 /// how often a file was loaded, nor, if a name stands in the list more than once, which of its loads failed.
 pub fn load_all<D: Depot>(
     alloc: Global,

@@ -1,4 +1,4 @@
-// A store of files in memory, whose memory for outputs is taken at its making, and whose calls can be made to fail.
+//! A store of files in memory, whose memory for outputs is taken at its making, and whose calls can be made to fail.
 #![tactic(auto)]
 
 ghost use Rattle.std.specs.Prelude.{◌≡◌, ◌≢◌, ◌<◌, ◌≤◌, [], map, length, option_copied, string_bytes, IfOk, IfErr, IsErrOf};

@@ -1,4 +1,4 @@
-// A stream in memory, whose room is taken at its making, and whose calls can be made to fail.
+//! A stream in memory, whose room is taken at its making, and whose calls can be made to fail.
 #![tactic(auto)]
 
 ghost use Rattle.std.specs.Prelude.{◌≡◌, ◌<◌, [], length, IfOk};

@@ -1,4 +1,4 @@
-// A stream that is written to: what a program may ask of a standard stream, and what each answer means.
+//! A stream that is written to: what a program may ask of a standard stream, and what each answer means.
 #![tactic(auto)]
 
 ghost use Rattle.std.specs.Prelude.{◌≡◌, ◌<◌, ◌≤◌, take, length, IfOk, MatchResult};
@@ -9,7 +9,7 @@ use crate::stops::Failed;
 
 /// A stream that takes bytes.
 ///
-/// It means an `Output`: what was written to it, if it tells that, and the count of its faults since it was made.
+/// Its ghost view is an `Output`: what was written to it, where contracts can see that, and the count of its faults since it was made.
 pub trait Sink {
     ghost output: { Self → Output };
 

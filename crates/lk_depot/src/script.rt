@@ -1,4 +1,4 @@
-// Which calls of a form in memory are to fail.
+//! Which calls of a form in memory are to fail.
 #![tactic(auto)]
 
 ghost use Rattle.std.specs.Prelude.{◌≡◌};

@@ -1,4 +1,4 @@
-// An output file in memory, whose name and bytes never take more memory than at its making.
+//! An output file in memory, whose name and bytes never take more memory than at its making.
 #![tactic(auto)]
 
 ghost use Rattle.std.specs.Prelude.{◌≡◌, ◌+◌, ◌≤◌, [], ◌++◌, length, IfOk};

@@ -1,9 +1,9 @@
-// How a call on the outside ends if it does not succeed.
+//! How a call on the outside ends if it does not succeed.
 
 /// Why a load gave no bytes.
 #[derive(Clone, Copy, Debug, PartialEq, Eq)]
 pub enum LoadStop {
-    /// The depot tells its files, and there is none of this name. This is no fault.
+    /// Contracts can see the depot's files, and there is none of this name. This is no fault.
     Absent,
     /// The depot could not read the file. The fault is counted, and the name is kept as unread.
     Failed,

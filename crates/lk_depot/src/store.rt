@@ -1,4 +1,4 @@
-// A store of files by name: what a program may ask of the file system, and what each answer means.
+//! A store of files by name: what a program may ask of the file system, and what each answer means.
 #![tactic(auto)]
 
 ghost use Rattle.std.specs.Prelude.{◌≡◌, ◌<◌, ◌≤◌, [], map, take, length, string_bytes, if◌then◌else◌, is_ok, IfOk, IsErrOf, MatchResult};
@@ -15,7 +15,7 @@ use std::thread::Threads;
 
 /// A store of files.
 ///
-/// It means a `Store`: its files, with the kind of each, if it tells them, the count of its faults, the count of the
+/// Its ghost view is a `Store`: its files, with the kind of each, where contracts can see them, the count of its faults, the count of the
 /// files that were begun, and the names that it could not read. The counts are those of this depot, since it was made.
 pub trait Depot {
     ghost store: { Self → Store };

@@ -38,7 +38,7 @@ fn files_are_loaded_in_order(rt: HostRuntime) -> Result<(), Fail> {
     assert_eq!(rt; contents[1].as_slice(), b"first".as_slice());
     assert_eq!(rt; contents[2].as_slice(), b"second".as_slice());
     assert_eq!(rt; depot.calls(), 3);
-    // The same where workers may share them, which in memory they do not.
+    // Workers may share the files, which in memory they do not.
     let Ok(shared) = depot.load_files(&rt, alloc, names.as_slice(), 4) else {
         panic!(rt; "the files are there")
     };

@@ -1,4 +1,4 @@
-// Writing all of some bytes to a file or a stream, however few of them each call takes.
+//! Writing all of some bytes to a file or a stream, however few of them each call takes.
 #![tactic(auto)]
 
 ghost use Rattle.std.specs.Prelude.{◌≡◌, ℕ, ◌<◌, take, length, OnOk, OnErr};

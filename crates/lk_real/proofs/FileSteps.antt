@@ -96,7 +96,7 @@ begun_so (Err e) before = record { cause = record { later = omega arith; failed 
 pub begun : {T : Type 0} (result : Result T Fault) (before after : RealFiles) → after ≡ after_begin before result → Begun before after result
 begun result before after is = subst (λ (s : RealFiles). Begun before s result) (sym is) (begun_so result before)
 
--- A depot that tells no files tells none after a begin.
+-- A depot that shows no files shows none after a begin.
 pub put_nowhere : {T E X : Type 0} (x : X) (result : Result T E) → x ≡ (if is_ok result then x else x)
 put_nowhere x (Ok _) = refl
 put_nowhere x (Err _) = refl

@@ -4,7 +4,7 @@ use Rattle.std.specs.Prelude.{Result, Ok, Err, MatchResult}
 use Rattle.lk_depot.specs.Faults.{HasCause}
 use Rattle.lk_real.specs.RealStream.{RealStream, after_put}
 
--- What is not told stays so, whatever the result.
+-- What is not shown stays so, whatever the result.
 pub either_way : {T E X : Type 0} (x : X) (result : Result T E) → MatchResult result (λ _. x ≡ x) (λ _. x ≡ x)
 either_way x (Ok _) = refl
 either_way x (Err _) = refl

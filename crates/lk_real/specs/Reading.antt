@@ -27,7 +27,7 @@ AreRead files (Err (stops.Absent place)) = ⊥
 AreRead files (Err (stops.Failed place)) = IsFirstUnread files place
 AreRead files (Err stops.Memory) = Unit {0}
 
--- One buffer for each of so many names; or the place of one of them; or out of memory. No file is told to be absent.
+-- One buffer for each of so many names; or the place of one of them; or out of memory. No file is reported as absent.
 abbrev pub IsOfNames : ℕ → Result (Vec (Vec ℕ)) LoadAllStop → Type 0
 IsOfNames count (Ok buffers) = length buffers.items ≡ count
 IsOfNames count (Err (stops.Absent place)) = ⊥

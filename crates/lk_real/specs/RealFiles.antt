@@ -15,7 +15,7 @@ pub record RealFiles : Type 0 where
   pub begun : ℕ
   pub unread : List (List ℕ)
 
--- What it means as a depot: it tells neither files nor kinds.
+-- What it means as a depot: it shows neither files nor kinds.
 abbrev pub store_of : RealFiles → Store
 store_of real = record { files = None; kinds = None; faults = real.faults; begun = real.begun; unread = real.unread }
 

@@ -17,7 +17,7 @@ abbrev pub stream_of : Opened → Stream
 stream_of (opened.Output _) = Output
 stream_of (opened.Error _) = Error
 
--- What it means as a sink: it does not tell what was written.
+-- What it means as a sink: it does not show what was written.
 abbrev pub output_of : RealStream → Written
 output_of real = record { written = None; faults = real.faults }
 

@@ -1,8 +1,8 @@
-// Reading one large file by several workers.
-//
-// Most of the time that a large file takes goes to pages: the system makes one of zeros for each 4096 bytes of fresh memory that are first
-// written to, which is twice the work of copying what the file has for them. So the workers have the pages made at the same time, in blocks of
-// memory side by side that are then given back, and the file's list lies in the memory that they leave; then each reads a part of the file.
+//! Reading one large file by several workers.
+//!
+//! Most of the time that a large file takes goes to pages: the system makes one of zeros for each 4096 bytes of fresh memory that are first
+//! written to, which is twice the work of copying what the file has for them. So the workers have the pages made at the same time, in blocks of
+//! memory side by side that are then given back, and the file's list lies in the memory that they leave; then each reads a part of the file.
 #![tactic(auto)]
 
 ghost use Rattle.std.specs.Prelude.{◌<◌};
@@ -23,7 +23,7 @@ pub(crate) const LEAST_WORKERS: u32 = 3;
 /// The bytes of a block that one worker has pages made for. glibc keeps blocks of this size when they are freed (`keep_freed_memory`).
 const BLOCK: usize = 1 << 22;
 
-/// Has pages made for so many bytes by the workers, in blocks of memory side by side, and gives the blocks back. What it answers is a block behind
+/// Has pages made for so many bytes by the workers, in blocks of memory side by side, and gives the blocks back. What it answers is a block after
 /// them: while that is held, glibc does not give the pages back to the system, and the next list of that length lies in them.
 fn with_pages<R: Threads + Sync>(
     rt: &R,

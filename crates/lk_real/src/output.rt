@@ -1,9 +1,9 @@
-// How a file to be written is begun: as a new file, also where one stands under its name.
-//
-// Linkers do not write over an executable that is there: it may be running, have further names, or be written by another
-// link at this moment. The new file gets a name of its own first, in the same folder, and then takes the name that is asked
-// for, in one step of the system's. So a begin that fails leaves what was there, no one sees the name without a file, and
-// each of two links at once writes to a file that no other writes to.
+//! How a file to be written is begun: as a new file, also where one stands under its name.
+//!
+//! Linkers do not write over an executable that is there: it may be running, have further names, or be written by another
+//! link at this moment. The new file gets a name of its own first, in the same folder, and then takes the name that is asked
+//! for, in one step of the system's. So a begin that fails leaves what was there, no one sees the name without a file, and
+//! each of two links at once writes to a file that no other writes to.
 #![tactic(auto)]
 
 ghost use Rattle.std.specs.Prelude.{◌↔◌, IsTrue};

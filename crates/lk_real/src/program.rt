@@ -1,4 +1,4 @@
-// What a program needs of the system beside files and streams.
+//! What a program needs of the system beside files and streams.
 #![tactic(auto)]
 
 use std::alloc::{AllocError, Global};

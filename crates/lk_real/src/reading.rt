@@ -1,4 +1,4 @@
-// Reading files of the system whole: one, or a list of them by several workers.
+//! Reading files of the system whole: one, or a list of them by several workers.
 #![tactic(auto)]
 
 ghost use Rattle.std.specs.Prelude.{◌≡◌, ◌^◌, ◌≤◌, length, IfOk};

@@ -1,4 +1,4 @@
-// The files of the system as a store of files.
+//! The files of the system as a store of files.
 #![tactic(auto)]
 
 ghost use Rattle.std.specs.Prelude.{◌≡◌, ◌≢◌, ◌<◌, ◌≤◌, [], map, length, string_bytes, IfOk, OnOk, OnErr, Err};
@@ -18,8 +18,8 @@ use std::thread::Threads;
 
 /// The files of the system, by path.
 ///
-/// It means a `RealFiles`: how many calls failed, how many files were begun, and the names that could not be read. As a depot it
-/// tells neither files nor kinds, so a load answers `Failed` if there is no file, and never `Absent`. The file that was begun
+/// Its ghost view is a `RealFiles`: how many calls failed, how many files were begun, and the names that could not be read. Contracts
+/// see neither its files nor their kinds, so a load answers `Failed` if there is no file, and never `Absent`. The file that was begun
 /// or written to last stays open, so what is appended goes to it whatever has its name by then. It is closed once another is
 /// begun or written to, or when the depot is dropped; an append to a closed one opens what has its name.
 #[derive(Drop)]
@@ -149,7 +149,7 @@ impl Depot for RealDepot<'_> {
     }
 
     /// Each worker opens and reads the files of its share of the list, each as [`RealDepot::load`] does, up to the first that
-    /// it cannot read. Up to 63 files are read with no thread. The first failure in the list is counted, and only its name kept.
+    /// it cannot read. Up to 47 files are read with no thread. The first failure in the list is counted, and only its name kept.
     fn load_files<R: Threads + Sync>(
         &mut self,
         rt: &R,

@@ -1,4 +1,4 @@
-// The standard streams as sinks.
+//! The standard streams as sinks.
 #![tactic(auto)]
 
 ghost use Rattle.std.specs.Prelude.{◌≡◌, ◌<◌, ◌≤◌, length, IfOk};

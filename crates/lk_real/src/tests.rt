@@ -252,7 +252,7 @@ fn workers_load_in_order(rt: HostRuntime) -> Result<(), Fail> {
     assert_eq!(rt; depot.faults(), 0);
     assert!(rt; depot.unread().is_empty());
 
-    // Of files that are not there the first in the list is told, whichever worker is there first.
+    // Of files that are not there the first in the list is reported, whichever worker is there first.
     fs::remove_file(&rt, names[150].as_str())?;
     assert_eq!(rt; failed_place(&rt, &rt, alloc, &names, 1), Some(150));
     assert_eq!(rt; failed_place(&rt, &rt, alloc, &names, 64), Some(150));
@@ -410,7 +410,7 @@ fn of_two_at_once_one_is_left_whole(rt: HostRuntime) -> Result<(), Fail> {
     let mut second = RealDepot::new(&rt, alloc);
     assert!(rt; write_in_turns(&mut first, &mut second, &program));
     assert!(rt; holds(&rt, &program, b"the second"));
-    // The same where a file stands there first.
+    // Now a file stands there first.
     assert!(rt; write_in_turns(&mut second, &mut first, &program));
     assert!(rt; holds(&rt, &program, b"the second"));
     assert_eq!(rt; names_in(&rt, &folder)?, 1);

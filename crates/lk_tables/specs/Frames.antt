@@ -100,11 +100,11 @@ records_in file k number = if is_frame_at file k
     then (record { section = number; records = records_of (contents_of file.bytes (section_at file k)) (relocs_at file k) }) ∷ [] else []
 
 module _ (files : List File) where
-  -- those of section k of file f
+  -- the unwind records of section k of file f
   abbrev pub list_at : (f k : ℕ) → List RecordList
   list_at f k = records_in (file_at files f) k (section_no files f k)
 
-  -- those of all sections of the files that take part
+  -- the unwind records of all sections of the files that take part
   unfoldable pub all_lists : List RecordList
   all_lists = over_live files list_at
 
@@ -121,7 +121,7 @@ module _ (files : List File) (b : Bindings) where
   frames_where test l = if is_gone b l.section then []
       else map (frame_no l.section) (filter (λ at. test (owner_at l at)) (range_with_len 0 (length l.records)))
 
-  -- those of section a, and of each section by its number
+  -- the FDEs of the functions of section a, and of each section by its number
   unfoldable pub frames_at : List RecordList → (a : ℕ) → List FrameNo
   frames_at lists a = flat_map (frames_where (λ owner. is_number owner a)) lists
 

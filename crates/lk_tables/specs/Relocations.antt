@@ -31,11 +31,11 @@ is_alignment r = is_padding (kind_of r.kind).calculation
 unfoldable pub place_width : Reloc → ℕ
 place_width r = if is_alignment r then unsigned_abs r.addend else (kind_of r.kind).width
 
--- the same, if its kind is linked
+-- how many bytes a relocation's place has, if its kind is linked
 unfoldable pub linked_width : Reloc → Option ℕ
 linked_width r = if is_linked r.kind then Some (place_width r) else None
 
--- the same in a section of these contents: a ULEB128 number is as long as its bytes say
+-- how many bytes its place has in a section of these contents: a ULEB128 number is as long as its bytes say
 unfoldable pub width_of : (contents : List ℕ) → Reloc → Option ℕ
 width_of contents r = if is_uleb r.kind then uleb_len contents r.offset else linked_width r
 

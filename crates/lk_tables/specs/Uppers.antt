@@ -5,7 +5,7 @@ use Rattle.lk_tables.specs.declared.objects.Reloc.{Reloc}
 use Rattle.lk_tables.specs.declared.uppers.Uppers.{Uppers}
 use Rattle.lk_tables.specs.Files.{File, file_at, relocs_at, by_section}
 
--- those of section k of file f
+-- the upper parts of section k of file f
 abbrev pub uppers_at : List File → (f k : ℕ) → List Reloc
 uppers_at files f k = filter (λ r. is_upper r.kind) (relocs_at (file_at files f) k)
 

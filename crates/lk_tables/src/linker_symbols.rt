@@ -17,9 +17,9 @@ pub enum Edge {
     ImageStart,
     /// The end of what is executed.
     CodeEnd,
-    /// The end of what is written and has bytes in the file, where the zeros after it start.
+    /// The end of what is written and has bytes in the file, where what has none there starts.
     BitsEnd,
-    /// The end of these zeros.
+    /// The end of what is written and has no bytes in the file.
     ZerosEnd,
     /// The linker's global offset table.
     Table,

@@ -255,7 +255,7 @@ pub fn spot_of(tables: &Tables, binding: &Binding, section: SecNo, reloc: usize)
     spot_in(tables, binding, place.file, &relocs[reloc])
 }
 
-/// Whether a symbol of a file stands for nothing, and may not: it is not WEAK, and its name is bound to nothing, or it stands in a
+/// Whether a symbol of a file is undefined and has to be defined: it is not WEAK, and its name is bound to nothing, or it stands in a
 /// section that was discarded. Takes no memory.
 #[tactic(auto, unfolding(crate::specs::Targets::is_undefined))]
 pub fn is_undefined(tables: &Tables, binding: &Binding, file: FileNo, symbol: SymNo) -> bool

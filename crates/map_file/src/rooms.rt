@@ -7,7 +7,7 @@ use symbol_table::TableSymbol;
 /// What the lines have beside names: two words, two numbers of 16 digits, an index, spaces.
 const LINE: usize = 56;
 
-/// About how many bytes the text has: more, unless names are shown escaped. Each section is told of in one line at most.
+/// About how many bytes the text has: more, unless names are shown escaped. Each section has one line at most.
 pub fn room_of(view: &View, symbols: &[TableSymbol]) -> usize {
     LINE.saturating_add(outputs_room(view.layout.outputs.as_slice()))
         .saturating_add(files_room(view))

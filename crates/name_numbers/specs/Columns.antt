@@ -36,7 +36,7 @@ pub record HasKeys (files : List File) (from to : ℕ) (listed : Listed) : Type 
   pub own : AreKeys (flat_map (keys_in files) (range_with_len from (to - from))) listed.keys
   pub firsts : firsts_of listed ≡ flat_map (firsts_in files) (range_with_len from (to - from))
 
--- the same in several runs, one after the other
+-- these keys and firsts in several runs, one after the other
 pub record AreRuns (files : List File) (from to : ℕ) (runs : List Listed) : Type 0 where
   pub texts : flat_map texts_of runs ≡ flat_map (λ f. map text_of_key (keys_in files f)) (range_with_len from (to - from))
   pub symbols : flat_map symbols_of runs ≡ flat_map (λ f. map place_of_key (keys_in files f)) (range_with_len from (to - from))

@@ -49,7 +49,7 @@ key_in b symbols start i = if is_named (symbol_in symbols i) && first_span symbo
 unfoldable pub first_in : List Symbol → (start i : ℕ) → ℕ
 first_in symbols start i = if is_named (symbol_in symbols i) then start + first_span symbols i else 0
 
--- the same for the files of a link, in order of file and symbol
+-- the keys of a file of a link and of all files, and for each symbol the first of its span, in order of file and symbol
 unfoldable pub keys_in : List File → ℕ → List KeyView
 keys_in files f = flat_map (key_in (file_at files f).bytes (file_at files f).head.symbols (first_symbol files f)) (range_with_len 0 (length (file_at files f).head.symbols))
 

@@ -24,12 +24,12 @@ pub record HasSlots (t : TableView) (placed : List Pair) (start count : ℕ) (sl
 abbrev pub HasHashes : (texts : List (List ℕ)) → Range ℕ → Result (Vec ℕ) LinkStop → Type 0
 HasHashes texts piece r = IfOk r (λ list. list.items ≡ map (hash_at texts) (range_with_len piece.start (piece.end - piece.start)))
 
--- those of each piece
+-- the hashes of each piece
 pub record AreHashes (texts : List (List ℕ)) (cuts : List (Range ℕ)) (lists : List (Result (Vec ℕ) LinkStop)) : Type 0 where
   pub count : length lists ≡ length cuts
   pub each : (w : ℕ) (p : Range ℕ) (r : Result (Vec ℕ) LinkStop) → w < length cuts → IsAt cuts w p → IsAt lists w r → HasHashes texts p r
 
--- the same, and the tags of all texts
+-- the hashes of each piece, and the tags of all texts
 pub record AreHashed (texts : List (List ℕ)) (cuts : List (Range ℕ)) (h : Hashes) : Type 0 where
   pub hashes : AreHashes texts cuts h.hashes.items
   pub tags : AreTags texts h.tags.items

@@ -5,6 +5,10 @@
 //! files each, and numbered as any other texts are: workers place them in one table by their hashes, in which equal texts share a slot; once
 //! all are placed the slot gives the first of them. Only where hashes crowd the table are texts sorted by hash, bytes and place; the first of a
 //! run of equal texts then has the number of the whole run.
+//!
+//! `spans` finds the first symbol of each span of a file, `keys` the keys of a file and `listing` those of all. `hashing` and `hash_lists` hash
+//! texts, `blocks` places a block of them in the table, `racing` has all workers do so, and `sorting` sorts texts where hashes crowd the table.
+//! `texts` numbers any texts, `numbers` the names of a link.
 #![tactic(auto)]
 
 mod blocks;

@@ -32,7 +32,7 @@ pub all_flat : (P : Item → Type 0) (f : ℕ → List Item) (a n : ℕ) → ((k
 all_flat P f a zero each = All-nil P
 all_flat P f a (suc n) each = All-append P (f a) (flat_map f (range_with_len (a + 1) n)) (each a) (all_flat P f (a + 1) n each)
 
--- an item is a section that leads itself, with its size, a pool that is there, with its size, or the table
+-- an item is a section that is its own leader, with its size, a pool that is there, with its size, or the table
 pub record IsOfLink (files : List File) (b : Bindings) (pools : List Pool) (words : ℕ) (leaders : List (Option ℕ)) (content : Content) (size : ℕ) : Type 0 where
   pub leads_is : (n : ℕ) → content ≡ Section n → leads leaders n ≡ true
   pub sized : (n : ℕ) → content ≡ Section n → size ≡ (input_at files b n).size
@@ -90,7 +90,7 @@ module _ (files : List File) (b : Bindings) (pools : List Pool) (words : ℕ) (l
       (All-cons IsOf (got_item words) [] (record { leads_is = λ m same. cc; sized = λ m same. cc; pool = λ q same. cc; pooled = λ q same d. cc; table = λ same. refl })
       (All-nil IsOf))
 
--- a section that leads itself may stay
+-- a section that is its own leader may stay
 leader_is : (l : Option ℕ) (n : ℕ) → is_number l n ≡ true → l ≡ Some n
 leader_is None n is = cc
 leader_is (Some m) n is = let same : m ≡ n = grind (arith, nat_tests) in ap (λ k. Some k) same

@@ -23,7 +23,7 @@ use Rattle.output_sections.proofs.Sized.{IsModest, each_flat, one_if}
 abbrev bytes : List Item → ℕ
 bytes list = sum_by (λ item. item.size) list
 
--- a section that leads itself is its leader
+-- the leader of a section that is its own leader is that section
 leader_is : (o : Option ℕ) (n : ℕ) → is_number o n ≡ true → o ≡ Some n
 leader_is None n is = let no : ⊥ = cc in absurd no
 leader_is (Some m) n is = ap Some (eqb-true m n is)

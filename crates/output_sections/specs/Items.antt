@@ -1,4 +1,4 @@
--- What has a place of its own in an executable, in the order of the command: the sections that lead themselves, the pools of merged pieces,
+-- What has a place of its own in an executable, in the order of the command: the sections that are their own leaders, the pools of merged pieces,
 -- each at the place of its first section, and last the linker's global offset table (RISC-V ELF psABI, "Global Offset Table").
 use Rattle.std.specs.Prelude.{◌≡◌, ℕ, ◌+◌, ◌*◌, ◌^◌, ◌<◌, ◌≤◌, ◌==◌, true, if◌then◌else◌, Option, Some, List, [], ◌∷◌, ◌++◌, length, flat_map, codes, All, slice_index_or}
 use Rattle.std.specs.Int.{is_power_of_two}
@@ -38,12 +38,12 @@ unfoldable pub pool_at : (p : ℕ) → List Pool → (n : ℕ) → InputSection 
 pool_at p [] n s = []
 pool_at p (pool ∷ pools) n s = if pool.first == n then pool_item p pool.size s ∷ [] else pool_at (p + 1) pools n s
 
--- section n, if it leads itself
+-- section n, if it is its own leader
 unfoldable pub own_item : (leaders : List (Option ℕ)) → (n : ℕ) → InputSection → List Item
 own_item leaders n s = if leads leaders n then section_item n s ∷ [] else []
 
 module _ (files : List File) (b : Bindings) (pools : List Pool) where
-  -- the section of a number if it leads itself, and the pool whose first section it is
+  -- the section of a number if it is its own leader, and the pool whose first section it is
   unfoldable pub items_at : (leaders : List (Option ℕ)) → (n : ℕ) → List Item
   items_at leaders n = own_item leaders n (input_at files b n) ++ pool_at 0 pools n (input_at files b n)
 
@@ -61,7 +61,7 @@ pub record IsStaying (files : List File) (b : Bindings) (n : ℕ) : Type 0 where
   pub number : n < section_total files
   pub stays : may_stay_at files b n ≡ true
 
--- a leader, or none, for each section number; a leader is a section that may stay and leads itself
+-- a leader, or none, for each section number; a leader is a section that may stay and is its own leader
 pub record AreLeaders (files : List File) (b : Bindings) (leaders : List (Option ℕ)) : Type 0 where
   pub count : length leaders ≡ section_total files
   pub stay : (n m : ℕ) → leader_at leaders n ≡ Some m → IsStaying files b m

@@ -110,7 +110,7 @@ rows_in o class = slice_index_or o (class_no class) []
 unfoldable pub orders_of : List Item → Orders
 orders_of items = map (λ class. order_of class items) classes
 
--- the same of a run of the classes, as lists
+-- the rows of a run of the classes, as lists
 abbrev pub orders_between : List Item → (start end : ℕ) → Orders
 orders_between items start end = map (λ place. order_of (class_at place) items) (range_with_len start (end - start))
 

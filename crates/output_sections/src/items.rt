@@ -38,7 +38,7 @@ pub struct Item<'a> {
     pub align: u64,
 }
 
-/// What has a place of its own, in the order of the command: each section that leads itself, each pool at the place of its first section,
+/// What has a place of its own, in the order of the command: each section that is its own leader, each pool at the place of its first section,
 /// and last the linker's global offset table.
 pub fn items_of<'a>(
     alloc: Global,
@@ -74,7 +74,7 @@ fn room_of(leaders: &[Option<SecNo>], pools: &[Pool]) -> usize {
     own.saturating_add(pools.len()).saturating_add(1)
 }
 
-/// A section, if it leads itself. One that is merged leads none.
+/// A section, if it is its own leader. One that is merged has no leader.
 #[tactic(auto, unfolding(crate::specs::Items::own_item))]
 fn push_section<'a>(
     items: &mut Vec<Item<'a>>,

@@ -34,7 +34,7 @@ const LEAST: usize = 8_192;
 /// What has a place of its own in an executable, and the order in which it stands there.
 #[derive(Debug, Drop)]
 pub struct OutputSections<'a> {
-    /// In the order of the command: each section that leads itself, each pool at the place of its first section, and last the linker's
+    /// In the order of the command: each section that is its own leader, each pool at the place of its first section, and last the linker's
     /// global offset table.
     pub items: Vec<Item<'a>>,
     /// By class (`class_no`) the members of its output sections: one output section after the other, and those of one in their order.
@@ -55,7 +55,7 @@ impl<'a> OutputSections<'a> {
     }
 }
 
-/// The output sections of a link: of the sections that lead themselves, of the pools of merged pieces and of the linker's global offset
+/// The output sections of a link: of the sections that are their own leaders, of the pools of merged pieces and of the linker's global offset
 /// table, each class after the one before it, in a class by rank and first item, and in an output section by priority and the order of
 /// the command. The workers do some classes each. The only error is out of memory.
 pub fn order_sections<'a, R: Threads + Sync, G: Gate>(

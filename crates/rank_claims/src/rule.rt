@@ -1,4 +1,5 @@
-// What a seat knows, as plain data that exists in proofs alone, and the rule that each step keeps.
+//! What a seat knows, as plain data that exists in proofs alone, and the rule that each step keeps.
+
 use atomic_table::{Join, Play, Split, TableRule};
 use claim_core::Event;
 use std::collections::LinkedList;
@@ -40,7 +41,7 @@ impl<'a> TableRule<(), View, Key<'a>> for Falling {
     ghost first = { λ key. founder key.words key.offers.now };
 }
 
-// A claim tells what it found.
+// What a claim found.
 pub struct Claiming;
 
 impl Play<(), View> for Claiming {
@@ -49,7 +50,7 @@ impl Play<(), View> for Claiming {
     ghost then = { λ step before found after. TellsClaim step before found after };
 }
 
-// A look tells what it found.
+// What a look found.
 pub struct Looking;
 
 impl Play<(), View> for Looking {

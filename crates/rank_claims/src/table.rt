@@ -1,4 +1,5 @@
-// The table of words and the seats at it.
+//! The table of words and the seats at it.
+
 ghost use Rattle.std.specs.Prelude.{◌≡◌, ◌<◌, ◌≤◌, [], length, take, vec_capacity, IfOk, IfErr};
 ghost use Rattle.claim_core.specs.Events.{AllInRow};
 ghost use Rattle.rank_claims.specs.Claims.{SitsAt, IsFound, IsClosing, offer_at, first_seat};

@@ -69,7 +69,7 @@ module _ (ms : List Row) (rows : List (List Call)) where
     pub opens : x.opens.items ≡ flat_map open_row (range_with_len a (b - a))
     pub low : (k : ℕ) → a + k < b → IsLowJump (jump_no (a + k))
 
-  -- the same in parts, one after the other
+  -- what is known of them in parts, one after the other
   pub record AreBands (a b : ℕ) (xs : List Banded) : Type 0 where
     pub sizes : flat_map (λ (x : Banded). x.sizes.items) xs ≡ flat_map size_row (range_with_len a (b - a))
     pub opens : flat_map (λ (x : Banded). x.opens.items) xs ≡ flat_map open_row (range_with_len a (b - a))

@@ -225,7 +225,7 @@ unfoldable pub all_cuts : List File → List Row → List (List Call) → (z : L
 all_cuts files ms rows z =
     map (λ n. cuts_by (size_in rows z (place_in ms n)) (relocs_of files n)) (range_with_len 0 (section_total files))
 
--- the same of a link, whose members are these
+-- the cuts of a link whose members are these
 unfoldable pub cuts_of : List File → Bindings → (merged : List (Option Merged)) → (leaders : List (Option ℕ)) → List Row → (on : Bool) → List (List Cut)
 cuts_of files b merged leaders ms on =
     let rows = call_rows files b merged leaders ms on in

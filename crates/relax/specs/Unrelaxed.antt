@@ -33,7 +33,7 @@ whole_cuts files f k = cuts_by (λ _. 8) (relocs_at (file_at files f) k)
 abbrev pub unrelaxed : List File → List (List Cut)
 unrelaxed files = by_section files (whole_cuts files)
 
--- those of the sections of file f, and of the files from one on and before another
+-- the cuts of the sections of file f, and of the files from one on and before another
 abbrev pub unrelaxed_row : List File → (f : ℕ) → List (List Cut)
 unrelaxed_row files f = map (whole_cuts files f) (range_with_len 0 (section_count (file_at files f)))
 

@@ -196,7 +196,7 @@ pub last_is : (numbers : List ℕ) (n total : ℕ) → length numbers ≡ n + 1 
 last_is numbers n total count is = let e : length numbers - 1 ≡ n = omega (arith, count) in ap (λ k. slice_index numbers k) e ∙ is
 
 module _ (files : List File) (b : Bindings) (leaders : List (Option ℕ)) (laid : LaidOut) where
-  -- the defects of relocation k of section n, if that leads itself
+  -- the defects of relocation k of section n, if that is its own leader
   abbrev pub own_defects : (n k : ℕ) → List Defect
   own_defects n k = if leads leaders n then defects_at files b leaders laid n k else []
 

@@ -100,7 +100,7 @@ module _ (files : List File) (b : Bindings) (leaders : List (Option ℕ)) (laid 
   abbrev pub defects_at : (n k : ℕ) → List Defect
   defects_at n k = reloc_defects n (reloc_at n (k - 1)) (reloc_at n k)
 
-  -- of the relocations of a section, if it leads itself
+  -- of the relocations of a section, if it is its own leader
   unfoldable pub section_defects : (n : ℕ) → List Defect
   section_defects n = if leads leaders n then flat_map (defects_at n) (range_with_len 0 (length (relocs_of files n))) else []
 
@@ -124,7 +124,7 @@ module _ (files : List File) (b : Bindings) (leaders : List (Option ℕ)) (laid 
   unfoldable pub staying_at : (n : ℕ) → List ℕ
   staying_at n = staying (cuts_at laid n) 0 (contents_at n)
 
-  -- the same once the first k of its relocations are done, in order
+  -- the bytes of section n once the first k of its relocations are done, in order
   unfoldable pub bytes_after : (n k : ℕ) → List ℕ
   bytes_after n zero = staying_at n
   bytes_after n (suc k) = put n (reloc_at n (k - 1)) (reloc_at n k) (bytes_after n k)

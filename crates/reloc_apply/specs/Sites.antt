@@ -47,7 +47,7 @@ pub record IsSource (files : List File) (b : Bindings) (leaders : List (Option �
   pub size : length (staying_at files b leaders laid s.site.section) < 2 ^ 32
   pub rising : IsNonDecreasingBy (offset_of files b leaders laid s.site.section) s.relocs.now
 
--- the same words by a view of the tables
+-- a site, by a view of the tables
 abbrev pub IsIn : View → Site → Type 0
 IsIn view site = IsSite (files_in view) site
 

@@ -1,4 +1,4 @@
-//! Defects that are found in sections, of which the one of the least section number counts.
+//! A defect, with the section in which it was found: of several the one of the least section number counts.
 
 ghost use Rattle.std.specs.Prelude.{◌≡◌};
 ghost use Rattle.reloc_apply.specs.Founds as spec;

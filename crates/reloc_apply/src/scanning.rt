@@ -36,7 +36,7 @@ use lk_base::relocations::{has_value, is_uleb};
 use lk_tables::Reloc;
 use rv_code::{patch_bits, patch_uleb_bits};
 
-/// The value of relocation number `reloc` of a section, in order of offset. The section leads itself, so that its bytes stand in its own
+/// The value of relocation number `reloc` of a section, in order of offset. The section is its own leader, so that its bytes stand in its own
 /// place, and has a relocation of that number. None exactly where the kind puts no value into a place, or a lower part has no partner.
 /// Takes no memory.
 pub fn value(view: &View, section: SecNo, reloc: usize) -> Option<i128>
@@ -166,8 +166,8 @@ fn are_below(view: &View, source: &Source, limit: u64) -> bool
     offset < limit
 }
 
-/// The relocation from which those up to number k are done: no place before its own reaches past its start. If it is another one, it may
-/// set all bits of its place; then no place before reaches past its end.
+/// The relocation at which to begin, so that relocation k finds in its place what those before it leave there: no place before its own reaches
+/// past the start of its own, or, where it is another one than k and sets all bits of its place, past the end of that.
 fn chain_start(view: &View, source: &Source, k: usize) -> usize
     requires source { IsMadeFrom view.now source.now }
     requires reloc { k < length source.now.relocs.now }

@@ -4,3 +4,4 @@ pub mod ReadingBack
 pub mod Going
 pub mod JumpWords
 pub mod UlebNumbers
+pub mod NopWords

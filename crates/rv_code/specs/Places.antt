@@ -35,7 +35,7 @@ abbrev pub held_in : List Run → ℕ → ℕ
 held_in [] word = 0
 held_in (r ∷ rs) word = word / 2 ^ r.low % 2 ^ (r.high - r.low + 1) * 2 ^ r.from + held_in rs word
 
--- those bits of a value, and no others
+-- the bits of a value that these runs have, and no others
 abbrev pub kept_of : List Run → ℕ → ℕ
 kept_of [] value = 0
 kept_of (r ∷ rs) value = value / 2 ^ r.from % 2 ^ (r.high - r.low + 1) * 2 ^ r.from + kept_of rs value

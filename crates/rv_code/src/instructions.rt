@@ -3,7 +3,7 @@
 ghost use Rattle.std.specs.Prelude.{◌≡◌, ◌<◌, ◌%◌, length, slice_index, EachIndex};
 ghost use Rattle.lk_base.specs.Reaches.{Takes};
 ghost use Rattle.lk_base.specs.RelocKinds.{kind_of};
-ghost use Rattle.rv_code.specs.Instructions.{IsJal, IsShortJump, nop_byte};
+ghost use Rattle.rv_code.specs.Instructions.{AreNops, IsJal, IsShortJump, nop_byte};
 
 use crate::places::patch;
 use lk_base::abi::{R_RISCV_JAL, R_RISCV_RVC_JUMP};
@@ -42,10 +42,12 @@ fn nop_byte(len: usize, i: usize) -> u8
     if len - i >= 4 { 0x13 } else { 0x01 }
 }
 
-/// Fills a stretch of code with nops: those of four bytes, and one of two if two bytes are left.
+/// Fills a stretch of code with nops: those of four bytes, and one of two if two bytes are left. Each byte is the one that its place has in them, and
+/// each word, read again by its fields, is a nop.
 pub fn nops(place: &mut [u8])
     requires { length place.old % 2 ≡ 0 }
-    ensures { EachIndex place.new (λ i. slice_index place.new i ≡ nop_byte (length place.old) i) }
+    ensures bytes { EachIndex place.new (λ i. slice_index place.new i ≡ nop_byte (length place.old) i) }
+    ensures nops { AreNops place.new }
 {
     let len = place.len();
     for (i, byte) in place.iter_mut().enumerate() {

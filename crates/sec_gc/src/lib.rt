@@ -10,6 +10,9 @@
 //! a worker whose deque is empty puts the older half of its own list there, 32 sections at most, and it leaves after 256 turns in a row that
 //! found nothing. At the end rounds close the marks (`closing`): all sections are looked at, by the calling worker alone if they are fewer than
 //! 32,768, and each end of a marked section that has no mark is marked. The first round that finds none gives the answer.
+//!
+//! `root_sections` finds the roots, `following` marks what sections of a list lead to, `listing` adds a section to a list, `marks` and `rule` are the
+//! table of marks, `seats` gives each worker a seat, and `keeping` does all of it in order.
 #![tactic(auto)]
 
 mod alone;

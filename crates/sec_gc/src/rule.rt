@@ -1,4 +1,5 @@
-// What a seat knows, as plain data that exists in proofs alone, and the rule that each step keeps.
+//! What a seat knows, as plain data that exists in proofs alone, and the rule that each step keeps.
+
 use atomic_table::{Join, Play, Split, TableRule};
 use link_sections::Edges;
 use lk_base::SecNo;
@@ -44,7 +45,7 @@ impl<'a> TableRule<(), View, Key<'a>> for Marking {
     ghost first = { λ key. founder key.roots.now (ends_of key.edges.now) };
 }
 
-// A swap tells what it found.
+// What a swap found.
 pub struct Swapping;
 
 impl Play<(), View> for Swapping {
@@ -53,7 +54,7 @@ impl Play<(), View> for Swapping {
     ghost then = { λ step before found after. TellsSwap step before found after };
 }
 
-// A look tells what it found.
+// What a look found.
 pub struct Looking;
 
 impl Play<(), View> for Looking {

@@ -18,7 +18,7 @@ use Rattle.lk_tables.specs.Symbols.{is_common}
 use Rattle.lk_tables.specs.Targets.{bound, bound_by, defined_by, definition, is_unbound, is_undefined, offset_in, rank_at}
 use Rattle.sec_graph.specs.Prevailing.{PrevailingStand, StandsIfPrevailing, is_nobody, names}
 
--- a symbol stands for nothing, and may not, if it is not WEAK
+-- a symbol is undefined and has to be defined, if it is not WEAK
 unbound_is : (x : Bound) (s : Symbol) → is_unbound x s ≡ (is_nobody x && not (s.binding == STB_WEAK))
 unbound_is Nobody s = refl
 unbound_is (InSection section offset) s = refl
@@ -126,7 +126,7 @@ module _ (files : List File) (b : Bindings) where
         ]
       ]
 
-  -- whether a symbol stands for nothing, and may not
+  -- whether a symbol is undefined and has to be defined
   pub weak_stands : (f i : ℕ) → ((symbol_in f i).binding == STB_WEAK) ≡ true → is_undefined files b f i ≡ false
   unfolding is_undefined
   weak_stands f i weak = unbound_is (bound files b f i) (symbol_in f i) ∙ and_false _ _ (not_from_true _ weak)

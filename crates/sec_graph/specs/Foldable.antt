@@ -113,7 +113,7 @@ module _ (files : List File) (b : Bindings) (merged : List (Option Merged)) wher
     target = fold_target f r;
   }
 
-  -- the same of a record that starts at an offset of its section
+  -- a relocation of a record that starts at an offset of its section, as folding compares it
   abbrev pub record_reloc : (f from : ℕ) → Reloc → FoldReloc
   record_reloc f from r = record {
     offset = r.offset - from;

@@ -102,7 +102,7 @@ module _ (files : List File) (b : Bindings) where
   abbrev pub cie_ends : FrameNo → List ℕ
   cie_ends number = record_targets number (record_by (all_lists files) number).relocs
 
-  -- those of FDEs, and then of their CIEs
+  -- the sections that FDEs name, and then those that their CIEs name
   unfoldable pub frame_ends : (fdes : List FrameNo) → List ℕ
   frame_ends fdes = flat_map fde_ends fdes ++ flat_map cie_ends (cies_of (all_lists files) fdes)
 

@@ -34,7 +34,7 @@ module _ (files : List File) (b : Bindings) where
   unfoldable pub asked_at : (f i : ℕ) → List ℕ
   asked_at f i = asked_by (bound files b f i)
 
-  -- those for which symbols of a file ask, and of all files
+  -- the first sections of the names for which symbols of a file ask, and of all files
   unfoldable pub asked_in : (f : ℕ) → List ℕ
   asked_in f = if (file_at files f).live then flat_map (asked_at f) (range_with_len 0 (length (file_at files f).head.symbols)) else []
 

@@ -36,7 +36,7 @@ module _ (files : List File) (b : Bindings) where
   unfoldable pub taken_at : (kept : List Bool) → (f k : ℕ) → Reloc → List ℕ
   taken_at kept f k r = if is_kept kept (section_no files f k) then taken_by f r else []
 
-  -- those of all relocations, in order of these
+  -- the sections whose address any relocation takes, in order of the relocations
   abbrev pub taken_sections : (kept : List Bool) → List ℕ
   taken_sections kept = over_relocs files (taken_at kept)
 

@@ -93,7 +93,7 @@ fn has_undefined(test: &SymbolTest, file: FileNo) -> bool
     false
 }
 
-/// Whether a symbol stands for nothing, and may not. A local one does so by its own definition.
+/// Whether a symbol is undefined and has to be defined. Of a local one its own definition decides.
 fn stands_for_nothing(test: &SymbolTest, file: FileNo, symbol: SymNo, own: &Symbol) -> bool
     requires file { file < length (files_of test.now.tables.now) }
     requires own { own.now ≡ symbol_at (file_at (files_of test.now.tables.now) file) symbol }
@@ -141,7 +141,7 @@ fn is_surely_bound(test: &SymbolTest, rank: u64) -> bool
     is_prevailing(test.tables, test.binding, rank)
 }
 
-/// Whether the symbol of a number in a file stands for nothing, and may not.
+/// Whether the symbol of a number in a file is undefined and has to be defined.
 fn names_nothing(test: &SymbolTest, file: FileNo, symbol: SymNo) -> bool
     requires { file < length (files_of test.now.tables.now) }
     ensures { result ≡ is_undefined (files_of test.now.tables.now) (binding_view test.now.binding.now) file symbol }

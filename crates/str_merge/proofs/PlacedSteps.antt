@@ -1,37 +1,24 @@
 -- The pieces of a pool, placed one after the other.
-use Rattle.std.proofs.Common.{◌≡◌, ℕ, suc, ◌+◌, ◌<◌, ◌≤◌, List, [], ◌∷◌, ◌++◌, length, map, get_or, drop, refl, sym, ap, ◌∙◌, subst, arith, append_assoc, inl, inr}
+use Rattle.std.proofs.Common.{◌≡◌, ℕ, suc, ◌+◌, ◌<◌, ◌≤◌, List, [], ◌∷◌, ◌++◌, length, map, get_or, take, drop, refl, sym, ap, ◌∙◌, subst, arith, append_assoc, inl, inr}
 use Rattle.std.proofs.Math.Seq.{drop-cons}
 use Rattle.std.proofs.lemmas.Bool.{cases_lt}
-use Rattle.std.proofs.lemmas.List.{map-append, append-nil, get_or_append_left, get_or_push, length-append}
+use Rattle.std.proofs.lemmas.List.{map-append, append-nil, get_or_append_left, get_or_push, length-append, take_all, take_more}
 use Rattle.std.proofs.lemmas.List.Elements.{All-append, All-cons, All-nil}
-use Rattle.std.specs.List.{range_with_len}
 use Rattle.lk_base.specs.Arithmetic.{up}
 use Rattle.lk_base.proofs.Multiples.{up_least}
+use Rattle.lk_tables.specs.declared.spans.Span.{Span}
 use Rattle.link_sections.specs.declared.pieces.Part.{Part}
 use Rattle.link_sections.specs.declared.pieces.Piece.{Piece}
 use Rattle.link_sections.specs.declared.pools.Pool.{Pool}
 use Rattle.link_sections.specs.Merging.{end_from, positions_from}
 use Rattle.link_sections.specs.Pools.{IsPile}
+use Rattle.str_merge.specs.declared.placing.Placed.{Placed}
 use Rattle.str_merge.specs.Gathering.{piece_at}
+use Rattle.str_merge.specs.Orders.{owns}
 use Rattle.str_merge.specs.Parts.{parts_by}
-use Rattle.str_merge.specs.Placing.{chosen}
+use Rattle.str_merge.specs.Placing.{AddsPieces, IsPlaced, chosen}
 use Rattle.str_merge.specs.Sites.{CutPiece, texts_of}
-use Rattle.str_merge.proofs.ListSteps.{by_index, drop_past, view_step}
-
-abbrev pub rest_of : (texts : List (List ℕ)) → (firsts : List ℕ) → (n : ℕ) → List (List ℕ)
-rest_of texts firsts n = chosen texts [] (drop n firsts)
-
--- the first n are placed, up to an end
-pub record AreUpTo (pieces : List CutPiece) (firsts : List ℕ) (align n : ℕ) (placed : List Piece) (end : ℕ) : Type 0 where
-  pub spans_are : map (λ (p : Piece). p.text) placed ≡ map (λ i. (piece_at pieces (get_or firsts i 0)).span) (range_with_len 0 n)
-  pub positions : map (λ (p : Piece). p.position) placed ++ positions_from align end (rest_of (texts_of pieces) firsts n) ≡ positions_from align 0 (chosen (texts_of pieces) [] firsts)
-  pub end_is : end_from align end (rest_of (texts_of pieces) firsts n) ≡ end_from align 0 (chosen (texts_of pieces) [] firsts)
-  pub piled : (pool : Pool) → pool.size ≡ end → IsPile pool placed
-
-rest_at : (texts : List (List ℕ)) (firsts : List ℕ) (n : ℕ) → n < length firsts → rest_of texts firsts n ≡ get_or texts (get_or firsts n 0) [] ∷ rest_of texts firsts (n + 1)
-rest_at texts firsts n lt =
-    let one : suc n ≡ n + 1 = omega arith in
-    ap (chosen texts []) (drop-cons firsts n 0 lt) ∙ ap (λ k. get_or texts (get_or firsts n 0) [] ∷ chosen texts [] (drop k firsts)) one
+use Rattle.str_merge.proofs.ListSteps.{drop_past}
 
 -- one piece more, after the end of the others
 pile_next : (old new : List Piece) (p : Piece) (end next : ℕ) → ((pool : Pool) → pool.size ≡ end → IsPile pool old) → new ≡ old ++ p ∷ [] → end ≤ p.position →
@@ -60,31 +47,76 @@ pile_next old new p end next held is from to pool size =
       ];
     })
 
-pub placed_next : (pieces : List CutPiece) (firsts : List ℕ) (align n : ℕ) (old new : List Piece) (end next : ℕ) (p : Piece) →
-    1 ≤ align → n < length firsts → AreUpTo pieces firsts align n old end → new ≡ old ++ p ∷ [] →
-    p.text ≡ (piece_at pieces (get_or firsts n 0)).span → p.text.len ≡ length (get_or (texts_of pieces) (get_or firsts n 0) []) → p.position ≡ up end align →
-    next ≡ p.position + p.text.len → AreUpTo pieces firsts align (n + 1) new next
-placed_next pieces firsts align n old new end next p some lt held is text long at to =
-    let texts = texts_of pieces in
-    let piece = get_or texts (get_or firsts n 0) [] in
-    let start = up end align in
-    let rest = rest_of texts firsts (n + 1) in
-    let on : next ≡ start + length piece = omega (arith, to, at, long) in
+positions_more : (align end : ℕ) (texts : List (List ℕ)) (text : List ℕ) → positions_from align end (texts ++ text ∷ []) ≡ positions_from align end texts ++ up (end_from align end texts) align ∷ []
+positions_more align end [] text = refl
+positions_more align end (first ∷ texts) text = ap (λ l. up end align ∷ l) (positions_more align (up end align + length first) texts text)
+
+end_more : (align end : ℕ) (texts : List (List ℕ)) (text : List ℕ) → end_from align end (texts ++ text ∷ []) ≡ up (end_from align end texts) align + length text
+end_more align end [] text = refl
+end_more align end (first ∷ texts) text = end_more align (up end align + length first) texts text
+
+-- a piece of one index more
+placed_more : (pieces : List CutPiece) (before : List ℕ) (at align : ℕ) (old new : Placed) (p : Piece) → 1 ≤ align → IsPlaced pieces before align old →
+    new.pieces.items ≡ old.pieces.items ++ p ∷ [] → p.text ≡ (piece_at pieces at).span → p.text.len ≡ length (get_or (texts_of pieces) at []) →
+    p.position ≡ up old.size align → new.size ≡ p.position + p.text.len → IsPlaced pieces (before ++ at ∷ []) align new
+placed_more pieces before at align old new p some held is text long place to =
+    let texts = chosen (texts_of pieces) [] before in
+    let here = get_or (texts_of pieces) at [] in
+    let span : ℕ → Span = λ i. (piece_at pieces i).span in
+    let more : chosen (texts_of pieces) [] (before ++ at ∷ []) ≡ texts ++ here ∷ [] = map-append (λ i. get_or (texts_of pieces) i []) before (at ∷ []) in
+    let start : p.position ≡ up (end_from align 0 texts) align = place ∙ ap (λ k. up k align) held.size_is in
     record {
       spans_are =
-          view_step (λ (p : Piece). p.text) (λ i. (piece_at pieces (get_or firsts i 0)).span) n old new p held.spans_are is text;
+          ap (map (λ (q : Piece). q.text)) is ∙ map-append (λ (q : Piece). q.text) old.pieces.items (p ∷ [])
+          ∙ ap (λ l. l ++ p.text ∷ []) held.spans_are ∙ ap (λ t. map span before ++ t ∷ []) text ∙ sym (map-append span before (at ∷ []));
       positions =
-          ap (λ l. map (λ (p : Piece). p.position) l ++ positions_from align next rest) is
-          ∙ ap (λ l. l ++ positions_from align next rest) (map-append (λ (p : Piece). p.position) old (p ∷ []))
-          ∙ append_assoc (map (λ (p : Piece). p.position) old) (p.position ∷ []) (positions_from align next rest)
-          ∙ ap (λ k. map (λ (p : Piece). p.position) old ++ (k ∷ positions_from align next rest)) at
-          ∙ ap (λ k. map (λ (p : Piece). p.position) old ++ (start ∷ positions_from align k rest)) on
-          ∙ ap (λ l. map (λ (p : Piece). p.position) old ++ positions_from align end l) (sym (rest_at texts firsts n lt))
-          ∙ held.positions;
-      end_is =
-          ap (λ k. end_from align k rest) on ∙ ap (end_from align end) (sym (rest_at texts firsts n lt)) ∙ held.end_is;
-      piled = pile_next old new p end next held.piled is (omega (arith, at, up_least end align some)) (sym to);
+          ap (map (λ (q : Piece). q.position)) is ∙ map-append (λ (q : Piece). q.position) old.pieces.items (p ∷ [])
+          ∙ ap (λ l. l ++ p.position ∷ []) held.positions ∙ ap (λ k. positions_from align 0 texts ++ k ∷ []) start
+          ∙ sym (ap (positions_from align 0) more ∙ positions_more align 0 texts here);
+      size_is =
+          to ∙ ap (λ k. k + p.text.len) start ∙ ap (λ k. up (end_from align 0 texts) align + k) long
+          ∙ sym (ap (end_from align 0) more ∙ end_more align 0 texts here);
+      piled = pile_next old.pieces.items new.pieces.items p old.size new.size held.piled is (omega (arith, place, up_least old.size align some)) (sym to);
     }
+
+pub adds_none : (pieces : List CutPiece) (indexes : List ℕ) (align : ℕ) (placed : Placed) → AddsPieces pieces (take 0 indexes) align placed placed
+adds_none pieces indexes align placed = λ before is.
+    let P : List ℕ → Type 0 = λ l. IsPlaced pieces l align placed in
+    subst P (sym (append-nil before)) is
+
+pub adds_more : (pieces : List CutPiece) (indexes : List ℕ) (n align : ℕ) (first old new : Placed) (p : Piece) → 1 ≤ align → n < length indexes →
+    AddsPieces pieces (take n indexes) align first old → new.pieces.items ≡ old.pieces.items ++ p ∷ [] → p.text ≡ (piece_at pieces (get_or indexes n 0)).span →
+    p.text.len ≡ length (get_or (texts_of pieces) (get_or indexes n 0) []) → p.position ≡ up old.size align → new.size ≡ p.position + p.text.len →
+    AddsPieces pieces (take (n + 1) indexes) align first new
+adds_more pieces indexes n align first old new p some lt held is text long place to = λ before placed.
+    let at = get_or indexes n 0 in
+    let P : List ℕ → Type 0 = λ l. IsPlaced pieces l align new in
+    subst P (append_assoc before (take n indexes) (at ∷ []) ∙ ap (λ l. before ++ l) (sym (take_more indexes n 0 lt)))
+    (placed_more pieces (before ++ take n indexes) at align old new p some (held before placed) is text long place to)
+
+pub adds_all : (pieces : List CutPiece) (indexes : List ℕ) (n align : ℕ) (first placed : Placed) → length indexes ≤ n → AddsPieces pieces (take n indexes) align first placed →
+    AddsPieces pieces indexes align first placed
+adds_all pieces indexes n align first placed le held =
+    let P : List ℕ → Type 0 = λ l. AddsPieces pieces l align first placed in
+    subst P (take_all n indexes le) held
+
+-- no piece is placed
+pub placed_none : (pieces : List CutPiece) (ns : List ℕ) (align : ℕ) (placed : Placed) → placed.pieces.items ≡ [] → placed.size ≡ 0 → IsPlaced pieces (owns ns 0) align placed
+unfolding owns
+placed_none pieces ns align placed none start = record {
+  spans_are = ap (map (λ (p : Piece). p.text)) none;
+  positions = ap (map (λ (p : Piece). p.position)) none;
+  size_is = start;
+  piled = λ pool size. let P : List Piece → Type 0 = λ l. IsPile pool l in
+      subst P (sym none) (record { inside = λ i d lt. absurd (omega (arith, lt)); order = λ i d lt. absurd (omega (arith, lt)) });
+}
+
+-- those of one block more
+pub placed_next : (pieces : List CutPiece) (ns own : List ℕ) (start end align : ℕ) (old new : Placed) → owns ns start ++ own ≡ owns ns end →
+    IsPlaced pieces (owns ns start) align old → AddsPieces pieces own align old new → IsPlaced pieces (owns ns end) align new
+placed_next pieces ns own start end align old new both held adds =
+    let P : List ℕ → Type 0 = λ l. IsPlaced pieces l align new in
+    subst P both (adds (owns ns start) held)
 
 -- parts one after the other
 pub record ArePartsUpTo (texts : List (List ℕ)) (numbers : List ℕ) (n start : ℕ) (parts : List Part) : Type 0 where
@@ -114,15 +146,3 @@ pub parts_all : (texts : List (List ℕ)) (numbers : List ℕ) (n start : ℕ) (
 parts_all texts numbers n start parts e held =
     let none : drop n texts ≡ [] = drop_past texts n (omega arith) in
     sym (append-nil parts) ∙ ap (λ l. parts ++ parts_by start l (drop n numbers)) (sym none) ∙ held.parts_are
-
--- all are placed
-pub placed_all : (pieces : List CutPiece) (firsts : List ℕ) (align n : ℕ) (placed : List Piece) (size : ℕ) → n ≡ length firsts →
-    AreUpTo pieces firsts align n placed size →
-    (map (λ (p : Piece). p.text) placed ≡ map (λ i. (piece_at pieces i).span) firsts)
-    × (map (λ (p : Piece). p.position) placed ≡ positions_from align 0 (chosen (texts_of pieces) [] firsts)) × (size ≡ end_from align 0 (chosen (texts_of pieces) [] firsts))
-placed_all pieces firsts align n placed size e held =
-    let none : rest_of (texts_of pieces) firsts n ≡ [] = ap (chosen (texts_of pieces) []) (drop_past firsts n (omega arith)) in (
-      held.spans_are ∙ by_index (λ i. (piece_at pieces i).span) firsts 0 n e,
-      sym (append-nil (map (λ (p : Piece). p.position) placed)) ∙ ap (λ l. map (λ (p : Piece). p.position) placed ++ positions_from align size l) (sym none) ∙ held.positions,
-      ap (end_from align size) (sym none) ∙ held.end_is,
-    )

@@ -9,7 +9,7 @@ use Rattle.std.proofs.lemmas.List.Elements.{filter-append}
 use Rattle.std.proofs.lemmas.List.FromFn.{length-range_with_len, get_or-map-range_with_len}
 use Rattle.std.proofs.lemmas.List.Sums.{length-filter, count_by-le-length}
 use Rattle.lk_base.proofs.Loops.{range_more}
-use Rattle.str_merge.specs.Orders.{IsFirstOf, firsts, is_own, owns, rank}
+use Rattle.str_merge.specs.Orders.{IsFirstOf, is_own, owns, rank}
 
 pub owns_more : (ns : List ℕ) (i : ℕ) → owns ns (i + 1) ≡ owns ns i ++ (if get_or ns i 0 == i then i ∷ [] else [])
 unfolding owns
@@ -19,9 +19,9 @@ pub owns_few : (ns : List ℕ) (n : ℕ) → length (owns ns n) ≤ n
 unfolding owns
 owns_few ns n = omega (arith, length-filter (is_own ns) (range_with_len 0 n), count_by-le-length (is_own ns) (range_with_len 0 n), length-range_with_len 0 n)
 
-pub few_firsts : (ns fs : List ℕ) → fs ≡ firsts ns → length fs ≤ length ns
-unfolding firsts
-few_firsts ns fs is = omega (arith, ap length is, owns_few ns (length ns))
+-- with those that are found after them
+pub owns_long : (ns own : List ℕ) (start end : ℕ) → owns ns start ++ own ≡ owns ns end → length (owns ns start) + length own ≡ length (owns ns end)
+owns_long ns own start end both = sym (length-append (owns ns start) own) ∙ ap length both
 
 pub counted_more : (ns : List ℕ) (i count next : ℕ) → count ≡ length (owns ns i) → next ≡ (if get_or ns i 0 == i then count + 1 else count) → next ≡ length (owns ns (i + 1))
 counted_more ns i count next held is = elim (cases_Bool (get_or ns i 0 == i)) [

@@ -2,10 +2,10 @@
 use Rattle.std.proofs.Common.{◌≡◌, ℕ, zero, suc, ◌+◌, ◌-◌, ◌<◌, ◌≤◌, ◌^◌, ◌==◌, Bool, true, false, cond, not, List, [], ◌∷◌, ◌++◌, length, map, get_or, refl, sym, ap, ◌∙◌, subst, arith, inl, inr}
 use Rattle.std.specs.Prelude.{All}
 use Rattle.std.specs.List.{filter, range_with_len, position_or_len}
-use Rattle.std.proofs.Math.Seq.{get_or-append_seam}
+use Rattle.std.proofs.Math.Seq.{drop-append_seam, get_or-append_seam}
 use Rattle.std.proofs.lemmas.Bool.{cases_lt, eq-eqb, false≢true}
 use Rattle.std.proofs.lemmas.List.{length-map, length-append, get_or-map, get_or_append_left, map-append}
-use Rattle.std.proofs.lemmas.List.Elements.{filter-append, All-filter}
+use Rattle.std.proofs.lemmas.List.Elements.{filter-append, All-drop, All-filter}
 use Rattle.std.proofs.lemmas.List.FromFn.{fill_by_all, length-range_with_len, get_or-range_with_len}
 use Rattle.std.proofs.lemmas.List.Sums.{fails_before_first, passes_at_first, position_or_len_is}
 use Rattle.lk_base.proofs.Loops.{range_at}
@@ -57,9 +57,21 @@ below : (n : ℕ) → All (λ k. k < n) (range_with_len 0 n)
 below n = λ i d lt. let at = get_or-range_with_len 0 n i d (omega (arith, length-range_with_len 0 n)) in omega (arith, length-range_with_len 0 n)
 
 -- first elements are among all
+pub owns_below : (ns : List ℕ) (n : ℕ) → All (λ i. i < n) (owns ns n)
+unfolding owns
+owns_below ns n = All-filter (is_own ns) (λ i. i < n) (range_with_len 0 n) (below n)
+
 pub firsts_below : (ns : List ℕ) → All (λ i. i < length ns) (firsts ns)
-unfolding firsts owns
-firsts_below ns = All-filter (is_own ns) (λ i. i < length ns) (range_with_len 0 (length ns)) (below (length ns))
+unfolding firsts
+firsts_below ns = owns_below ns (length ns)
+
+-- those that are found after others
+pub own_within : (ns own : List ℕ) (start end most : ℕ) → owns ns start ++ own ≡ owns ns end → end ≤ most → All (λ i. i < most) own
+own_within ns own start end most both le =
+    let P : ℕ → Type 0 = λ i. i < end in
+    let whole : All P (owns ns start ++ own) = subst (All P) (sym both) (owns_below ns end) in
+    let later : All P own = subst (All P) (drop-append_seam (owns ns start) own) (All-drop P (length (owns ns start)) (owns ns start ++ own) whole) in
+    λ i d lt. let low = later i d lt in omega (arith, low, le)
 
 module _ {X : Type 0} (same : X → X → Bool) (d : X) (xs : List X) (is : IsSame same) where
   abbrev pub numbers : List ℕ

@@ -41,7 +41,7 @@ pub record IsAnswered (w : Work) (parts : List (List Part)) (answers : List Merg
   pub row : (slice_index_or answers i no_merged).row < length parts
   pub merged : merged_view parts (slice_index_or answers i no_merged) ≡ merged_of (files_of w.tables.now) w.kept.now (nth_site (files_of w.tables.now) w.kept.now i)
 
--- the same of the sections of one pool more
+-- what is merged of the sections of one pool more is known
 pub record AreAnswered (w : Work) (members : List ℕ) (old new : Filled) : Type 0 where
   pub pools : new.pools.items ≡ old.pools.items
   pub pieces : new.rows.pieces ≡ old.rows.pieces

@@ -6,7 +6,7 @@ use Rattle.std.specs.List.{filter, range_with_len}
 abbrev pub is_own : List ℕ → ℕ → Bool
 is_own numbers i = slice_index numbers i == i
 
--- those of the first n that are
+-- the elements among the first n that are the first of their kind
 unfoldable pub owns : List ℕ → (n : ℕ) → List ℕ
 owns numbers n = filter (is_own numbers) (range_with_len 0 n)
 

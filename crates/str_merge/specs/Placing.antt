@@ -1,5 +1,5 @@
 -- The distinct pieces of a pool, each with its position.
-use Rattle.std.specs.Prelude.{◌≡◌, ℕ, List, [], map, slice_index_or}
+use Rattle.std.specs.Prelude.{◌≡◌, ℕ, ◌++◌, List, [], map, slice_index_or}
 use Rattle.link_sections.specs.declared.pieces.Piece.{Piece}
 use Rattle.link_sections.specs.declared.pools.Pool.{Pool}
 use Rattle.link_sections.specs.Merging.{end_from, positions_from}
@@ -18,3 +18,7 @@ pub record IsPlaced (pieces : List CutPiece) (firsts : List ℕ) (align : ℕ) (
   pub positions : map (λ (p : Piece). p.position) placed.pieces.items ≡ positions_from align 0 (chosen (texts_of pieces) [] firsts)
   pub size_is : placed.size ≡ end_from align 0 (chosen (texts_of pieces) [] firsts)
   pub piled : (pool : Pool) → pool.size ≡ placed.size → IsPile pool placed.pieces.items
+
+-- the pieces of these indexes are placed after those that were
+abbrev pub AddsPieces : (pieces : List CutPiece) (indexes : List ℕ) (align : ℕ) (old new : Placed) → Type 0
+AddsPieces pieces indexes align old new = (before : List ℕ) → IsPlaced pieces before align old → IsPlaced pieces (before ++ indexes) align new

@@ -54,7 +54,7 @@ pub record IsPoolOf (w : Work) (pool : ℕ) (members : List ℕ) (p : Pooled) : 
 abbrev pub IsReady : Work → (pool : ℕ) → Option Pooled → Type 0
 IsReady w pool known = IfSome known (IsPoolOf w pool (members_at (files_of w.tables.now) w.kept.now pool))
 
--- the same of each pool
+-- what becomes of the pieces of each pool, if it is there
 pub record AreReady (w : Work) (list : List (Option Pooled)) : Type 0 where
   pub count : length list ≡ length w.firsts.now
   pub each : (p : ℕ) (d : Option Pooled) → p < length list → IsReady w p (slice_index_or list p d)

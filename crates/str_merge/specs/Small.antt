@@ -15,7 +15,7 @@ pub record IsShort (files : List File) (s : Site) : Type 0 where
   pub from : (section_at (file_at files s.file) s.index).offset < 2 ^ 31
   pub len : length (contents (file_at files s.file) s.index) < 2 ^ 31
 
--- the same of a section that is cut
+-- the bytes of a section that is cut stand before byte 2^31 of its file
 pub record IsNear (c : Cut) : Type 0 where
   pub from : c.whole.from < 2 ^ 31
   pub len : length c.bytes.now < 2 ^ 31

@@ -8,6 +8,11 @@
 //! the distinct pieces, and another lists the parts of all sections, the numbers of their pieces by offset (`pooling`). No byte is
 //! copied: a piece is a span of the file that has it first. The list of a pool's pieces becomes the buffer of the rows, and the first
 //! pool's rows of parts are taken over; those of later pools are copied.
+//!
+//! `sections` says which sections are merged, `sites` lists them, `keys` has the key of each one's pool, and `members` lists the sections of each
+//! pool. `cuts` cuts sections into pieces, `counts` counts pieces, and `gathering` reads those of several sections by number. `orders` finds the
+//! distinct ones, `placing` where they stand, and `parts` lists their numbers by section. `filling` takes the pools one after the other, `spreading`
+//! has by section number what is merged, and `merging` does all of it in order.
 #![tactic(auto)]
 
 mod counts;

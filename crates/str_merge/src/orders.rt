@@ -35,7 +35,7 @@ pub fn firsts_of(alloc: Global, numbers: &[u32]) -> Result<Vec<u32>, AllocError>
     ensures { IfOk result (λ list. list.items ≡ firsts numbers.now) }
 {
     let mut firsts = Vec::with_capacity(alloc, numbers.len())?;
-    let mut own = vec![in alloc; 0; BLOCK]?;
+    let mut own = empty_block(alloc)?;
     let mut done = 0;
     while done < numbers.len() {
         let end = done + block_of(numbers.len() - done);
@@ -46,8 +46,29 @@ pub fn firsts_of(alloc: Global, numbers: &[u32]) -> Result<Vec<u32>, AllocError>
     Ok(firsts)
 }
 
+/// How many elements have no earlier one that is the same.
+#[tactic(auto, unfolding(crate::specs::Orders::firsts))]
+pub fn first_count(numbers: &[u32]) -> usize
+    requires { length numbers.now < 2 ^ 31 }
+    ensures { result ≡ length (firsts numbers.now) }
+{
+    let mut count: usize = 0;
+    for i in 0..numbers.len() {
+        count = count_own(count, numbers[i], i);
+    }
+    count
+}
+
+/// Room for the elements of a block.
+pub fn empty_block(alloc: Global) -> Result<Vec<u32>, AllocError>
+    ensures { IfOk result (λ own. length own.items ≡ 512) }
+{
+    let own = vec![in alloc; 0; BLOCK]?;
+    Ok(own)
+}
+
 /// How many of the elements that are left are of the next block.
-fn block_of(left: usize) -> usize
+pub fn block_of(left: usize) -> usize
     requires { 0 < left }
     ensures some { 0 < result }
     ensures most { result ≤ left }
@@ -58,7 +79,7 @@ fn block_of(left: usize) -> usize
 
 /// Lists the elements from one on and before another with which no earlier one is the same: so many, at the head of the list. Whether an element is one
 /// of them is not to be foreseen, so each is written, and kept or not without a branch.
-fn list_own(own: &mut Vec<u32>, numbers: &[u32], start: usize, end: usize) -> usize
+pub fn list_own(own: &mut Vec<u32>, numbers: &[u32], start: usize, end: usize) -> usize
     requires order { start ≤ end }
     requires room { end ≤ start + length own.old.items }
     requires within { end ≤ length numbers.now }
@@ -76,7 +97,7 @@ fn list_own(own: &mut Vec<u32>, numbers: &[u32], start: usize, end: usize) -> us
 }
 
 /// The first so many elements of a list.
-fn head(list: &[u32], count: usize) -> &[u32]
+pub fn head(list: &[u32], count: usize) -> &[u32]
     requires { count ≤ length list.now }
     ensures { result.now ≡ take count list.now }
 {

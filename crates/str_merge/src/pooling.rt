@@ -1,6 +1,6 @@
 //! The pieces of one pool.
 
-ghost use Rattle.std.specs.Prelude.{◌≡◌, ◌<◌, ◌≤◌, ◌^◌, All, length, IfOk, IfSome};
+ghost use Rattle.std.specs.Prelude.{◌≡◌, ◌<◌, ◌≤◌, ◌^◌, [], All, length, IfOk, IfSome, OnOk};
 ghost use Rattle.lk_tables.specs.TablesView.{files_of};
 ghost use Rattle.link_sections.specs.Merging.{pool_site, site_key};
 ghost use Rattle.str_merge.specs.Orders.{IsFirstOf, firsts, ranks};
@@ -14,8 +14,9 @@ ghost use Rattle.str_merge.specs.Works.{IsWork, members_at};
 use crate::cuts::Cut;
 use crate::gathering::texts_of;
 use crate::keys::PoolKey;
+use crate::orders::empty_block;
 use crate::parts::part_rows;
-use crate::placing::{Placed, place_distinct};
+use crate::placing::{Placed, none_placed, place_distinct, place_into};
 use crate::sites::Site;
 use flat_rows::Rows;
 use link_sections::Part;
@@ -134,7 +135,8 @@ fn place<R: Threads + Sync>(
     Ok(Pooled { placed, parts })
 }
 
-/// The distinct pieces of these sections, placed, and the parts of the sections, with a thread for each of both.
+/// The distinct pieces of these sections, placed, and the parts of the sections, with a thread for each of both. The memory that the new thread writes to
+/// is lent to it: what it took itself would lie in fresh pages.
 fn place_in_parallel<R: Threads + Sync>(
     rt: &R,
     alloc: Global,
@@ -151,18 +153,20 @@ fn place_in_parallel<R: Threads + Sync>(
     requires wide { length numbers.now ≡ length (gathered (piece_lists cuts.now) members.now) }
     ensures { IfOk result (IsMadeOf cuts.now members.now numbers.now align) }
 {
-    let (placed, parts) = join_mut(
+    let mut own = empty_block(alloc)?;
+    let mut placed = none_placed(alloc, numbers)?;
+    let (done, parts) = join_mut(
         rt,
-        &mut || -> Result<Placed, AllocError>
-            requires { (1 ≤ align) × (align ≤ 2 ^ 20) × All (λ m. m < length cuts.now) members.now × All IsNear cuts.now × (length numbers.now < 2 ^ 31) × (length numbers.now ≡ length (gathered (piece_lists cuts.now) members.now)) }
-            ensures { IfOk result (IsPlaced (gathered (piece_lists cuts.entry.now) members.entry.now) (firsts numbers.entry.now) align) }
-        { place_distinct(alloc, cuts, members, numbers, align) },
+        &mut || -> Result<(), AllocError>
+            requires { (1 ≤ align) × (align ≤ 2 ^ 20) × All (λ m. m < length cuts.now) members.now × All IsNear cuts.now × (length numbers.now < 2 ^ 31) × (length numbers.now ≡ length (gathered (piece_lists cuts.now) members.now)) × (length own.items ≡ 512) × (placed.pieces.items ≡ []) × (placed.size ≡ 0) }
+            ensures { OnOk result (IsPlaced (gathered (piece_lists cuts.entry.now) members.entry.now) (firsts numbers.entry.now) align placed.exit) }
+        { place_into(cuts, members, numbers, align, &mut own, &mut placed) },
         &mut || -> Result<Rows<Part>, AllocError>
             requires { All (λ m. m < length cuts.now) members.now × All IsNear cuts.now × (length numbers.now < 2 ^ 31) × (length numbers.now ≡ length (gathered (piece_lists cuts.now) members.now)) }
             ensures { IfOk result (λ rows. IsFirstOf numbers.entry.now → rows ≡ part_lists (lists_at (cut_views cuts.entry.now) members.entry.now) (ranks numbers.entry.now)) }
         { part_rows(alloc, cuts, members, numbers) },
     );
-    let placed = placed?;
+    done?;
     let parts = parts?;
     Ok(Pooled { placed, parts })
 }

@@ -18,7 +18,7 @@ is_unbound_at files b f i = is_visible (symbol_at (file_at files f) i) && rank_a
 unfoldable pub unbound_at : List File → Bindings → (f i : ℕ) → List Unbound
 unbound_at files b f i = if is_unbound_at files b f i then record { file = f; symbol = i; number = symbol_no files f i } ∷ [] else []
 
--- those of all files that take part
+-- the symbols of all files that take part, whose names are bound to nothing
 unfoldable pub all_unbound : List File → Bindings → List Unbound
 all_unbound files b = over_symbols files (unbound_at files b)
 

@@ -9,6 +9,10 @@
 //! Each piece of the list of offers is one worker's. After the claims `unbound` looks through the symbols whose names nobody offers, and
 //! `linker` gives those with a name of the linker's its rank. `named_sections` lists the sections by their names only if a `__start_` or
 //! `__stop_` name is among them. The entry's name has no number: it is looked for among the offers, by its length first.
+//!
+//! `offers` lists the offers as claims, and `ranks` what each symbol's name is bound to. `flags`, `duplicates` and `entry` find the defects. `rooms`
+//! finds how much room the COMMON symbols of a name ask for, `commons` which of them get it, `counts` reads how many symbols and sections files have,
+//! and `binding` does all of it in order.
 #![tactic(auto)]
 
 mod binding;

@@ -36,7 +36,7 @@ pub fn sections_if<'a>(
     sections_of(alloc, tables, binding)
 }
 
-// The same, if it is asked for.
+// By each name that is an identifier of C the first section of it that may be kept.
 #[tactic(auto, unfolding(lk_tables::specs::LinkerSymbols::first_named))]
 fn sections_of<'a>(
     alloc: Global,

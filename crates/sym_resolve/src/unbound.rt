@@ -59,7 +59,7 @@ pub fn unbound_of<R: Threads + Sync, G: Gate>(
     }
 }
 
-// Those of a run of files.
+// The symbols of a run of files whose names nobody offers.
 fn unbound_in(
     alloc: Global,
     tables: &Tables,
@@ -76,7 +76,7 @@ fn unbound_in(
     Ok(unbound)
 }
 
-// Those of one file, if it takes part.
+// Adds the symbols of a file whose names nobody offers, if it takes part.
 fn push_unbound(
     unbound: &mut Vec<Unbound>,
     tables: &Tables,

@@ -11,7 +11,7 @@ use Rattle.symbol_addresses.specs.declared.places.Extent.{Extent}
 unfoldable pub extent_of : LaidOut → (name : List ℕ) → Extent
 extent_of laid name = record { start = start_or IMAGE_BASE (first_place laid name); end = end_or IMAGE_BASE (last_place laid name) }
 
--- that of a list of functions to call
+-- the extent of a list of functions to call
 unfoldable pub array_extent : LaidOut → (name : List ℕ) → Extent
 array_extent laid name = record { start = start_or IMAGE_BASE (array_place laid name); end = end_or IMAGE_BASE (array_place laid name) }
 

@@ -24,7 +24,7 @@ own_address link f i =
 abbrev pub own_addresses : LaidLink → List ℕ
 own_addresses link = by_symbol (link_files link) (own_address link)
 
--- that of the symbol of a number, as a list of one
+-- the own address of the symbol of a number, as a list of one
 abbrev pub own_at : LaidLink → ℕ → List ℕ
 own_at link n = slice_index (own_addresses link) n ∷ []
 

@@ -109,7 +109,7 @@ module _ (files : List File) (b : Bindings) (kept : List Bool) (leaders : List (
   unfoldable pub entry_of : (f i : ℕ) → List TableSymbol
   entry_of f i = if is_visible (symbol_at (file_at files f) i) then entry_by (bound files b f i) f i else []
 
-  -- those of the files that take part, in order of file and symbol
+  -- the entries of the files that take part, in order of file and symbol
   unfoldable pub entries_in : (f : ℕ) → List TableSymbol
   entries_in f = if (file_at files f).live
       then flat_map (entry_of f) (range_with_len 0 (length (file_at files f).head.symbols)) else []

@@ -194,6 +194,11 @@ fn alignments_short_of_nops_are_refused(rt: HostRuntime) -> Result<(), Fail> {
 }
 
 #[test]
+fn calls_and_tail_calls_are_shortened(rt: HostRuntime) -> Result<(), Fail> {
+    each_links!(rt; &OwnStores, aligned::SHORTENED)
+}
+
+#[test]
 fn each_symbol_has_its_entry(rt: HostRuntime) -> Result<(), Fail> {
     each_links!(rt; &OwnStores, symbols::LISTED)
 }

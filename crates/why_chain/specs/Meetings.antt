@@ -33,7 +33,7 @@ abbrev pub met_one : (n place k : ℕ) → List Met → Option Pair → List Met
 met_one n place k queue None = queue
 met_one n place k queue (Some p) = if list_any (λ code. code_of n p == code) (codes_of n queue) then queue else queue ++ met_by place k p ∷ []
 
--- those of many relocations, one after the other
+-- the pairs of many relocations are added, one after the other
 abbrev pub met_all : (n place : ℕ) → (new : ℕ → Option Pair) → (ks : List ℕ) → List Met → List Met
 met_all n place new [] queue = queue
 met_all n place new (k ∷ ks) queue = met_all n place new ks (met_one n place k queue (new k))

@@ -19,7 +19,7 @@ pub enum ApartEnd {
     Target(u64),
 }
 
-/// Pairs of items, of which the first is given: why no two of them can stand for one another. They are told by the relocations through
+/// Pairs of items, of which the first is given: why no two of them can stand for one another. They are given by the relocations through
 /// which each next pair is met.
 #[derive(Debug, Drop)]
 pub struct ApartChain {

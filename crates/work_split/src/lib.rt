@@ -5,6 +5,8 @@
 //! A list is cut into pieces of about equal weight, in bytes or symbols (`pieces_by_weight`). Each worker does those of its piece in order
 //! and stops at the first defect of its own. The lists are joined in the order of the pieces, and if one has stopped the first stop is the
 //! answer (`over_shares`). The list, and the defect that is reported, are thus those of one worker.
+//!
+//! `cuts` and `weights` cut the work into pieces, `tasks` runs a task for each piece, `shares` joins what these give, and `gates` has the gates.
 #![tactic(auto)]
 
 mod cuts;

@@ -224,7 +224,7 @@ fn numbers_of(alloc: Global, piece: Range<usize>) -> Result<Vec<usize>, LinkStop
     Ok(numbers)
 }
 
-// The same by several.
+// The numbers below a length, by several workers.
 fn numbers<R: Threads + Sync>(
     rt: &R,
     alloc: Global,

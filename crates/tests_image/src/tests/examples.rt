@@ -33,7 +33,7 @@ const DATA: Section =
 /// Bytes that are only read, at odd places.
 const READ_ONLY: Section = section!(b".rodata", 1, 2, 1; b"xyz");
 
-/// Bytes that are only read, at odd places, with a number of ten bytes behind them.
+/// Bytes that are only read, at odd places, with a number of ten bytes after them.
 const WITH_NUMBER: Section = section!(READ_ONLY =>
     bytes: b"xyz\x80\x80\x80\x80\x80\x80\x80\x80\x80\0",
     relocs: &[reloc!(3, SET_ULEB128, 5, 0), reloc!(3, SUB_ULEB128, 2, 0)]);

@@ -315,7 +315,7 @@ fn thread_local_sections_stand_by_themselves(rt: HostRuntime) -> Result<(), Fail
     ];
     let inputs = inputs_of(rt.alloc(), &[object_with(&sections)])?;
     let made = run_passes(&rt, rt.alloc(), &inputs, &PLAIN)?;
-    // Those with bits, and then those that are written.
+    // Thread-local sections with bits, and then sections that are written.
     assert!(rt; are_sections(made.layout.members.as_slice(), &[1, 4, 2, 6, 5]));
     assert!(rt; are_sections(made.layout.nobits_members.as_slice(), &[3]));
     Ok(())

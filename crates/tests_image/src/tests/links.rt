@@ -74,7 +74,7 @@ pub struct Written {
     /// The values of the symbols in order, by one worker and by two.
     pub by_one: Vec<u64>,
     pub by_two: Vec<u64>,
-    /// The values of the relocations that have one, of sections that lead themselves, in order of section number and offset.
+    /// The values of the relocations that have one, of sections that are their own leaders, in order of section number and offset.
     pub relocated: Vec<i128>,
     /// Whether the executable is the same by blocks, and slices of blocks are what they have to be.
     pub agrees: bool,
@@ -133,7 +133,7 @@ fn reloc_count(tables: &Tables, section: SecNo) -> usize
     tables.relocs(place.file, place.index).len()
 }
 
-/// Adds the values of a section's relocations that have one, if it leads itself.
+/// Adds the values of a section's relocations that have one, if it is its own leader.
 fn push_values(values: &mut Vec<i128>, view: &View, section: SecNo) -> Result<(), AllocError>
     requires { section < section_total (files_in view.now) }
 {

@@ -57,7 +57,7 @@ pub fn is_linked(left: &Left) -> bool {
         && left.depot.kind("a.out") == Some(FileKind::Executable)
 }
 
-/// Whether a line was told, and nothing begun.
+/// Whether a line was written, and nothing begun.
 fn is_refused(left: &Left, line: &str) -> bool {
     left.status == 1 && left.depot.begun() == 0 && left.err.written() == line.as_bytes()
 }

@@ -35,7 +35,7 @@ pub const CHOSEN: &[Link] = &[
     link!("-s", "x.o", "lib.a", "c8.o" => ASKED_COMMON; libraries: &[STRONG_ALONE]),
 ];
 
-/// A jump to the function behind it, and the member that only the command asks for.
+/// A jump to the function after it, and the member that only the command asks for.
 const ASKED_BY_NAME: Image = code!(12 => 0x1020; b"\xef\0\x40\0\x67\x80\0\0\x67\x80\0\0");
 
 /// `n` as a number, beside code.
@@ -49,11 +49,11 @@ const LOCAL: Library =
 /// Members that the command asks for: the first that offers the name, weak or not, and what it pulls; one that offers a number keeps nothing.
 pub const BY_NAME: &[Link] = &[
     link!("-s", "--undefined", "n", "a.o", "lib.a" => ASKED_BY_NAME; libraries: &[ONE_MEMBER]),
-    // The same, the member first.
+    // The archive first, and two names that nobody offers.
     link!("-s", "--undefined=x,nowhere,n", "lib.a", "a.o", "--gc-sections" =>
         code!(12 => 0x1020; b"\x67\x80\0\0\xef\0\x40\0\x67\x80\0\0"; entry: 0x11004); libraries: &[ONE_MEMBER]),
     link!("-s", "--undefined", "n", "a.o", "lib.a" => ASKED_BY_NAME; libraries: &[WEAK_FIRST]),
-    // A jump to the function behind it, the member that another one pulls, and that one, which only the command asks for.
+    // A jump to the function after it, the member that another one pulls, and that one, which only the command asks for.
     link!("-s", "--undefined", "n", "a.o", "lib.a" =>
         code!(20 => 0x1028; b"\xef\0\x40\0\x67\x80\0\0\x67\x80\0\0\xef\xf0\xdf\xff\x67\x80\0\0"); libraries: &[CHAIN]),
     link!("-s", "--undefined", "n", "a.o", "lib.a" => ASKED_BY_NAME; libraries: &[NUMBER]),
@@ -62,7 +62,7 @@ pub const BY_NAME: &[Link] = &[
 
 /// Names that pull no member: an object offers them, weak or COMMON, or a member has them as local symbols. The room of a COMMON symbol stays.
 pub const BY_NAME_IN_VAIN: &[Link] = &[
-    // A jump to the function behind it, and an `ebreak` of another file.
+    // A jump to the function after it, and an `ebreak` of another file.
     link!("-s", "--undefined", "n", "a.o", "n.o", "lib.a" => code!(12 => 0x1020; b"\xef\0\x40\0\x67\x80\0\0\x73\0\x10\0"); libraries: &[ONE_MEMBER]),
     link!("-s", "--gc-sections", "--undefined", "x", "a.o", "c8.o", "lib.a" => ASKED_COMMON; libraries: &[STRONG_ALONE]),
     link!("-s", "--undefined", "n", "a.o", "lib.a" => FIRST; libraries: &[LOCAL]),

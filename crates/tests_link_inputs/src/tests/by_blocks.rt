@@ -36,7 +36,7 @@ fn is_whole(left: &Left, bytes: &[u8]) -> bool {
         && executable(left) == bytes
 }
 
-/// Whether the first block alone of these bytes was written, and that was told.
+/// Whether the first block alone of these bytes was written, and that was reported.
 fn is_cut(left: &Left, bytes: &[u8]) -> bool {
     left.status == 3
         && left.depot.calls() == 3

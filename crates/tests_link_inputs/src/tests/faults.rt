@@ -18,7 +18,7 @@ macro_rules! outside {
     };
 }
 
-/// A command over an outside that fails: what it would leave, the status, what is told as an error, how many calls of the depot there are,
+/// A command over an outside that fails: what it would leave, the status, what is reported as an error, how many calls of the depot there are,
 /// how many bytes of the executable and of the map are there if these were begun, and how many of what is said.
 #[derive(Clone, Copy)]
 struct Fault<'a> {
@@ -144,7 +144,7 @@ fn has_files(alloc: Global, fault: &Fault, depot: &MemDepot) -> Result<bool, All
     )
 }
 
-/// Whether so much was said, and this was told.
+/// Whether so much was said, and this was reported.
 fn has_lines(fault: &Fault, left: &Left) -> bool {
     let said = left.say.written();
     said.len() == fault.said

@@ -83,7 +83,7 @@ pub const REFUSED: &[Refusal] = &[
 /// Many objects: the words, what is said, and how many bytes the executable has.
 pub type Many<'a> = (&'a [&'a str], &'a str, usize);
 
-/// Words behind the program's name, what is said, and how many bytes the executable has, where that is asked.
+/// Words after the program's name, what is said, and how many bytes the executable has, where that is asked.
 macro_rules! said {
     ($($word:literal),+ => $said:literal $(, $length:literal)?) => {
         (&["rvld" $(, $word)+], $said $(, $length)?)

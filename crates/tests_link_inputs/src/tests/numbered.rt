@@ -134,7 +134,7 @@ fn groups_name_sections_past_sixteen_bits(rt: HostRuntime) -> Result<(), Fail> {
     let left = link_after_first(&rt, rt.alloc(), bytes)?;
     assert!(rt; is_linked(&left));
     let bytes = left.depot.bytes("a.out").unwrap_or(b"".as_slice());
-    // The first copy stands at 0x11000, section 2 behind it, and the last at 0x332dc, without section 69,999: the jump goes 8,956 bytes back.
+    // The first copy stands at 0x11000, section 2 after it, and the last at 0x332dc, without section 69,999: the jump goes 8,956 bytes back.
     assert_eq!(rt; bytes.get(24..28), Some(b"\xdc\x32\x03\0".as_slice()));
     let jump = bytes.get(0x232dc..0x232e0);
     assert_eq!(rt; jump, Some(b"\xef\xd0\x5f\xd0".as_slice()));

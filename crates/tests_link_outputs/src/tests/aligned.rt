@@ -1,4 +1,4 @@
-//! Nops of an alignment (RISC-V ELF psABI, R_RISCV_ALIGN): how many stay, what moves, where they are too few; and a call without a target.
+//! Nops of an alignment (RISC-V ELF psABI, R_RISCV_ALIGN): how many stay, what moves, where they are too few; and calls that may be shortened.
 
 use elf_bytes::{Object, Reloc, Section, data, image, object, reloc, section, symbol, text};
 use link_examples::images::{FIRST, NAMES, READ, READ_OF_FOUR, STACK, WEAK_CALL};
@@ -19,6 +19,13 @@ const ALL_STAY: Object =
 /// Eight bytes.
 const EIGHT: Section = section!(b".text", 1, 6, 8; b"\xff\xff\xff\xff\xff\xff\xff\xff");
 
+/// `tail f`, which may be shortened, and `f`.
+const TAIL: Object =
+    object!([text!(b"\x17\x03\0\0\x67\0\x03\0\x67\x80\0\0"; reloc!(0, 19, 1, 0), reloc!(0, 51, 0, 0))]; [symbol!(b"f", 1, 2, 1, 8, 4), START]);
+/// `call f`, the same.
+const CALL: Object =
+    object!(TAIL => sections: &[text!(b"\x97\0\0\0\xe7\x80\0\0\x67\x80\0\0"; reloc!(0, 19, 1, 0), reloc!(0, 51, 0, 0))]);
+
 const LIBRARIES: &[Library] = &[OFFER_OF_WEAK];
 
 const INPUTS: &[Input] = inputs!(
@@ -26,7 +33,7 @@ const INPUTS: &[Input] = inputs!(
     // Six that may go, and a `ret`.
     "none.o" => object!(ALL_STAY => sections: &[section!(b".text", 1, 6, 8; b"\xff\xff\xff\xff\xff\xff\x67\x80\0\0"; relocs: &[TO_8])]),
     "returns.o" => object!([RETURN]; [START]),
-    // The same with an `ebreak`, in a section that may stand at a multiple of 4.
+    // Six that may go, and an `ebreak`, in a section that may stand at a multiple of 4.
     "some.o" => object!([text!(b"\xff\xff\xff\xff\xff\xff\x73\0\x10\0"; TO_8)]; []),
     // `f` after six bytes, `g` after six more, which jumps to `f`; and words of both, of places in the section and after it, and of distances.
     "moved.o" => object!([
@@ -39,6 +46,8 @@ const INPUTS: &[Input] = inputs!(
     ]; [symbol!(b"", 0, 3, 1, 0, 4), symbol!(b"f", 1, 2, 1, 6, 4), symbol!(b"g", 1, 2, 1, 16, 4), START]),
     // A call of `w`, which may be shortened.
     "called.o" => object!([text!(b"\x97\0\0\0\xe7\x80\0\0"; reloc!(0, 19, 1, 0), reloc!(0, 51, 0, 0))]; [WEAKLY, START]),
+    // Without compressed instructions, and with them.
+    "tail.o" => TAIL, "tail-c.o" => object!(TAIL => flags: 1), "call.o" => CALL, "call-c.o" => object!(CALL => flags: 1),
 );
 
 const WRONG_INPUTS: &[Input] = inputs!(
@@ -82,6 +91,15 @@ pub const STAYING: &[Link] = &[
             (0x2040, b"\0.text\0.data\0.shstrtab\0")],
         sections: &[[1, 1, 6, 0x11000, 0x1000, 16, 8], [7, 1, 3, 0x12000, 0x2000, 64, 8], [13, 3, 0, 0, 0x2040, 23, 1]]); store: Store::Aligned),
     link!("-s", "called.o", "lib.a" => WEAK_CALL; store: Store::Aligned, libraries: LIBRARIES),
+];
+
+/// `c.j` for a tail call in a file with compressed instructions, else `jal`; and what is to stay as it is.
+pub const SHORTENED: &[Link] = &[
+    link!("-s", "tail-c.o" => code!(6 => 0x1018; b"\x09\xa0\x67\x80\0\0"; flags: 1); store: Store::Aligned),
+    link!("-s", "tail.o" => code!(8 => 0x1020; b"\x6f\0\x40\0\x67\x80\0\0"); store: Store::Aligned),
+    link!("-s", "call-c.o" => image!(FIRST => flags: 1); store: Store::Aligned),
+    link!("-s", "call.o"; store: Store::Aligned),
+    link!("-s", "--no-relax", "tail-c.o" => code!(12 => 0x1020; b"\x17\x03\0\0\x67\0\x83\0\x67\x80\0\0"; flags: 1); store: Store::Aligned),
 ];
 
 /// Too few bytes, and bytes that can be none.

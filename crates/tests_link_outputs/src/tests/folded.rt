@@ -9,7 +9,7 @@ use link_examples::images::{FIRST, NAMES, READ, RETURN_ALONE, STACK};
 use link_examples::objects::{Input, RETURN, START, TO_SECOND};
 use link_examples::{
     Files, Link, SOUND, Store, WORKERS, code, code_and_data, inputs, link, objects_of,
-    push_objects, push_words,
+    push_objects, words_of,
 };
 use link_runs::run_over;
 use std::alloc::{AllocError, Global};
@@ -87,7 +87,7 @@ const INPUTS: &[Input] = inputs!(
         section!(RETURN => name: b".text.c", relocs: &[reloc!(0, 0, 0, 0)]),
         section!(RETURN => name: b".text.d", flags: 0x206), section!(RETURN => name: b".text.o", flags: 0x86), section!(b".text.n", 1, 6, 4; b""),
     ]; [START]),
-    // Jumps to `h`: to its beginning by two names, to 4 behind it by two names, by its section, and by an addend.
+    // Jumps to `h`: to its beginning by two names, to 4 after it by two names, by its section, and by an addend.
     "named.o" => object!([section!(JUMPS => relocs: &[reloc!(0, 17, 6, 0)]), section!(b".text.h", 1, 6, 4; b"\x67\x80\0\0\x73\0\x10\0"),
         section!(GOES => name: b".text.a", relocs: &[TO_SECOND]), section!(GOES => name: b".text.b", relocs: &[TO_THIRD]),
         section!(GOES => name: b".text.c", relocs: &[TO_FIRST]), section!(GOES => name: b".text.d", relocs: &[TO_FOURTH]),
@@ -95,7 +95,7 @@ const INPUTS: &[Input] = inputs!(
             symbol!(b"", 0, 3, 2, 0, 4), symbol!(b"h", 1, 2, 2, 0, 4), symbol!(b"h4", 1, 2, 2, 4, 4), symbol!(b"also_h", 1, 2, 2, 0, 4),
             symbol!(b"also_h4", 1, 2, 2, 4, 4), symbol!(b"d", 1, 2, 6, 0, 4), START]),
     "say.o" => SAYS,
-    // The same with another string.
+    // `say` with another string.
     "sing.o" => object!(SAYS => sections: &[
         section!(b".text.say", 1, 6, 4; b"\x17\x05\0\0\x13\x05\x05\0\x67\x80\0\0"; relocs: &[reloc!(0, 23, 2, 0), reloc!(4, 24, 1, 0)]),
         section!(b".rodata.str1.1", 1, 0x32, 1; b"ho\0"; entsize: 1)]),
@@ -136,25 +136,20 @@ fn push_taking(files: &mut Files, alloc: Global) -> Result<(), AllocError> {
 /// A jump, and one pair.
 pub const ONE_PAIR: Image =
     code!(20 => 0x1028; b"\xef\0\x40\0\xef\0\x80\0\x67\x80\0\0\xef\xf0\x9f\xff\x73\0\x10\0");
-
 /// A `ret`, and one pair.
 const RETURN_AND_PAIR: Image =
     code!(20 => 0x1028; b"\x67\x80\0\0\xef\0\x80\0\x67\x80\0\0\xef\xf0\x9f\xff\x73\0\x10\0");
-
 /// A jump, and two pairs.
 const TWO_PAIRS: Image = image!(FIRST => table: 0x1038,
     segments: &[READ, [1, 5, 0x1000, 0x11000, 36, 36, 4096], STACK],
     contents: &[(0x1000, b"\xef\0\x40\x01\xef\0\x80\0\x67\x80\0\0\xef\xf0\x9f\xff\x73\0\x10\0"),
         (0x1014, b"\xef\0\x80\0\x67\x80\0\0\xef\xf0\x9f\xff\x73\0\x10\0"), (0x1024, NAMES)],
     sections: &[[1, 1, 6, 0x11000, 0x1000, 36, 4], [7, 3, 0, 0, 0x1024, 17, 1]]);
-
 /// A jump to a function that calls itself.
 const CALLS_ITSELF: Image = code!(12 => 0x1020; b"\xef\0\x40\0\xef\0\0\0\x67\x80\0\0");
-
 /// A `ret`, and the address of one behind it.
 const TAKEN_APART: Image =
     code_and_data!(8, 8 => 0x2020; b"\x67\x80\0\0\x67\x80\0\0"; b"\x04\x10\x01\0\0\0\0\0");
-
 /// Each `ret` by itself, and the address of the second.
 const ALL_APART: Image =
     code_and_data!(12, 8 => 0x2020; b"\x67\x80\0\0\x67\x80\0\0\x67\x80\0\0"; b"\x04\x10\x01\0\0\0\0\0");
@@ -173,11 +168,11 @@ pub const NAMED_APART: &[Link] = &[
 /// Equal functions of which the address of one is taken: by each kind of relocation but branches, jumps, calls and lower halves.
 pub const TAKEN: &[Link] = &[
     link!("-s", "--icf", "safe", "taken.o" => TAKEN_APART; store: Store::Folded),
-    // A `ret`, one behind it, and data that is nothing, or the distance to the second.
+    // A `ret`, one after it, and data that is nothing, or the distance to the second.
     link!("-s", "--icf", "safe", "none.o" => code_and_data!(8, 8 => 0x2020; b"\x67\x80\0\0\x67\x80\0\0"; b"\0\0\0\0\0\0\0\0"); store: Store::Folded),
     link!("-s", "--icf", "safe", "distance.o" =>
         code_and_data!(8, 8 => 0x2020; b"\x67\x80\0\0\x67\x80\0\0"; b"\x04\xf0\xff\xff\0\0\0\0"); store: Store::Folded),
-    // The same with the distance of the second from the first.
+    // Two `ret`, and the distance of the second from the first.
     link!("-s", "--icf", "safe", "uleb.o" =>
         code_and_data!(12, 8 => 0x2020; b"\x67\x80\0\0\x67\x80\0\0\x67\x80\0\0"; b"\x04\0\0\0\0\0\0\0"); store: Store::Folded),
     // Two `ret`, and half of the distance to the linker's table, which has the address of the second.
@@ -332,9 +327,7 @@ fn words_of_all(
     files: &[(String, Vec<u8>)],
     workers: &[&str],
 ) -> Result<Vec<String>, AllocError> {
-    let mut words = Vec::new(alloc);
-    push_words(&mut words, alloc, &["rvld", "-s", "--icf", "all"])?;
-    push_words(&mut words, alloc, workers)?;
+    let mut words = words_of(alloc, &["rvld", "-s", "--icf", "all"], workers)?;
     for file in files {
         words.push(file.0.clone()?)?;
     }

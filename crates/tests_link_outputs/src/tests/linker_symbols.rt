@@ -174,7 +174,7 @@ pub const ENTRIES: &[Link] = &[
 /// Sections by their names.
 pub const NAMED: &[Link] = &[
     link!("-s", "--gc-sections", "one.o" => ONE_SET_IMAGE; store: Store::LinkerSymbols),
-    // The same with a section of another file.
+    // Two sections of the name, the second of another file.
     link!("-s", "--gc-sections", "one.o", "more.o" => image!(ONE_SET_IMAGE =>
         segments: &[[1, 4, 0, 0x10000, 0x128, 0x128, 4096], [1, 5, 0x1000, 0x11000, 4, 4, 4096], [1, 6, 0x2000, 0x12000, 8, 8, 4096], STACK],
         contents: &[(0x120, b"aaaaAAAA"), (0x1000, b"\x67\x80\0\0"), (0x2000, b"\x20\x01\x01"), (0x2008, b"\0set_a\0.text\0.data\0.shstrtab\0")],

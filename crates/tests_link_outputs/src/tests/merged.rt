@@ -17,7 +17,7 @@ const OF_SECOND: Symbol = symbol!(b"", 0, 3, 2, 0, 0);
 /// A label at 4 in section 2.
 const AT_4: Symbol = symbol!(b".L4", 0, 0, 2, 4, 0);
 
-/// Words of the section at 8, at its end, before it, behind it, and of 4 behind a label at 4.
+/// Words of the section at 8, at its end, before it, past its end, and of 4 after a label at 4.
 const PLACES: Section =
     data!(b"\xff\xff\xff\xff\xff\xff\xff\xff\0\0\0\0\0\0\0\0\0\0\0\0\0\0\0\0\0\0\0\0\0\0\0\0\0\0\0\0\0\0\0\0";
         reloc!(0, 2, 1, 8), reloc!(8, 2, 1, 12), reloc!(16, 2, 1, -4), reloc!(24, 2, 1, 16), reloc!(32, 2, 2, 4));
@@ -33,7 +33,7 @@ const INPUTS: &[Input] = inputs!(
     // A string of its own, which nothing names.
     "idle.o" => object!([section!(STRINGS => bytes: b"no\0")]; []),
     "three.o" => THREE_CONSTANTS,
-    // The same less a byte: no whole number of constants.
+    // Three constants less a byte: no whole number of constants.
     "broken.o" => object!(THREE_CONSTANTS => sections: &[RETURN, section!(CONSTANTS => bytes: b"\x01\0\0\0\x02\0\0\0\x01\0\0"), PLACES]),
     // Strings of characters of 2 and of 4 bytes, and words of places within them.
     "wide.o" => object!([
@@ -84,13 +84,13 @@ pub const MANY_POOLS: Image = image!(FIRST => table: 0x2030,
 pub const STRINGS_OF_FILES: &[Link] = &[
     link!("-s", "said.o", "again.o" => POOL; store: Store::Merged),
     link!("-s", "again.o", "said.o" => POOL; store: Store::Merged),
-    // The same with one string more.
+    // The pool with one string more.
     link!("-s", "said.o", "idle.o" => image!(POOL =>
         segments: &[[1, 4, 0, 0x10000, 0x13b, 0x13b, 4096], [1, 5, 0x1000, 0x11000, 4, 4, 4096], [1, 6, 0x2000, 0x12000, 8, 8, 4096], STACK],
         contents: &[(0x120, b"abc"), (0x130, b"xyz"), (0x138, b"no"), (0x1000, b"\x67\x80\0\0"), (0x2000, b"\x30\x01\x01\0\0\0\0\0"),
             (0x2008, b"\0.rodata\0.text\0.data\0.shstrtab\0")],
         sections: &[[1, 1, 2, 0x10120, 0x120, 27, 8], [9, 1, 6, 0x11000, 0x1000, 4, 4], [15, 1, 3, 0x12000, 0x2000, 8, 8], [21, 3, 0, 0, 0x2008, 31, 1]]); store: Store::Merged),
-    // The same with that string first.
+    // The pool with that string first.
     link!("-s", "idle.o", "again.o", "said.o", "idle.o" => image!(POOL =>
         contents: &[(0x120, b"no"), (0x128, b"abc"), (0x138, b"xyz"), (0x1000, b"\x67\x80\0\0"), (0x2000, b"\x38\x01\x01\0\0\0\0\0"),
             (0x2008, b"\0.rodata\0.text\0.data\0.shstrtab\0")],

@@ -14,11 +14,11 @@ macro_rules! read_only {
     };
 }
 
-/// A call of the function behind it, which may be shortened.
+/// A call of the function after it, which may be shortened.
 const CALLED: Section =
     text!(b"\x97\0\0\0\xe7\x80\0\0\x67\x80\0\0"; reloc!(0, 19, 2, 0), reloc!(0, 51, 2, 0));
 
-/// The function behind the call.
+/// The function after the call.
 const F: Symbol = symbol!(b"f", 1, 2, 1, 8, 4);
 /// A number.
 const NUMBER: Symbol = symbol!(b"n", 1, 0, 0xfff1, 0, 0);
@@ -77,7 +77,7 @@ const PLACED_INPUTS: &[Input] = inputs!(
     "unsorted.o" => object!([
         CALLED, read_only!(b"\x80\0\x80\0"; reloc!(2, 60, 3, 0), reloc!(0, 60, 2, 0), reloc!(2, 61, 4, 0), reloc!(0, 61, 1, 0)),
     ]; [START, F, symbol!(b"five", 1, 0, 0xfff1, 5, 0), symbol!(b"nil", 1, 0, 0xfff1, 0, 0)]),
-    // A number of two bytes, and a call behind it.
+    // A number of two bytes, and a call after it.
     "beside.o" => object!([
         section!(b".text", 1, 6, 2; b"\x80\0\x97\0\0\0\xe7\x80\0\0\x67\x80\0\0"; relocs: &[reloc!(0, 60, 2, 0), reloc!(0, 61, 1, 0), reloc!(2, 19, 2, 0)]),
     ]; [symbol!(b"_start", 1, 2, 1, 2, 8), symbol!(b"f", 1, 2, 1, 10, 4)]),
@@ -99,7 +99,7 @@ const MET_INPUTS: &[Input] = inputs!(
         text!(b"\x67\x80\0\0\x97\0\0\0\xe7\x80\0\0";
             reloc!(0, 60, 2, 0), reloc!(4, 18, 1, 0), reloc!(8, 60, 2, 0), reloc!(8, 61, 1, 0)),
     ]; [START, F]),
-    // The same with an alignment.
+    // A first part alone, and an alignment that meets a pair.
     "nops.o" => object!([
         text!(b"\x67\x80\0\0\x13\0\0\0\x67\x80\0\0";
             reloc!(0, 60, 2, 0), reloc!(4, 43, 0, 4), reloc!(6, 60, 2, 0), reloc!(6, 61, 1, 0)),
@@ -163,7 +163,7 @@ pub const WRITTEN: &[Link] = &[
         segments: &[[1, 4, 0, 0x10000, 236, 236, 4096], [1, 5, 0x1000, 0x11000, 8, 8, 4096], STACK],
         contents: &[(0xe8, b"\x84\0\x85\0"), (0x1000, b"\xef\0\x40\0\x67\x80\0\0"), (0x1008, NAMES)],
         sections: &[[1, 1, 2, 0x100e8, 0xe8, 4, 1], [9, 1, 6, 0x11000, 0x1000, 8, 4], [15, 3, 0, 0, 0x1008, 25, 1]]); store: Store::Kinds),
-    // Eight, which is the length of the call behind it.
+    // Eight, which is the length of the call after it.
     link!("-s", "beside.o" => image!(FIRST => entry: 0x11002,
         segments: &[READ, [1, 5, 0x1000, 0x11000, 14, 14, 4096], STACK],
         contents: &[(0x1000, b"\x88\0\x97\0\0\0\xe7\x80\x80\0\x67\x80\0\0"), (0x100e, b"\0.text\0.shstrtab\0")],

@@ -12,7 +12,7 @@ use link_examples::{
     shared_files, words_of,
 };
 use link_gen::objects;
-use link_runs::{Left, leaves, refuses, run_over, run_piped_over};
+use link_runs::{Left, each_by_any, leaves, refuses, run_over, run_piped_over};
 use std::alloc::{AllocError, Global};
 use std::sync::Wait;
 use std::test::Fail;
@@ -37,21 +37,17 @@ const REFUSALS: &[Refusal] = &[
     refusal!("-s", "z.o", "a.o" => 3, 1, "cannot read z.o"),
 ];
 
-/// Whether a command leaves what it has to, with each number of parsers.
+/// Whether a command leaves what it has to, with this number of parsers.
 fn is_linked<R: Threads + Wait + Sync>(
     rt: &R,
     alloc: Global,
     link: &Link,
+    workers: &[&str],
 ) -> Result<bool, AllocError> {
-    for workers in WORKERS {
-        let files = files_of(alloc, &OwnStores, link.store, link.libraries)?;
-        let words = words_of(alloc, link.words, workers)?;
-        let left = run_piped_over(rt, alloc, words.as_slice(), files, &SOUND, &OpenGate)?;
-        if !leaves(alloc, &left, link)? {
-            return Ok(false);
-        }
-    }
-    Ok(true)
+    let files = files_of(alloc, &OwnStores, link.store, link.libraries)?;
+    let words = words_of(alloc, link.words, workers)?;
+    let left = run_piped_over(rt, alloc, words.as_slice(), files, &SOUND, &OpenGate)?;
+    leaves(alloc, &left, link)
 }
 
 /// Whether a command that links nothing does.
@@ -59,37 +55,26 @@ fn is_refused<R: Threads + Wait + Sync>(
     rt: &R,
     alloc: Global,
     refusal: &Refusal,
+    workers: &[&str],
 ) -> Result<bool, AllocError> {
-    for workers in WORKERS {
-        let files = files_of(alloc, &OwnStores, refusal.store, refusal.libraries)?;
-        let words = words_of(alloc, refusal.words, workers)?;
-        let left = run_piped_over(rt, alloc, words.as_slice(), files, &SOUND, &OpenGate)?;
-        if !refuses(&left, refusal) {
-            return Ok(false);
-        }
-    }
-    Ok(true)
+    let files = files_of(alloc, &OwnStores, refusal.store, refusal.libraries)?;
+    let words = words_of(alloc, refusal.words, workers)?;
+    let left = run_piped_over(rt, alloc, words.as_slice(), files, &SOUND, &OpenGate)?;
+    Ok(refuses(&left, refusal))
 }
 
 #[test]
 fn files_that_are_read_while_they_are_loaded_link(rt: HostRuntime) -> Result<(), Fail> {
-    for (index, link) in LINKS.iter().enumerate() {
-        assert!(rt; is_linked(&rt, rt.alloc(), link)?, "example {}", index);
-    }
-    Ok(())
+    each_by_any!(rt; link, workers in LINKS => is_linked(&rt, rt.alloc(), link, workers)?)
 }
 
 #[test]
 fn what_is_wrong_with_them_is_refused(rt: HostRuntime) -> Result<(), Fail> {
-    for (index, refusal) in REFUSALS.iter().enumerate() {
-        assert!(rt; is_refused(&rt, rt.alloc(), refusal)?, "example {}", index);
-    }
-    Ok(())
+    each_by_any!(rt; refusal, workers in REFUSALS => is_refused(&rt, rt.alloc(), refusal, workers)?)
 }
 
 /// The first load fails.
 const FIRST_FAILS: Outside = record!(Outside, SOUND => fails: &[0]);
-
 /// The second one does.
 const SECOND_FAILS: Outside = record!(Outside, SOUND => fails: &[1]);
 
@@ -123,7 +108,6 @@ fn a_load_that_fails_is_the_last(rt: HostRuntime) -> Result<(), Fail> {
 
 /// How many objects are generated: five times as many as the queue holds.
 const MANY: u32 = 40;
-
 /// Room for their executable.
 const WIDE: Outside = record!(Outside, SOUND => most: 65536);
 

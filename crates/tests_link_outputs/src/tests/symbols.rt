@@ -16,7 +16,7 @@ const DATA: Section = data!(b"dddddddd");
 const ASKER: Object =
     object!([RETURN]; [symbol!(b"_edata", 1, 0, 0, 0, 0), symbol!(b"idle", 1, 2, 1, 0, 4)]);
 
-/// Such a member, which takes no part.
+/// A member that asks for a symbol of the linker's, and takes no part.
 const IDLE_MEMBER: Library = library!("lib.a"; member!(b"idle.o", ASKER));
 
 const INPUTS: &[Input] = inputs!(
@@ -29,7 +29,7 @@ const INPUTS: &[Input] = inputs!(
             symbol!(b"room", 1, 5, 2, 0, 4), symbol!(b"note", 1, 0, 4, 3, 2), symbol!(b"cover", 1, 1, 2, 4, 100), symbol!(b"blank", 1, 1, 5, 0, 0),
             symbol!(b"abs", 1, 0, 0xfff1, 0x1234, 7), symbol!(b"ab", 1, 0, 1, 4, 0), symbol!(b"_end", 1, 0, 0, 0, 0),
             symbol!(b"_end", 2, 0, 0, 0, 0), symbol!(b"__bss_start", 2, 0, 0, 0, 0), WEAKLY]),
-    // Calls of `f` and of `g`, which are alike; places within the calls, and behind the code; and what nothing calls.
+    // Calls of `f` and of `g`, which are alike; places within the calls, and after the code; and what nothing calls.
     "calls.o" => object!([
         text!(b"\x97\0\0\0\xe7\x80\0\0\x97\0\0\0\xe7\x80\0\0\x67\x80\0\0"; reloc!(0, 19, 4, 0), reloc!(0, 51, 0, 0), reloc!(8, 18, 5, 0), reloc!(8, 51, 0, 0)),
         section!(RETURN => name: b".text.f"), section!(RETURN => name: b".text.g"),

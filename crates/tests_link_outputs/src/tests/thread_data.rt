@@ -61,7 +61,7 @@ const INPUTS: &[Input] = inputs!(
         section!(b".init", 1, 6, 4; b"\x17\x05\0\0\x03\x35\x05\0"; relocs: &[reloc!(0, 20, 4, 0), reloc!(4, 24, 2, 0)]),
     ]; [LABEL, symbol!(b".L0", 0, 0, 2, 0, 0), symbol!(b"a", 1, 0, 0xfff1, 0x100, 4), symbol!(b"b", 1, 0, 0xfff1, 0x200, 4), START]),
     "direct.o" => DIRECT,
-    // The same with an alignment above that of a segment.
+    // Thread-local data with an alignment above that of a segment.
     "apart.o" => object!(DIRECT => sections: &[OFFSETS, THREAD_DATA, section!(THREAD_ZEROS => align: 0x4000)]),
     // Zeros alone.
     "zeros.o" => object!([

@@ -56,9 +56,9 @@ const WRITTEN_INPUTS: &[Input] = inputs!(
     ]; [START, symbol!(b"f", 1, 2, 1, 4, 4)]),
     // A CIE and an FDE of `_start`.
     "one.o" => object!([RETURN, OF_ONE]; [START]),
-    // The same of `g`.
+    // A CIE and an FDE of `g`.
     "g.o" => object!([RETURN, OF_ONE]; [symbol!(b"g", 1, 2, 1, 0, 4)]),
-    // The same of a function that stands behind all others.
+    // A CIE and an FDE of a function that stands after all others.
     "fini.o" => object!([section!(b".fini", 1, 6, 4; b"g\x80\0\0"), OF_ONE]; [symbol!(b"g", 1, 2, 1, 0, 4)]),
     // The address of the section of unwind records.
     "start.o" => object!([text!(b"\xef\0\0\0g\x80\0\0"; reloc!(0, 17, 3, 0)), frames!(LONGER_RECORDS; reloc!(28, 57, 2, 0)),
@@ -165,7 +165,7 @@ const REFUSED_INPUTS: &[Input] = inputs!(
             b"\x10\0\0\0\0\0\0\0\x01zR\0\x01|\x01\x01\x1b\x0c\x02\0\x10\0\0\0\x18\0\0\0\0\0\0\0\x04\0\0\0\0\0\0\0\0\0\0\0";
             reloc!(28, 57, 1, 0), reloc!(36, 2, 1, 0)),
     ]; [START]),
-    // One that stands behind the end of the list.
+    // One that stands after the end of the list.
     "after.o" => object!([
         RETURN,
         frames!(

@@ -6,12 +6,11 @@ use Rattle.comdat.specs.Discarded.{discarded}
 use Rattle.elf_out.specs.Executable.{own_tables}
 use Rattle.elf_out.specs.Prepared.{IsPrepared}
 use Rattle.file_live.specs.Live.{IsLive}
-use Rattle.link_command.specs.Command.{CommandView, command_view, lists_of}
+use Rattle.link_command.specs.Command.{command_view, lists_of}
 use Rattle.lk_base.specs.declared.defects.Defect.{Defect}
 use Rattle.lk_base.specs.declared.defects.LinkStop.{LinkStop}
 use Rattle.lk_base.specs.declared.limits.Limits.{Limits}
 use Rattle.lk_base.specs.Firsts.{Goes, StopsAt}
-use Rattle.lk_base.specs.Limits.{IsWithinStandard}
 use Rattle.lk_tables.specs.BoundNames.{binding_defects}
 use Rattle.lk_tables.specs.BindingView.{binding_view}
 use Rattle.lk_tables.specs.TablesView.{files_of}
@@ -21,28 +20,20 @@ use Rattle.link_driver.specs.Placing.{laid_by}
 use Rattle.link_driver.specs.Certificates.{asks_why, why_text}
 use Rattle.link_passes.specs.Contents.{input_contents, input_names, names_of, sources_of}
 use Rattle.link_passes.specs.Passes.{LinkOptions, barred_of, bound_names, kept_of, piece_defects, link_options_for, link_options_of}
-use Rattle.link_driver.specs.Link.{bound_in, defects_in, kept_in, last_phases, linked_files, placing_defects, placing_phases, link_options_in}
-use Rattle.link_driver.specs.Phases.{HoldsAtStop, HoldsPast, LinkStands, Links, Makes, ShortenedCallsReach, Stops}
+use Rattle.link_driver.specs.Link.{bound_in, kept_in, last_phases, linked_files, placing_defects, placing_phases, link_options_in}
+use Rattle.link_driver.specs.Phases.{HoldsAtStop, HoldsPast, LinkStands, Links, Makes, ShortenedCallsReach}
 use Rattle.link_passes.specs.Sources.{Source, files_in, heads_in, live_in, shown_files}
 use Rattle.link_passes.specs.Tables.{IsCollected, IsGraph, link_options}
 use Rattle.link_passes.specs.Defects.{opening_defects, reading_defects}
 use Rattle.lk_tables.specs.Binding.{first_phase}
+use Rattle.link_driver.proofs.AtStops.{anywhere_once_read, ends_for_memory, lacks_memory, stops_at, stops_early}
 use Rattle.link_driver.proofs.Chain.{at_reading, at_binding, at_last, at_pieces, no_defects}
 use Rattle.link_driver.proofs.FewPieces.{few_pieces}
-use Rattle.link_driver.proofs.FirstLeast.{least_stop}
 use Rattle.link_passes.proofs.Handing.{binding_is}
 use Rattle.link_driver.proofs.Handing.{bound_are, gives_all, holds_in, made_as, why_as}
-use Rattle.link_driver.proofs.Passing.{early_binding, early_pieces, early_reading, not_past, past_on, placing_left}
+use Rattle.link_driver.proofs.Passing.{early_binding, early_pieces, early_reading, past_on, placing_left}
 use Rattle.sym_resolve.specs.Law.{IsLawful}
 use Rattle.link_driver.proofs.linking.link_sources.Goals as goal
-
--- a stop before the layout
-early : (limits : Limits) → IsWithinStandard limits → (ss : List Source) (asked : CommandView) (stop : LinkStop) → StopsAt stop (defects_in limits asked ss)
-    → StopsAt stop (placing_defects limits asked ss) → Stops limits asked ss stop
-early limits within ss asked stop at before = record {
-  ends = least_stop limits within ss asked stop at;
-  reach = not_past stop (placing_defects limits asked ss) _ before;
-}
 
 -- the names that a command asks for, as it lends them
 abbrev Undefined : List (List ℕ) → Limits → List Source → List Defect
@@ -56,7 +47,7 @@ returns-in-Err g c =
     let stop = c.in-Err.stop in
     let P : List (List ℕ) → Type 0 = λ u. StopsAt stop (Undefined u limits ss) in
     let at = subst P (ap lists_of c.as_slice-undefined.ensures.value) c.in-Err.ensures.goes in
-    early limits c.requires.limits ss asked stop (at_reading limits asked ss stop at) (early_reading limits asked ss stop at)
+    stops_early limits c.requires.limits asked ss stop (at_reading limits asked ss stop at) (early_reading limits asked ss stop at)
 
 -- what a call of two answers says of one, once it is known which it is
 found : {X : Type 0} (ds : List Defect) (r s : Result X LinkStop) → r ≡ s → Goes r ds → Goes s ds
@@ -77,7 +68,7 @@ returns-in-Err-few g c =
     let read = subst U same c.in-Ok.ensures.goes in
     let are = c.in-Ok.ensures.tables ∙ ap (λ u. files_in u ss) same in
     let many = found (piece_defects limits files) c.bind_and_count-few.result.0 (Err stop) c.in-Err-few.is c.bind_and_count-few.ensures.few in
-    early limits c.requires.limits ss asked stop
+    stops_early limits c.requires.limits asked ss stop
     (at_pieces limits asked ss read files are stop many)
     (early_pieces limits asked ss read files are stop many)
 
@@ -96,7 +87,7 @@ returns-in-Err-bound g c =
     let P : List ℕ → Type 0 = λ entry. StopsAt stop (binding_defects files (discarded files) entry) in
     let at = subst P c.as_str-entry.ensures.value
     (found (binding_defects files (discarded files) c.as_str-entry.result.now) c.bind_and_count-few.result.1 (Err stop) c.in-Err-bound.is c.bind_and_count-few.ensures.goes) in
-    early limits c.requires.limits ss asked stop
+    stops_early limits c.requires.limits asked ss stop
     (at_binding limits asked ss read files are few stop at)
     (early_binding limits asked ss read files are few stop at)
 
@@ -160,16 +151,13 @@ returns-in-Err-made g c =
     let holds = subst H c.in-Err-made.is c.link_and_explain-made.ensures.reach in
     let P : LinkOptions → Type 0 = λ u. StopsAt stop (first_phase (last_phases limits u files b kept)) in
     let Q : LinkOptions → Type 0 = λ u. HoldsAtStop stop (first_phase (placing_phases limits u files b kept)) (ShortenedCallsReach u files b kept) in
-    record {
-      ends = least_stop limits c.requires.limits ss asked stop
-          (at_last limits asked ss read files are few bound b named kept stays stop
-          (subst P link_options_are stops));
-      reach = past_on stop (first_phase (placing_phases limits w files b kept)) (placing_defects limits asked ss) (ShortenedCallsReach w files b kept)
-          (ShortenedCallsReach (link_options_in asked ss) (linked_files asked ss) (bound_in asked ss) (kept_in asked ss))
-          (λ none. sym (placing_left limits asked ss read files are few bound b named kept stays) ∙ none)
-          (holds_in asked ss ShortenedCallsReach files b kept are named stays)
-          (subst Q link_options_are holds);
-    }
+    stops_at limits c.requires.limits asked ss stop
+    (at_last limits asked ss read files are few bound b named kept stays stop (subst P link_options_are stops))
+    (past_on stop (first_phase (placing_phases limits w files b kept)) (placing_defects limits asked ss) (ShortenedCallsReach w files b kept)
+    (ShortenedCallsReach (link_options_in asked ss) (linked_files asked ss) (bound_in asked ss) (kept_in asked ss))
+    (λ none. sym (placing_left limits asked ss read files are few bound b named kept stays) ∙ none)
+    (holds_in asked ss ShortenedCallsReach files b kept are named stays)
+    (subst Q link_options_are holds))
 
 pub of-requires-clause-addresses : goal.of-requires-clause-addresses
 of-requires-clause-addresses g c =
@@ -234,6 +222,36 @@ of-requires-clause-sound g c =
     told_of (IsSettled files b c.as_slice-2.result.now strip) c.link_and_explain-made.result.0 settled c.in-Ok-made.is c.link_and_explain-made.ensures.settled in
     is.sound
 
+pub returns-in_err-frames : goal.returns-in_err-frames
+returns-in_err-frames g c =
+    let ss = sources_of c.args.sources.now in
+    ends_for_memory c.args.limits.now c.requires.limits (command_view c.args.command.now) ss (shown_files (input_names c.args.inputs.now) (input_contents c.args.inputs.now) ss)
+    c.from_residual.result c.from_residual.ensures.1
+
+pub returns-in_err-kept : goal.returns-in_err-kept
+returns-in_err-kept g c =
+    let ss = sources_of c.args.sources.now in
+    ends_for_memory c.args.limits.now c.requires.limits (command_view c.args.command.now) ss (shown_files (input_names c.args.inputs.now) (input_contents c.args.inputs.now) ss)
+    c.from_residual-in_err-kept.result c.from_residual-in_err-kept.ensures.1
+
+pub returns-in_err-barred : goal.returns-in_err-barred
+returns-in_err-barred g c =
+    let ss = sources_of c.args.sources.now in
+    ends_for_memory c.args.limits.now c.requires.limits (command_view c.args.command.now) ss (shown_files (input_names c.args.inputs.now) (input_contents c.args.inputs.now) ss)
+    c.from_residual-in_err-barred.result c.from_residual-in_err-barred.ensures.1
+
+pub returns-in_err-names : goal.returns-in_err-names
+returns-in_err-names g c =
+    let ss = sources_of c.args.sources.now in
+    ends_for_memory c.args.limits.now c.requires.limits (command_view c.args.command.now) ss (shown_files (input_names c.args.inputs.now) (input_contents c.args.inputs.now) ss)
+    c.from_residual-in_err-names.result c.from_residual-in_err-names.ensures.1
+
+pub returns-in_default : goal.returns-in_default
+returns-in_default g c = lacks_memory c.args.limits.now c.requires.limits (command_view c.args.command.now) (sources_of c.args.sources.now)
+
+pub returns-in_default-of : goal.returns-in_default-of
+returns-in_default-of g c = lacks_memory c.args.limits.now c.requires.limits (command_view c.args.command.now) (sources_of c.args.sources.now)
+
 pub returns : goal.returns
 returns g c =
     let limits = c.args.limits.now in
@@ -295,6 +313,7 @@ returns g c =
           (ap (binding_defects files (discarded files)) (sym c.as_str-entry.ensures.value) ∙ goes)
           b named kept stays (subst P link_options_are none);
       taking_part = subst L asks_for c.in-Ok.ensures.taking_part;
+      anywhere = anywhere_once_read limits c.requires.limits asked ss read;
       bound = bound_are c.as_str-entry.result.now asked.entry files (linked_files asked ss) are c.as_str-entry.ensures.value
           (told_of (λ _. IsLawful files (discarded files) c.as_str-entry.result.now (bound_names files c.as_str-entry.result.now)) c.bind_and_count-few.result.1 c.in-Ok-bound.binding c.in-Ok-bound.is c.bind_and_count-few.ensures.least);
       collected = λ gc. holds_in asked ss (λ v fs n k. IsCollected asked.undefined fs n k) files b c.in_ok-kept.kept.items are named

@@ -154,10 +154,11 @@ returns-clause-stands g c =
     let S : List (Option ℕ) → Type 0 = λ l. HasAllUses files l (entries_of c.args.placement.now.got) in
     let T : List GotEntry → Type 0 = λ t. HasAllUses files leaders t in
     let Y : List (Option ℕ) → Type 0 = λ l. SymbolsStand files b kept l laid in
+    let O : List (Option ℕ) → Type 0 = λ l. HaveOwnCuts files l laid in
     let table = table_is (layout_view c.args.placement.now.layout) (pools_view files c.args.placement.now.pools) (entries_of c.args.placement.now.got) in
     subst P c.as_slice-leaders.ensures.value
     (stands_so w files b kept leaders laid plan (exe leaders) (exe leaders) refl
     (told.headers c.requires.room fit) (subst Q contents (told.frames fit)) told.pieces told.sections
     (subst R contents (subst U c.in-Ok.is c.make_in_parallel-framed.ensures.records)) (subst H c.in-Ok-made.is c.make_in_parallel-framed.ensures.tested)
     c.prove_code_stands.ensures (subst T (sym table) (subst S (sym c.as_slice-leaders.ensures.value) c.requires.uses))
-    (subst Y (sym c.as_slice-leaders.ensures.value) c.requires.symbols))
+    (subst Y (sym c.as_slice-leaders.ensures.value) c.requires.symbols) (subst O (sym c.as_slice-leaders.ensures.value) c.requires.cuts))

@@ -5,7 +5,7 @@ use Rattle.link_command.specs.Command.{lists_of}
 use Rattle.link_passes.specs.Contents.{source_view, sources_of}
 use Rattle.link_passes.proofs.FileFacts.{each_headed}
 use Rattle.link_passes.proofs.Handing.{least_is, live_is, on_ok}
-use Rattle.link_passes.proofs.InsideTables.{inside_on}
+use Rattle.link_passes.proofs.InsideTables.{heads_on, inside_on}
 use Rattle.link_passes.proofs.reading.read_files_after.Goals as goal
 
 pub read_bodies-requires-clause-live : goal.read_bodies-requires-clause-live
@@ -28,3 +28,9 @@ returns-clause-taking_part g c =
 
 pub returns-clause-inside : goal.returns-clause-inside
 returns-clause-inside g c = inside_on c.read_bodies.result
+
+pub returns-clause-heads_inside : goal.returns-clause-heads_inside
+returns-clause-heads_inside g c =
+    let n = length-map c.args.sources.now source_view in
+    let few = c.in-Ok.ensures.few in
+    heads_on c.args.limits.now c.args.sources.now (lists_of c.args.undefined.now) c.in-Ok.ensures.goes (omega (arith, n, few)) c.read_bodies.result c.read_bodies.ensures.tables

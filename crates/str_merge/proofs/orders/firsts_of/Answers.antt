@@ -1,10 +1,10 @@
-use Rattle.std.proofs.Common.{◌++◌, length, take, ap, sym, ◌∙◌, arith, rules}
+use Rattle.std.proofs.Common.{◌++◌, length, take, ap, ◌∙◌, arith, rules}
 use Rattle.str_merge.specs.Orders.{firsts, owns}
 use Rattle.str_merge.proofs.orders.firsts_of.Goals as goal
 
 pub loop-done-init : goal.loop-done-init
 unfolding owns
-loop-done-init c = record { within = omega arith; room = sym c.in_ok-own.own.ok.0 ∙ c.in_ok-own.ensures.len; firsts = search rules }
+loop-done-init c = record { within = omega arith; room = c.in_ok-own.ensures; firsts = search rules }
 
 pub list_own-count-requires-clause-room : goal.list_own-count-requires-clause-room
 list_own-count-requires-clause-room c =
