@@ -19,7 +19,7 @@ TOP = os.path.dirname(HERE)
 # seconds of a processor, where more than a minute: docs/proving.md, "Times"
 COST = dict(lk_real=170, lk_tables=180, elf_read=170, output_sections=80, layout=130, relax=200, name_numbers=250, link_sections=130, sec_graph=170, sec_gc=150, str_merge=220, icf_part=220,
             symbol_addresses=120, symbol_table=150, reloc_apply=270, elf_out=250, map_file=130, link_gen=100, link_command=120, sym_resolve=160, link_passes=400, link_driver=800, rvld=300, eh_frame=300,
-            why_chain=100, link_examples=190, link_runs=100, tests_image=490, tests_link_outputs=690, tests_link_inputs=600, tests_passes=300, intern_rows=100)
+            why_chain=100, link_examples=190, link_runs=100, tests_image=490, tests_link_outputs=690, tests_link_inputs=600, tests_passes=400)
 # checks of 4 GB and more
 LARGE = {'link_driver', 'rvld', 'rvld_piped', 'tests_image', 'tests_link_inputs', 'tests_link_outputs', 'tests_passes'}
 

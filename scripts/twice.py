@@ -1,8 +1,9 @@
 #!/usr/bin/env python3
-"""Finds what stands twice in the crates: statements of lemmas, and functions, that are equal but for the names that they bind.
+"""Finds what stands twice in the crates: statements of lemmas, definitions, and functions, that are equal but for the names that they bind.
 
 A statement is a name in a file of proofs/ with a type that says a fact, below the heads of the modules that it stands in; two are equal where one is the
-other with its variables renamed. A function is its signature's types and its body; comments, clauses and layout don't count.
+other with its variables renamed. A definition is a name in a file of specs/ or proofs/ with its type and its equations, or a record with its fields: its own
+name and those of its variables don't count. A function is its signature's types and its body; comments, clauses and layout don't count.
 Usage: scripts/twice.py [--most N] [--least N] [CRATE ..]     --most: groups that are shown of each kind (10); --least: words of a statement or a body from which
 on it counts (16). The last line counts groups and the copies that are too many. The status is 0.
 """
@@ -14,6 +15,7 @@ import re
 ROOT = os.path.dirname(os.path.dirname(os.path.realpath(__file__)))
 TOKEN = re.compile(r"[A-Za-z_][\w'\-]*(?:\.[A-Za-z_][\w'\-]*)*|\d\w*|\"[^\"\n]*\"|\S")
 FACTS = {'≡', '≤', '<', '⊥', '⊎', '×'}    # one of which a type has that says a fact
+CONSTRUCTORS = {'true', 'false', 'zero', 'suc', 'pos', 'inl', 'inr', 'tt', 'refl', 'record'}    # that begin with a small letter, and are no variables
 WORD = re.compile(r"^[A-Za-z_][\w'\-]*$")
 
 
@@ -91,6 +93,87 @@ def statements(text):
         i += 1
 
 
+def split_binders(tokens):
+    """A type without the names that it binds: (a b : T) → U as T → T → U."""
+    out, i = [], 0
+    while i < len(tokens):
+        if tokens[i] == '(':
+            names = []
+            while i + 1 + len(names) < len(tokens) and WORD.match(tokens[i + 1 + len(names)]):
+                names.append(tokens[i + 1 + len(names)])
+            start = i + 1 + len(names)
+            if names and tokens[start:start + 1] == [':']:
+                end, depth = start + 1, 1
+                while end < len(tokens) and depth:
+                    depth += (tokens[end] in '({') - (tokens[end] in ')}')
+                    end += 1
+                inner = split_binders(tokens[start + 1:end - 1])
+                inner = ['(', *inner, ')'] if '→' in inner else inner
+                for k in range(len(names)):
+                    out += inner + ['→'] * (k + 1 < len(names))
+                i = end
+                continue
+        out.append(tokens[i])
+        i += 1
+    return out
+
+
+def origins(path, text):
+    """Where the types of a file come from: of each name with a capital letter that it imports of a crate, or has itself, the module and the name there."""
+    found = {name: f'{path}.{name}' for name in re.findall(r"^\s*(?:pub )?(?:unfoldable )?(?:abbrev )?(?:pub )?(?:record |data )?([A-Z][\w'\-]*) (?=[:({])", text, re.M)}
+    for module, names in re.findall(r'^\s*(?:pub |unfoldable )*use Rattle\.(?!std\.)([\w.]+)\.\{([^}]*)\}', text, re.M):
+        for name in names.split(','):
+            there, _, here = name.strip().partition(' as ')
+            if re.match('[A-Z]', here or there):
+                found[here or there] = f'{module}.{there}'
+    return found
+
+
+def definitions(path, text):
+    """Yields (line, name, tokens) of each name with its type and its equations, and of each record with its fields; the heads of its modules before it."""
+    lines = text.split('\n')
+    known = origins(path, text)
+    heads, i = [], 0
+    while i < len(lines):
+        line = lines[i]
+        body = line.lstrip()
+        indent = len(line) - len(body)
+        if body and not body.startswith('--'):
+            heads = [(at, head) for at, head in heads if at < indent]
+        found = re.match(r"(?:pub )?(record|abbrev|unfoldable) (?:abbrev )?(?:pub )?([A-Za-z_][\w'\-]*) (?=[:({])", body)
+        module = re.match(r'module _ (.*) where$', body)
+        if module:
+            heads.append((indent, module[1]))
+        if not found:
+            i += 1
+            continue
+        name, start, of_record = found[2], i, found[1] == 'record'
+        says, equations = [body[found.end():]], []
+        i += 1
+        while i < len(lines) and len(lines[i]) - len(lines[i].lstrip()) > indent:
+            if not lines[i].strip().startswith('--'):
+                says.append(re.sub(r'^pub ', '', lines[i].strip()))
+            i += 1
+        while not of_record and i < len(lines):
+            under = lines[i].strip() and len(lines[i]) - len(lines[i].lstrip()) > indent
+            if lines[i].startswith(' ' * indent + name + ' '):
+                equations.append([lines[i].strip()])
+            elif equations and under and not lines[i].strip().startswith('--'):
+                equations[-1].append(lines[i].strip())
+            elif not under and not re.match(r'\s*unfolding\b', lines[i]):
+                break
+            i += 1
+        if not of_record and not equations:
+            continue
+        equations = [' '.join(parts) for parts in equations]
+        head, types, made = (TOKEN.findall(' '.join(parts)) for parts in ([head for _, head in heads], says, equations))
+        bound = bound_in(head + types + made) | {after for token, after in zip(made, made[1:]) if token == 'let'}
+        for equation in equations:
+            bound |= {token for token in TOKEN.findall(equation.split(' = ')[0]) if re.match(r"[a-z_][\w'\-]*$", token) and token not in CONSTRUCTORS}
+        whole = head + ['⊢'] + (types if of_record else split_binders(types)) + ['⊢'] + made
+        yield start + 1, name, renamed(['◆' if token == name else known.get(token, token) for token in whole], bound - {name})
+
+
 def functions(text):
     """Yields (line, name, tokens) of each function without its clauses and comments."""
     bare = re.sub(r'//[^\n]*', '', text)
@@ -127,18 +210,22 @@ def main():
     words.add_argument('crates', nargs='*')
     given = words.parse_args()
     crates = given.crates or sorted(os.listdir(os.path.join(ROOT, 'crates')))
-    stated, written = collections.defaultdict(list), collections.defaultdict(list)
+    stated, defined, written = (collections.defaultdict(list) for _ in range(3))
     for path, text in files_of(crates, ('proofs',), '.antt'):
         for line, name, tokens in statements(text):
             if len(tokens) >= given.least and FACTS.intersection(tokens):
                 stated[renamed(tokens, bound_in(tokens))].append((path, line, name))
+    for path, text in files_of(crates, ('specs', 'proofs'), '.antt'):
+        for line, name, tokens in definitions(path, text):
+            if len(tokens) >= given.least:
+                defined[tokens].append((path, line, name))
     for path, text in files_of(crates, ('src',), '.rt'):
         if '/tests' not in path:
             for line, name, tokens in functions(text):
                 if len(tokens) >= given.least:
                     written[tokens].append((path, line, name))
-    one, two = shown('stated twice', stated, given.most), shown('written twice', written, given.most)
-    print(f'twice: {one[0]} statements with {one[1]} copies too many, {two[0]} functions with {two[1]}')
+    one, two, three = (shown(kind, groups, given.most) for kind, groups in (('stated twice', stated), ('defined twice', defined), ('written twice', written)))
+    print(f'twice: {one[0]} statements with {one[1]} copies too many, {two[0]} definitions with {two[1]}, {three[0]} functions with {three[1]}')
 
 
 if __name__ == '__main__':

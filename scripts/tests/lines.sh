@@ -3,7 +3,7 @@
 # Usage: scripts/tests/lines.sh     a line for each crate and one for all; the status is 1 where all are more than MOST (12,000)
 set -u
 cd "$(dirname "${BASH_SOURCE[0]}")/../../crates" || exit 2
-whole='^(tests_[a-z_]*|link_examples|link_runs|elf_bytes|intern_rows)$'
+whole='^(tests_[a-z_]*|link_examples|link_runs|elf_bytes)$'
 all=0
 for crate in *; do
     [ -d "$crate/src" ] || continue

@@ -1,5 +1,5 @@
 -- A name is bound to what the first symbol is bound to that has it.
-use Rattle.std.proofs.Common.{◌≡◌, ℕ, ◌+◌, ◌*◌, ◌^◌, ◌<◌, ◌==◌, ◌&&◌, not, min, Bool, true, false, List, [], ◌∷◌, length, flat_map, Some, None, refl, sym, ap, ◌∙◌, subst, arith}
+use Rattle.std.proofs.Common.{◌≡◌, ℕ, ◌^◌, ◌<◌, ◌==◌, ◌&&◌, not, min, Bool, true, false, List, [], ◌∷◌, length, flat_map, Some, None, refl, sym, ap, ◌∙◌, subst, arith}
 use Rattle.std.specs.Prelude.{All, Option, if◌then◌else◌}
 use Rattle.std.specs.List.{range_with_len}
 use Rattle.std.specs.Str.{bytes_eq}
@@ -10,12 +10,12 @@ use Rattle.lk_tables.specs.declared.bounds.Bound.{Bound}
 use Rattle.lk_tables.specs.declared.bounds.Bound.TheVariants.{Linker, Nobody}
 use Rattle.lk_tables.specs.Binding.{Bindings, Offer, bound_rank, class_of, is_discarded, is_offer, least_rank, live_rank, offer_at, offered_bindings, offers, offers_in, rank_bound}
 use Rattle.lk_tables.specs.BoundNames.{IsBindingOf, bindings, linked_rank, or_linker, rank_of_linker, with_linker}
-use Rattle.lk_tables.specs.Files.{AreFew, File, file_at, is_visible, section_total, symbol_at, symbol_name, symbol_no}
-use Rattle.lk_tables.specs.LinkerSymbols.{fixed_count, linker_no}
+use Rattle.lk_tables.specs.Files.{AreFew, File, file_at, is_visible, symbol_at, symbol_name, symbol_no}
+use Rattle.lk_tables.specs.LinkerSymbols.{linker_no}
 use Rattle.lk_tables.specs.Ranks.{file_of, is_linker_rank, no_rank, rank_of, symbol_of_rank}
 use Rattle.lk_tables.specs.Symbols.{is_undef}
 use Rattle.lk_tables.specs.Targets.{bound, bound_by, definition, rank_at}
-use Rattle.lk_tables.proofs.BoundHas.{each_flat, each_if, offered_is, one_if, rank_is}
+use Rattle.lk_tables.proofs.BoundHas.{each_flat, each_if, few_numbers, offered_is, one_if, rank_is}
 use Rattle.lk_tables.proofs.LinkerNumbers.{IfNumber, linker_few, linker_named, same_no}
 use Rattle.asked_names.specs.AskedNames.{HasName, has_name, is_named_so, name_bound, section_bound, section_named}
 use Rattle.asked_names.proofs.NameBounds.{or_same}
@@ -112,10 +112,6 @@ none_bound files b =
     (if is_linker_rank no_rank then Linker (symbol_of_rank no_rank) else definition files b (file_of no_rank) (symbol_of_rank no_rank))
     (eq-eqb no_rank no_rank refl))
 
-few_number : (files : List File) (o : Option ℕ) → AreFew files → IfNumber (λ n. n < fixed_count + 2 * section_total files) o → IfNumber (λ n. n < 2 ^ 31) o
-few_number files None few below = tt
-few_number files (Some n) few below = omega (arith, below, few.section_count_is)
-
 linker_nowhere : (files : List File) (b : Bindings) (o : Option ℕ) → IfNumber (λ n. n < 2 ^ 31) o → section_bound (bound_by files b (rank_of_linker o)) ≡ []
 linker_nowhere files b None few = none_bound files b
 linker_nowhere files b (Some n) few = ap section_bound (linker_named files b n few)
@@ -127,4 +123,4 @@ nowhere files b name few none =
     ap (λ rank. section_bound (bound_by files b (if rank == no_rank then rank_of_linker o else rank)))
     (least_other name (offers files b.discarded) (none_offers files b.discarded name none))
     ∙ ap (λ rank. section_bound (bound_by files b rank)) (cond-true (no_rank == no_rank) (rank_of_linker o) no_rank (eq-eqb no_rank no_rank refl))
-    ∙ linker_nowhere files b o (few_number files o few (linker_few files b name))
+    ∙ linker_nowhere files b o (few_numbers files o few (linker_few files b name))

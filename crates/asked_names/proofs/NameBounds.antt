@@ -90,7 +90,7 @@ sections_have files b P (name ∷ names) each =
     All-append P (section_named files b name) (flat_map (section_named files b) names) (each name) (sections_have files b P names each)
 
 -- they are sections of the link
-abbrev IsSection : List File → ℕ → Type 0
+abbrev pub IsSection : List File → ℕ → Type 0
 IsSection files r = r < section_total files
 
 pub bound_is_section : (files : List File) (found : Bound) → IsWithin files found → All (λ r. r < section_total files) (section_bound found)

@@ -3,9 +3,10 @@ use Rattle.std.proofs.Common.{◌≡◌, ℕ, zero, suc, ◌+◌, ◌<◌, ◌�
 use Rattle.std.specs.Str.{bytes_eq}
 use Rattle.std.proofs.lemmas.Bool.{cases_Bool, cases_lt, and_parts, and_from, both_ways, ltb-true, lt-ltb}
 use Rattle.std.proofs.lemmas.Slice.Eq.{bytes_eq-Decides}
+use Rattle.lk_base.proofs.Membership.{any_from}
 use Rattle.comdat.specs.Discarded.{Comdat, goes, rank}
 use Rattle.comdat.specs.Law.{HasKept, KeepsFirst}
-use Rattle.comdat.proofs.GroupLists.{any_of, any_from}
+use Rattle.comdat.proofs.GroupLists.{any_of}
 
 -- one of the same signature that stands before
 pub record IsBefore (groups : List Comdat) (g : Comdat) : Type 0 where

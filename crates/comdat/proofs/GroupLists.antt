@@ -1,19 +1,19 @@
 -- Lists that loops over groups collect, and what stands in lists.
-use Rattle.std.proofs.Common.{◌≡◌, ℕ, ◌+◌, ◌<◌, ◌≤◌, Bool, true, false, if◌then◌else◌, List, [], ◌∷◌, ◌++◌, length, take, get_or, All, Contains, refl, sym, ap, ◌∙◌, subst, ⊎_elim, arith}
+use Rattle.std.proofs.Common.{◌≡◌, ℕ, ◌+◌, ◌<◌, ◌≤◌, Bool, true, false, if◌then◌else◌, List, [], ◌∷◌, ◌++◌, length, take, get_or, All, Contains, refl, sym, ap, ◌∙◌, ⊎_elim, arith}
 use Rattle.std.specs.Prelude.{Option, Some, None, is_some, flat_map}
 use Rattle.std.specs.Borrow.{Bor}
 use Rattle.std.specs.List.{list_any}
 use Rattle.std.proofs.lemmas.List.{append-nil, flat_map_more, map_push, take_more, take_all}
-use Rattle.std.proofs.lemmas.List.Elements.{All-nil, All-cons, All-append, All-contains, Contains-append_left, Contains-append_right, Contains-append_cases}
-use Rattle.std.proofs.lemmas.List.Folds.{list_any_at}
+use Rattle.std.proofs.lemmas.List.Elements.{All-nil, All-append, Contains-append_right}
 use Rattle.std.proofs.lemmas.Bool.{cases_Bool, cond-true, cond-false, or_cases}
 use Rattle.lk_tables.specs.declared.objects.Object.{Object}
 use Rattle.lk_tables.specs.FileView.{object_of_file}
 use Rattle.lk_tables.specs.Files.{File, file_at}
 use Rattle.lk_tables.specs.Objects.{GroupView, ObjectView}
 use Rattle.lk_tables.specs.Names.{text_of}
+use Rattle.lk_tables.proofs.BoundHas.{each_if, one_if}
 use Rattle.name_numbers.specs.Texts.{lent_texts}
-use Rattle.name_numbers.proofs.Walks.{all_range, all_if}
+use Rattle.name_numbers.proofs.Walks.{all_range}
 use Rattle.comdat.specs.declared.groups.ComdatGroup.{ComdatGroup}
 use Rattle.comdat.specs.Comdats.{comdat_view, comdat_views}
 use Rattle.comdat.specs.Discarded.{Comdat, comdat_of, comdats_in, comdats}
@@ -74,12 +74,6 @@ comdats_all o file f i groups base list live object read all is =
     (λ (absent : file.live ≡ false). ap (flat_map (comdat_of file.bytes f)) (ap (λ (x : ObjectView). x.groups) object ∙ none_of_none o (sym live ∙ absent)) ∙ sym (cond-false file.live whole [] absent))
     (cases_Bool file.live))
 
--- what stands in a list of one
-pub only_one : {X : Type 0} (z x : X) → Contains (z ∷ []) x → z ≡ x
-only_one {X} z x has =
-    let P : X → Type 0 = λ k. z ≡ k in
-    All-contains P (z ∷ []) x (All-cons P z [] refl (All-nil P)) has
-
 -- one element that passes
 pub any_of : {X : Type 0} (p : X → Bool) (xs : List X) → list_any p xs ≡ true → (x : X) × (Contains xs x × (p x ≡ true))
 any_of p [] e = absurd cc
@@ -88,28 +82,12 @@ any_of p (x ∷ xs) e = ⊎_elim
     (λ (later : list_any p xs ≡ true). let r = any_of p xs later in (r.0, (Contains-append_right (x ∷ []) xs r.0 r.1.0, r.1.1)))
     (or_cases (p x) (list_any p xs) e)
 
-pub any_from : {X : Type 0} (p : X → Bool) (xs : List X) (x : X) → Contains xs x → p x ≡ true → list_any p xs ≡ true
-any_from p xs x has is = list_any_at p xs has.0 x has.1 (ap p has.2 ∙ is)
-
 -- what holds of each, and what stands in one
 pub all_flat : {X Y : Type 0} (P : Y → Type 0) (g : X → List Y) (xs : List X) → ((x : X) → Contains xs x → All P (g x)) → All P (flat_map g xs)
 all_flat P g [] each = All-nil P
 all_flat P g (x ∷ xs) each =
     All-append P (g x) (flat_map g xs) (each x (0, omega arith, refl))
     (all_flat P g xs (λ y has. each y (Contains-append_right (x ∷ []) xs y has)))
-
-pub in_flat : {X Y : Type 0} (g : X → List Y) (xs : List X) (x : X) (y : Y) → Contains xs x → Contains (g x) y → Contains (flat_map g xs) y
-in_flat g [] x y has also = let lt = has.1 in absurd (omega arith)
-in_flat {X} {Y} g (z ∷ zs) x y has also = ⊎_elim
-    (λ (first : Contains (z ∷ []) x).
-    let P : X → Type 0 = λ k. Contains (g k) y in
-    Contains-append_left (g z) (flat_map g zs) y (subst P (sym (only_one z x first)) also))
-    (λ (rest : Contains zs x). Contains-append_right (g z) (flat_map g zs) y (in_flat g zs x y rest also))
-    (Contains-append_cases (z ∷ []) zs x has)
-
-pub all_when : {X : Type 0} (P : X → Type 0) (b : Bool) (xs : List X) → (b ≡ true → All P xs) → All P (if b then xs else [])
-all_when P true xs each = each refl
-all_when P false xs each = All-nil P
 
 pub in_when : {X : Type 0} (b : Bool) (xs : List X) (x : X) → b ≡ true → Contains xs x → Contains (if b then xs else []) x
 in_when true xs x is has = has
@@ -121,6 +99,6 @@ unfolding comdats comdats_in
 comdats_of_files files =
     let P : Comdat → Type 0 = IsOfFiles files in
     all_range P (λ f. comdats_in (file_at files f) f) 0 (length files) (λ f low high.
-    all_when P (file_at files f).live (flat_map (comdat_of (file_at files f).bytes f) (file_at files f).object.groups) (λ live.
+    each_if P (file_at files f).live (flat_map (comdat_of (file_at files f).bytes f) (file_at files f).object.groups) (λ live.
     all_flat P (comdat_of (file_at files f).bytes f) (file_at files f).object.groups (λ g has.
-    all_if P g.comdat (made f g.section (text_of (file_at files f).bytes g.signature) g.members) (λ is. record { within = omega arith; live = live }))))
+    one_if P g.comdat (made f g.section (text_of (file_at files f).bytes g.signature) g.members) (λ is. record { within = omega arith; live = live }))))

@@ -1,32 +1,25 @@
 -- Marks: which sections have one.
-use Rattle.std.proofs.Common.{◌≡◌, ◌≢◌, ℕ, ◌<◌, ◌⊎◌, Bool, true, false, List, [], ◌∷◌, ◌++◌, length, get_or, set, replicate, Contains, refl, sym, ap, ◌∙◌, ⊎_elim, inl, inr, arith}
+use Rattle.std.proofs.Common.{◌≡◌, ◌≢◌, ℕ, ◌<◌, ◌⊎◌, Bool, true, false, List, [], ◌∷◌, ◌++◌, length, get_or, set, replicate, Contains, sym, ap, ◌∙◌, ⊎_elim, inl, inr, arith}
 use Rattle.std.proofs.lemmas.List.{length-set, get_or-set_same, get_or-set_other, get_or-replicate}
 use Rattle.std.proofs.lemmas.List.Elements.{Contains-append_right, Contains-append_cases}
 use Rattle.std.proofs.lemmas.Bool.{cases_eq, both_ways}
-use Rattle.comdat.specs.Marks.{marked}
-use Rattle.comdat.proofs.GroupLists.{only_one}
-
-pub marked_append : (ms : List Bool) (ss ts : List ℕ) → marked ms (ss ++ ts) ≡ marked (marked ms ss) ts
-marked_append ms [] ts = refl
-marked_append ms (s ∷ ss) ts = marked_append (set ms s true) ss ts
+use Rattle.lk_base.proofs.Membership.{only_one}
+use Rattle.lk_tables.specs.Reach.{with_marked}
+use Rattle.lk_tables.proofs.Marking.{marked_append}
 
 -- a loop that marks: some sections more
-pub marked_next : (start old new : List Bool) (ss ts all : List ℕ) → old ≡ marked start ss → new ≡ marked old ts → all ≡ ss ++ ts → new ≡ marked start all
+pub marked_next : (start old new : List Bool) (ss ts all : List ℕ) → old ≡ with_marked start ss → new ≡ with_marked old ts → all ≡ ss ++ ts → new ≡ with_marked start all
 marked_next start old new ss ts all before is whole =
-    is ∙ ap (λ l. marked l ts) before ∙ sym (marked_append start ss ts) ∙ ap (marked start) (sym whole)
+    is ∙ ap (λ l. with_marked l ts) before ∙ sym (marked_append start ss ts) ∙ ap (with_marked start) (sym whole)
 
-pub length_marked : (ms : List Bool) (ss : List ℕ) → length (marked ms ss) ≡ length ms
-length_marked ms [] = refl
-length_marked ms (s ∷ ss) = length_marked (set ms s true) ss ∙ length-set ms s true
-
-keeps : (ms : List Bool) (ss : List ℕ) (s : ℕ) → s < length ms → get_or ms s false ≡ true → get_or (marked ms ss) s false ≡ true
+keeps : (ms : List Bool) (ss : List ℕ) (s : ℕ) → s < length ms → get_or ms s false ≡ true → get_or (with_marked ms ss) s false ≡ true
 keeps ms [] s lt is = is
 keeps ms (x ∷ xs) s lt is = keeps (set ms x true) xs s (omega (arith, length-set ms x true)) (⊎_elim
     (λ (same : s ≡ x). ap (λ k. get_or (set ms x true) k false) same ∙ get_or-set_same ms x true false (omega arith))
     (λ (other : s ≢ x). get_or-set_other ms x s true false other ∙ is)
     (cases_eq s x))
 
-pub marks_has : (ms : List Bool) (ss : List ℕ) (s : ℕ) → s < length ms → Contains ss s → get_or (marked ms ss) s false ≡ true
+pub marks_has : (ms : List Bool) (ss : List ℕ) (s : ℕ) → s < length ms → Contains ss s → get_or (with_marked ms ss) s false ≡ true
 marks_has ms [] s lt has = let below = has.1 in absurd (omega arith)
 marks_has ms (x ∷ xs) s lt has = ⊎_elim
     (λ (first : Contains (x ∷ []) s).
@@ -35,7 +28,7 @@ marks_has ms (x ∷ xs) s lt has = ⊎_elim
     (λ (rest : Contains xs s). marks_has (set ms x true) xs s (omega (arith, length-set ms x true)) rest)
     (Contains-append_cases (x ∷ []) xs s has)
 
-pub marks_only : (ms : List Bool) (ss : List ℕ) (s : ℕ) → get_or (marked ms ss) s false ≡ true → Contains ss s ⊎ (get_or ms s false ≡ true)
+pub marks_only : (ms : List Bool) (ss : List ℕ) (s : ℕ) → get_or (with_marked ms ss) s false ≡ true → Contains ss s ⊎ (get_or ms s false ≡ true)
 marks_only ms [] s is = inr is
 marks_only ms (x ∷ xs) s is = ⊎_elim
     (λ (rest : Contains xs s). inl (Contains-append_right (x ∷ []) xs s rest))
@@ -46,7 +39,7 @@ marks_only ms (x ∷ xs) s is = ⊎_elim
     (marks_only (set ms x true) xs s is)
 
 -- of a row that has no mark yet
-pub marks_only_these : (n : ℕ) (ss : List ℕ) (s : ℕ) → s < n → get_or (marked (replicate n false) ss) s false ≡ true → Contains ss s
+pub marks_only_these : (n : ℕ) (ss : List ℕ) (s : ℕ) → s < n → get_or (with_marked (replicate n false) ss) s false ≡ true → Contains ss s
 marks_only_these n ss s lt is = ⊎_elim
     (λ (has : Contains ss s). has)
     (λ (was : get_or (replicate n false) s false ≡ true). absurd (both_ways (get_or (replicate n false) s false) (get_or-replicate n s false false lt) was))

@@ -6,16 +6,21 @@ use Rattle.std.specs.List.{list_any, range_with_len}
 use Rattle.std.proofs.lemmas.List.{ext_get_or, get_or_default, length-replicate}
 use Rattle.std.proofs.lemmas.List.Elements.{All-contains, Contains-get_or}
 use Rattle.std.proofs.lemmas.Bool.{and_parts, and_from, cases_lt, cases_order, eqb-true, eq-eqb, ltb-true, lt-ltb}
+use Rattle.lk_base.proofs.Membership.{any_from, in_flat}
+use Rattle.lk_base.proofs.Ranges.{same_range}
 use Rattle.lk_tables.specs.Files.{File, by_section, file_at, first_section, section_count, section_no, section_total}
+use Rattle.lk_tables.proofs.BoundHas.{each_if, one_if}
 use Rattle.lk_tables.proofs.ByNumber.{length_by_section, read_by_section}
 use Rattle.lk_tables.proofs.FirstNumbers.{section_more, section_upto, section_within}
 use Rattle.lk_tables.proofs.LiveFiles.{counted}
-use Rattle.name_numbers.proofs.Walks.{all_range, all_if, in_range, in_if, same_range}
+use Rattle.name_numbers.proofs.Walks.{all_range, in_if, in_range}
+use Rattle.lk_tables.specs.Reach.{with_marked}
+use Rattle.lk_tables.proofs.Marking.{length_marked}
 use Rattle.comdat.specs.Discarded.{Comdat, comdats, discarded, discards, goes, has_member}
-use Rattle.comdat.specs.Marks.{IsOfFiles, beaten, beaten_at, beaten_members, marked, member_no, members_of}
+use Rattle.comdat.specs.Marks.{IsOfFiles, beaten, beaten_at, beaten_members, member_no, members_of}
 use Rattle.comdat.specs.Signatures.{group_at, no_comdat}
-use Rattle.comdat.proofs.GroupLists.{all_flat, all_when, any_from, any_of, comdats_of_files, in_flat, in_when}
-use Rattle.comdat.proofs.Marking.{length_marked, marks_has, marks_only_these}
+use Rattle.comdat.proofs.GroupLists.{all_flat, any_of, comdats_of_files, in_when}
+use Rattle.comdat.proofs.Marking.{marks_has, marks_only_these}
 
 -- a section of a file's own table has a number
 pub counts : (file : File) (k : ℕ) → file.live ≡ true → k < length file.head.sections → k < section_count file
@@ -107,9 +112,9 @@ module _ (files : List File) (f k : ℕ) (lt : f < length files) (inside : k < s
       let g = group_at groups j in
       let listed : Contains groups g = Contains-get_or groups j no_comdat (omega arith) in
       let own : IsOfFiles files g = All-contains (IsOfFiles files) groups g (comdats_of_files files) listed in
-      all_when P (goes groups g) (members_of files g) (λ goes_is.
+      each_if P (goes groups g) (members_of files g) (λ goes_is.
       all_flat P (member_no files g.file) g.members (λ m member.
-      all_if P (nat_lt m (length (file_at files g.file).head.sections)) (section_no files g.file m) (λ below same.
+      one_if P (nat_lt m (length (file_at files g.file).head.sections)) (section_no files g.file m) (λ below same.
       let less : m < length (file_at files g.file).head.sections = ltb-true m (length (file_at files g.file).head.sections) below in
       let e = same_place files f k g.file m lt own.within inside (counts (file_at files g.file) m own.live less) same in
       let Q : ℕ → Type 0 = λ h. m < length (file_at files h).head.sections in
@@ -122,7 +127,7 @@ module _ (files : List File) (f k : ℕ) (lt : f < length files) (inside : k < s
       All-contains P (gone files groups) (section_no files f k) each has refl
 
 -- the marks of the members of groups that go, by number
-marks_discarded : (files : List File) (marks : List Bool) → marks ≡ marked (replicate (section_total files) false) (gone files (comdats files)) → marks ≡ discarded files
+marks_discarded : (files : List File) (marks : List Bool) → marks ≡ with_marked (replicate (section_total files) false) (gone files (comdats files)) → marks ≡ discarded files
 unfolding discarded
 marks_discarded files marks is =
     let n = section_total files in
@@ -143,11 +148,11 @@ marks_discarded files marks is =
 -- of a link that has no groups, and of one that has some
 pub none_discarded : (files : List File) (marks : List Bool) → comdats files ≡ [] → marks ≡ replicate (section_total files) false → marks ≡ discarded files
 none_discarded files marks none is =
-    marks_discarded files marks (is ∙ ap (λ l. marked (replicate (section_total files) false) (gone files l)) (sym none))
+    marks_discarded files marks (is ∙ ap (λ l. with_marked (replicate (section_total files) false) (gone files l)) (sym none))
 
 pub some_discarded : (files : List File) (groups : List Comdat) (ns : List ℕ) (start marks : List Bool) → groups ≡ comdats files →
     ((j : ℕ) → j < length groups → beaten ns j ≡ goes groups (group_at groups j)) →
-    start ≡ replicate (section_total files) false → marks ≡ marked start (beaten_members files groups ns) → marks ≡ discarded files
+    start ≡ replicate (section_total files) false → marks ≡ with_marked start (beaten_members files groups ns) → marks ≡ discarded files
 some_discarded files groups ns start marks are same was is =
     marks_discarded files marks
-    (is ∙ ap (λ l. marked l (beaten_members files groups ns)) was ∙ ap (marked (replicate (section_total files) false)) (beaten_gone files groups ns same ∙ ap (gone files) are))
+    (is ∙ ap (λ l. with_marked l (beaten_members files groups ns)) was ∙ ap (with_marked (replicate (section_total files) false)) (beaten_gone files groups ns same ∙ ap (gone files) are))

@@ -1,5 +1,5 @@
 -- Marks for sections of groups, by number.
-use Rattle.std.specs.Prelude.{◌≡◌, ℕ, ◌<◌, ◌==◌, not, nat_lt, Bool, true, if◌then◌else◌, List, [], ◌∷◌, length, flat_map, slice_index, slice_set}
+use Rattle.std.specs.Prelude.{◌≡◌, ℕ, ◌<◌, ◌==◌, not, nat_lt, Bool, true, if◌then◌else◌, List, [], ◌∷◌, length, flat_map, slice_index}
 use Rattle.std.specs.List.{range_with_len}
 use Rattle.lk_tables.specs.Files.{File, file_at, section_no}
 use Rattle.comdat.specs.Discarded.{Comdat}
@@ -9,11 +9,6 @@ use Rattle.comdat.specs.Signatures.{group_at}
 pub record IsOfFiles (files : List File) (g : Comdat) : Type 0 where
   pub within : g.file < length files
   pub live : (file_at files g.file).live ≡ true
-
--- the marks after the sections of these numbers are marked
-abbrev pub marked : List Bool → List ℕ → List Bool
-marked marks [] = marks
-marked marks (s ∷ ss) = marked (slice_set marks s true) ss
 
 -- the number of a member that is a section of its file, and of all members of a group
 abbrev pub member_no : List File → (f m : ℕ) → List ℕ

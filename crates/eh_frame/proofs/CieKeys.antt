@@ -1,50 +1,12 @@
 -- The test of CIEs decides whether they say the same.
-use Rattle.std.proofs.Common.{◌≡◌, ℕ, ◌==◌, ◌&&◌, ℤ, true, true≢false, Option, Some, None, List, Decides, refl, sym, ap, ◌∙◌, subst, bytes_eq, int_eq}
+use Rattle.std.proofs.Common.{◌≡◌, ℕ, ◌==◌, ◌&&◌, ℤ, Option, List, Decides, refl, ap, ◌∙◌, bytes_eq, int_eq}
 use Rattle.std.specs.Cmp.Lexicographic.{pointwise}
 use Rattle.std.proofs.lemmas.Bool.Decides.{Decides-and, Decides-eqb, Decides-int_eq, Decides-like}
 use Rattle.std.proofs.lemmas.Slice.Eq.{bytes_eq-Decides, slice_eq-Decides}
 use Rattle.link_sections.specs.declared.targets.Target.{Target}
-use Rattle.link_sections.specs.declared.targets.Target.TheVariants.{Section, Piece, Number, Zero, Linker, Unbound}
+use Rattle.link_sections.proofs.SameTargets.{target_Decides}
 use Rattle.eh_frame.specs.declared.cies.CieReloc.{CieReloc}
 use Rattle.eh_frame.specs.Plan.{CieKey, same_cie, same_reloc, same_target}
-
-section_parts : (s o : ℕ) (r : ℤ) (t p : ℕ) (q : ℤ) → Decides (s == t && (o == p && int_eq r q)) ((s ≡ t) × ((o ≡ p) × (r ≡ q)))
-section_parts s o r t p q = Decides-and (s == t) (o == p && int_eq r q) (Decides-eqb s t) (Decides-and (o == p) (int_eq r q) (Decides-eqb o p) (Decides-int_eq r q))
-
-piece_parts : (s m o : ℕ) (r : ℤ) (t n p : ℕ) (q : ℤ) → Decides (s == t && (m == n && (o == p && int_eq r q))) ((s ≡ t) × ((m ≡ n) × ((o ≡ p) × (r ≡ q))))
-piece_parts s m o r t n p q = Decides-and (s == t) (m == n && (o == p && int_eq r q)) (Decides-eqb s t) (section_parts m o r n p q)
-
-pub one_section : (s o : ℕ) (r : ℤ) (t p : ℕ) (q : ℤ) → s ≡ t → o ≡ p → r ≡ q → Some (Section s o r) ≡ Some (Section t p q)
-one_section s o r t p q e f h = cc
-
-pub one_piece : (s m o : ℕ) (r : ℤ) (t n p : ℕ) (q : ℤ) → s ≡ t → m ≡ n → o ≡ p → r ≡ q → Some (Piece s m o r) ≡ Some (Piece t n p q)
-one_piece s m o r t n p q e f g h = cc
-
-target_told : (t u : Option Target) → same_target t u ≡ true → t ≡ u
-target_told None None e = refl
-target_told (Some (Section s o r)) (Some (Section t p q)) e =
-    let parts = (section_parts s o r t p q).0 e in
-    one_section s o r t p q parts.0 parts.1.0 parts.1.1
-target_told (Some (Piece s m o r)) (Some (Piece t n p q)) e =
-    let parts = (piece_parts s m o r t n p q).0 e in
-    one_piece s m o r t n p q parts.0 parts.1.0 parts.1.1.0 parts.1.1.1
-target_told (Some (Number m)) (Some (Number n)) e = ap (λ k. Some (Number k)) ((Decides-eqb m n).0 e)
-target_told (Some Zero) (Some Zero) e = refl
-target_told (Some (Linker m)) (Some (Linker n)) e = ap (λ k. Some (Linker k)) ((Decides-eqb m n).0 e)
-target_told (Some Unbound) (Some Unbound) e = refl
-target_told t u e = absurd (true≢false (sym e))
-
-target_own : (t : Option Target) → same_target t t ≡ true
-target_own None = refl
-target_own (Some (Section s o r)) = (section_parts s o r s o r).1 (refl, (refl, refl))
-target_own (Some (Piece s m o r)) = (piece_parts s m o r s m o r).1 (refl, (refl, (refl, refl)))
-target_own (Some (Number m)) = (Decides-eqb m m).1 refl
-target_own (Some Zero) = refl
-target_own (Some (Linker m)) = (Decides-eqb m m).1 refl
-target_own (Some Unbound) = refl
-
-target_Decides : (t u : Option Target) → Decides (same_target t u) (t ≡ u)
-target_Decides t u = (target_told t u, λ e. let P : Option Target → Type 0 = λ v. same_target t v ≡ true in subst P e (target_own t))
 
 pub reloc_from : (r q : CieReloc) → r.offset ≡ q.offset → r.kind ≡ q.kind → r.target ≡ q.target → r.addend ≡ q.addend → r ≡ q
 reloc_from r q offset kind target addend =

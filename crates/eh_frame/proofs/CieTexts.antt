@@ -1,5 +1,5 @@
 -- The bytes of CIEs are equal where the CIEs say the same.
-use Rattle.std.proofs.Common.{◌≡◌, ℕ, suc, ◌<◌, ◌^◌, ℤ, pos, negsuc, Option, Some, None, List, [], ◌∷◌, ◌++◌, length, flat_map, get_or, drop, refl, sym, ap, ◌∙◌, arith, append_assoc}
+use Rattle.std.proofs.Common.{◌≡◌, ℕ, suc, ◌<◌, ◌^◌, ℤ, Option, Some, None, List, [], ◌∷◌, ◌++◌, length, flat_map, get_or, drop, refl, sym, ap, ◌∙◌, arith, append_assoc}
 use Rattle.std.specs.Int.{w64, to_le_bytes, from_le_bytes}
 use Rattle.std.specs.List.{All}
 use Rattle.std.specs.Str.{bytes_eq}
@@ -9,20 +9,10 @@ use Rattle.std.proofs.lemmas.Nat.{from_le_bytes-to_le_bytes_8}
 use Rattle.std.proofs.lemmas.Slice.Eq.{bytes_eq-Decides}
 use Rattle.link_sections.specs.declared.targets.Target.{Target}
 use Rattle.link_sections.specs.declared.targets.Target.TheVariants.{Section, Piece, Number, Zero, Linker, Unbound}
+use Rattle.link_sections.proofs.SameTargets.{one_piece, one_section, signed_told, signed_wide, split_same}
 use Rattle.eh_frame.specs.declared.cies.CieReloc.{CieReloc}
 use Rattle.eh_frame.specs.Plan.{CieKey, IsFit, cie_text, reloc_words, same_cie, signed_words, target_words, words_bytes}
-use Rattle.eh_frame.proofs.CieKeys.{cie_Decides, key_from, one_piece, one_section, reloc_from}
-
--- two lists of equally long first parts
-split_same : {X : Type 0} (a b x y : List X) → length a ≡ length b → a ++ x ≡ b ++ y → (a ≡ b) × (x ≡ y)
-split_same [] [] x y len e = (refl, e)
-split_same [] (q ∷ b) x y len e = absurd (omega arith)
-split_same (p ∷ a) [] x y len e = absurd (omega arith)
-split_same (p ∷ a) (q ∷ b) x y len e =
-    let head : p ≡ q = cc in
-    let tail : a ++ x ≡ b ++ y = cc in
-    let rest = split_same a b x y (omega arith) tail in
-    (cc (rest.0, head), rest.1)
+use Rattle.eh_frame.proofs.CieKeys.{cie_Decides, key_from, reloc_from}
 
 -- a number before other bytes
 wide : (w v : ℕ) (x y : List ℕ) → w < 2 ^ 64 → v < 2 ^ 64 → to_le_bytes w64 w ++ x ≡ to_le_bytes w64 v ++ y → (w ≡ v) × (x ≡ y)
@@ -47,16 +37,6 @@ words_told (w ∷ ws) [] fit also e = absurd (omega (arith, ap length e, some_by
 words_told (w ∷ ws) (v ∷ vs) fit also e =
     let both = wide w v (words_bytes ws) (words_bytes vs) (first_fits w ws fit) (first_fits v vs also) e in
     ap (λ k. k ∷ ws) both.0 ∙ ap (λ l. v ∷ l) (words_told ws vs (others_fit w ws fit) (others_fit v vs also) both.1)
-
-signed_wide : (z : ℤ) → length (signed_words z) ≡ 2
-signed_wide (pos n) = refl
-signed_wide (negsuc n) = refl
-
-signed_told : (y z : ℤ) → signed_words y ≡ signed_words z → y ≡ z
-signed_told (pos m) (pos n) e = let same : m ≡ n = cc in ap pos same
-signed_told (negsuc m) (negsuc n) e = let same : m ≡ n = cc in ap negsuc same
-signed_told (pos m) (negsuc n) e = absurd (omega (arith, ap (λ l. get_or l 0 0) e))
-signed_told (negsuc m) (pos n) e = absurd (omega (arith, ap (λ l. get_or l 0 0) e))
 
 target_wide : (t : Option Target) → length (target_words t) ≡ 6
 target_wide None = refl

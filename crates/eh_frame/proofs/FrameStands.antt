@@ -18,7 +18,7 @@ use Rattle.lk_tables.specs.Records.{RecordView, has_width}
 use Rattle.lk_tables.specs.Sites.{place_of}
 use Rattle.link_sections.specs.LaidOut.{LaidOut}
 use Rattle.eh_frame.specs.declared.placing.Placed.{Placed}
-use Rattle.eh_frame.specs.Bytes.{IsKnown, cie_bytes, ended, fde_bytes, fdes_bytes, frame_bytes, placed_cies, placed_fdes, placed_from, put, relocated, with_pointer}
+use Rattle.eh_frame.specs.Bytes.{IsKnown, cie_bytes, ended, fde_bytes, fdes_bytes, frame_bytes, placed_cies, placed_fdes, placed_from, put, relocated, with_pointer, no_place}
 use Rattle.eh_frame.specs.FrameLaws.{ArePlain, HasPlain, IsFdeWritten, IsPlain, StandAt}
 use Rattle.eh_frame.specs.Laws.{IsPlanned}
 use Rattle.eh_frame.specs.Plan.{record_bytes, plan_of, record_by, size_of}
@@ -26,9 +26,6 @@ use Rattle.eh_frame.proofs.KnownRecords.{plan_cies_known, plan_fdes_known, plan_
 use Rattle.eh_frame.proofs.PlacedSteps.{length_placed}
 use Rattle.eh_frame.proofs.PutSteps.{fills_some, put_length, put_none}
 use Rattle.eh_frame.proofs.RecordBytes.{bytes_length, cie_length, cies_length, fde_length, pointed_length}
-
-abbrev none : Placed
-none = record { number = frame_no 0 0; at = 0 }
 
 -- a part after others
 part_here : (n at : ℕ) (before part rest : List ℕ) → length before ≡ at → length part ≡ n → take n (drop at (before ++ (part ++ rest))) ≡ part
@@ -99,7 +96,7 @@ module _ (files : List File) (b : Bindings) (leaders : List (Option ℕ)) (laid 
 
     -- records one after the other, each whole
     cies_stand : (at : ℕ) (numbers : List FrameNo) (k : ℕ) (before rest : List ℕ) → length before ≡ at → All (IsKnown files lists) numbers → k < length numbers →
-        StandAt (get_or (placed_from lists at numbers) k none).at (cie_bytes files b leaders laid lists start (get_or (placed_from lists at numbers) k none))
+        StandAt (get_or (placed_from lists at numbers) k no_place).at (cie_bytes files b leaders laid lists start (get_or (placed_from lists at numbers) k no_place))
         (before ++ (flat_map (cie_bytes files b leaders laid lists start) (placed_from lists at numbers) ++ rest))
     cies_stand at [] k before rest long all lt = absurd (omega (arith, lt))
     cies_stand at (n ∷ ns) zero before rest long all lt =
@@ -112,7 +109,7 @@ module _ (files : List File) (b : Bindings) (leaders : List (Option ℕ)) (laid 
         let p : Placed = record { number = n; at = at } in
         let own = cie_length files b leaders laid lists start p (All-head (IsKnown files lists) n ns all) in
         let later = flat_map g (placed_from lists (at + size_of lists n) ns) in
-        let q = get_or (placed_from lists (at + size_of lists n) ns) k none in
+        let q = get_or (placed_from lists (at + size_of lists n) ns) k no_place in
         ap (λ l. take (length (g q)) (drop q.at (before ++ l))) (append_assoc (g p) later rest)
         ∙ ap (λ l. take (length (g q)) (drop q.at l)) (sym (append_assoc before (g p) (later ++ rest)))
         ∙ cies_stand (at + size_of lists n) ns k (before ++ g p) rest (omega (arith, long, own, length-append before (g p))) (All-tail (IsKnown files lists) n ns all) (omega (arith, lt))
@@ -123,7 +120,7 @@ module _ (files : List File) (b : Bindings) (leaders : List (Option ℕ)) (laid 
 
     fdes_stand : (cies : List Placed) (at : ℕ) (numbers : List FrameNo) (uses : List ℕ) (k : ℕ) (before rest : List ℕ) → length before ≡ at → All (IsKnown files lists) numbers →
         length uses ≡ length numbers → k < length numbers →
-        StandAt (get_or (placed_from lists at numbers) k none).at (fde_bytes files b leaders laid lists start (offset_for cies uses k) (get_or (placed_from lists at numbers) k none))
+        StandAt (get_or (placed_from lists at numbers) k no_place).at (fde_bytes files b leaders laid lists start (offset_for cies uses k) (get_or (placed_from lists at numbers) k no_place))
         (before ++ (fdes_bytes files b leaders laid lists start cies (placed_from lists at numbers) uses ++ rest))
     fdes_stand cies at [] uses k before rest long all same lt = absurd (omega (arith, lt))
     fdes_stand cies at (n ∷ ns) [] k before rest long all same lt = absurd (omega (arith, same))
@@ -138,7 +135,7 @@ module _ (files : List File) (b : Bindings) (leaders : List (Option ℕ)) (laid 
         let part = fde_bytes files b leaders laid lists start cie p in
         let own = fde_length files b leaders laid lists start cie p (All-head (IsKnown files lists) n ns all) in
         let later = fdes_bytes files b leaders laid lists start cies (placed_from lists (at + size_of lists n) ns) us in
-        let q = get_or (placed_from lists (at + size_of lists n) ns) k none in
+        let q = get_or (placed_from lists (at + size_of lists n) ns) k no_place in
         let other = fde_bytes files b leaders laid lists start (offset_for cies us k) q in
         ap (λ l. take (length other) (drop q.at (before ++ l))) (append_assoc part later rest)
         ∙ ap (λ l. take (length other) (drop q.at l)) (sym (append_assoc before part (later ++ rest)))
@@ -146,17 +143,17 @@ module _ (files : List File) (b : Bindings) (leaders : List (Option ℕ)) (laid 
         (omega (arith, same)) (omega (arith, lt))
 
 -- where records stand
-placed_number : (lists : List RecordList) (at : ℕ) (numbers : List FrameNo) (k : ℕ) → (get_or (placed_from lists at numbers) k none).number ≡ get_or numbers k (frame_no 0 0)
+placed_number : (lists : List RecordList) (at : ℕ) (numbers : List FrameNo) (k : ℕ) → (get_or (placed_from lists at numbers) k no_place).number ≡ get_or numbers k (frame_no 0 0)
 placed_number lists at [] k = refl
 placed_number lists at (n ∷ ns) zero = refl
 placed_number lists at (n ∷ ns) (suc k) = placed_number lists (at + size_of lists n) ns k
 
-placed_low : (lists : List RecordList) (at : ℕ) (numbers : List FrameNo) (k : ℕ) → k < length numbers → at ≤ (get_or (placed_from lists at numbers) k none).at
+placed_low : (lists : List RecordList) (at : ℕ) (numbers : List FrameNo) (k : ℕ) → k < length numbers → at ≤ (get_or (placed_from lists at numbers) k no_place).at
 placed_low lists at [] k lt = absurd (omega (arith, lt))
 placed_low lists at (n ∷ ns) zero lt = omega arith
 placed_low lists at (n ∷ ns) (suc k) lt = omega (arith, placed_low lists (at + size_of lists n) ns k (omega (arith, lt)))
 
-placed_high : (lists : List RecordList) (at : ℕ) (numbers : List FrameNo) (k : ℕ) → k < length numbers → (get_or (placed_from lists at numbers) k none).at < at + sum_by (size_of lists) numbers
+placed_high : (lists : List RecordList) (at : ℕ) (numbers : List FrameNo) (k : ℕ) → k < length numbers → (get_or (placed_from lists at numbers) k no_place).at < at + sum_by (size_of lists) numbers
 placed_high lists at [] k lt = absurd (omega (arith, lt))
 placed_high lists at (n ∷ ns) zero lt = omega (arith, sum_by-cons (size_of lists) n ns)
 placed_high lists at (n ∷ ns) (suc k) lt = omega (arith, placed_high lists (at + size_of lists n) ns k (omega (arith, lt)), sum_by-cons (size_of lists) n ns)
@@ -183,8 +180,8 @@ module _ (files : List File) (b : Bindings) (leaders : List (Option ℕ)) (laid 
       let first = placed_from lists 0 plan.cies in
       let second = placed_from lists sizes plan.fdes in
       let u = slice_index plan.uses k in
-      let c = get_or first u none in
-      let p = get_or second k none in
+      let c = get_or first u no_place in
+      let p = get_or second k no_place in
       let one = flat_map (cie_bytes files b leaders laid lists start) first in
       let two = fdes_bytes files b leaders laid lists start first second plan.uses in
       let end : List ℕ = 0 ∷ 0 ∷ 0 ∷ 0 ∷ [] in
@@ -193,7 +190,7 @@ module _ (files : List File) (b : Bindings) (leaders : List (Option ℕ)) (laid 
       let wide = cies_length files b leaders laid lists start 0 plan.cies cies in
       let many = length_placed lists 0 plan.cies in
       let offset : offset_for files b leaders laid lists start first plan.uses k ≡ c.at =
-      get_or-map (λ (q : Placed). q.at) first u none 0 (omega (arith, used, many)) in
+      get_or-map (λ (q : Placed). q.at) first u no_place 0 (omega (arith, used, many)) in
       let known : IsKnown files lists p.number = subst (IsKnown files lists) (sym (placed_number lists sizes plan.fdes k)) (fdes k (frame_no 0 0) lt) in
       let fde = fde_bytes files b leaders laid lists start c.at p in
       let fde_stands : StandAt p.at fde whole =

@@ -10,7 +10,6 @@ pub mod KnownRecords
 pub mod Lengths
 pub mod ListsFound
 pub mod LowSums
-pub mod Membership
 pub mod NotedCies
 pub mod OneRecord
 pub mod OneSection

@@ -7,6 +7,7 @@ use Rattle.std.proofs.lemmas.Bool.{cases_eq}
 use Rattle.std.proofs.lemmas.List.{get_or-map, get_or-set_same, get_or-set_other, length-map, map_push}
 use Rattle.std.proofs.lemmas.List.Elements.{All-push, All-tail}
 use Rattle.std.proofs.lemmas.Option.{none-some, same_Some}
+use Rattle.lk_base.proofs.StableOrder.{cons_head, cons_tail}
 use Rattle.lk_tables.specs.declared.records.FrameNo.{FrameNo}
 use Rattle.lk_tables.specs.Frames.{frame_no}
 use Rattle.eh_frame.specs.declared.planning.Firsts.{Firsts}
@@ -15,12 +16,6 @@ use Rattle.eh_frame.specs.Plan.{CieKey, IsFit, IsTextOf, cie_text, first_cies, i
 use Rattle.eh_frame.specs.Uses.{AreHeld, AreKnown, AreNone, AreUses, AreUsesIn, IsNumbered, IsUse, cies_for, has_text, texts_of}
 use Rattle.eh_frame.proofs.CieTexts.{same_text}
 use Rattle.eh_frame.proofs.FirstCies.{first_more, has_first, use_own, use_stays, uses_stay, with_known}
-
-head_is : {X : Type 0} (x y : X) (xs ys : List X) → x ∷ xs ≡ y ∷ ys → x ≡ y
-head_is x y xs ys e = cc
-
-tail_is : {X : Type 0} (x y : X) (xs ys : List X) → x ∷ xs ≡ y ∷ ys → xs ≡ ys
-tail_is x y xs ys e = cc
 
 joined : (t : Bool) (xs : List FrameNo) (x : FrameNo) → xs ++ cond (not t) (x ∷ []) [] ≡ cond t xs (xs ++ (x ∷ []))
 joined true xs x = append-nil xs
@@ -41,9 +36,9 @@ module _ (key : FrameNo → CieKey) where
   alike cie text is (v ∷ held) [] are fit = absurd cc
   alike cie text is (v ∷ held) (c ∷ cies) are fit =
       let one : has_text text v ≡ is_alike key cie c =
-      ap (λ t. bytes_eq t v.items) is.text_is ∙ ap (bytes_eq (text_at cie)) (head_is v.items (text_at c) (texts_of held) (map text_at cies) are)
+      ap (λ t. bytes_eq t v.items) is.text_is ∙ ap (bytes_eq (text_at cie)) (cons_head v.items (text_at c) (texts_of held) (map text_at cies) are)
       ∙ same_text (key cie) (key c) is.fit (fit 0 c (omega arith)) in
-      let rest = alike cie text is held cies (tail_is v.items (text_at c) (texts_of held) (map text_at cies) are) (All-tail fits_at c cies fit) in (
+      let rest = alike cie text is held cies (cons_tail v.items (text_at c) (texts_of held) (map text_at cies) are) (All-tail fits_at c cies fit) in (
         ap (λ b. b || list_any (has_text text) held) one ∙ ap (λ b. is_alike key cie c || b) rest.0,
         ap (λ b. cond (not b) (1 + position_or_len (has_text text) held) 0) one ∙ ap (λ n. cond (not (is_alike key cie c)) (1 + n) 0) rest.1,
       )

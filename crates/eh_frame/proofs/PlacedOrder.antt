@@ -9,6 +9,7 @@ use Rattle.lk_base.proofs.StableElements.{all_order, all_stable}
 use Rattle.lk_base.proofs.StableOrder.{Rises, rises_order}
 use Rattle.lk_base.specs.declared.defects.Defect.{Defect}
 use Rattle.lk_base.specs.Firsts.{IsFirst}
+use Rattle.lk_base.proofs.NoneGiven.{left_none, right_none}
 use Rattle.lk_tables.specs.Binding.{Bindings}
 use Rattle.lk_tables.specs.Files.{File, section_total}
 use Rattle.lk_tables.specs.FramePlans.{PlanView}
@@ -97,17 +98,9 @@ sections_in_order f ps total few high =
     ∙ flat_flat f (λ n. group section n qs) (range_with_len 0 total)
 
 -- where nothing is found in some order, nothing is in another
-nil_left : {Y : Type 0} (xs ys : List Y) → xs ++ ys ≡ [] → xs ≡ []
-nil_left [] ys is = refl
-nil_left (x ∷ xs) ys is = cc
-
-nil_right : {Y : Type 0} (xs ys : List Y) → xs ++ ys ≡ [] → ys ≡ []
-nil_right [] ys is = is
-nil_right (x ∷ xs) ys is = cc
-
 each_none : {X Y : Type 0} (f : X → List Y) (xs : List X) → flat_map f xs ≡ [] → AllByRecursion (λ x. f x ≡ []) xs
 each_none f [] is = tt
-each_none f (x ∷ xs) is = (nil_left (f x) (flat_map f xs) is, each_none f xs (nil_right (f x) (flat_map f xs) is))
+each_none f (x ∷ xs) is = (left_none (f x) (flat_map f xs) is, each_none f xs (right_none (f x) (flat_map f xs) is))
 
 none_all : {X Y : Type 0} (f : X → List Y) (xs : List X) → AllByRecursion (λ x. f x ≡ []) xs → flat_map f xs ≡ []
 none_all f [] all = refl

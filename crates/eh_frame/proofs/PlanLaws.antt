@@ -7,6 +7,7 @@ use Rattle.std.proofs.lemmas.List.Elements.{All-append, All-contains, All-contai
 use Rattle.std.proofs.lemmas.List.FromFn.{get_or-range_with_len, length-range_with_len}
 use Rattle.std.proofs.lemmas.List.Kept.{AllPairs-cons, AllPairs-filter, AllPairs-from_increasing}
 use Rattle.std.proofs.lemmas.List.Sums.{passes_at_first}
+use Rattle.lk_base.proofs.Membership.{from_filter, from_flat, from_map, from_range, in_filter, in_flat, in_map, in_range}
 use Rattle.lk_tables.specs.declared.records.FrameNo.{FrameNo}
 use Rattle.lk_tables.specs.Binding.{Bindings}
 use Rattle.lk_tables.specs.Files.{File}
@@ -19,7 +20,6 @@ use Rattle.eh_frame.specs.Plan.{CieKey, cie_key, cie_no, is_alike, is_in_place, 
 use Rattle.eh_frame.specs.Uses.{cies_for}
 use Rattle.eh_frame.proofs.CieKeys.{cie_Decides}
 use Rattle.eh_frame.proofs.FirstCies.{each_first, first_apart, found_first}
-use Rattle.eh_frame.proofs.Membership.{from_filter, from_flat, from_map, from_range, in_filter, in_flat, in_map, in_range}
 use Rattle.eh_frame.proofs.NotedCies.{each_known}
 
 -- pairs of a list and of another after it

@@ -1,10 +1,7 @@
 -- To which earlier record a CIE Pointer leads.
-use Rattle.std.proofs.Common.{◌≡◌, ℕ, ◌+◌, ◌-◌, ◌<◌, ◌≤◌, Bool, true, false, ◌==◌, List, [], ◌∷◌, length, get_or, Some, None, refl, sym, ap, ◌∙◌, arith, inl, inr}
-use Rattle.std.specs.Prelude.{find}
-use Rattle.std.specs.List.{range_with_len}
+use Rattle.std.proofs.Common.{◌≡◌, ℕ, ◌+◌, ◌-◌, ◌<◌, ◌≤◌, true, false, ◌==◌, List, [], ◌∷◌, length, get_or, Some, None, refl, sym, ap, ◌∙◌, arith, inl, inr}
 use Rattle.std.proofs.lemmas.Bool.{cases_lt, ne_eqb, eq-eqb, and_right, and_left}
-use Rattle.std.proofs.lemmas.List.FromFn.{length-range_with_len, get_or-range_with_len}
-use Rattle.lk_tables.proofs.Finding.{find_nothing, first_number}
+use Rattle.lk_tables.proofs.Finding.{first_number, no_number}
 use Rattle.lk_tables.specs.declared.objects.Reloc.{Reloc}
 use Rattle.lk_tables.specs.declared.records.Record.{Record}
 use Rattle.lk_tables.specs.Records.{start_of, id_at, is_cie, is_pointed_to, cie_before, first_records}
@@ -16,14 +13,6 @@ use Rattle.eh_frame.proofs.Walk.{from_at}
 pub element : {X : Type 0} (xs : List X) (n : ℕ) → n < length xs → X
 element [] n lt = absurd (omega (arith, lt))
 element (x ∷ xs) n lt = x
-
--- no number passes
-pub no_number : (p : ℕ → Bool) (n : ℕ) → ((k : ℕ) → k < n → p k ≡ false) → find p (range_with_len 0 n) ≡ None
-no_number p n fails =
-    find_nothing p (range_with_len 0 n) 0 (λ k less.
-    let lt : k < n = omega (arith, less, length-range_with_len 0 n) in
-    let is : get_or (range_with_len 0 n) k 0 ≡ k = get_or-range_with_len 0 n k 0 lt ∙ omega arith in
-    ap p is ∙ fails k lt)
 
 away : (c : List ℕ) (j i : ℕ) → (start_of c i + id_at c (start_of c j) ≡ start_of c j + 4 → ⊥) → is_pointed_to c j i ≡ false
 unfolding is_pointed_to

@@ -1,10 +1,8 @@
 -- A relocation done in a record, and all of them one after the other.
-use Rattle.std.proofs.Common.{◌≡◌, ℕ, ◌+◌, ◌-◌, ◌<◌, ◌≤◌, true, false, List, [], ◌∷◌, ◌++◌, length, take, drop, get_or, refl, sym, ap, ◌∙◌, arith, ℤ, pos, Option, Some, None}
+use Rattle.std.proofs.Common.{◌≡◌, ℕ, ◌+◌, ◌-◌, true, false, List, [], ◌∷◌, ◌++◌, length, take, drop, refl, sym, ap, ◌∙◌, arith, ℤ, pos, Option, Some, None}
 use borrow.Rule.Slice.PartMut.{put_mid}
 use Rattle.std.proofs.lemmas.Bool.{cond-false, lt-ltb}
-use Rattle.std.proofs.lemmas.List.{append-nil, drop-drop, drop_all, drop_more, length-append, length-drop, length-take, take-append-drop}
-use Rattle.byteorder.specs.Numbers.{length-bytes_low_first}
-use Rattle.lk_base.specs.Formats.{Field}
+use Rattle.std.proofs.lemmas.List.{drop-drop, take-append-drop}
 use Rattle.lk_base.specs.RelocKinds.{FillsField, Kind, fills_field, has_value, kind_of, puts_value}
 use Rattle.lk_base.specs.declared.relocations.Calculation.{Calculation}
 use Rattle.lk_base.specs.declared.relocations.Calculation.TheVariants.{Nothing, Hint, Padding, Address, Distance, Partner, GotDistance, ThreadOffset, Increase, Decrease}
@@ -15,8 +13,9 @@ use Rattle.lk_tables.specs.Files.{File}
 use Rattle.lk_tables.specs.Records.{has_width}
 use Rattle.lk_tables.specs.Relocations.{is_alignment, is_padding, place_width}
 use Rattle.link_sections.specs.LaidOut.{LaidOut}
-use Rattle.rv_code.specs.Places.{number_of, patched}
-use Rattle.eh_frame.specs.Bytes.{computed, filled, held_in, put, relocated, sum_in, value_in}
+use Rattle.rv_code.specs.Places.{held_at, number_of}
+use Rattle.rv_code.proofs.WholePlaces.{laid_length, patched_length}
+use Rattle.eh_frame.specs.Bytes.{computed, filled, put, relocated, sum_in, value_in}
 
 -- what fills a field has as many bytes as its kind says, one at least
 no_padding : (c : Calculation) → puts_value c ≡ true → is_padding c ≡ false
@@ -45,24 +44,9 @@ whole at w bytes =
     ap (λ l. take at bytes ++ (take w (drop at bytes) ++ l)) (sym (drop-drop w at bytes))
     ∙ ap (λ l. take at bytes ++ l) (take-append-drop w (drop at bytes)) ∙ take-append-drop at bytes
 
-patched_length : (field : Field) (v : ℤ) (place : List ℕ) → length (patched field v place) ≡ length place
-unfolding patched
-patched_length field v place = length-bytes_low_first 0 (length place) _
-
 filled_length : (kind : Kind) (v : Option ℤ) (place : List ℕ) → length (filled kind v place) ≡ length place
 filled_length kind None place = refl
 filled_length kind (Some v) place = patched_length kind.field v place
-
-laid_length : (at w : ℕ) (new bytes : List ℕ) → length new ≡ length (take w (drop at bytes)) → length (take at bytes ++ (new ++ drop (at + w) bytes)) ≡ length bytes
-laid_length at w new bytes is =
-    length-append (take at bytes) (new ++ drop (at + w) bytes)
-    ∙ omega (arith, length-take at bytes, length-append new (drop (at + w) bytes), length-drop (at + w) bytes, length-take w (drop at bytes), length-drop at bytes, is)
-
--- the bytes from a place on, changed
-pub tail_put : (xs ys : List ℕ) (a : ℕ) → put_mid a (length xs - a) xs ys ≡ take a xs ++ ys
-tail_put xs ys a =
-    ap (λ l. take a xs ++ (ys ++ l)) (drop_all (length xs - a) (drop a xs) (omega (arith, length-drop a xs)))
-    ∙ ap (λ l. take a xs ++ l) (append-nil ys)
 
 module _ (files : List File) (b : Bindings) (leaders : List (Option ℕ)) (laid : LaidOut) (f from address : ℕ) where
   pub put_none : (r : Reloc) (bytes : List ℕ) → fills_field r.kind ≡ false → put files b leaders laid f from address r bytes ≡ bytes
@@ -71,7 +55,7 @@ module _ (files : List File) (b : Bindings) (leaders : List (Option ℕ)) (laid 
       let at = r.offset - from in
       let kind = kind_of r.kind in
       ap (λ v. take at bytes ++ (filled kind v (take kind.width (drop at bytes)) ++ drop (at + kind.width) bytes))
-      (cond-false (fills_field r.kind) (computed kind.calculation (sum_in files b leaders laid f r) (pos (address + at)) (held_in kind.width at bytes)) None off)
+      (cond-false (fills_field r.kind) (computed kind.calculation (sum_in files b leaders laid f r) (pos (address + at)) (held_at kind.width at bytes)) None off)
       ∙ whole at kind.width bytes
 
   -- its place stands from `at` to `end`
@@ -95,15 +79,3 @@ module _ (files : List File) (b : Bindings) (leaders : List (Option ℕ)) (laid 
   pub relocated_length : (relocs : List Reloc) (bytes : List ℕ) → length (relocated files b leaders laid f from address relocs bytes) ≡ length bytes
   relocated_length [] bytes = refl
   relocated_length (r ∷ rs) bytes = relocated_length rs (put files b leaders laid f from address r bytes) ∙ put_length r bytes
-
-  pub relocated_step : (relocs : List Reloc) (i : ℕ) (d : Reloc) (old new whole : List ℕ) → i < length relocs →
-      relocated files b leaders laid f from address (drop i relocs) old ≡ whole → new ≡ put files b leaders laid f from address (get_or relocs i d) old →
-      relocated files b leaders laid f from address (drop (i + 1) relocs) new ≡ whole
-  relocated_step relocs i d old new whole lt held is =
-      ap (relocated files b leaders laid f from address (drop (i + 1) relocs)) is
-      ∙ ap (λ rs. relocated files b leaders laid f from address rs old) (sym (drop_more relocs i d lt)) ∙ held
-
-  pub relocated_end : (relocs : List Reloc) (i : ℕ) (old whole : List ℕ) → length relocs ≤ i →
-      relocated files b leaders laid f from address (drop i relocs) old ≡ whole → old ≡ whole
-  relocated_end relocs i old whole le held =
-      ap (λ rs. relocated files b leaders laid f from address rs old) (sym (drop_all i relocs le)) ∙ held

@@ -1,7 +1,7 @@
 -- The bytes of records, one after the other, and how many there are.
-use Rattle.std.proofs.Common.{◌≡◌, ℕ, ◌+◌, ◌-◌, ◌<◌, ◌≤◌, List, [], ◌∷◌, ◌++◌, length, map, take, drop, get_or, slice_index, flat_map, refl, sym, ap, ◌∙◌, arith, append_assoc, Option}
+use Rattle.std.proofs.Common.{◌≡◌, ℕ, ◌+◌, ◌-◌, ◌≤◌, List, [], ◌∷◌, ◌++◌, length, map, take, drop, slice_index, flat_map, refl, ap, ◌∙◌, arith, Option}
 use Rattle.std.specs.List.{All, sum_by}
-use Rattle.std.proofs.lemmas.List.{append-nil, drop_all, drop_at, drop_more, length-append, length-drop, length-take-le, take_at}
+use Rattle.std.proofs.lemmas.List.{length-append, length-drop, length-take-le}
 use Rattle.std.proofs.lemmas.List.Elements.{All-head, All-tail}
 use Rattle.std.proofs.lemmas.List.Sums.{sum_by-cons}
 use Rattle.byteorder.specs.Endian.{little_bytes}
@@ -19,13 +19,6 @@ use Rattle.eh_frame.specs.Plan.{record_bytes, frame_len_of, record_by, size_of}
 use Rattle.eh_frame.proofs.PutSteps.{relocated_length}
 
 -- what was added at the end, and changed there
-pub tail_pushed : (change : List ℕ → List ℕ) (old raw mid new : List ℕ) (from : ℕ) → from ≡ length old → mid ≡ old ++ raw → new ≡ take from mid ++ change (drop from mid) →
-    new ≡ old ++ change raw
-tail_pushed change old raw mid new from from_is mid_is new_is =
-    new_is ∙ ap (λ m. take from m ++ change (drop from m)) mid_is
-    ∙ ap (λ l. l ++ change (drop from (old ++ raw))) (take_at old raw from (sym from_is))
-    ∙ ap (λ l. old ++ change l) (drop_at old raw from (sym from_is))
-
 pub pointed_length : (distance : ℕ) (bytes : List ℕ) → 8 ≤ length bytes → length (with_pointer distance bytes) ≡ length bytes
 unfolding with_pointer
 pointed_length distance bytes le =
@@ -99,26 +92,6 @@ module _ (files : List File) (b : Bindings) (leaders : List (Option ℕ)) (laid 
       let two = fdes_bytes files b leaders laid lists start (placed_from lists 0 plan.cies) (placed_from lists (sum_by (size_of lists) plan.cies) plan.fdes) plan.uses in
       ended_length plan.fdes plan.cies (one ++ two)
       (omega (arith, length-append one two, cies_length 0 plan.cies cies, fdes_length (placed_from lists 0 plan.cies) (sum_by (size_of lists) plan.cies) plan.fdes plan.uses fdes uses))
-
-  -- one FDE more, with the number of its CIE
-  abbrev fdes_from : (cies fdes : List Placed) (uses : List ℕ) (k : ℕ) → List ℕ
-  fdes_from cies fdes uses k = fdes_bytes files b leaders laid lists start cies (drop k fdes) (drop k uses)
-
-  pub fdes_step : (cies fdes : List Placed) (uses : List ℕ) (k : ℕ) (d : Placed) (old new whole : List ℕ) → k < length fdes → length uses ≡ length fdes →
-      old ++ fdes_from cies fdes uses k ≡ whole →
-      new ≡ old ++ fde_bytes files b leaders laid lists start (slice_index (map (λ (c : Placed). c.at) cies) (slice_index uses k)) (get_or fdes k d) →
-      new ++ fdes_from cies fdes uses (k + 1) ≡ whole
-  fdes_step cies fdes uses k d old new whole lt same held is =
-      let here = fde_bytes files b leaders laid lists start (slice_index (map (λ (c : Placed). c.at) cies) (slice_index uses k)) (get_or fdes k d) in
-      let rest = fdes_from cies fdes uses (k + 1) in
-      ap (λ l. l ++ rest) is ∙ append_assoc old here rest
-      ∙ ap (λ l. old ++ fdes_bytes files b leaders laid lists start cies (get_or fdes k d ∷ drop (k + 1) fdes) l) (sym (drop_more uses k 0 (omega (arith, lt, same))))
-      ∙ ap (λ l. old ++ fdes_bytes files b leaders laid lists start cies l (drop k uses)) (sym (drop_more fdes k d lt))
-      ∙ held
-
-  pub fdes_end : (cies fdes : List Placed) (uses : List ℕ) (k : ℕ) (old whole : List ℕ) → length fdes ≤ k → old ++ fdes_from cies fdes uses k ≡ whole → old ≡ whole
-  fdes_end cies fdes uses k old whole le held =
-      sym (append-nil old) ∙ ap (λ l. old ++ fdes_bytes files b leaders laid lists start cies l (drop k uses)) (sym (drop_all k fdes le)) ∙ held
 
   -- a record by what the code holds of it
   pub cie_is : (p : Placed) (r : RecordView) (file : ℕ) → r ≡ record_by lists p.number → file ≡ (place_of files p.number.section).file →

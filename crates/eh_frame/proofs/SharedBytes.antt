@@ -9,8 +9,8 @@ use Rattle.lk_tables.specs.Files.{File}
 use Rattle.lk_tables.specs.Frames.{RecordList}
 use Rattle.link_sections.specs.LaidOut.{LaidOut}
 use Rattle.eh_frame.specs.declared.placing.Placed.{Placed}
-use Rattle.eh_frame.specs.Bytes.{cie_bytes, fdes_bytes}
-use Rattle.eh_frame.specs.Shares.{bytes_at, fde_at, no_placed}
+use Rattle.eh_frame.specs.Bytes.{cie_bytes, fdes_bytes, no_place}
+use Rattle.eh_frame.specs.Shares.{bytes_at, fde_at}
 use Rattle.eh_frame.proofs.RecordRuns.{part}
 
 module _ (files : List File) (b : Bindings) (leaders : List (Option ℕ)) (laid : LaidOut) (lists : List RecordList) (start : ℕ) (cies fdes : List Placed) (uses : List ℕ) where
@@ -30,8 +30,8 @@ module _ (files : List File) (b : Bindings) (leaders : List (Option ℕ)) (laid 
   run_is zero a le same = refl
   run_is (suc n) a le same =
       ap (λ l. own a ++ l) (run_is n (a + 1) (omega (arith, le)) same)
-      ∙ ap (λ us. made (take (suc n) (get_or fdes a no_placed ∷ drop (a + 1) fdes)) (take (suc n) us)) (sym (drop_more uses a 0 (omega (arith, le, same))))
-      ∙ ap (λ ps. made (take (suc n) ps) (take (suc n) (drop a uses))) (sym (drop_more fdes a no_placed (omega (arith, le))))
+      ∙ ap (λ us. made (take (suc n) (get_or fdes a no_place ∷ drop (a + 1) fdes)) (take (suc n) us)) (sym (drop_more uses a 0 (omega (arith, le, same))))
+      ∙ ap (λ ps. made (take (suc n) ps) (take (suc n) (drop a uses))) (sym (drop_more fdes a no_place (omega (arith, le))))
 
   later : (n a : ℕ) → 0 < a → flat_map one (range_with_len a n) ≡ flat_map own (range_with_len a n)
   later zero a lt = refl

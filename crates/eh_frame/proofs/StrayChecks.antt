@@ -1,5 +1,5 @@
 -- Relocations that lie in no record, and the entries of the file that they are.
-use Rattle.std.proofs.Common.{◌≡◌, ℕ, zero, suc, ◌+◌, ◌<◌, ◌≤◌, ◌==◌, ◌&&◌, ◌||◌, not, Bool, true, false, nat_lt, cond, List, [], ◌∷◌, length, map, get_or, Option, Some, None, refl, sym, ap, ◌∙◌, subst, arith, inl, inr, eqb-true, ltb-true}
+use Rattle.std.proofs.Common.{◌≡◌, ℕ, zero, suc, ◌+◌, ◌<◌, ◌≤◌, ◌==◌, ◌&&◌, not, Bool, true, false, nat_lt, cond, List, [], ◌∷◌, length, map, get_or, Option, Some, None, refl, sym, ap, ◌∙◌, subst, arith, inl, inr, eqb-true, ltb-true}
 use Rattle.std.specs.Prelude.{Ok, Err, find}
 use Rattle.std.specs.List.{list_any, range_with_len}
 use Rattle.std.proofs.lemmas.Bool.{and_left, and_parts, cases_eq}
@@ -9,6 +9,7 @@ use mathlib.Core.Path.{fun_ext}
 use Rattle.lk_base.specs.declared.abi.TheConstants.{SHT_RELA}
 use Rattle.lk_base.specs.declared.defects.Flaw.{Flaw}
 use Rattle.lk_base.specs.declared.kinds.TheConstants.{BAD_FRAME}
+use Rattle.lk_base.proofs.Membership.{any_through}
 use Rattle.lk_tables.specs.declared.heads.Section.{Section}
 use Rattle.lk_tables.specs.declared.objects.Reloc.{Reloc}
 use Rattle.lk_tables.specs.Bodies.{rela_of, relocates}
@@ -231,10 +232,6 @@ is_rela_from sections k r b s low is told =
 abbrev lies : Reloc → RecordView → Bool
 lies r v = lies_in r v.from v.len
 
-any_map : {X Y : Type 0} (p : Y → Bool) (f : X → Y) (xs : List X) → list_any p (map f xs) ≡ list_any (λ x. p (f x)) xs
-any_map p f [] = refl
-any_map p f (x ∷ xs) = ap (λ b. p (f x) || b) (any_map p f xs)
-
 inside_is : (c : List ℕ) (relocs : List Reloc) (r : Reloc) (j : ℕ) → lies r (record_of c relocs j) ≡ is_inside c r j
 unfolding record_of is_inside
 inside_is c relocs r j = refl
@@ -244,7 +241,7 @@ lies_as : (c : List ℕ) (relocs : List Reloc) (r : Reloc) (records : List Recor
     ≡ list_any (is_inside c r) (range_with_len 0 (count c))
 unfolding first_records
 lies_as c relocs r records is =
-    sym (any_map (lies r) record_view records) ∙ ap (list_any (lies r)) is ∙ any_map (lies r) (record_of c relocs) (range_with_len 0 (count c))
+    sym (any_through (lies r) record_view records) ∙ ap (list_any (lies r)) is ∙ any_through (lies r) (record_of c relocs) (range_with_len 0 (count c))
     ∙ ap (λ f. list_any f (range_with_len 0 (count c))) (fun_ext λ j. inside_is c relocs r j)
 
 pub none_wide : (c : List ℕ) (r : Reloc) (b : Bool) → b ≡ has_width r → b ≡ false → false ≡ is_stray c r

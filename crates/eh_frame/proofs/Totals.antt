@@ -10,6 +10,7 @@ use Rattle.std.proofs.lemmas.List.Elements.{All-cons, All-filter, All-head, All-
 use Rattle.std.proofs.lemmas.List.FromFn.{get_or-map-range_with_len, length-map-range_with_len}
 use Rattle.std.proofs.lemmas.List.Kept.{AllPairs-filter, AllPairs-from_increasing}
 use Rattle.std.proofs.lemmas.List.Sums.{sum_by-append, sum_by-cons}
+use Rattle.lk_base.proofs.Membership.{head_or_tail, in_map, in_range}
 use Rattle.lk_tables.specs.declared.objects.Reloc.{Reloc}
 use Rattle.lk_tables.specs.declared.records.FrameNo.{FrameNo}
 use Rattle.lk_tables.specs.Binding.{Bindings}
@@ -28,7 +29,6 @@ use Rattle.eh_frame.specs.Plan.{cie_key, cie_no, frame_len_of, header_len_of, pl
 use Rattle.eh_frame.specs.Uses.{AreUses}
 use Rattle.eh_frame.proofs.KnownRecords.{all_flat, plan_cies_known, plan_fdes_known}
 use Rattle.eh_frame.proofs.ListsFound.{record_found, record_is}
-use Rattle.eh_frame.proofs.Membership.{head_or_tail, in_map, in_range}
 use Rattle.eh_frame.proofs.Places.{place_next}
 use Rattle.eh_frame.proofs.PlanLaws.{first_pairs, plan_laws, rest_pairs}
 

@@ -1,35 +1,14 @@
 -- A value that sets all bits of its place stands there as a number, whatever the place held.
-use Rattle.std.proofs.Common.{◌≡◌, ℕ, zero, suc, ◌+◌, ◌-◌, ◌*◌, ◌/◌, ◌%◌, ◌^◌, ◌<◌, ◌≤◌, List, [], ◌∷◌, length, refl, sym, ap, ◌∙◌, arith, ℤ}
+use Rattle.std.proofs.Common.{◌≡◌, ℕ, zero, suc, ◌+◌, ◌-◌, ◌*◌, ◌<◌, ◌≤◌, List, [], ◌∷◌, length, refl, sym, ap, ◌∙◌, arith, ℤ}
 use Rattle.std.specs.Int.{bit_at, byte_at, bytes_low_first}
-use Rattle.std.proofs.Math.Nat.{div-one}
-use Rattle.std.proofs.lemmas.Nat.Bits.{same_from_bits_below}
 use Rattle.byteorder.specs.Endian.{little_bytes}
-use Rattle.byteorder.proofs.Bytes.{pow256}
 use Rattle.lk_base.specs.Arithmetic.{bits_of}
 use Rattle.lk_base.specs.Fields.{run}
 use Rattle.lk_base.specs.Formats.{Field, field_of, plain}
 use Rattle.lk_base.specs.declared.relocations.Format.TheVariants.{Byte, Word}
 use Rattle.rv_code.specs.Places.{number_of, of_bits, patched, placed_bit}
-use Rattle.rv_code.proofs.BitRuns.{high_bit, inside, low_bit}
-use Rattle.rv_code.proofs.WholePlaces.{of_bits_bit, placed_small}
-
--- a byte of a number by its bits
-byte_is : (j x : ℕ) → byte_at j x ≡ x / 256 ^ j % 256
-byte_is zero x = ap (λ y. y % 256) (sym (div-one x))
-byte_is (suc j) x = refl
-
-below : (y b : ℕ) → b ≡ y % 256 → b < 2 ^ 8
-below y b is = omega (arith, is)
-
-byte_bit : (j x i : ℕ) → i < 8 → bit_at (byte_at j x) i ≡ bit_at x (8 * j + i)
-byte_bit j x i lt =
-    ap (λ y. bit_at y i) (byte_is j x ∙ ap (λ d. x / d % 256) (pow256 j))
-    ∙ low_bit (x / 2 ^ (8 * j)) 8 i lt ∙ high_bit x (8 * j) i
-
-byte_same : (j x y : ℕ) → ((i : ℕ) → i < 8 → bit_at x (8 * j + i) ≡ bit_at y (8 * j + i)) → byte_at j x ≡ byte_at j y
-byte_same j x y same =
-    same_from_bits_below 8 (byte_at j x) (byte_at j y) (below (x / 256 ^ j) (byte_at j x) (byte_is j x)) (below (y / 256 ^ j) (byte_at j y) (byte_is j y))
-    (λ i lt. byte_bit j x i lt ∙ same i lt ∙ sym (byte_bit j y i lt))
+use Rattle.rv_code.proofs.BitRuns.{inside}
+use Rattle.rv_code.proofs.WholePlaces.{byte_same, of_bits_bit, placed_small}
 
 bytes_same : (n j x y : ℕ) → ((k : ℕ) → k < 8 * (j + n) → bit_at x k ≡ bit_at y k) → bytes_low_first j n x ≡ bytes_low_first j n y
 bytes_same zero j x y same = refl

@@ -2,13 +2,9 @@
 use Rattle.std.specs.Prelude.{◌≡◌, ℕ, ◌+◌, ◌-◌, ◌*◌, ◌^◌, ◌<◌, ◌==◌, ℤ, pos, ◌+ℤ◌, ◌-ℤ◌, Bool, true, Option, Some, None, is_some, if◌then◌else◌, List, [], ◌∷◌, ◌++◌, length, map, take, drop, flat_map, slice_index}
 use Rattle.std.specs.List.{filter, range_with_len, sum_by}
 use Rattle.byteorder.specs.Endian.{little_bytes}
-use Rattle.lk_base.specs.Arithmetic.{bits_of}
 use Rattle.lk_base.specs.Order.{stable_order}
-use Rattle.lk_base.specs.Reaches.{Reach, misfit_of}
 use Rattle.lk_base.specs.RelocKinds.{Kind, fills_field, kind_of}
 use Rattle.lk_base.specs.declared.defects.Defect.{Defect}
-use Rattle.lk_base.specs.declared.defects.Misfit.{Misfit}
-use Rattle.lk_base.specs.declared.defects.Misfit.TheVariants.{Odd, Range}
 use Rattle.lk_base.specs.declared.kinds.DefectKind.{DefectKind}
 use Rattle.lk_base.specs.declared.kinds.TheConstants as kinds
 use Rattle.lk_base.specs.declared.relocations.Calculation.{Calculation}
@@ -19,16 +15,16 @@ use Rattle.lk_tables.specs.declared.section_places.SectionPlace.{SectionPlace}
 use Rattle.lk_tables.specs.Binding.{Bindings}
 use Rattle.lk_tables.specs.Files.{File, section_total}
 use Rattle.lk_tables.specs.FramePlans.{PlanView}
-use Rattle.lk_tables.specs.Frames.{IsRecordWithin, RecordList, record_at}
+use Rattle.lk_tables.specs.Frames.{IsRecordWithin, RecordList, frame_no, record_at}
 use Rattle.lk_tables.specs.Sites.{contents_at, place_of}
 use Rattle.lk_tables.specs.Targets.{spot_of}
-pub use Rattle.lk_tables.specs.Walks.{reloc_defect}
+use Rattle.lk_tables.specs.Misfits.{value_defects}
 use Rattle.link_sections.specs.declared.targets.Target.{Target}
 use Rattle.link_sections.specs.Addresses.{target_address}
 use Rattle.link_sections.specs.LaidOut.{LaidOut}
 use Rattle.link_sections.specs.PieceTargets.{piece_target}
 use Rattle.link_sections.specs.Sums.{addend_of}
-use Rattle.rv_code.specs.Places.{number_of, patched}
+use Rattle.rv_code.specs.Places.{patched, held_at}
 use Rattle.eh_frame.specs.declared.placing.Placed.{Placed}
 use Rattle.eh_frame.specs.Plan.{record_bytes, record_by, size_of}
 
@@ -40,24 +36,10 @@ computed Increase sum place held = Some (held +ℤ sum)
 computed Decrease sum place held = Some (held -ℤ sum)
 computed _ sum place held = None
 
--- V: what so many bytes at an offset hold, as a number
-abbrev pub held_in : (width at : ℕ) → List ℕ → ℤ
-held_in width at bytes = pos (number_of (take width (drop at bytes)))
-
 -- the bytes of a place with a value in its field; without one as they were
 abbrev pub filled : Kind → Option ℤ → (place : List ℕ) → List ℕ
 filled kind None place = place
 filled kind (Some v) place = patched kind.field v place
-
-abbrev pub misfit_defects : SectionPlace → Reloc → ℤ → Option Misfit → List Defect
-misfit_defects place r v None = []
-misfit_defects place r v (Some Odd) = reloc_defect kinds.ODD place.file place.index r (bits_of v) ∷ []
-misfit_defects place r v (Some Range) = reloc_defect kinds.RANGE place.file place.index r (bits_of v) ∷ []
-
--- a value that its field does not take
-abbrev pub value_defects : SectionPlace → Reloc → Reach → Option ℤ → List Defect
-value_defects place r reach None = []
-value_defects place r reach (Some v) = misfit_defects place r v (misfit_of reach v)
 
 -- an FDE with the CIE Pointer, which is so many bytes back to its CIE
 unfoldable pub with_pointer : (distance : ℕ) → List ℕ → List ℕ
@@ -95,7 +77,7 @@ module _ (files : List File) (b : Bindings) (leaders : List (Option ℕ)) (laid 
       let at = r.offset - from in
       let kind = kind_of r.kind in
       take at bytes
-      ++ (filled kind (value_in f r (pos (address + at)) (held_in kind.width at bytes)) (take kind.width (drop at bytes))
+      ++ (filled kind (value_in f r (pos (address + at)) (held_at kind.width at bytes)) (take kind.width (drop at bytes))
       ++ drop (at + kind.width) bytes)
 
   -- all of them are, in order
@@ -122,6 +104,10 @@ module _ (lists : List RecordList) where
 
   abbrev pub all_placed : PlanView → List Placed
   all_placed plan = placed_cies plan ++ placed_fdes plan
+
+-- what stands past the end of such a list
+abbrev pub no_place : Placed
+no_place = record { number = frame_no 0 0; at = 0 }
 
 -- records in order of section and number, which is that of file, section and offset
 abbrev pub order_of : Placed → ℕ

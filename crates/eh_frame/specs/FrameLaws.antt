@@ -10,7 +10,7 @@ use Rattle.lk_tables.specs.Frames.{RecordList, frame_no}
 use Rattle.lk_tables.specs.Records.{RecordView, has_width}
 use Rattle.link_sections.specs.LaidOut.{LaidOut}
 use Rattle.eh_frame.specs.declared.placing.Placed.{Placed}
-use Rattle.eh_frame.specs.Bytes.{cie_bytes, fde_bytes, placed_cies, placed_fdes}
+use Rattle.eh_frame.specs.Bytes.{cie_bytes, fde_bytes, placed_cies, placed_fdes, no_place}
 use Rattle.eh_frame.specs.Laws.{IsPlanned}
 use Rattle.eh_frame.specs.TableLaws.{IsTable}
 
@@ -25,9 +25,6 @@ HasPlain r = All (IsPlain r.from) r.relocs
 
 abbrev pub ArePlain : List RecordList → Type 0
 ArePlain lists = All (λ (l : RecordList). All HasPlain l.records) lists
-
-abbrev pub no_place : Placed
-no_place = record { number = frame_no 0 0; at = 0 }
 
 -- some bytes stand at an offset of others
 abbrev pub StandAt : (at : ℕ) → (part whole : List ℕ) → Type 0

@@ -7,24 +7,24 @@ ghost use Rattle.lk_base.specs.Reaches.{any};
 ghost use Rattle.lk_base.specs.RelocKinds.{kind_of as spec_kind};
 ghost use Rattle.lk_tables.specs.Files.{file_at};
 ghost use Rattle.lk_tables.specs.Frames.{AreInOrder, lists_of};
-ghost use Rattle.link_sections.specs.Views.{binding_in, files_in, laid_in, leaders_in};
+ghost use Rattle.link_sections.specs.Views.{by_view, files_in};
+ghost use Rattle.lk_tables.specs.Misfits.{value_defects};
 ghost use Rattle.eh_frame.specs.Bytes as spec;
 ghost use Rattle.eh_frame.specs.declared.placing.Placed.{Placed as PlacedOf};
 
 use crate::lookups::{list_near, record_near};
 use crate::placing::Placed;
-use crate::sharing::{pieces_of, run_of};
+use crate::sharing::{LEAST, run_of};
 use crate::values::value_in;
 use link_sections::View;
-use lk_base::kinds::{ODD, RANGE};
 use lk_base::relocations::{Rule, kind_of};
-use lk_base::{Defect, DefectKind, LinkStop, Misfit, low_bits};
-use lk_tables::{Frames, Reloc, SectionPlace};
+use lk_base::{Defect, LinkStop};
+use lk_tables::{Frames, Reloc, SectionPlace, misfit_defect};
 use rv_code::fits;
 use std::alloc::{AllocError, Global};
 use std::ops::Range;
 use std::thread::Threads;
-use work_split::{Gate, over_shares};
+use work_split::{Gate, over_shares, pieces_of_least};
 
 /// The first defect of a relocation of some records, in order of file, section and offset, if `.eh_frame` stands at an address. The records
 /// are shared among so many workers; only where there is a defect they are put into this order.
@@ -42,7 +42,7 @@ pub fn first_defect<R: Threads + Sync, G: Gate>(
     requires most { workers ≤ 64 }
     requires order { AreInOrder (lists_of frames.now) }
     requires known { All (λ (p : PlacedOf). spec.IsKnown (files_in view.now) (lists_of frames.now) p.number) placed.now }
-    ensures { IfOk result (IsFirst (flat_map (spec.placed_defects (files_in view.now) (binding_in view.now) (leaders_in view.now) (laid_in view.now) (lists_of frames.now) start) (spec.placed_order placed.now))) }
+    ensures { IfOk result (IsFirst (flat_map (by_view spec.placed_defects view.now (lists_of frames.now) start) (spec.placed_order placed.now))) }
 {
     let fit = all_fit(rt, alloc, view, frames, start, placed, workers, gate)?;
     if fit {
@@ -66,9 +66,9 @@ fn all_fit<R: Threads + Sync, G: Gate>(
     requires most { workers ≤ 64 }
     requires order { AreInOrder (lists_of frames.now) }
     requires known { All (λ (p : PlacedOf). spec.IsKnown (files_in view.now) (lists_of frames.now) p.number) placed.now }
-    ensures { IfOk result (λ fit. fit ≡ true → flat_map (spec.placed_defects (files_in view.now) (binding_in view.now) (leaders_in view.now) (laid_in view.now) (lists_of frames.now) start) placed.now ≡ []) }
+    ensures { IfOk result (λ fit. fit ≡ true → flat_map (by_view spec.placed_defects view.now (lists_of frames.now) start) placed.now ≡ []) }
 {
-    let pieces = pieces_of(alloc, placed.len(), workers)?;
+    let pieces = pieces_of_least(alloc, placed.len(), LEAST, workers)?;
     let checked = over_shares(
         rt,
         alloc,
@@ -79,7 +79,7 @@ fn all_fit<R: Threads + Sync, G: Gate>(
             requires within { piece.end ≤ length placed.now }
             requires order { AreInOrder (lists_of frames.now) }
             requires known { All (λ (p : PlacedOf). spec.IsKnown (files_in view.now) (lists_of frames.now) p.number) placed.now }
-            ensures { IfOk result (λ _. flat_map (spec.placed_defects (files_in view.entry.now) (binding_in view.entry.now) (leaders_in view.entry.now) (laid_in view.entry.now) (lists_of frames.entry.now) start) (take (piece.end - piece.start) (drop piece.start placed.entry.now)) ≡ []) }
+            ensures { IfOk result (λ _. flat_map (by_view spec.placed_defects view.entry.now (lists_of frames.entry.now) start) (take (piece.end - piece.start) (drop piece.start placed.entry.now)) ≡ []) }
         { check_run(alloc, view, frames, start, placed, piece) },
     );
     match checked {
@@ -104,7 +104,7 @@ fn check_run(
     requires within { piece.end ≤ length placed.now }
     requires order { AreInOrder (lists_of frames.now) }
     requires known { All (λ (p : PlacedOf). spec.IsKnown (files_in view.now) (lists_of frames.now) p.number) placed.now }
-    ensures { IfOk result (λ _. flat_map (spec.placed_defects (files_in view.now) (binding_in view.now) (leaders_in view.now) (laid_in view.now) (lists_of frames.now) start) (take (piece.end - piece.start) (drop piece.start placed.now)) ≡ []) }
+    ensures { IfOk result (λ _. flat_map (by_view spec.placed_defects view.now (lists_of frames.now) start) (take (piece.end - piece.start) (drop piece.start placed.now)) ≡ []) }
 {
     let own = run_of(placed, piece.start, piece.end);
     if let Some(defect) = first_in(view, frames, start, own) {
@@ -123,7 +123,7 @@ fn first_by_place(
 ) -> Result<Option<Defect>, AllocError>
     requires order { AreInOrder (lists_of frames.now) }
     requires known { All (λ (p : PlacedOf). spec.IsKnown (files_in view.now) (lists_of frames.now) p.number) placed.now }
-    ensures { IfOk result (IsFirst (flat_map (spec.placed_defects (files_in view.now) (binding_in view.now) (leaders_in view.now) (laid_in view.now) (lists_of frames.now) start) (spec.placed_order placed.now))) }
+    ensures { IfOk result (IsFirst (flat_map (by_view spec.placed_defects view.now (lists_of frames.now) start) (spec.placed_order placed.now))) }
 {
     let mut ordered = placed.to_vec(alloc)?;
     ordered.sort_by_key(|unwind_record| order_of(unwind_record))?;
@@ -141,7 +141,7 @@ fn order_of(placed: &Placed) -> u64
 fn first_in(view: &View, frames: &Frames, start: u64, placed: &[Placed]) -> Option<Defect>
     requires order { AreInOrder (lists_of frames.now) }
     requires known { All (λ (p : PlacedOf). spec.IsKnown (files_in view.now) (lists_of frames.now) p.number) placed.now }
-    ensures { IsFirst (flat_map (spec.placed_defects (files_in view.now) (binding_in view.now) (leaders_in view.now) (laid_in view.now) (lists_of frames.now) start) placed.now) result }
+    ensures { IsFirst (flat_map (by_view spec.placed_defects view.now (lists_of frames.now) start) placed.now) result }
 {
     let mut list = 0;
     for record in placed {
@@ -164,7 +164,7 @@ fn defect_of(
 ) -> Option<Defect>
     requires order { AreInOrder (lists_of frames.now) }
     requires known { spec.IsKnown (files_in view.now) (lists_of frames.now) placed.now.number }
-    ensures { IsFirst (spec.placed_defects (files_in view.now) (binding_in view.now) (leaders_in view.now) (laid_in view.now) (lists_of frames.now) start placed.now) result }
+    ensures { IsFirst (by_view spec.placed_defects view.now (lists_of frames.now) start placed.now) result }
 {
     let own = record_near(frames, placed.number, list);
     check_relocs(
@@ -188,7 +188,7 @@ fn check_relocs(
     requires live { (file_at (files_in view.now) place.file).live ≡ true }
     requires after { All (λ r. from ≤ r.offset) relocs.now }
     requires low { address ≤ 2 ^ 65 }
-    ensures { IsFirst (flat_map (spec.reloc_defects (files_in view.now) (binding_in view.now) (leaders_in view.now) (laid_in view.now) place from address) relocs.now) result }
+    ensures { IsFirst (flat_map (by_view spec.reloc_defects view.now place from address) relocs.now) result }
 {
     for reloc in relocs {
         if let Some(defect) = check_reloc(view, place, from, address, reloc) {
@@ -210,7 +210,7 @@ fn check_reloc(
     requires live { (file_at (files_in view.now) place.file).live ≡ true }
     requires after { from ≤ reloc.now.offset }
     requires low { address ≤ 2 ^ 65 }
-    ensures { IsFirst (spec.reloc_defects (files_in view.now) (binding_in view.now) (leaders_in view.now) (laid_in view.now) place from address reloc.now) result }
+    ensures { IsFirst (by_view spec.reloc_defects view.now place from address reloc.now) result }
 {
     if takes_all(reloc.kind) {
         return None;
@@ -230,7 +230,7 @@ fn check_value(view: &View, place: SectionPlace, address: u128, reloc: &Reloc) -
     requires file { place.file < length (files_in view.now) }
     requires live { (file_at (files_in view.now) place.file).live ≡ true }
     requires low { address ≤ 2 ^ 66 }
-    ensures { IsFirst (spec.value_defects place reloc.now (spec_kind reloc.now.kind).reach (spec.value_in (files_in view.now) (binding_in view.now) (leaders_in view.now) (laid_in view.now) place.file reloc.now (pos address) (pos 0))) result }
+    ensures { IsFirst (value_defects place reloc.now (spec_kind reloc.now.kind).reach (by_view spec.value_in view.now place.file reloc.now (pos address) (pos 0))) result }
 {
     let Some(v) = value_in(view, place.file, reloc, address as i128, 0) else {
         return None;
@@ -239,29 +239,4 @@ fn check_value(view: &View, place: SectionPlace, address: u128, reloc: &Reloc) -
         return Some(misfit_defect(place, reloc, v, misfit));
     }
     None
-}
-
-/// The defect of a value that its field does not take.
-fn misfit_defect(place: SectionPlace, reloc: &Reloc, v: i128, misfit: Misfit) -> Defect
-    ensures { spec.misfit_defects place reloc.now v (Some misfit) ≡ result ∷ [] }
-{
-    let kind = match misfit {
-        Misfit::Odd => ODD,
-        Misfit::Range => RANGE,
-    };
-    reloc_defect(kind, place, reloc, low_bits(v))
-}
-
-/// A defect of a relocation.
-fn reloc_defect(kind: DefectKind, place: SectionPlace, reloc: &Reloc, other: u64) -> Defect
-    ensures { result ≡ spec.reloc_defect kind place.file place.index reloc.now other }
-{
-    Defect {
-        kind,
-        file: place.file,
-        section: place.index,
-        place: reloc.offset,
-        symbol: reloc.symbol,
-        other,
-    }
 }

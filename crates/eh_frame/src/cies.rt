@@ -13,7 +13,7 @@ ghost use Rattle.lk_tables.specs.RecordViews.{record_view};
 use link_sections::{Pools, Target};
 use lk_base::relocations::names_a_symbol;
 use lk_base::{FileNo, SecNo};
-use lk_tables::{Binding, Record, Reloc, Tables, contents_of, spot_in};
+use lk_tables::{Binding, Record, Reloc, Tables, contents_of, part_of, spot_in};
 use std::alloc::{AllocError, Global};
 
 /// A relocation of a CIE.
@@ -40,34 +40,13 @@ fn section_bytes<'a>(tables: &Tables<'a>, section: SecNo) -> &'a [u8]
     contents_of(file.bytes(), &header)
 }
 
-/// So many bytes from an offset on; what lies past the end is left out.
-fn part(bytes: &[u8], from: u64, size: u64) -> &[u8]
-    ensures { result.now ≡ take size (drop from bytes.now) }
-{
-    first_bytes(bytes_from(bytes, from), size)
-}
-
-/// Bytes from an offset on; none past the end.
-fn bytes_from(bytes: &[u8], offset: u64) -> &[u8]
-    ensures { result.now ≡ drop offset bytes.now }
-{
-    &bytes[(offset as usize).min(bytes.len())..]
-}
-
-/// So many of the first bytes, or all.
-fn first_bytes(bytes: &[u8], count: u64) -> &[u8]
-    ensures { result.now ≡ take count bytes.now }
-{
-    &bytes[..(count as usize).min(bytes.len())]
-}
-
 /// All bytes of a record.
 pub fn record_bytes<'a>(tables: &Tables<'a>, section: SecNo, unwind_record: &Record) -> &'a [u8]
     requires section { section < section_total (files_of tables.now) }
     requires small { unwind_record.now.len + 4 < 2 ^ 64 }
     ensures { result.now ≡ take (4 + unwind_record.now.len) (drop unwind_record.now.from (contents_at (files_of tables.now) section)) }
 {
-    part(
+    part_of(
         section_bytes(tables, section),
         unwind_record.from,
         unwind_record.len.saturating_add(4),

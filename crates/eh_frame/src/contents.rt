@@ -6,7 +6,7 @@ ghost use Rattle.byteorder.specs.Endian.{little_bytes};
 ghost use Rattle.lk_base.specs.Firsts.{Goes};
 ghost use Rattle.lk_tables.specs.FramePlans.{plan_view};
 ghost use Rattle.lk_tables.specs.Frames.{AreInOrder, AreListsWithin, lists_of};
-ghost use Rattle.link_sections.specs.Views.{binding_in, files_in, laid_in, leaders_in};
+ghost use Rattle.link_sections.specs.Views.{binding_in, by_view, files_in, laid_in, leaders_in};
 ghost use Rattle.eh_frame.specs.Bytes as spec;
 ghost use Rattle.eh_frame.specs.Header as headers;
 ghost use Rattle.eh_frame.specs.Plan.{plan_of};
@@ -20,14 +20,14 @@ use crate::header::header_bytes;
 use crate::lookups::{list_near, record_near};
 use crate::placing::{Placed, place};
 use crate::relocating::relocate_from;
-use crate::sharing::{pieces_of, run_of};
+use crate::sharing::{LEAST, run_of};
 use link_sections::View;
 use lk_base::LinkStop;
 use lk_tables::{FrameBytes, FramePlan, Frames};
 use std::alloc::{AllocError, Global};
 use std::ops::Range;
 use std::thread::Threads;
-use work_split::{Gate, over_shares};
+use work_split::{Gate, over_shares, pieces_of_least};
 
 /// What `.eh_frame` and `.eh_frame_hdr` hold (LSB Core, "Exception Frames"), as long as the plan says: the CIEs, the FDEs, each with the distance
 /// to its CIE written anew, with their relocations done, and a Length of 0; and the table of the functions that have FDEs, in order of address.
@@ -45,9 +45,9 @@ pub fn write<R: Threads + Sync, G: Gate>(
     requires most { workers ≤ 64 }
     requires lists { AreListsWithin (files_in view.now) (lists_of plan.now.frames.now) }
     requires plan { plan_view plan.now ≡ plan_of (files_in view.now) (binding_in view.now) (laid_in view.now).merging.merged (lists_of plan.now.frames.now) (leaders_in view.now) }
-    ensures goes { Goes result (spec.frame_defects (files_in view.now) (binding_in view.now) (leaders_in view.now) (laid_in view.now) (lists_of plan.now.frames.now) (plan_view plan.now) (laid_in view.now).bounds.frames) }
-    ensures frame { IfOk result (λ bytes. bytes.frame.items ≡ spec.frame_bytes (files_in view.now) (binding_in view.now) (leaders_in view.now) (laid_in view.now) (lists_of plan.now.frames.now) (plan_view plan.now) (laid_in view.now).bounds.frames) }
-    ensures header { IfOk result (λ bytes. bytes.header.items ≡ headers.header_bytes (files_in view.now) (binding_in view.now) (leaders_in view.now) (laid_in view.now) (lists_of plan.now.frames.now) (plan_view plan.now) (laid_in view.now).bounds.frame_header (laid_in view.now).bounds.frames) }
+    ensures goes { Goes result (by_view spec.frame_defects view.now (lists_of plan.now.frames.now) (plan_view plan.now) (laid_in view.now).bounds.frames) }
+    ensures frame { IfOk result (λ bytes. bytes.frame.items ≡ by_view spec.frame_bytes view.now (lists_of plan.now.frames.now) (plan_view plan.now) (laid_in view.now).bounds.frames) }
+    ensures header { IfOk result (λ bytes. bytes.header.items ≡ by_view headers.header_bytes view.now (lists_of plan.now.frames.now) (plan_view plan.now) (laid_in view.now).bounds.frame_header (laid_in view.now).bounds.frames) }
     ensures lengths { IfOk result (λ bytes. (length bytes.header.items ≡ plan.now.header_len) × (length bytes.frame.items ≡ plan.now.frame_len)) }
 {
     let starts = starts_of(view);
@@ -123,7 +123,7 @@ fn frame_bytes<R: Threads + Sync, G: Gate>(
     requires known_cies { All (λ (p : PlacedOf). spec.IsKnown (files_in view.now) (lists_of plan.now.frames.now) p.number) cies.now }
     requires known_fdes { All (λ (p : PlacedOf). spec.IsKnown (files_in view.now) (lists_of plan.now.frames.now) p.number) fdes.now }
     requires uses { length plan.now.uses.items ≡ length fdes.now }
-    ensures { IfOk result (λ out. out.items ≡ spec.frame_bytes (files_in view.now) (binding_in view.now) (leaders_in view.now) (laid_in view.now) (lists_of plan.now.frames.now) (plan_view plan.now) start) }
+    ensures { IfOk result (λ out. out.items ≡ by_view spec.frame_bytes view.now (lists_of plan.now.frames.now) (plan_view plan.now) start) }
 {
     if plan.fdes.len() == 0 {
         return Ok(Vec::new(alloc));
@@ -165,9 +165,9 @@ fn records_bytes<R: Threads + Sync, G: Gate>(
     requires known_fdes { All (λ (p : PlacedOf). spec.IsKnown (files_in view.now) (lists_of frames.now) p.number) fdes.now }
     requires count { length uses.now ≡ length fdes.now }
     requires first { 0 < length fdes.now }
-    ensures { IfOk result (λ out. out.items ≡ flat_map (spec.cie_bytes (files_in view.now) (binding_in view.now) (leaders_in view.now) (laid_in view.now) (lists_of frames.now) start) cies.now ++ spec.fdes_bytes (files_in view.now) (binding_in view.now) (leaders_in view.now) (laid_in view.now) (lists_of frames.now) start cies.now fdes.now uses.now) }
+    ensures { IfOk result (λ out. out.items ≡ flat_map (by_view spec.cie_bytes view.now (lists_of frames.now) start) cies.now ++ by_view spec.fdes_bytes view.now (lists_of frames.now) start cies.now fdes.now uses.now) }
 {
-    let pieces = pieces_of(alloc, fdes.len(), workers)?;
+    let pieces = pieces_of_least(alloc, fdes.len(), LEAST, workers)?;
     let made = over_shares(
         rt,
         alloc,
@@ -180,7 +180,7 @@ fn records_bytes<R: Threads + Sync, G: Gate>(
             requires known_cies { All (λ (p : PlacedOf). spec.IsKnown (files_in view.now) (lists_of frames.now) p.number) cies.now }
             requires known_fdes { All (λ (p : PlacedOf). spec.IsKnown (files_in view.now) (lists_of frames.now) p.number) fdes.now }
             requires count { length uses.now ≡ length fdes.now }
-            ensures { IsRun (shares.bytes_at (files_in view.entry.now) (binding_in view.entry.now) (leaders_in view.entry.now) (laid_in view.entry.now) (lists_of frames.entry.now) start cies.entry.now fdes.entry.now uses.entry.now) piece result }
+            ensures { IsRun (by_view shares.bytes_at view.entry.now (lists_of frames.entry.now) start cies.entry.now fdes.entry.now uses.entry.now) piece result }
         { Ok(bytes_in(alloc, view, frames, start, cies, fdes, uses, piece)?) },
     );
     match made {
@@ -206,7 +206,7 @@ fn bytes_in(
     requires known_cies { All (λ (p : PlacedOf). spec.IsKnown (files_in view.now) (lists_of frames.now) p.number) cies.now }
     requires known_fdes { All (λ (p : PlacedOf). spec.IsKnown (files_in view.now) (lists_of frames.now) p.number) fdes.now }
     requires count { length uses.now ≡ length fdes.now }
-    ensures { IfOk result (λ out. out.items ≡ flat_map (shares.bytes_at (files_in view.now) (binding_in view.now) (leaders_in view.now) (laid_in view.now) (lists_of frames.now) start cies.now fdes.now uses.now) (range_with_len piece.start (piece.end - piece.start))) }
+    ensures { IfOk result (λ out. out.items ≡ flat_map (by_view shares.bytes_at view.now (lists_of frames.now) start cies.now fdes.now uses.now) (range_with_len piece.start (piece.end - piece.start))) }
 {
     let room = room_for(fdes, piece.start, piece.end);
     let mut out = Vec::with_capacity(alloc, room)?;
@@ -238,7 +238,7 @@ fn push_first(
 ) -> Result<(), AllocError>
     requires order { AreInOrder (lists_of frames.now) }
     requires known { All (λ (p : PlacedOf). spec.IsKnown (files_in view.now) (lists_of frames.now) p.number) cies.now }
-    ensures { OnOk result (out.new.items ≡ out.old.items ++ (if from == 0 then flat_map (spec.cie_bytes (files_in view.now) (binding_in view.now) (leaders_in view.now) (laid_in view.now) (lists_of frames.now) start) cies.now else [])) }
+    ensures { OnOk result (out.new.items ≡ out.old.items ++ (if from == 0 then flat_map (by_view spec.cie_bytes view.now (lists_of frames.now) start) cies.now else [])) }
 {
     if from == 0 {
         push_cies(out, view, frames, start, cies)?;
@@ -256,7 +256,7 @@ fn push_cies(
 ) -> Result<(), AllocError>
     requires order { AreInOrder (lists_of frames.now) }
     requires known { All (λ (p : PlacedOf). spec.IsKnown (files_in view.now) (lists_of frames.now) p.number) cies.now }
-    ensures { OnOk result (out.new.items ≡ out.old.items ++ flat_map (spec.cie_bytes (files_in view.now) (binding_in view.now) (leaders_in view.now) (laid_in view.now) (lists_of frames.now) start) cies.now) }
+    ensures { OnOk result (out.new.items ≡ out.old.items ++ flat_map (by_view spec.cie_bytes view.now (lists_of frames.now) start) cies.now) }
 {
     let mut list = 0;
     for cie in cies {
@@ -278,7 +278,7 @@ fn push_cie(
 ) -> Result<(), AllocError>
     requires order { AreInOrder (lists_of frames.now) }
     requires known { spec.IsKnown (files_in view.now) (lists_of frames.now) cie.now.number }
-    ensures { OnOk result (out.new.items ≡ out.old.items ++ spec.cie_bytes (files_in view.now) (binding_in view.now) (leaders_in view.now) (laid_in view.now) (lists_of frames.now) start cie.now) }
+    ensures { OnOk result (out.new.items ≡ out.old.items ++ by_view spec.cie_bytes view.now (lists_of frames.now) start cie.now) }
 {
     let record = record_near(frames, cie.number, list);
     let from = out.len();
@@ -307,7 +307,7 @@ fn push_fdes(
     requires order { AreInOrder (lists_of frames.now) }
     requires known { All (λ (p : PlacedOf). spec.IsKnown (files_in view.now) (lists_of frames.now) p.number) fdes.now }
     requires count { length uses.now ≡ length fdes.now }
-    ensures { OnOk result (out.new.items ≡ out.old.items ++ spec.fdes_bytes (files_in view.now) (binding_in view.now) (leaders_in view.now) (laid_in view.now) (lists_of frames.now) start cies.now fdes.now uses.now) }
+    ensures { OnOk result (out.new.items ≡ out.old.items ++ by_view spec.fdes_bytes view.now (lists_of frames.now) start cies.now fdes.now uses.now) }
 {
     let mut list = 0;
     for k in 0..fdes.len() {
@@ -349,7 +349,7 @@ fn push_fde(
 ) -> Result<(), AllocError>
     requires order { AreInOrder (lists_of frames.now) }
     requires known { spec.IsKnown (files_in view.now) (lists_of frames.now) fde.now.number }
-    ensures { OnOk result (out.new.items ≡ out.old.items ++ spec.fde_bytes (files_in view.now) (binding_in view.now) (leaders_in view.now) (laid_in view.now) (lists_of frames.now) start cie fde.now) }
+    ensures { OnOk result (out.new.items ≡ out.old.items ++ by_view spec.fde_bytes view.now (lists_of frames.now) start cie fde.now) }
 {
     let record = record_near(frames, fde.number, list);
     let from = out.len();

@@ -5,7 +5,7 @@ ghost use Rattle.std.specs.List.{All};
 ghost use Rattle.byteorder.specs.Endian.{little_bytes};
 ghost use Rattle.lk_base.specs.Order.{stable_order};
 ghost use Rattle.lk_tables.specs.Frames.{AreInOrder, lists_of};
-ghost use Rattle.link_sections.specs.Views.{binding_in, files_in, laid_in, leaders_in};
+ghost use Rattle.link_sections.specs.Views.{by_view, files_in};
 ghost use Rattle.eh_frame.specs.Bytes.{IsKnown};
 ghost use Rattle.eh_frame.specs.Header as spec;
 ghost use Rattle.eh_frame.specs.declared.placing.Placed.{Placed as PlacedOf};
@@ -17,7 +17,7 @@ use crate::format::{
 use crate::lookups::{list_near, record_near};
 use crate::placing::Placed;
 use crate::reading::first_of;
-use crate::sharing::{pieces_of, run_of};
+use crate::sharing::{LEAST, run_of};
 use crate::values::sum_in;
 use link_sections::View;
 use lk_base::{LinkStop, low_bits};
@@ -25,7 +25,7 @@ use lk_tables::Frames;
 use std::alloc::{AllocError, Global};
 use std::ops::Range;
 use std::thread::Threads;
-use work_split::{Gate, over_shares};
+use work_split::{Gate, over_shares, pieces_of_least};
 
 /// A line of the table.
 #[derive(Clone, Copy)]
@@ -53,7 +53,7 @@ pub fn header_bytes<R: Threads + Sync, G: Gate>(
     requires most { workers ≤ 64 }
     requires order { AreInOrder (lists_of frames.now) }
     requires known { All (λ (p : PlacedOf). IsKnown (files_in view.now) (lists_of frames.now) p.number) fdes.now }
-    ensures { IfOk result (λ out. out.items ≡ spec.table_of (files_in view.now) (binding_in view.now) (leaders_in view.now) (laid_in view.now) (lists_of frames.now) starts.header starts.frames fdes.now) }
+    ensures { IfOk result (λ out. out.items ≡ by_view spec.table_of view.now (lists_of frames.now) starts.header starts.frames fdes.now) }
 {
     if fdes.len() == 0 {
         return Ok(Vec::new(alloc));
@@ -106,7 +106,7 @@ fn rows_of<R: Threads + Sync, G: Gate>(
     requires most { workers ≤ 64 }
     requires order { AreInOrder (lists_of frames.now) }
     requires known { All (λ (p : PlacedOf). IsKnown (files_in view.now) (lists_of frames.now) p.number) fdes.now }
-    ensures { IfOk result (λ rows. rows.items ≡ stable_order spec.row_key (map (spec.row_of (files_in view.now) (binding_in view.now) (leaders_in view.now) (laid_in view.now) (lists_of frames.now) starts.header starts.frames) fdes.now)) }
+    ensures { IfOk result (λ rows. rows.items ≡ stable_order spec.row_key (map (by_view spec.row_of view.now (lists_of frames.now) starts.header starts.frames) fdes.now)) }
 {
     let mut rows = all_rows(rt, alloc, view, frames, starts, fdes, workers, gate)?;
     rows.sort_by_key(|row| row.key)?;
@@ -128,9 +128,9 @@ fn all_rows<R: Threads + Sync, G: Gate>(
     requires most { workers ≤ 64 }
     requires order { AreInOrder (lists_of frames.now) }
     requires known { All (λ (p : PlacedOf). IsKnown (files_in view.now) (lists_of frames.now) p.number) fdes.now }
-    ensures { IfOk result (λ rows. rows.items ≡ map (spec.row_of (files_in view.now) (binding_in view.now) (leaders_in view.now) (laid_in view.now) (lists_of frames.now) starts.header starts.frames) fdes.now) }
+    ensures { IfOk result (λ rows. rows.items ≡ map (by_view spec.row_of view.now (lists_of frames.now) starts.header starts.frames) fdes.now) }
 {
-    let pieces = pieces_of(alloc, fdes.len(), workers)?;
+    let pieces = pieces_of_least(alloc, fdes.len(), LEAST, workers)?;
     let listed = over_shares(
         rt,
         alloc,
@@ -141,7 +141,7 @@ fn all_rows<R: Threads + Sync, G: Gate>(
             requires within { piece.end ≤ length fdes.now }
             requires order { AreInOrder (lists_of frames.now) }
             requires known { All (λ (p : PlacedOf). IsKnown (files_in view.now) (lists_of frames.now) p.number) fdes.now }
-            ensures { IfOk result (λ rows. rows.items ≡ map (spec.row_of (files_in view.entry.now) (binding_in view.entry.now) (leaders_in view.entry.now) (laid_in view.entry.now) (lists_of frames.entry.now) starts.header starts.frames) (take (piece.end - piece.start) (drop piece.start fdes.entry.now))) }
+            ensures { IfOk result (λ rows. rows.items ≡ map (by_view spec.row_of view.entry.now (lists_of frames.entry.now) starts.header starts.frames) (take (piece.end - piece.start) (drop piece.start fdes.entry.now))) }
         { Ok(rows_in(alloc, view, frames, starts, fdes, piece)?) },
     );
     match listed {
@@ -163,7 +163,7 @@ fn rows_in(
     requires within { piece.end ≤ length fdes.now }
     requires order { AreInOrder (lists_of frames.now) }
     requires known { All (λ (p : PlacedOf). IsKnown (files_in view.now) (lists_of frames.now) p.number) fdes.now }
-    ensures { IfOk result (λ rows. rows.items ≡ map (spec.row_of (files_in view.now) (binding_in view.now) (leaders_in view.now) (laid_in view.now) (lists_of frames.now) starts.header starts.frames) (take (piece.end - piece.start) (drop piece.start fdes.now))) }
+    ensures { IfOk result (λ rows. rows.items ≡ map (by_view spec.row_of view.now (lists_of frames.now) starts.header starts.frames) (take (piece.end - piece.start) (drop piece.start fdes.now))) }
 {
     let own = run_of(fdes, piece.start, piece.end);
     let mut rows = Vec::with_capacity(alloc, own.len())?;
@@ -181,7 +181,7 @@ fn push_all(
 ) -> Result<(), AllocError>
     requires order { AreInOrder (lists_of frames.now) }
     requires known { All (λ (p : PlacedOf). IsKnown (files_in view.now) (lists_of frames.now) p.number) fdes.now }
-    ensures { OnOk result (rows.new.items ≡ rows.old.items ++ map (spec.row_of (files_in view.now) (binding_in view.now) (leaders_in view.now) (laid_in view.now) (lists_of frames.now) starts.header starts.frames) fdes.now) }
+    ensures { OnOk result (rows.new.items ≡ rows.old.items ++ map (by_view spec.row_of view.now (lists_of frames.now) starts.header starts.frames) fdes.now) }
 {
     let mut list = 0;
     for fde in fdes {
@@ -195,7 +195,7 @@ fn push_all(
 fn row_of(view: &View, frames: &Frames, starts: Starts, fde: &Placed, list: usize) -> Row
     requires order { AreInOrder (lists_of frames.now) }
     requires known { IsKnown (files_in view.now) (lists_of frames.now) fde.now.number }
-    ensures { result ≡ spec.row_of (files_in view.now) (binding_in view.now) (leaders_in view.now) (laid_in view.now) (lists_of frames.now) starts.header starts.frames fde.now }
+    ensures { result ≡ by_view spec.row_of view.now (lists_of frames.now) starts.header starts.frames fde.now }
 {
     let function = function_of(view, frames, fde, list);
     let at = starts.frames as i128 + fde.at as i128;
@@ -220,7 +220,7 @@ fn key_of(function: i128) -> u128
 fn function_of(view: &View, frames: &Frames, fde: &Placed, list: usize) -> i128
     requires order { AreInOrder (lists_of frames.now) }
     requires known { IsKnown (files_in view.now) (lists_of frames.now) fde.now.number }
-    ensures value { result ≡ spec.function_of (files_in view.now) (binding_in view.now) (leaders_in view.now) (laid_in view.now) (lists_of frames.now) fde.now }
+    ensures value { result ≡ by_view spec.function_of view.now (lists_of frames.now) fde.now }
     ensures low { negsuc (2 ^ 63) ≤ℤ result }
     ensures high { result ≤ℤ pos (2 ^ 67) }
 {

@@ -2,7 +2,7 @@
 //! Information"). `read_frames` reads the records of a section `.eh_frame` of an object, `table` finds which function each FDE is for, `plan`
 //! chooses the records that are written, and `write` gives what `.eh_frame` and `.eh_frame_hdr` hold.
 //!
-//! `format` has the names of the format, `numbers` reads numbers, `parts` finds parts of lists in order, `reading` reads one record after
+//! `format` has the names of the format, `parts` finds parts of lists in order, `reading` reads one record after
 //! another, `strays` finds relocations that lie in none, and `sections` reads those of a section. `owners` finds the functions of the records
 //! of a link, `cies` what tells CIEs apart, and `planning` which records are written. `lookups` finds a record by its numbers, `placing` says
 //! where those that are written stand, `sharing` cuts these into runs for workers, `values` has what their relocations put into their places,
@@ -27,7 +27,6 @@ mod contents;
 mod format;
 mod header;
 mod lookups;
-mod numbers;
 mod owners;
 mod parts;
 mod placing;

@@ -10,7 +10,6 @@ ghost use Rattle.lk_tables.specs.Frames.{RecordList};
 ghost use Rattle.eh_frame.specs.Owners.{lists_after, owners_in, with_frame};
 ghost use Rattle.lk_tables.specs.RecordViews.{record_view};
 ghost use Rattle.lk_tables.specs.declared.records.Record.{Record as RecordOf};
-ghost use Rattle.work_split.specs.Pieces.{Tiles};
 
 use crate::reading::first_of;
 use crate::sharing::run_of;
@@ -19,7 +18,7 @@ use lk_tables::{Binding, FrameNo, Frames, Record, Spot, Tables, spot_in};
 use std::alloc::{AllocError, Global};
 use std::ops::Range;
 use std::thread::Threads;
-use work_split::{Gate, over_shares, pieces};
+use work_split::{Gate, over_shares, pieces_of_least};
 
 /// Fewer lists of records are not worth a thread.
 const LEAST: usize = 64;
@@ -74,7 +73,7 @@ pub fn find_owners<R: Threads + Sync, G: Gate>(
     requires sections { All (λ (l : RecordList). l.section < section_total (files_of tables.now)) (spec.list_views lists.now) }
     ensures { IfOk result (λ owners. map (λ (list : _). list.items) owners.items ≡ map (owners_in (files_of tables.now) (binding_view binding.now)) (spec.list_views lists.now)) }
 {
-    let pieces = list_pieces(alloc, lists.len(), workers)?;
+    let pieces = pieces_of_least(alloc, lists.len(), LEAST, workers)?;
     let found = over_shares(
         rt,
         alloc,
@@ -91,18 +90,6 @@ pub fn find_owners<R: Threads + Sync, G: Gate>(
         Ok(owners) => Ok(owners),
         Err(_) => Err(AllocError),
     }
-}
-
-/// The numbers of so many lists cut into pieces of about the same length: one for each worker, or fewer where pieces would be shorter than
-/// [`LEAST`].
-fn list_pieces(alloc: Global, lists: usize, workers: u32) -> Result<Vec<Range<usize>>, AllocError>
-    requires some { 1 ≤ workers }
-    requires most { workers ≤ 64 }
-    ensures tiles { IfOk result (λ pieces. Tiles 0 lists pieces.items) }
-    ensures most { IfOk result (λ pieces. length pieces.items ≤ 64) }
-{
-    let wanted = (lists / LEAST).min(workers as usize).max(1);
-    pieces(alloc, lists, wanted as u32)
 }
 
 /// The sections whose functions the records of a run of lists are for.

@@ -6,18 +6,8 @@ ghost use Rattle.lk_tables.specs.declared.objects.Reloc.{Reloc as RelocOf};
 ghost use Rattle.lk_tables.specs.declared.records.Record.{Record as RecordOf};
 ghost use Rattle.lk_tables.specs.Records as spec;
 
-use lk_tables::{Record, Reloc};
+use lk_tables::{Record, Reloc, relocs_before};
 use std::alloc::{AllocError, Global};
-
-/// How many relocations stand before an offset, of relocations in order of offset.
-fn relocs_before(relocs: &[Reloc], offset: u64) -> usize
-    requires { IsNonDecreasingBy (λ (r : RelocOf). r.offset) relocs.now }
-    ensures bound { result ≤ length relocs.now }
-    ensures before { (k : ℕ) (d : RelocOf) → k < result → (slice_index_or relocs.now k d).offset < offset }
-    ensures next { (k : ℕ) (d : RelocOf) → result ≤ k → k < length relocs.now → offset ≤ (slice_index_or relocs.now k d).offset }
-{
-    relocs.partition_point(|reloc| reloc.offset < offset)
-}
 
 /// How many records start before an offset, of records in order.
 pub fn records_before(records: &[Record], offset: u64) -> usize

@@ -13,12 +13,11 @@ ghost use Rattle.eh_frame.specs.RecordChecks as checks;
 ghost use Rattle.lk_tables.specs.RecordViews.{record_view, record_views};
 
 use crate::format::{EXTENDED_LENGTH, FDE_LEN_MIN, LENGTH_SIZE, PC_BEGIN_AT, RECORD_LEN_MIN};
-use crate::numbers::word_at;
 use crate::parts::{records_before, relocs_in};
 use lk_base::abi::R_RISCV_32_PCREL;
 use lk_base::kinds::BAD_FRAME;
 use lk_base::{Flaw, ReadFault};
-use lk_tables::{Record, Reloc, place_width};
+use lk_tables::{Record, Reloc, place_width, word_at};
 use std::alloc::{AllocError, Global};
 
 /// Whether a record starts at an offset: neither does the section end there, nor stands there a Length of 0.

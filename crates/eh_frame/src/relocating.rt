@@ -8,7 +8,7 @@ ghost use Rattle.lk_base.specs.RelocKinds.{FillsField, fills_field as spec_fills
 ghost use Rattle.lk_tables.specs.Files.{file_at};
 ghost use Rattle.lk_tables.specs.Records.{has_width};
 ghost use Rattle.lk_tables.specs.Relocations.{place_width};
-ghost use Rattle.link_sections.specs.Views.{binding_in, files_in, laid_in, leaders_in};
+ghost use Rattle.link_sections.specs.Views.{by_view, files_in};
 ghost use Rattle.rv_code.specs.Places.{number_of, patched};
 ghost use Rattle.eh_frame.specs.Bytes as spec;
 
@@ -35,7 +35,7 @@ pub fn relocate_from(
     requires places { All (λ r. has_width r ≡ true → r.offset + place_width r ≤ own.now.from + 4 + own.now.len) own.now.relocs.items }
     requires whole { start + (4 + own.now.len) ≡ length bytes.old }
     requires low { address ≤ 2 ^ 65 }
-    ensures bytes { bytes.new ≡ take start bytes.old ++ spec.relocated (files_in view.now) (binding_in view.now) (leaders_in view.now) (laid_in view.now) file own.now.from address own.now.relocs.items (drop start bytes.old) }
+    ensures bytes { bytes.new ≡ take start bytes.old ++ by_view spec.relocated view.now file own.now.from address own.now.relocs.items (drop start bytes.old) }
     ensures len { length bytes.new ≡ length bytes.old }
 {
     relocate(
@@ -55,7 +55,7 @@ fn relocate(view: &View, file: FileNo, from: u64, address: u128, relocs: &[Reloc
     requires after { All (λ r. from ≤ r.offset) relocs.now }
     requires places { All (λ r. has_width r ≡ true → r.offset + place_width r ≤ from + length bytes.old) relocs.now }
     requires low { address ≤ 2 ^ 65 }
-    ensures { bytes.new ≡ spec.relocated (files_in view.now) (binding_in view.now) (leaders_in view.now) (laid_in view.now) file from address relocs.now bytes.old }
+    ensures { bytes.new ≡ by_view spec.relocated view.now file from address relocs.now bytes.old }
 {
     for reloc in relocs {
         relocate_one(view, file, from, address, reloc, bytes);
@@ -76,7 +76,7 @@ fn relocate_one(
     requires after { from ≤ reloc.now.offset }
     requires within { spec_fills reloc.now.kind ≡ true → reloc.now.offset - from + (spec_kind reloc.now.kind).width ≤ length bytes.old }
     requires low { address ≤ 2 ^ 65 }
-    ensures { bytes.new ≡ spec.put (files_in view.now) (binding_in view.now) (leaders_in view.now) (laid_in view.now) file from address reloc.now bytes.old }
+    ensures { bytes.new ≡ by_view spec.put view.now file from address reloc.now bytes.old }
 {
     if !fills_field(reloc.kind) {
         return;
@@ -99,7 +99,7 @@ fn fill_place(view: &View, file: FileNo, reloc: &Reloc, address: u128, place: &m
     requires fills { FillsField reloc.now.kind }
     requires width { length place.old ≡ (spec_kind reloc.now.kind).width }
     requires low { address ≤ 2 ^ 66 }
-    ensures { place.new ≡ spec.filled (spec_kind reloc.now.kind) (spec.value_in (files_in view.now) (binding_in view.now) (leaders_in view.now) (laid_in view.now) file reloc.now (pos address) (pos (number_of place.old))) place.old }
+    ensures { place.new ≡ spec.filled (spec_kind reloc.now.kind) (by_view spec.value_in view.now file reloc.now (pos address) (pos (number_of place.old))) place.old }
 {
     let held = LittleEndian::read_uint(place, place.len());
     let Some(v) = value_in(view, file, reloc, address as i128, held) else {

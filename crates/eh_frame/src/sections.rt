@@ -19,12 +19,11 @@ ghost use Rattle.lk_tables.specs.Records.{RecordView, records_of};
 ghost use Rattle.eh_frame.specs.Sections as spec;
 ghost use Rattle.lk_tables.specs.RecordViews.{record_views};
 
-use crate::numbers::xword_at;
 use crate::reading::{flaw, read_records};
 use crate::strays::first_stray;
 use lk_base::ReadFault;
 use lk_base::abi::{RELA_SIZE, SHT_RELA};
-use lk_tables::{Head, Object, Record, Reloc, Section};
+use lk_tables::{Head, Object, Record, Reloc, Section, xword_at};
 use std::alloc::{AllocError, Global};
 
 /// The unwind records of a section `.eh_frame`, in order, or the first that is wrong, BadFrame. For each record in order, with its file offset

@@ -3,7 +3,7 @@
 ghost use Rattle.std.specs.Prelude.{◌≡◌};
 ghost use Rattle.lk_tables.specs.FramePlans.{plan_view};
 ghost use Rattle.lk_tables.specs.Frames.{AreListsWithin, lists_of};
-ghost use Rattle.link_sections.specs.Views.{binding_in, files_in, laid_in, leaders_in};
+ghost use Rattle.link_sections.specs.Views.{binding_in, by_view, files_in, laid_in, leaders_in};
 ghost use Rattle.eh_frame.specs.Bytes.{frame_bytes};
 ghost use Rattle.eh_frame.specs.FrameLaws.{ArePlain, HasUnwindRecords};
 ghost use Rattle.eh_frame.specs.Header.{header_bytes};
@@ -20,9 +20,9 @@ pub fn prove_records_stand(view: &View, plan: &FramePlan, bytes: &FrameBytes)
     requires lists { AreListsWithin (files_in view.now) (lists_of plan.now.frames.now) }
     requires plain { ArePlain (lists_of plan.now.frames.now) }
     requires plan { plan_view plan.now ≡ plan_of (files_in view.now) (binding_in view.now) (laid_in view.now).merging.merged (lists_of plan.now.frames.now) (leaders_in view.now) }
-    requires frame { bytes.now.frame.items ≡ frame_bytes (files_in view.now) (binding_in view.now) (leaders_in view.now) (laid_in view.now) (lists_of plan.now.frames.now) (plan_view plan.now) (laid_in view.now).bounds.frames }
-    requires header { bytes.now.header.items ≡ header_bytes (files_in view.now) (binding_in view.now) (leaders_in view.now) (laid_in view.now) (lists_of plan.now.frames.now) (plan_view plan.now) (laid_in view.now).bounds.frame_header (laid_in view.now).bounds.frames }
-    ensures { HasUnwindRecords (files_in view.now) (binding_in view.now) (leaders_in view.now) (laid_in view.now) (lists_of plan.now.frames.now) (plan_view plan.now) bytes.now.frame.items bytes.now.header.items }
+    requires frame { bytes.now.frame.items ≡ by_view frame_bytes view.now (lists_of plan.now.frames.now) (plan_view plan.now) (laid_in view.now).bounds.frames }
+    requires header { bytes.now.header.items ≡ by_view header_bytes view.now (lists_of plan.now.frames.now) (plan_view plan.now) (laid_in view.now).bounds.frame_header (laid_in view.now).bounds.frames }
+    ensures { by_view HasUnwindRecords view.now (lists_of plan.now.frames.now) (plan_view plan.now) bytes.now.frame.items bytes.now.header.items }
 {
     view.tables.prove_few();
 }

@@ -5,7 +5,7 @@ ghost use Rattle.lk_base.specs.RelocKinds.{FillsField, kind_of as spec_kind};
 ghost use Rattle.lk_tables.specs.Files.{file_at, is_section_symbol, symbol_at};
 ghost use Rattle.link_sections.specs.Addresses as addresses;
 ghost use Rattle.link_sections.specs.Sums.{addend_of};
-ghost use Rattle.link_sections.specs.Views.{binding_in, files_in, laid_in, leaders_in};
+ghost use Rattle.link_sections.specs.Views.{by_view, files_in};
 ghost use Rattle.eh_frame.specs.Bytes as spec;
 
 use link_sections::{Target, View, piece_address, section_address, symbol_address};
@@ -19,7 +19,7 @@ use lk_tables::{Reloc, is_section_symbol, spot_in};
 pub fn sum_in(view: &View, file: FileNo, reloc: &Reloc) -> i128
     requires file { file < length (files_in view.now) }
     requires live { (file_at (files_in view.now) file).live ≡ true }
-    ensures value { result ≡ spec.sum_in (files_in view.now) (binding_in view.now) (leaders_in view.now) (laid_in view.now) file reloc.now }
+    ensures value { result ≡ by_view spec.sum_in view.now file reloc.now }
     ensures low { negsuc (2 ^ 63) ≤ℤ result }
     ensures high { result ≤ℤ pos (2 ^ 67) }
 {
@@ -38,7 +38,7 @@ fn plain_sum(view: &View, file: FileNo, reloc: &Reloc) -> i128
     requires file { file < length (files_in view.now) }
     requires live { (file_at (files_in view.now) file).live ≡ true }
     requires plain { is_section_symbol (symbol_at (file_at (files_in view.now) file) reloc.now.symbol) ≡ false }
-    ensures value { result ≡ spec.sum_in (files_in view.now) (binding_in view.now) (leaders_in view.now) (laid_in view.now) file reloc.now }
+    ensures value { result ≡ by_view spec.sum_in view.now file reloc.now }
     ensures low { negsuc (2 ^ 63) ≤ℤ result }
     ensures high { result ≤ℤ pos (2 ^ 67) }
 {
@@ -50,7 +50,7 @@ fn zero_sum(view: &View, file: FileNo, reloc: &Reloc) -> i128
     requires file { file < length (files_in view.now) }
     requires live { (file_at (files_in view.now) file).live ≡ true }
     requires zero { reloc.now.addend ≡ pos 0 }
-    ensures value { result ≡ spec.sum_in (files_in view.now) (binding_in view.now) (leaders_in view.now) (laid_in view.now) file reloc.now }
+    ensures value { result ≡ by_view spec.sum_in view.now file reloc.now }
     ensures low { negsuc (2 ^ 63) ≤ℤ result }
     ensures high { result ≤ℤ pos (2 ^ 67) }
 {
@@ -61,7 +61,7 @@ fn zero_sum(view: &View, file: FileNo, reloc: &Reloc) -> i128
 #[tactic(auto, unfolding(crate::specs::Bytes::reloc_target, link_sections::specs::LaidOut::with_contents, link_sections::specs::PoolViews::pools_view))]
 fn target_of(view: &View, file: FileNo, reloc: &Reloc) -> Target
     requires { file < length (files_in view.now) }
-    ensures { result ≡ spec.reloc_target (files_in view.now) (binding_in view.now) (leaders_in view.now) (laid_in view.now) file reloc.now }
+    ensures { result ≡ by_view spec.reloc_target view.now file reloc.now }
 {
     view.pools
         .piece_target(spot_in(view.tables, view.binding, file, reloc))
@@ -71,8 +71,8 @@ fn target_of(view: &View, file: FileNo, reloc: &Reloc) -> Target
 fn target_sum(view: &View, file: FileNo, reloc: &Reloc, target: Target) -> i128
     requires file { file < length (files_in view.now) }
     requires live { (file_at (files_in view.now) file).live ≡ true }
-    requires target { target ≡ spec.reloc_target (files_in view.now) (binding_in view.now) (leaders_in view.now) (laid_in view.now) file reloc.now }
-    ensures value { result ≡ pos (addresses.target_address (files_in view.now) (binding_in view.now) (leaders_in view.now) (laid_in view.now) target) +ℤ addend_of target reloc.now }
+    requires target { target ≡ by_view spec.reloc_target view.now file reloc.now }
+    ensures value { result ≡ pos (by_view addresses.target_address view.now target) +ℤ addend_of target reloc.now }
     ensures low { negsuc (2 ^ 63) ≤ℤ result }
     ensures high { result ≤ℤ pos (2 ^ 67) }
 {
@@ -104,7 +104,7 @@ pub fn value_in(view: &View, file: FileNo, reloc: &Reloc, place: i128, held: u64
     requires live { (file_at (files_in view.now) file).live ≡ true }
     requires low { pos 0 ≤ℤ place }
     requires high { place ≤ℤ pos (2 ^ 66) }
-    ensures value { result ≡ spec.value_in (files_in view.now) (binding_in view.now) (leaders_in view.now) (laid_in view.now) file reloc.now place (pos held) }
+    ensures value { result ≡ by_view spec.value_in view.now file reloc.now place (pos held) }
     ensures kind { IfSome result (λ _. FillsField reloc.now.kind) }
 {
     if !fills_field(reloc.kind) {
@@ -119,7 +119,7 @@ fn computed(view: &View, file: FileNo, reloc: &Reloc, place: i128, held: u64) ->
     requires live { (file_at (files_in view.now) file).live ≡ true }
     requires low { pos 0 ≤ℤ place }
     requires high { place ≤ℤ pos (2 ^ 66) }
-    ensures { result ≡ spec.computed (spec_kind reloc.now.kind).calculation (spec.sum_in (files_in view.now) (binding_in view.now) (leaders_in view.now) (laid_in view.now) file reloc.now) place (pos held) }
+    ensures { result ≡ spec.computed (spec_kind reloc.now.kind).calculation (by_view spec.sum_in view.now file reloc.now) place (pos held) }
 {
     match kind_of(reloc.kind).calculation {
         Calculation::Address => Some(sum_in(view, file, reloc)),

@@ -19,10 +19,6 @@ names_long rest later o e =
     ap (λ r. length (output_names r)) e ∙ length-append (zero_ended o.name) (output_names later)
     ∙ ap (λ n. n + length (output_names later)) (length-append o.name (0 ∷ []))
 
-pub along_room : (all rest later : List OutputSection) (o : OutputSection) (old now : List ℕ) (name : ℕ) → rest ≡ o ∷ later
-    → Along all rest old now name → name + (length o.name + 1) ≤ 1 + length (output_names all)
-along_room all rest later o old now name e a = omega (arith, names_long rest later o e, a.named)
-
 pub along_next : (all rest later : List OutputSection) (o : OutputSection) (old now next : List ℕ) (name k : ℕ) → rest ≡ o ∷ later
     → next ≡ now ++ section_header (output_section name o) → k ≡ name + (length o.name + 1)
     → Along all rest old now name → Along all later old next k
@@ -94,13 +90,3 @@ counted_first outputs tables size is few = record {
   total = omega (arith, is, length-append (output_names outputs) (table_names tables ++ own_name));
   small = omega (arith, few);
 }
-
-pub counted_step : (xs : List HeldSection) (tables : Option SymbolTables) (i : ℕ) (d : HeldSection) (size sum : ℕ) → i < length xs → sum ≡ size + (length (get_or xs i d).name.now + 1)
-    → sum < 2 ^ 62 → Counted (map output_view xs) (map output_view (drop i xs)) tables size
-    → Counted (map output_view xs) (map output_view (drop (i + 1) xs)) tables sum
-counted_step xs tables i d size sum lt is few held =
-    let long = names_long (map output_view (drop i xs)) (map output_view (drop (i + 1) xs)) (output_view (get_or xs i d)) (rest_is xs i d lt) in
-    record { total = omega (arith, is, held.total, long); small = few }
-
-pub counted_last : (all : List OutputSection) (tables : Option SymbolTables) (size : ℕ) → Counted all [] tables size → size ≡ length (section_names all tables)
-counted_last all tables size held = omega (arith, held.total)

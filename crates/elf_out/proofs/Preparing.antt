@@ -53,9 +53,6 @@ module _ (files : List File) (b : Bindings) (leaders : List (Option ℕ)) (laid 
   pub names_small : p.ends.names_at < 2 ^ 63
   names_small = omega (arith, is.ends.after_names, is.ends.after_table, is.ends.small)
 
-  pub headers_small : p.ends.table_at < 2 ^ 63
-  headers_small = omega (arith, is.ends.after_table, is.ends.small)
-
   -- what stands at the end of the file, laid part by part
   pub ends_shown : (from : ℕ) (o0 o1 o2 o3 names heads : List ℕ) → names ≡ p.names.items → heads ≡ p.headers_of_sections.items
       → ShowsFrom from o0 o1 (table_pieces p.ends.symbols_at (tables_if p.tables)) → ShowsFrom from o1 o2 (piece p.ends.names_at names ∷ [])

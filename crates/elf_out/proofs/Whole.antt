@@ -1,8 +1,8 @@
 -- Each piece of the executable of a sound layout stands whole in it, and so do the bytes of each section.
-use Rattle.std.proofs.Common.{◌≡◌, ◌≢◌, ◌==◌, not, ℕ, ◌+◌, ◌-◌, ◌≤◌, true, false, inl, inr, Option, List, [], ◌∷◌, ◌++◌, length, flat_map, take, drop, slice_index_or, append_assoc, sym, ap, ◌∙◌, arith, subst}
+use Rattle.std.proofs.Common.{◌≡◌, ℕ, ◌+◌, ◌-◌, ◌≤◌, true, inl, inr, Option, List, [], ◌∷◌, ◌++◌, length, flat_map, take, drop, slice_index_or, append_assoc, ap, ◌∙◌, arith, subst}
 use Rattle.std.specs.Prelude.{if◌then◌else◌}
 use Rattle.std.specs.List.{All}
-use Rattle.std.proofs.lemmas.Bool.{cases_Bool, eq-eqb, eqb-true}
+use Rattle.std.proofs.lemmas.Bool.{cases_Bool, eqb-true}
 use Rattle.std.proofs.lemmas.List.Elements.{All-nil, All-cons, All-head, All-tail, All-append}
 use Rattle.lk_base.specs.declared.abi.TheConstants.{EHDR_SIZE, IMAGE_BASE, SHT_NOBITS}
 use Rattle.lk_tables.specs.Binding.{Bindings}
@@ -24,7 +24,7 @@ use Rattle.elf_out.proofs.MemberPieces.{laid_up, member_up}
 use Rattle.elf_out.proofs.Away.{away_after, away_members}
 use Rattle.elf_out.proofs.OneByOne.{GoUp, IsAway, others_stand, shows_alone, shows_more, stands, up_append, up_within}
 use Rattle.elf_out.proofs.Starting.{headers_long}
-use Rattle.reloc_apply.proofs.LaidFacts.{any_at}
+use Rattle.reloc_apply.proofs.LaidFacts.{any_at, is_not}
 use Rattle.reloc_apply.specs.Founds.{no_member}
 use Rattle.reloc_apply.specs.Image.{Piece, piece}
 use Rattle.reloc_apply.specs.Relocated.{content_pieces, has_bits, member_pieces, relocated_pieces, section_bytes}
@@ -175,13 +175,6 @@ section_is : (n : ℕ) (c : Content) → is_section n c ≡ true → c ≡ Secti
 section_is n (Section m) is = ap Section (eqb-true m n is)
 section_is n (Pool p) is = let none : ⊥ = cc in absurd none
 section_is n Got is = let none : ⊥ = cc in absurd none
-
--- a test that fails
-is_not : (x y : ℕ) → not (x == y) ≡ true → x ≢ y
-is_not x y is = λ same.
-    let off : false ≡ true = sym (ap not (eq-eqb x y same)) ∙ is in
-    let none : ⊥ = cc in
-    none
 
 module _ (files : List File) (b : Bindings) (leaders : List (Option ℕ)) (laid : LaidOut) where
   -- a section with bytes in its file is one piece

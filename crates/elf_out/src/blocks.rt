@@ -2,7 +2,7 @@
 
 ghost use Rattle.std.specs.Prelude.{◌≡◌, ◌+◌, ◌*◌, ◌≤◌, ◌<◌, ◌^◌, [], length, take, drop, replicate, IsOk, OnOk};
 ghost use Rattle.lk_base.specs.Firsts.{Passes};
-ghost use Rattle.link_sections.specs.Views.{binding_in, files_in, laid_in, leaders_in};
+ghost use Rattle.link_sections.specs.Views.{binding_in, by_view, files_in, laid_in, leaders_in};
 ghost use Rattle.elf_out.specs.Executable as spec;
 ghost use Rattle.elf_out.specs.Prepared.{IsFilledFrom, IsPartFilled, IsPreparedFor};
 ghost use Rattle.elf_out.specs.TablesView.{frame_contents, tables_in};
@@ -44,8 +44,8 @@ pub fn block(
     requires prepared { IsPreparedFor view.now prepared.now }
     requires within { 65536 * k + length out.old ≤ spec.file_length (laid_in view.now) (tables_in view.now) }
     ensures written { OnOk result (out.new ≡ take (length out.old) (drop (65536 * k) (spec.executable (files_in view.now) (binding_in view.now) view.now.kept.now view.now.strip (leaders_in view.now) (laid_in view.now) (frame_contents frames.now)))) }
-    ensures goes { Passes result (touching_defects (files_in view.now) (binding_in view.now) (leaders_in view.now) (laid_in view.now) (65536 * k) (length out.old)) }
-    ensures sure { relocation_defects (files_in view.now) (binding_in view.now) (leaders_in view.now) (laid_in view.now) ≡ [] → IsOk result }
+    ensures goes { Passes result (by_view touching_defects view.now (65536 * k) (length out.old)) }
+    ensures sure { by_view relocation_defects view.now ≡ [] → IsOk result }
 {
     prove_short(view, prepared);
     let from = BLOCK * k;
@@ -99,7 +99,7 @@ fn fill_blocks<R: Threads + Sync, G: Gate>(
 )
     requires room { from + length window.old < 2 ^ 63 }
     requires prepared { IsPreparedFor view.now prepared.now }
-    ensures { IsFilledFrom from window.old window.new (spec.pieces_with (files_in view.now) (binding_in view.now) (leaders_in view.now) (laid_in view.now) (frame_contents frames.now) (tables_in view.now)) }
+    ensures { IsFilledFrom from window.old window.new (by_view spec.pieces_with view.now (frame_contents frames.now) (tables_in view.now)) }
 {
     if window.len() <= BLOCK as usize {
         fill(window, from, view, frames, prepared);
@@ -112,7 +112,7 @@ fn fill_blocks<R: Threads + Sync, G: Gate>(
         &|start: usize, part: &mut [u8]|
             requires room { from + start + length part.now < 2 ^ 63 }
             requires prepared { IsPreparedFor view.now prepared.now }
-            ensures { IsPartFilled from start part.entry.now part.exit.now (spec.pieces_with (files_in view.entry.now) (binding_in view.entry.now) (leaders_in view.entry.now) (laid_in view.entry.now) (frame_contents frames.entry.now) (tables_in view.entry.now)) }
+            ensures { IsPartFilled from start part.entry.now part.exit.now (by_view spec.pieces_with view.entry.now (frame_contents frames.entry.now) (tables_in view.entry.now)) }
         { fill_part(part, from, start, view, frames, prepared, gate) },
     );
 }
@@ -129,7 +129,7 @@ fn fill_part<G: Gate>(
 )
     requires room { from + start + length part.old < 2 ^ 63 }
     requires prepared { IsPreparedFor view.now prepared.now }
-    ensures { IsPartFilled from start part.old part.new (spec.pieces_with (files_in view.now) (binding_in view.now) (leaders_in view.now) (laid_in view.now) (frame_contents frames.now) (tables_in view.now)) }
+    ensures { IsPartFilled from start part.old part.new (by_view spec.pieces_with view.now (frame_contents frames.now) (tables_in view.now)) }
 {
     let worker = (start as u64 / BLOCK % 0x1_0000_0000) as u32;
     gate.at(worker, 0);
@@ -141,7 +141,7 @@ fn fill_part<G: Gate>(
 fn fill(block: &mut [u8], from: u64, view: &View, frames: &FrameBytes, prepared: &Prepared)
     requires room { from + length block.old < 2 ^ 63 }
     requires prepared { IsPreparedFor view.now prepared.now }
-    ensures { IsFilledFrom from block.old block.new (spec.pieces_with (files_in view.now) (binding_in view.now) (leaders_in view.now) (laid_in view.now) (frame_contents frames.now) (tables_in view.now)) }
+    ensures { IsFilledFrom from block.old block.new (by_view spec.pieces_with view.now (frame_contents frames.now) (tables_in view.now)) }
 {
     clear(block);
     lay(block, from, view, frames, prepared);
@@ -153,7 +153,7 @@ fn fill(block: &mut [u8], from: u64, view: &View, frames: &FrameBytes, prepared:
 fn lay(block: &mut [u8], from: u64, view: &View, frames: &FrameBytes, prepared: &Prepared)
     requires room { from + length block.old < 2 ^ 63 }
     requires prepared { IsPreparedFor view.now prepared.now }
-    ensures { ShowsFrom from block.old block.new (spec.pieces_with (files_in view.now) (binding_in view.now) (leaders_in view.now) (laid_in view.now) (frame_contents frames.now) (tables_in view.now)) }
+    ensures { ShowsFrom from block.old block.new (by_view spec.pieces_with view.now (frame_contents frames.now) (tables_in view.now)) }
 {
     lay_headers(block, from, view, prepared);
     lay_frames(block, from, view, frames);

@@ -3,7 +3,7 @@
 
 ghost use Rattle.std.specs.Prelude.{◌≡◌, ◌+◌, ◌<◌, ◌^◌, ◌≤◌, ◌∷◌, [], length, IfOk};
 ghost use Rattle.lk_base.specs.Firsts.{Goes};
-ghost use Rattle.link_sections.specs.Views.{binding_in, files_in, laid_in, leaders_in};
+ghost use Rattle.link_sections.specs.Views.{by_view, laid_in};
 ghost use Rattle.elf_out.specs.Executable as spec;
 ghost use Rattle.elf_out.specs.Prepared.{IsPreparedFor, headers_in};
 ghost use Rattle.elf_out.specs.TablesView.{entries_in, tables_if, tables_in};
@@ -60,7 +60,7 @@ pub fn prepare<R: Threads + Sync, G: Gate>(
 ) -> Result<Prepared, LinkStop>
     requires some { 1 ≤ workers }
     requires most { workers ≤ 64 }
-    ensures goes { Goes result (relocation_defects (files_in view.now) (binding_in view.now) (leaders_in view.now) (laid_in view.now)) }
+    ensures goes { Goes result (by_view relocation_defects view.now) }
     ensures prepared { IfOk result (IsPreparedFor view.now) }
 {
     if workers == 1 {
@@ -94,14 +94,14 @@ fn prepare_in_parallel<R: Threads + Sync, G: Gate>(
     requires some { 1 ≤ workers }
     requires most { workers ≤ 64 }
     requires entries { named_views entries.old.items ≡ entries_in view.now }
-    ensures tested { Goes result.0 (relocation_defects (files_in view.now) (binding_in view.now) (leaders_in view.now) (laid_in view.now)) }
+    ensures tested { Goes result.0 (by_view relocation_defects view.now) }
     ensures prepared { IfOk result.1 (IsPreparedFor view.now) }
 {
     join_mut(
         rt,
         &mut || -> Result<(), LinkStop>
             requires { (1 ≤ workers) × (workers ≤ 64) }
-            ensures { Goes result (relocation_defects (files_in view.entry.now) (binding_in view.entry.now) (leaders_in view.entry.now) (laid_in view.entry.now)) }
+            ensures { Goes result (by_view relocation_defects view.entry.now) }
         { check_relocations(rt, alloc, view, workers, gate) },
         &mut || -> Result<Prepared, AllocError>
             requires { named_views entries.now.items ≡ entries_in view.now }

@@ -3,11 +3,12 @@ use Rattle.std.proofs.Common.{◌≡◌, ℕ, zero, suc, ◌+◌, ◌<◌, Bool,
 use Rattle.std.specs.Prelude.{Result, Ok, Err, find, fold}
 use Rattle.std.specs.List.{All, list_any, range_with_len}
 use Rattle.std.proofs.lemmas.Bool.Decides.{nat_tests}
-use Rattle.std.proofs.lemmas.List.{at_drop_more, get_or-map, length-map}
+use Rattle.std.proofs.lemmas.List.{at_drop_more, get_or-map, length-map, map-append}
 use Rattle.std.proofs.lemmas.List.Elements.{All-from_recursion}
 use Rattle.std.proofs.lemmas.List.FromFn.{length-range_with_len, length-map-range_with_len, get_or-map-range_with_len, fill_by_all}
 use Rattle.std.proofs.lemmas.List.Sums.{fold-append}
 use Rattle.std.specs.List.Sorted.{IsNonDecreasingBy}
+use Rattle.std.proofs.Math.Bool.{or-false, or_assoc}
 use Rattle.lk_base.proofs.StableOrder.{sorted_is}
 use Rattle.lk_base.proofs.Ranges.{range_read}
 use Rattle.lk_base.specs.Order.{put_in, stable_order}
@@ -55,17 +56,9 @@ met_more c q p a e =
     (further has q.offset e (end_of c p))
     ∙ mix own (nat_lt q.offset a) has (moves_bytes p.kind) (nat_lt q.offset (end_of c p)) (moves_bytes q.kind) (nat_lt q.offset e)
 
-or_assoc : (a b c : Bool) → ((a || b) || c) ≡ (a || (b || c))
-or_assoc true b c = refl
-or_assoc false b c = refl
-
-or_none : (a : Bool) → (a || false) ≡ a
-or_none true = refl
-or_none false = refl
-
 met_from : (c : List ℕ) (q : Reloc) (ps : List Reloc) (a e : ℕ) →
     is_met (extent_of c q) (fold later_moving_end a (map (extent_of c) ps)) (fold later_end e (map (extent_of c) ps)) ≡ (is_met (extent_of c q) a e || list_any (meets c q) ps)
-met_from c q [] a e = sym (or_none (is_met (extent_of c q) a e))
+met_from c q [] a e = sym (or-false (is_met (extent_of c q) a e))
 met_from c q (p ∷ ps) a e =
     met_from c q ps (later_moving_end a (extent_of c p)) (later_end e (extent_of c p))
     ∙ ap (λ b. b || list_any (meets c q) ps) (met_more c q p a e)
@@ -91,12 +84,8 @@ end_before c ps = fold later_end 0 (map (extent_of c) ps)
 met_is : (c : List ℕ) (q : Reloc) (ps : List Reloc) → is_met (extent_of c q) (moving_before c ps) (end_before c ps) ≡ list_any (meets c q) ps
 met_is c q ps = met_from c q ps 0 0 ∙ ap (λ b. b || list_any (meets c q) ps) (met_none (extent_of c q))
 
-map_append : {X Y : Type 0} (f : X → Y) (xs ys : List X) → map f (xs ++ ys) ≡ map f xs ++ map f ys
-map_append f [] ys = refl
-map_append f (x ∷ xs) ys = ap (λ l. f x ∷ l) (map_append f xs ys)
-
 fold_more : (c : List ℕ) (f : ℕ → Extent → ℕ) (ps : List Reloc) (q : Reloc) → fold f 0 (map (extent_of c) (ps ++ (q ∷ []))) ≡ f (fold f 0 (map (extent_of c) ps)) (extent_of c q)
-fold_more c f ps q = ap (fold f 0) (map_append (extent_of c) ps (q ∷ [])) ∙ fold-append f 0 (map (extent_of c) ps) (extent_of c q ∷ [])
+fold_more c f ps q = ap (fold f 0) (map-append (extent_of c) ps (q ∷ [])) ∙ fold-append f 0 (map (extent_of c) ps) (extent_of c q ∷ [])
 
 -- one relocation on
 pub first_more : (c : List ℕ) (moving_end end at : ℕ) (rs : List Reloc) (d : Reloc) → at < length rs →

@@ -5,8 +5,7 @@ ghost use Rattle.std.specs.Prelude.{◌≡◌, ◌+◌, ◌≤◌, length};
 ghost use Rattle.lk_base.specs.declared.abi.TheConstants.{RELA_SIZE, SHDR_SIZE, SYM_SIZE};
 ghost use Rattle.lk_tables.specs.Entries as read;
 
-use crate::numbers::{half_at, sxword_at, word_at, xword_at};
-use lk_tables::{Reloc, SectionHeader, SymbolEntry};
+use lk_tables::{Reloc, SectionHeader, SymbolEntry, half_at, sxword_at, word_at, xword_at};
 
 /// The section header at the file offset `at`.
 #[tactic(auto, unfolding(lk_tables::specs::Entries::header_at))]

@@ -14,12 +14,11 @@ ghost use Rattle.elf_read.specs.Groups.{groups_before, taken_before, with_marked
 
 use crate::header::flaw;
 use crate::names::span;
-use crate::numbers::word_at;
 use crate::sound_file::SoundFile;
 use lk_base::ReadFault;
 use lk_base::abi::{GRP_COMDAT, SHT_GROUP, WORD_SIZE};
 use lk_base::kinds::BAD_GROUP;
-use lk_tables::{Group, Place, Section, Span, is_section_symbol};
+use lk_tables::{Group, Place, Section, Span, is_section_symbol, word_at};
 use std::alloc::{AllocError, Global};
 
 /// The group of section `index`, if this is a sound group: it is added to `groups`, and its sections to those of `taken`, which

@@ -7,12 +7,11 @@ ghost use Rattle.lk_tables.specs.Heads.{HeadView, head_view, head_of, head_check
 ghost use Rattle.lk_base.specs.declared.defects.ReadFault.TheVariants.{Bad};
 
 use crate::header::open;
-use crate::numbers::word_at;
 use crate::sections::read_sections;
 use crate::symbols::read_symbols;
 use lk_base::ReadFault;
 use lk_tables::ehdr::E_FLAGS;
-use lk_tables::{Head, common_count};
+use lk_tables::{Head, common_count, word_at};
 use std::alloc::Global;
 
 /// Reads the file header, the section table and the symbol table of a relocatable object for 64-bit RISC-V.

@@ -7,18 +7,17 @@ ghost use Rattle.lk_tables.specs.FileHeader as read;
 ghost use Rattle.lk_tables.specs.Sections.{is_symtab, names_from as first_name, names_size as size_of_names};
 
 use crate::entries::header_at;
-use crate::numbers::{half_at, word_at, xword_at};
 use lk_base::abi::{
     EF_RISCV_RVE, EHDR_SIZE, ELFCLASS64, ELFDATA2LSB, EM_RISCV, ET_REL, EV_CURRENT, SECTIONS_MAX,
     SHDR_SIZE, SHN_XINDEX, SHT_STRTAB, SHT_SYMTAB,
 };
 use lk_base::kinds::{BAD_HEADER, BAD_SECTION, LIMIT, NOT_OBJECT, OUTSIDE};
 use lk_base::{DefectKind, Flaw};
-use lk_tables::SectionHeader;
 use lk_tables::ehdr::{
     E_FLAGS, E_MACHINE, E_SHENTSIZE, E_SHNUM, E_SHOFF, E_SHSTRNDX, E_TYPE, E_VERSION, EI_CLASS,
     EI_DATA, EI_VERSION,
 };
+use lk_tables::{SectionHeader, half_at, word_at, xword_at};
 
 /// A file whose header is sound: its section table and its section names lie in it.
 #[derive(Clone, Copy)]

@@ -6,7 +6,7 @@
 //! The RELA section of a section that is not written is not read: its list is empty. A COMMON symbol's alignment and size are looked at
 //! with the body, as a section's are. Of two relocations whose bytes overlap the flaw is at the later in order of offset, the least such.
 //!
-//! `numbers`, `entries` and `names` read at a place. `header` tests the file header, `sections` and `symbols` read the tables
+//! `entries` and `names` read at a place. `header` tests the file header, `sections` and `symbols` read the tables
 //! of a head, and `head` all of it; `magic` looks at its first bytes alone. `sound_file` is a file whose head is sound; `section_checks` and
 //! `symbol_checks` are what is asked of it before it is linked, `relocations` reads the entries of a relocation section, `rela_sections` one
 //! such section, `groups` one group, `section_bodies` all sections, and `body` the whole.
@@ -19,7 +19,6 @@ mod head;
 mod header;
 mod magic;
 mod names;
-mod numbers;
 mod rela_sections;
 mod relocations;
 mod section_bodies;

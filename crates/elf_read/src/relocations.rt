@@ -49,7 +49,7 @@ pub fn read_relocations(
     target: &Section,
 ) -> Result<Vec<Reloc>, ReadFault>
     requires rela { rela.now ≡ section_of file.now.bytes.now index }
-    requires target { target.now ≡ read.target_of file.now.bytes.now index }
+    requires target { target.now ≡ read.relocated_section file.now.bytes.now index }
     requires within { rela.now.offset + rela.now.size ≤ length file.now.bytes.now }
     ensures checked { Follows result (read.entries_checks file.now.bytes.now index) }
     ensures list { IfOk result (λ relocs. relocs.items ≡ read.relocs_of file.now.bytes.now index) }
@@ -108,7 +108,7 @@ fn read_entries(
     contents: &[u8],
 ) -> Result<Vec<Reloc>, ReadFault>
     requires rela { rela.now ≡ section_of file.now.bytes.now index }
-    requires target { target.now ≡ read.target_of file.now.bytes.now index }
+    requires target { target.now ≡ read.relocated_section file.now.bytes.now index }
     requires framed { framed ≡ is_frame file.now.bytes.now target.now }
     requires contents { contents.now ≡ read.target_bytes file.now.bytes.now index }
     requires within { rela.now.offset + rela.now.size ≤ length file.now.bytes.now }
@@ -136,7 +136,7 @@ fn read_entry(
     entry: usize,
 ) -> Result<Reloc, Flaw>
     requires rela { rela.now ≡ section_of file.now.bytes.now index }
-    requires target { target.now ≡ read.target_of file.now.bytes.now index }
+    requires target { target.now ≡ read.relocated_section file.now.bytes.now index }
     requires framed { framed ≡ is_frame file.now.bytes.now target.now }
     requires contents { contents.now ≡ read.target_bytes file.now.bytes.now index }
     requires within { rela.now.offset + rela.now.size ≤ length file.now.bytes.now }

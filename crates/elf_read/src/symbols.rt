@@ -12,7 +12,6 @@ ghost use Rattle.elf_read.specs.Names.{IsLast};
 use crate::entries::entry_at;
 use crate::header::{File, flaw};
 use crate::names::{LastName, NO_LAST, find_len, span};
-use crate::numbers::word_at;
 use crate::sections::{section_in, written_at};
 use lk_base::abi::{
     SHN_ABS, SHN_COMMON, SHN_LORESERVE, SHN_UNDEF, SHN_XINDEX, STB_GLOBAL, STB_GNU_UNIQUE,
@@ -21,7 +20,7 @@ use lk_base::abi::{
 };
 use lk_base::kinds::{BAD_NAME, BAD_SYMBOL};
 use lk_base::{Flaw, ReadFault};
-use lk_tables::{Place, Section, Symbol, SymbolEntry, is_common};
+use lk_tables::{Place, Section, Symbol, SymbolEntry, is_common, word_at};
 use std::alloc::Global;
 
 /// A symbol table whose section is sound: its entries and its names lie in the file.

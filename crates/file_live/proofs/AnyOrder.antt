@@ -2,6 +2,7 @@
 use Rattle.std.proofs.Common.{◌≡◌, ℕ, zero, suc, ◌^◌, ◌<◌, ◌≤◌, not, nat_lt, true, false, List, length, sym, ap, ◌∙◌, subst, ⊎_elim, arith}
 use Rattle.std.specs.Str.{bytes_eq}
 use Rattle.std.proofs.lemmas.Bool.{cases_lt, and_parts, or_cases, not-true}
+use Rattle.std.specs.Cmp.{both_ways}
 use Rattle.lk_tables.specs.Files.{File, file_at, symbol_at, symbol_name, symbol_total}
 use Rattle.lk_tables.specs.Binding.{is_offer}
 use Rattle.lk_tables.proofs.FirstNumbers.{first_within}
@@ -9,7 +10,7 @@ use Rattle.file_live.specs.Live.{asks, early, is_of_member, pulls, live_in, is_a
 use Rattle.file_live.specs.Order.{IsMoved, StandsAnywhere}
 use Rattle.file_live.proofs.FirstMembers.{IsFew, IsFirstMember, first_of, of_first}
 use Rattle.file_live.proofs.Pulling.{puller, pulls_at}
-use Rattle.file_live.proofs.Rounds.{asked_by, asked_live, asked_name, commands_live, live_at, live_by, live_cases, live_more, same_tests}
+use Rattle.file_live.proofs.Rounds.{asked_by, asked_live, asked_name, commands_live, live_at, live_by, live_cases, live_more}
 
 pub few_files : (files : List File) → length files < 2 ^ 24 → symbol_total files < 2 ^ 31 → IsFew files
 few_files files few small = record { count = few; symbols = λ f lt. omega (arith, first_within files f lt) }
@@ -135,6 +136,6 @@ stands_anywhere undefined files count small moved to from m f lt =
     (live_moved undefined moved files from to (moved_back files moved to from m) (moved_few files moved to from m few) n (to f)
     (omega (arith, m.long, m.inside f lt)) is) in
     live_at undefined files f lt
-    ∙ same_tests (live_in undefined files n f) (live_in undefined moved n (to f)) (live_moved undefined files moved to from m few n f lt) back
+    ∙ both_ways (live_in undefined files n f) (live_in undefined moved n (to f)) (live_moved undefined files moved to from m few n f lt) back
     ∙ ap (λ k. live_in undefined moved k (to f)) m.long
     ∙ sym (live_at undefined moved (to f) (omega (arith, m.long, m.inside f lt)))

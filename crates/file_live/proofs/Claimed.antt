@@ -3,6 +3,8 @@ use Rattle.std.proofs.Common.{◌≡◌, ℕ, zero, suc, ◌+◌, ◌<◌, ◌||
 use Rattle.std.specs.Prelude.{flat_map}
 use Rattle.std.specs.List.{range_with_len}
 use Rattle.std.proofs.lemmas.Bool.{cond-true, cond-false, and_parts, or_left, or_cases, eqb-true}
+use Rattle.std.proofs.lemmas.List.{map-append}
+use Rattle.lk_base.proofs.Ranges.{same_range}
 use Rattle.claim_core.specs.declared.events.Event.{Event}
 use Rattle.claim_core.specs.Events.{event, none_of, after, AllInRow}
 use Rattle.lk_tables.specs.declared.heads.Symbol.{Symbol}
@@ -11,7 +13,8 @@ use Rattle.lk_tables.specs.Symbols.{is_undef, is_common}
 use Rattle.lk_tables.specs.Binding.{Offer, is_offer}
 use Rattle.lk_tables.specs.Ranks.{no_rank}
 use Rattle.lk_tables.specs.NameNumbers.{is_named, name_number}
-use Rattle.name_numbers.proofs.Walks.{all_range, all_if, same_range, walk_push, walk_skip}
+use Rattle.lk_tables.proofs.BoundHas.{one_if}
+use Rattle.name_numbers.proofs.Walks.{all_range, walk_push, walk_skip}
 use Rattle.name_numbers.proofs.NameWords.{IsName, word_of, word_named, is_name_of_symbol}
 use Rattle.name_numbers.proofs.LeastClaims.{claim_of, claims_fit, least_claimed}
 use Rattle.file_live.specs.Live.{early_rank, early_offer_at, early_offers_in, early_offers, early, asks}
@@ -47,13 +50,9 @@ claim_skip files f i old base none before =
     walk_skip (claim_at files f) base old i before (cond-false (is_offer (symbol_at (file_at files f) i)) (event (name_number files f i) (early_rank files f i) ∷ []) [] none)
 
 -- the claims are those of the offers
-map_both : {X Y : Type 0} (h : X → Y) (xs ys : List X) → map h (xs ++ ys) ≡ map h xs ++ map h ys
-map_both h [] ys = refl
-map_both h (x ∷ xs) ys = ap (λ l. h x ∷ l) (map_both h xs ys)
-
 map_range : {X Y : Type 0} (h : X → Y) (g : ℕ → List X) (a n : ℕ) → map h (flat_map g (range_with_len a n)) ≡ flat_map (λ k. map h (g k)) (range_with_len a n)
 map_range h g a zero = refl
-map_range h g a (suc n) = map_both h (g a) (flat_map g (range_with_len (a + 1) n)) ∙ ap (λ xs. map h (g a) ++ xs) (map_range h g (a + 1) n)
+map_range h g a (suc n) = map-append h (g a) (flat_map g (range_with_len (a + 1) n)) ∙ ap (λ xs. map h (g a) ++ xs) (map_range h g (a + 1) n)
 
 claim_if : (b : Bool) (h : Offer → Event) (o : Offer) (e : Event) → (b ≡ true → e ≡ h o) → (if b then e ∷ [] else []) ≡ map h (if b then o ∷ [] else [])
 claim_if true h o e is = ap (λ x. x ∷ []) (is refl)
@@ -76,7 +75,7 @@ offers_named files =
     let P : Offer → Type 0 = λ o. IsName files o.name in
     all_range P (early_offers_in files) 0 (length files) (λ f low high.
     all_range P (early_offer_at files f) 0 (length (file_at files f).head.symbols) (λ i low2 high2.
-    all_if P (is_offer (symbol_at (file_at files f) i)) (offer_of (symbol_name (file_at files f) i) (early_rank files f i)) (λ is.
+    one_if P (is_offer (symbol_at (file_at files f) i)) (offer_of (symbol_name (file_at files f) i) (early_rank files f i)) (λ is.
     is_name_of_symbol files f i (omega arith) (omega arith) (offer_named (symbol_at (file_at files f) i) is))))
 
 pub claims_in_row : (files : List File) → AllInRow (symbol_total files) (claims files)

@@ -6,8 +6,9 @@ use Rattle.std.proofs.lemmas.Bool.{cases_lt, cond-true, and_parts, and_from, eqb
 use Rattle.lk_tables.specs.Files.{File, file_at, symbol_at, symbol_name}
 use Rattle.lk_tables.specs.Binding.{Offer, is_offer, class_of, least_rank}
 use Rattle.lk_tables.specs.Ranks.{no_rank, rank_of, class_of_rank, file_of}
-use Rattle.lk_tables.proofs.BoundHas.{class_few}
-use Rattle.name_numbers.proofs.Walks.{all_range, all_if, in_range, in_if}
+use Rattle.lk_tables.proofs.BoundHas.{class_few, one_if}
+use Rattle.lk_tables.proofs.RankParts.{file_back}
+use Rattle.name_numbers.proofs.Walks.{all_range, in_range, in_if}
 use Rattle.file_live.specs.declared.claims.TheConstants.{MEMBER_CLASS}
 use Rattle.file_live.specs.Live.{early_class, early_rank, early_offer_at, early_offers_in, early_offers, early, is_of_member}
 use Rattle.file_live.proofs.Claimed.{offer_of}
@@ -78,7 +79,7 @@ early_one files name =
     let each : All Q (early_offers files) =
     all_range Q (early_offers_in files) 0 (length files) (λ f low high.
     all_range Q (early_offer_at files f) 0 (length (file_at files f).head.symbols) (λ i low2 high2.
-    all_if Q (is_offer (symbol_at (file_at files f) i)) (offer_of (symbol_name (file_at files f) i) (early_rank files f i)) (λ ok named.
+    one_if Q (is_offer (symbol_at (file_at files f) i)) (offer_of (symbol_name (file_at files f) i) (early_rank files f i)) (λ ok named.
     inr (record { file = f; symbol = i; lt = omega arith; inside = omega arith; offer = ok; named = named; is = refl })))) in
     least_named P name (early_offers files) (inl refl) each
 
@@ -94,10 +95,6 @@ early_low files name f i lt inside offer named =
     (in_range (early_offer_at files f) 0 (length (file_at files f).head.symbols) i o (omega arith) (omega arith)
     (in_if (is_offer (symbol_at (file_at files f) i)) o offer))) in
     holds named
-
--- the parts of a rank
-file_back : (class f i : ℕ) → f < 2 ^ 24 → i < 2 ^ 31 → file_of (rank_of class f i) ≡ f
-file_back class f i lt small = omega arith
 
 class_back : (class f i : ℕ) → f < 2 ^ 24 → i < 2 ^ 31 → class_of_rank (rank_of class f i) ≡ class
 class_back class f i lt small = omega arith

@@ -10,10 +10,12 @@ use Rattle.std.proofs.lemmas.List.Elements.{All-nil, All-cons, All-head, All-tai
 use Rattle.std.proofs.lemmas.Bool.{cases_Bool, cases_lt, cond-true, cond-false, and_parts, and_from, eqb-true, eq-eqb}
 use Rattle.lk_tables.specs.Files.{File, file_at, no_file, symbol_at, symbol_name, symbol_total}
 use Rattle.lk_tables.specs.Binding.{Offer, is_offer, least_rank}
-use Rattle.lk_tables.specs.Ranks.{no_rank, rank_of, class_of_rank, file_of}
+use Rattle.lk_tables.specs.Ranks.{no_rank, class_of_rank, file_of}
 use Rattle.lk_tables.specs.Reach.{ends_at}
+use Rattle.lk_tables.proofs.BoundHas.{one_if}
 use Rattle.lk_tables.proofs.FirstNumbers.{first_within}
-use Rattle.name_numbers.proofs.Walks.{all_range, all_if, in_range}
+use Rattle.lk_tables.proofs.RankParts.{file_back}
+use Rattle.name_numbers.proofs.Walks.{all_range, in_range}
 use Rattle.file_live.specs.declared.claims.TheConstants.{MEMBER_CLASS}
 use Rattle.file_live.specs.Live.{early_class, early_rank, early_offer_at, early_offers_in, early_offers, early, asks, is_of_member, pulls_by, pulls}
 use Rattle.file_live.specs.Pulls.{pulled, pulled_in, ends}
@@ -136,9 +138,6 @@ least_some P text (o ∷ os) none each =
     least_one P (bytes_eq o.name text) o.rank (least_rank text os) (All-head (λ (x : Offer). P x.rank) o os each)
     (least_some P text os none (All-tail (λ (x : Offer). P x.rank) o os each))
 
-file_back : (class f i : ℕ) → f < 2 ^ 24 → i < 2 ^ 31 → file_of (rank_of class f i) ≡ f
-file_back class f i lt small = omega arith
-
 -- a member whose offer of a name is the first is one of the table's
 pub offered_within : (files : List File) → length files < 2 ^ 24 → symbol_total files < 2 ^ 31 → (text : List ℕ) (g : ℕ) → is_of_member g (early files text) ≡ true → g < length files
 unfolding early early_offers early_offers_in early_offer_at
@@ -149,7 +148,7 @@ offered_within files few small text g first =
     let each : All Q (early_offers files) =
     all_range Q (early_offers_in files) 0 (length files) (λ e low high.
     all_range Q (early_offer_at files e) 0 (length (file_at files e).head.symbols) (λ i low2 high2.
-    all_if Q (is_offer (symbol_at (file_at files e) i)) (offer_of (symbol_name (file_at files e) i) (early_rank files e i)) (λ ok member.
+    one_if Q (is_offer (symbol_at (file_at files e) i)) (offer_of (symbol_name (file_at files e) i) (early_rank files e i)) (λ ok member.
     let class = early_class (file_at files e) (symbol_at (file_at files e) i) in
     let same = eqb-true (file_of (early_rank files e i)) g (and_parts (class_of_rank (early_rank files e i) == MEMBER_CLASS) (file_of (early_rank files e i) == g) member).1 in
     let back = file_back class e i (omega arith) (let lt : e < length files = omega arith in omega (arith, first_within files e lt)) in

@@ -6,6 +6,7 @@ use Rattle.std.proofs.lemmas.List.Elements.{Contains-get_or}
 use Rattle.std.proofs.lemmas.List.FromFn.{length-range_with_len, length-map-range_with_len, get_or-map-range_with_len, fill_by_all}
 use Rattle.std.proofs.lemmas.List.Folds.{Any-from_list_any, list_any_at}
 use Rattle.std.proofs.lemmas.Bool.{cases_lt, and_parts, and_from, or_left, or_right, or_cases, lt-ltb, ltb-true, not-true, not_from_false, both_ways}
+use Rattle.std.specs.Cmp.{both_ways as same_tests}
 use Rattle.lk_tables.specs.Files.{File, file_at}
 use Rattle.file_live.specs.Live.{pulls, live_in, is_live, live_of, early, is_asked, is_command, is_of_member, IsClosedSet, IsLive}
 use Rattle.lk_base.proofs.Ranges.{range_read}
@@ -203,11 +204,6 @@ live_of_least undefined files within among =
       };
       least = λ s closed g is. live_inside undefined files s closed (length files) g (sym (live_at undefined files g (inside g is)) ∙ is);
     }
-
-pub same_tests : (b c : Bool) → (b ≡ true → c ≡ true) → (c ≡ true → b ≡ true) → b ≡ c
-same_tests true c there back = sym (there refl)
-same_tests false true there back = back refl
-same_tests false false there back = refl
 
 -- there is one such list
 pub live_once : (undefined : List (List ℕ)) (files : List File) (a b : List Bool) → IsLive undefined files a → IsLive undefined files b → a ≡ b

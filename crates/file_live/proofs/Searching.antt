@@ -1,19 +1,14 @@
 -- What a search by a queue comes to.
-use Rattle.std.proofs.Common.{◌≡◌, ◌≢◌, ℕ, zero, suc, ◌+◌, ◌<◌, ◌≤◌, Bool, true, false, Vec, Global, List, [], ◌∷◌, ◌++◌, length, get_or, set, replicate, All, Contains, refl, sym, ap, ◌∙◌, subst, ⊎_elim, arith}
-use Rattle.std.proofs.lemmas.List.{length-set, length_push, length-replicate, get_or-replicate, get_or-set_same, get_or-set_other, get_or_append_left, get_or_past, get_or_default}
+use Rattle.std.proofs.Common.{◌≡◌, ℕ, ◌+◌, ◌<◌, ◌≤◌, Bool, true, false, Vec, Global, List, [], ◌∷◌, ◌++◌, length, get_or, set, replicate, All, Contains, refl, sym, ap, ◌∙◌, subst, ⊎_elim, arith}
+use Rattle.std.proofs.lemmas.List.{length-set, length_push, length-replicate, get_or-replicate, get_or-set_same, get_or_append_left, get_or_past, get_or_default}
 use Rattle.std.proofs.lemmas.List.Elements.{All-nil, All-cons, All-head, All-tail, All-weaker, All-contains, Contains-append_left, Contains-append_right, Contains-push, Contains-push_cases, Contains-get_or}
 use Rattle.std.proofs.lemmas.Bool.{cases_Bool, cases_eq, cases_lt, cond-true, cond-false, both_ways}
-use Rattle.lk_tables.specs.Reach.{mark, ends_at, IsClosed, IsReach}
+use Rattle.lk_tables.specs.Reach.{mark, ends_at, IsClosed, IsReach, unmarked}
+use Rattle.lk_tables.proofs.Marking.{none_marked, one_marked, set_marked, set_marks}
 use Rattle.std.specs.Prelude.{flat_map}
 use Rattle.std.specs.List.{range_with_len}
 use Rattle.name_numbers.proofs.Walks.{walk_skip, walk_push}
 use Rattle.file_live.specs.Visits.{Reached, reached, visited, all_visited}
-
--- how many places have no mark
-abbrev pub unmarked : List Bool → ℕ
-unmarked [] = 0
-unmarked (true ∷ seen) = unmarked seen
-unmarked (false ∷ seen) = 1 + unmarked seen
 
 -- the marks and the queue say the same
 pub record Tied (n : ℕ) (r : Reached) : Type 0 where
@@ -21,26 +16,6 @@ pub record Tied (n : ℕ) (r : Reached) : Type 0 where
   pub counted : unmarked r.seen + length r.queue ≡ n
   pub queued : (f : ℕ) → mark r.seen f ≡ true → Contains r.queue f
   pub marked : (f : ℕ) → Contains r.queue f → mark r.seen f ≡ true
-
--- one more mark is one less without
-one_marked : (seen : List Bool) (f : ℕ) → f < length seen → mark seen f ≡ false → unmarked (set seen f true) + 1 ≡ unmarked seen
-one_marked [] f lt is = absurd (omega arith)
-one_marked (false ∷ seen) zero lt is = let e : unmarked (set (false ∷ seen) 0 true) ≡ unmarked seen = refl in let d : unmarked (false ∷ seen) ≡ 1 + unmarked seen = refl in omega arith
-one_marked (true ∷ seen) zero lt is = absurd cc
-one_marked (false ∷ seen) (suc f) lt is =
-    let rest = one_marked seen f (omega arith) is in
-    let e : unmarked (set (false ∷ seen) (suc f) true) ≡ 1 + unmarked (set seen f true) = refl in
-    let d : unmarked (false ∷ seen) ≡ 1 + unmarked seen = refl in omega arith
-one_marked (true ∷ seen) (suc f) lt is = one_marked seen f (omega arith) is
-
-set_marks : (seen : List Bool) (f g : ℕ) → mark seen g ≡ true → f < length seen → mark (set seen f true) g ≡ true
-set_marks seen f g is lt = ⊎_elim
-    (λ (same : f ≡ g). subst (λ k. mark (set seen f true) k ≡ true) same (get_or-set_same seen f true false lt))
-    (λ other. get_or-set_other seen f g true false (λ e. other (sym e)) ∙ is)
-    (cases_eq f g)
-
-set_marked : (seen : List Bool) (f g : ℕ) → mark (set seen f true) g ≡ true → (g ≢ f) → mark seen g ≡ true
-set_marked seen f g is other = sym (get_or-set_other seen f g true false other) ∙ is
 
 -- a place is marked already, or is marked now
 pub one_visit : (P : Reached → Type 0) (r : Reached) (f : ℕ) → (mark r.seen f ≡ true → P r) → (mark r.seen f ≡ false → P (reached (set r.seen f true) (r.queue ++ f ∷ []))) → P (visited r f)
@@ -138,14 +113,10 @@ pub record Searched (roots : List ℕ) (ends : List (List ℕ)) (next : ℕ) (r 
   pub followed : (k : ℕ) → k < next → All (λ g. mark r.seen g ≡ true) (ends_at ends (get_or r.queue k 0))
   pub least : (s : ℕ → Bool) → IsClosed roots ends s → (f : ℕ) → Contains r.queue f → s f ≡ true
 
-none_left : (n : ℕ) → unmarked (replicate n false) ≡ n
-none_left zero = refl
-none_left (suc n) = let rest = none_left n in let e : unmarked (replicate (suc n) false) ≡ 1 + unmarked (replicate n false) = refl in omega arith
-
 pub tied_first : (n : ℕ) → Tied n (reached (replicate n false) [])
 tied_first n = record {
   wide = length-replicate n false;
-  counted = omega (arith, none_left n);
+  counted = omega (arith, none_marked n);
   queued = λ f is. ⊎_elim
       (λ (lt : f < n). absurd (both_ways (mark (replicate n false) f) (get_or-replicate n f false false lt) is))
       (λ (past : n ≤ f). absurd (both_ways (mark (replicate n false) f) (get_or_past (replicate n false) f false (omega (arith, length-replicate {A = Bool} n false))) is))

@@ -5,7 +5,8 @@ use Rattle.std.proofs.lemmas.List.Elements.{All-append, All-contains, All-from_g
 use Rattle.std.proofs.lemmas.Bool.{cases_lt, not-true, not_from_false}
 use Rattle.lk_tables.specs.Files.{File, file_at, symbol_total}
 use Rattle.lk_tables.specs.Reach.{ends_at, IsReach}
-use Rattle.name_numbers.proofs.Walks.{all_range, all_if, in_range, in_if}
+use Rattle.lk_tables.proofs.BoundHas.{one_if}
+use Rattle.name_numbers.proofs.Walks.{all_range, in_range, in_if}
 use Rattle.file_live.specs.Live.{live_of, pulls, IsClosedSet, IsLive}
 use Rattle.file_live.specs.Pulls.{asked_members, ends, command_at, commands, first_files}
 use Rattle.file_live.proofs.Pulling.{offered_within, pulled_is, pulled_has, puller_within, pull_within, length_ends, ends_read}
@@ -20,7 +21,7 @@ unfolding commands
 command_is files f has =
     All-contains (IsCommand files) (commands files) f
     (all_range (IsCommand files) (command_at files) 0 (length files) (λ g low high.
-    all_if (IsCommand files) (not (file_at files g).member) g (λ own. (omega arith, not-true (file_at files g).member own))))
+    one_if (IsCommand files) (not (file_at files g).member) g (λ own. (omega arith, not-true (file_at files g).member own))))
     has
 
 command_there : (files : List File) (f : ℕ) → f < length files → (file_at files f).member ≡ false → Contains (commands files) f

@@ -2,6 +2,8 @@
 //! in constant time, and a list takes no memory of its own.
 #![tactic(auto)]
 
+mod parts;
 mod rows;
 
+pub use parts::{join_rows, one_part};
 pub use rows::Rows;

@@ -1,16 +1,18 @@
 -- Entries added one at a time are those of the distinct uses, numbered.
-use Rattle.std.proofs.Common.{◌≡◌, ℕ, zero, suc, ◌+◌, ◌<◌, ◌≤◌, ◌==◌, ◌||◌, not, Bool, true, false, cond, List, [], ◌∷◌, ◌++◌, length, map, get_or, refl, sym, ap, ◌∙◌, subst, arith, inl, inr, eqb}
+use Rattle.std.proofs.Common.{◌≡◌, ℕ, suc, ◌+◌, ◌<◌, ◌≤◌, ◌==◌, ◌||◌, not, Bool, true, false, cond, List, [], ◌∷◌, ◌++◌, length, map, get_or, refl, sym, ap, ◌∙◌, subst, arith, inl, inr, eqb}
 use Rattle.std.specs.Prelude.{Option, Some, None, is_some, if◌then◌else◌, find, All}
 use Rattle.std.specs.List.{filter, list_any, position_or_len, range_with_len, sum_by}
 use Rattle.std.specs.Option.{option_or}
+use Rattle.std.proofs.Math.Bool.{or-false}
 use Rattle.std.proofs.Math.Seq.{get_or-append_seam}
 use Rattle.std.proofs.lemmas.Bool.{cases_Bool, eq-eqb, eqb-true, false≢true}
 use Rattle.std.proofs.lemmas.List.{append-nil, append_assoc, get_or_append_left, length-append, map-append}
 use Rattle.std.proofs.lemmas.List.Elements.{All-filter, All-head, All-tail, filter-append}
-use Rattle.std.proofs.lemmas.List.Folds.{find-append, position_or_len_push}
+use Rattle.std.proofs.lemmas.List.Folds.{find-append, list_any-append, position_or_len_push}
 use Rattle.std.proofs.lemmas.List.FromFn.{get_or-range_with_len, length-range_with_len}
 use Rattle.std.proofs.lemmas.List.Sums.{prefix_len-le-length, sum_by-cons}
 use Rattle.lk_base.proofs.Loops.{range_more}
+use Rattle.lk_base.proofs.Ranges.{filter_same}
 use Rattle.link_sections.specs.declared.got.GotEntry.{GotEntry}
 use Rattle.link_sections.specs.declared.got.GotUse.{GotUse}
 use Rattle.link_sections.specs.Distinct.{distinct, element, is_first}
@@ -47,12 +49,6 @@ any_position p (x ∷ xs) = any_step (p x) (list_any p xs) (position_or_len p xs
 not_eq : (b : Bool) → not b ≡ true → b ≡ false
 not_eq true e = cc
 not_eq false e = refl
-
-filter_same : (p q : ℕ → Bool) (a n : ℕ) → ((k : ℕ) → a ≤ k → k < a + n → p k ≡ q k) → filter p (range_with_len a n) ≡ filter q (range_with_len a n)
-filter_same p q a zero each = refl
-filter_same p q a (suc n) each =
-    ap (λ b. cond b (a ∷ filter p (range_with_len (a + 1) n)) (filter p (range_with_len (a + 1) n))) (each a (omega arith) (omega arith))
-    ∙ ap (λ l. cond (q a) (a ∷ l) l) (filter_same p q (a + 1) n (λ k low high. each k (omega arith) (omega arith)))
 
 map_same : {X : Type 0} (f g : ℕ → X) (ks : List ℕ) → All (λ k. f k ≡ g k) ks → map f ks ≡ map g ks
 map_same f g [] all = refl
@@ -168,21 +164,9 @@ pub record AreAdded (ws : List Wanted) (es : List GotEntry) : Type 0 where
   pub entries_are : es ≡ numbered 0 (distinct same_wanted no_wanted ws)
   pub found : (key : ℕ) (usage : GotUse) → is_some (entry_of es key usage) ≡ list_any (asks key usage) ws
 
-pub any_append : {X : Type 0} (p : X → Bool) (xs ys : List X) → list_any p (xs ++ ys) ≡ (list_any p xs || list_any p ys)
-any_append p [] ys = refl
-any_append p (x ∷ xs) ys = ap (λ b. p x || b) (any_append p xs ys) ∙ either (p x) (list_any p xs) (list_any p ys)
-  where
-    either : (a b c : Bool) → (a || (b || c)) ≡ ((a || b) || c)
-    either true b c = refl
-    either false b c = refl
-
 some_or : {X : Type 0} (a b : Option X) → is_some (option_or a b) ≡ (is_some a || is_some b)
 some_or None b = refl
 some_or (Some x) b = refl
-
-or_false : (b : Bool) → (b || false) ≡ b
-or_false true = refl
-or_false false = refl
 
 if_some : {X : Type 0} (b : Bool) (x : X) → is_some (cond b (Some x) None) ≡ b
 if_some true x = refl
@@ -203,7 +187,7 @@ with_some es w true key usage some = elim (cases_Bool (asks key usage w)) [
       let here : is_some (find (is_entry key usage) es) ≡ true =
       ap (λ k. is_some (find (is_entry k usage) es)) is.0 ∙ ap (λ u. is_some (find (is_entry w.key u) es)) is.1 ∙ some in
       here ∙ ap (λ b. b || asks key usage w) (sym here)
-  | inr other ↦ sym (or_false (is_some (find (is_entry key usage) es))) ∙ ap (λ b. is_some (find (is_entry key usage) es) || b) (sym other)
+  | inr other ↦ sym (or-false (is_some (find (is_entry key usage) es))) ∙ ap (λ b. is_some (find (is_entry key usage) es) || b) (sym other)
 ]
 with_some es w false key usage none =
     let p : GotEntry → Bool = is_entry key usage in
@@ -237,8 +221,8 @@ one_added ws w es is =
       found = λ key usage.
           with_some es w b key usage refl
           ∙ ap (λ t. t || asks key usage w) (is.found key usage)
-          ∙ ap (λ t. list_any (asks key usage) ws || t) (sym (or_false (asks key usage w)))
-          ∙ sym (any_append (asks key usage) ws (w ∷ []));
+          ∙ ap (λ t. list_any (asks key usage) ws || t) (sym (or-false (asks key usage w)))
+          ∙ sym (list_any-append (asks key usage) ws (w ∷ []));
     }
 
 -- all of a list, one after the other

@@ -6,6 +6,7 @@ use Rattle.std.proofs.lemmas.Bool.{cond-true}
 use Rattle.std.proofs.lemmas.List.{append-nil, take_more}
 use Rattle.std.proofs.lemmas.List.FromFn.{get_or-range_with_len, length-range_with_len}
 use Rattle.lk_base.proofs.Loops.{flat_step}
+use Rattle.lk_base.proofs.Membership.{any_here, any_later}
 use Rattle.std.proofs.lemmas.Grind.{flat_map-append}
 use Rattle.lk_tables.specs.declared.objects.Reloc.{Reloc}
 use Rattle.lk_tables.specs.Files.{File, section_total}
@@ -17,25 +18,15 @@ use Rattle.link_sections.specs.Leaders.{leads}
 use Rattle.link_sections.proofs.GotSteps.{own_entry}
 use Rattle.link_sections.specs.GotUses.{HasAllUses}
 use Rattle.got_tls.specs.GotList.{Wanted, all_added, got_of, wanted, wanted_by, wanted_in, wanted_use}
-use Rattle.got_tls.proofs.Adding.{added_append, all_are_added, any_append, asks}
+use Rattle.got_tls.proofs.Adding.{added_append, all_are_added, asks}
 use Rattle.got_tls.proofs.UseKinds.{uses_are}
 
 -- some element of a list of lists
-or_true : (a b : Bool) → b ≡ true → (a || b) ≡ true
-or_true true b e = refl
-or_true false b e = e
-
-any_left : {X : Type 0} (p : X → Bool) (xs ys : List X) → list_any p xs ≡ true → list_any p (xs ++ ys) ≡ true
-any_left p xs ys some = any_append p xs ys ∙ ap (λ b. b || list_any p ys) some
-
-any_right : {X : Type 0} (p : X → Bool) (xs ys : List X) → list_any p ys ≡ true → list_any p (xs ++ ys) ≡ true
-any_right p xs ys some = any_append p xs ys ∙ or_true (list_any p xs) (list_any p ys) some
-
 any_flat : {X Y : Type 0} (p : Y → Bool) (f : X → List Y) (xs : List X) (i : ℕ) (d : X) → i < length xs → list_any p (f (get_or xs i d)) ≡ true →
     list_any p (flat_map f xs) ≡ true
 any_flat p f [] i d lt some = absurd (omega arith)
-any_flat p f (x ∷ xs) zero d lt some = any_left p (f x) (flat_map f xs) some
-any_flat p f (x ∷ xs) (suc i) d lt some = any_right p (f x) (flat_map f xs) (any_flat p f xs i d (omega arith) some)
+any_flat p f (x ∷ xs) zero d lt some = any_here p (f x) (flat_map f xs) some
+any_flat p f (x ∷ xs) (suc i) d lt some = any_later p (f x) (flat_map f xs) (any_flat p f xs i d (omega arith) some)
 
 -- what a relocation asks for is among the uses
 asked_by : (files : List File) (f : ℕ) (r : Reloc) (usage : GotUse) (o : Option GotUse) → o ≡ Some usage →

@@ -1,6 +1,6 @@
 -- Keys are numbers of symbols, and relocations name symbols of their files.
-use Rattle.std.proofs.Common.{◌≡◌, ℕ, ◌+◌, ◌<◌, ◌^◌, ◌==◌, Bool, true, false, cond, List, [], ◌∷◌, length, get_or, refl, ap, arith, inl, inr}
-use Rattle.std.specs.Prelude.{Some, if◌then◌else◌, find}
+use Rattle.std.proofs.Common.{ℕ, ◌<◌, ◌^◌, ◌==◌, Bool, true, false, cond, List, [], ◌∷◌, length, get_or, ap, arith, inl, inr}
+use Rattle.std.specs.Prelude.{Some, find}
 use Rattle.std.specs.List.{All}
 use Rattle.std.specs.Str.{bytes_eq}
 use Rattle.std.proofs.lemmas.Bool.{cases_lt}
@@ -9,7 +9,7 @@ use Rattle.std.proofs.lemmas.List.Elements.{All-head, All-tail}
 use Rattle.lk_base.specs.declared.abi.TheConstants.{STB_LOCAL}
 use Rattle.lk_tables.specs.declared.objects.Reloc.{Reloc}
 use Rattle.lk_tables.specs.declared.tables.Tables.{Tables}
-use Rattle.lk_tables.specs.Files.{AreFew, File, commons_before, file_at, no_section, section_count, section_total, symbol_at, symbol_name, symbol_no, symbol_total}
+use Rattle.lk_tables.specs.Files.{AreFew, File, file_at, no_section, section_total, symbol_at, symbol_name, symbol_no, symbol_total}
 use Rattle.lk_tables.specs.Inside.{IsBodyInside}
 use Rattle.lk_tables.specs.NameNumbers.{Named, heads_alone, is_named, name_at, name_number, names, names_in, number_of, number_or}
 use Rattle.lk_tables.specs.Sites.{place_of, relocs_of}
@@ -17,6 +17,7 @@ use Rattle.lk_tables.specs.TablesView.{files_of}
 use Rattle.lk_tables.proofs.BoundHas.{each_flat, either, one_if}
 use Rattle.lk_tables.proofs.ByNumber.{symbol_total_alone}
 use Rattle.lk_tables.proofs.FirstNumbers.{first_within}
+use Rattle.lk_tables.proofs.LiveFiles.{live_from}
 use Rattle.lk_tables.proofs.Owners.{place_of_number}
 use Rattle.lk_tables.proofs.SoundFiles.{inside_body, sound_file}
 use Rattle.link_sections.specs.GotEntries.{key_of}
@@ -57,14 +58,6 @@ key_low files f i few lt below =
     either (λ n. n < 2 ^ 31) ((symbol_at (file_at files f) i).binding == STB_LOCAL) (symbol_no files f i) (name_number (heads_alone files) f i)
     (omega (arith, total, own, below)) (omega (arith, total, alone, name))
 
--- sections of a file that takes no part have no numbers
-live_from : (files : List File) (f k : ℕ) → k < section_count (file_at files f) → (file_at files f).live ≡ true
-live_from files f k lt = go (file_at files f).live lt
-  where
-    go : (b : Bool) → k < (if b then length (file_at files f).head.sections + commons_before (file_at files f) (length (file_at files f).head.symbols) else 0) → b ≡ true
-    go true lt = refl
-    go false lt = absurd (omega (arith, lt))
-
 pub symbol_within : (tables : Tables) (n k : ℕ) (d : Reloc) → n < section_total (files_of tables) → k < length (relocs_of (files_of tables) n) →
     (get_or (relocs_of (files_of tables) n) k d).symbol < length (file_at (files_of tables) (place_of (files_of tables) n).file).head.symbols
 symbol_within tables n k d lt less =
@@ -73,7 +66,7 @@ symbol_within tables n k d lt less =
     let i = (place_of files n).index in
     let file : File = file_at files f in
     let law = place_of_number files n lt in
-    let inside : IsBodyInside file.bytes file.head file.object = inside_body file (sound_file tables f (live_from files f i law.index)) in
+    let inside : IsBodyInside file.bytes file.head file.object = inside_body file (sound_file tables f (live_from (file_at files f) i law.index)) in
     elim (cases_lt i (length file.object.relocs)) [
       | inl low ↦ (inside.relocs i [] low no_section k d less).symbol
       | inr past ↦ absurd (omega (arith, less, ap length (get_or_past file.object.relocs i [] past)))

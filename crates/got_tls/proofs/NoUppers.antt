@@ -6,6 +6,7 @@ use Rattle.std.proofs.lemmas.Grind.{flat_map-append}
 use Rattle.std.proofs.lemmas.List.{length-append, take_more}
 use Rattle.lk_base.specs.RelocKinds.{is_upper}
 use Rattle.lk_base.specs.declared.abi.TheConstants.{R_RISCV_GOT_HI20, R_RISCV_TLS_GD_HI20, R_RISCV_TLS_GOT_HI20}
+use Rattle.lk_base.proofs.NoneGiven.{either_none}
 use Rattle.lk_tables.specs.declared.objects.Reloc.{Reloc}
 use Rattle.lk_tables.specs.declared.uppers.Uppers.{Uppers}
 use Rattle.lk_tables.specs.Files.{File, section_total}
@@ -65,10 +66,6 @@ none_among files f (r ∷ rs) none = go (is_upper r.kind) refl none (λ rest. no
         → wanted_by files f r ++ flat_map (wanted_by files f) rs ≡ []
     go true is none rest = let wrong : ⊥ = cc in absurd wrong
     go false is none rest = ap (λ l. l ++ flat_map (wanted_by files f) rs) (none_by files f r is) ∙ rest none
-
-either_none : {X : Type 0} (b : Bool) (xs : List X) → xs ≡ [] → (if b then xs else []) ≡ []
-either_none true xs none = none
-either_none false xs none = refl
 
 none_in : (files : List File) (leaders : List (Option ℕ)) (n : ℕ) → uppers_among (relocs_of files n) ≡ [] → wanted_in files leaders n ≡ []
 unfolding wanted_in

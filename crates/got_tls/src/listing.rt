@@ -1,6 +1,6 @@
 //! The entries that the sections of a link ask for.
 
-ghost use Rattle.std.specs.Prelude.{◌≡◌, ◌<◌, [], List, false, length, flat_map, slice_index, slice_index_or, IfOk, OnOk};
+ghost use Rattle.std.specs.Prelude.{◌≡◌, ◌<◌, [], List, false, length, flat_map, slice_index_or, IfOk, OnOk};
 ghost use Rattle.lk_tables.specs.declared.objects.Reloc.{Reloc};
 ghost use Rattle.lk_tables.specs.Files.{file_at, section_total};
 ghost use Rattle.lk_tables.specs.NameNumbers.{NumbersNames, heads_alone};
@@ -63,19 +63,9 @@ fn add_by_uppers(
 fn has_uppers(uppers: &Uppers, section: SecNo) -> bool
     ensures { result ≡ false → (lists : List (List Reloc)) → AreListed lists uppers.now → section < length lists → slice_index_or lists section [] ≡ [] }
 {
-    let first = first_at(uppers, section as usize);
-    let next = first_at(uppers, section as usize + 1);
+    let first = uppers.first_at(section as usize);
+    let next = uppers.first_at(section as usize + 1);
     first < next
-}
-
-/// Where the list of a section's number starts.
-fn first_at(uppers: &Uppers, section: usize) -> usize
-    ensures { result ≡ slice_index uppers.now.firsts.items section }
-{
-    match uppers.firsts.get(section) {
-        Some(first) => *first,
-        None => 0,
-    }
 }
 
 /// Adds what the relocations of a section ask for, if it is its own leader.

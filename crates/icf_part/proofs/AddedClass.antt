@@ -3,6 +3,7 @@ use Rattle.std.proofs.Common.{◌≡◌, ◌≢◌, ◌⊎◌, ℕ, zero, suc, �
 use Rattle.std.proofs.lemmas.Bool.{both_ways, cases_eq, cases_lt, ne_eqb}
 use Rattle.std.proofs.lemmas.List.{get_or-set_other, get_or-set_same, get_or_append_left, get_or_past, length-append, length-set}
 use Rattle.std.proofs.lemmas.List.Elements.{Contains-append_left, Contains-append_right, Contains-append_cases}
+use Rattle.lk_base.proofs.Membership.{only_one}
 use Rattle.icf_part.specs.Classes.{GoesOn, IsKept, IsSettled, Waits, class_count, size_of}
 use Rattle.icf_part.specs.Counts.{how_many}
 use Rattle.icf_part.proofs.Counting.{more, none, same}
@@ -16,9 +17,6 @@ last_at (y ∷ xs) x d = last_at xs x d
 
 pub past_last : {X : Type 0} (xs : List X) (x d : X) (k : ℕ) → length xs < k → get_or (xs ++ x ∷ []) k d ≡ d
 past_last xs x d k lt = get_or_past (xs ++ x ∷ []) k d (omega (arith, lt, length-append xs (x ∷ [])))
-
-pub in_one : {X : Type 0} (x y : X) → Contains (x ∷ []) y → x ≡ y
-in_one x y (k, lt, e) = let zero_is : k ≡ 0 = omega arith in ap (λ j. get_or (x ∷ []) j y) (sym zero_is) ∙ e
 
 -- which of two classes waits from now on
 pub record IsNext (waits : List Bool) (from to next : ℕ) : Type 0 where
@@ -208,7 +206,7 @@ module _ (n from moved next : ℕ) (part old new sizes : List ℕ) (members : Li
             (new_waits label w);
         inside = λ label has. ⊎_elim
             (λ (before : Contains queue label). let low = kept.inside label before in omega (arith, low, long))
-            (λ (last : Contains (next ∷ []) label). let e = in_one next label last in omega (arith, e, next_in, long))
+            (λ (last : Contains (next ∷ []) label). let e = only_one next label last in omega (arith, e, next_in, long))
             (Contains-append_cases queue (next ∷ []) label has);
         room = let r = kept.room in omega (arith, r, long, count);
       }

@@ -8,6 +8,7 @@ use Rattle.icf_part.specs.Counts.{is_new}
 use Rattle.icf_part.specs.Edges.{AreInto, IsDone, IsPending, IsTurned}
 use Rattle.icf_part.specs.Numbered.{AreEnds}
 use Rattle.icf_part.proofs.Counting.{most}
+use Rattle.icf_part.proofs.Started.{empty_queue}
 use Rattle.icf_part.proofs.Turning.{IsWay, way_ends, way_on}
 
 pub record IsUnderWay (n : ℕ) (into : List (List ℕ)) (start now : Classes) (before after : ℕ) : Type 0 where
@@ -49,9 +50,6 @@ way_next n into start now mid next label before s t count same waits is stands t
       steps = omega (arith, one, is.steps, stands.steps);
     }
 
-none_queued : (queue : List ℕ) (label : ℕ) → length queue ≡ 0 → Contains queue label → ⊥
-none_queued queue label none (k, lt, e) = omega (arith, none, lt)
-
 pub way_done : (n : ℕ) (into : List (List ℕ)) (start last : Classes) (before after : ℕ) → length into ≡ n → length start.labels.items ≡ n → length last.queue.items ≡ 0 →
     IsUnderWay n into start last before after → IsDone into start last
 way_done n into start last before after count wide none is = record {
@@ -59,7 +57,7 @@ way_done n into start last before after count wide none is = record {
   stable = λ ends are ends_are pending.
       let F : ℕ → Type 0 = λ k. (a b : ℕ) → a < k → b < k → label_of last a ≡ label_of last b → label_of start a ≡ label_of start b in
       way_ends ends start.labels.items last.labels.items last.waits.items ends_are (subst F (sym count ∙ are.count) is.finer)
-      (λ label w. none_queued last.queue.items label none (is.kept.queued label w)) (is.way ends are ends_are pending).pending;
+      (λ label w. empty_queue last.queue.items label none (is.kept.queued label w)) (is.way ends are ends_are pending).pending;
   outer = λ ends pairs are ends_are pending carried joins. (is.way ends are ends_are pending).outer pairs carried joins;
 }
 

@@ -1,11 +1,11 @@
 -- Some of the items by their places.
 use Rattle.std.proofs.Common.{◌≡◌, ℕ, ◌<◌, ◌≤◌, All, List, [], ◌∷◌, length, map, take, get_or, refl, sym, ap, ◌∙◌}
 use Rattle.std.proofs.lemmas.List.{get_or-map, length-map}
+use Rattle.lk_base.proofs.Loops.{mapped_all}
 use Rattle.link_sections.specs.declared.fold_items.FoldItem.{FoldItem as LentItem}
 use Rattle.link_sections.specs.FoldItems.{FoldItem, item_view, item_views}
 use Rattle.icf_part.specs.Chosen.{items_at, views_at}
 use Rattle.icf_part.specs.Folding.{item_at, no_item}
-use Rattle.icf_part.proofs.Collected.{mapped_all}
 use Rattle.icf_part.proofs.PartSteps.{viewed_at}
 
 pub items_wide : (items : List FoldItem) (chosen : List ℕ) → length (items_at items chosen) ≡ length chosen

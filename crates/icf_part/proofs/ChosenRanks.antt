@@ -8,9 +8,9 @@ use Rattle.std.proofs.lemmas.List.Elements.{Contains-get_or, filter-append, filt
 use Rattle.std.proofs.lemmas.List.FromFn.{get_or-range_with_len, length-range_with_len}
 use Rattle.std.proofs.lemmas.List.Kept.{IsStrictlyIncreasing-filter}
 use Rattle.lk_base.proofs.Loops.{range_more}
+use Rattle.lk_base.proofs.Membership.{from_filter, from_range}
 use Rattle.icf_part.specs.Counts.{how_many}
 use Rattle.icf_part.proofs.Counting.{more, none, one_if}
-use Rattle.icf_part.proofs.Paired.{from_filter, from_range}
 
 range_rises : (n : ℕ) → IsStrictlyIncreasing (range_with_len 0 n)
 range_rises n = λ k lt.

@@ -4,6 +4,7 @@ use Rattle.std.proofs.lemmas.List.{append-nil, map-append, take_all, take_more}
 use Rattle.std.proofs.lemmas.Grind.{flat_map-append}
 use Rattle.std.specs.List.{filter}
 use Rattle.std.proofs.lemmas.List.Elements.{filter-append}
+use Rattle.lk_base.proofs.Loops.{mapped_all}
 use Rattle.link_sections.specs.declared.fold_items.FoldItem.{FoldItem as LentItem}
 use Rattle.link_sections.specs.FoldItems.{FoldItem, item_view, item_views}
 
@@ -14,15 +15,6 @@ pub mapped_more : {X Y : Type 0} (f : X → Y) (xs : List X) (i : ℕ) (x : X) (
     old ≡ map f (take i xs) → new ≡ old ++ f x ∷ [] → new ≡ map f (take (i + 1) xs)
 mapped_more f xs i x old new lt is held push =
     push ∙ ap (λ l. l ++ f x ∷ []) held ∙ sym (map-append f (take i xs) (x ∷ [])) ∙ ap (map f) (sym (more xs i x lt is))
-
--- the same where the element is read with a default
-pub mapped_at : {X Y : Type 0} (f : X → Y) (xs : List X) (i : ℕ) (d : X) (old new : List Y) → i < length xs →
-    old ≡ map f (take i xs) → new ≡ old ++ f (get_or xs i d) ∷ [] → new ≡ map f (take (i + 1) xs)
-mapped_at f xs i d old new lt held push =
-    push ∙ ap (λ l. l ++ f (get_or xs i d) ∷ []) held ∙ sym (map-append f (take i xs) (get_or xs i d ∷ [])) ∙ ap (map f) (sym (take_more xs i d lt))
-
-pub mapped_all : {X Y : Type 0} (f : X → Y) (xs : List X) (i : ℕ) (list : List Y) → length xs ≤ i → list ≡ map f (take i xs) → list ≡ map f xs
-mapped_all f xs i list le held = held ∙ ap (map f) (take_all i xs le)
 
 pub flat_more : {X Y : Type 0} (f : X → List Y) (before : List Y) (xs : List X) (i : ℕ) (x : X) (old new : List Y) → i < length xs → x ≡ get_or xs i x →
     old ≡ before ++ flat_map f (take i xs) → new ≡ old ++ f x → new ≡ before ++ flat_map f (take (i + 1) xs)

@@ -4,11 +4,12 @@ use Rattle.std.specs.List.{filter, list_any, range_with_len}
 use Rattle.std.proofs.lemmas.Bool.{cases_Bool, cases_lt, eq-eqb, eqb-false, eqb-true}
 use Rattle.std.proofs.lemmas.List.{length-append}
 use Rattle.std.proofs.lemmas.List.Elements.{filter-append}
+use Rattle.std.specs.Cmp.{both_ways}
 use Rattle.lk_base.proofs.Loops.{range_more}
+use Rattle.lk_base.proofs.Membership.{any_from, from_range, in_range}
 use Rattle.icf_part.specs.Counts.{how_many, is_new, leader_count}
 use Rattle.icf_part.specs.Numbered.{AreFirsts}
-use Rattle.icf_part.proofs.Deciding.{any_passes, any_tells}
-use Rattle.icf_part.proofs.Paired.{from_range, in_range}
+use Rattle.icf_part.proofs.Deciding.{any_tells}
 
 abbrev pub one_if : Bool → ℕ
 one_if b = cond b 1 0
@@ -108,18 +109,13 @@ one_more p q g n lt fails passes others = (ones p q g fails passes n others).aft
 
 -- tests of the numbers below one
 pub any_below : (p : ℕ → Bool) (n k : ℕ) → k < n → p k ≡ true → list_any p (range_with_len 0 n) ≡ true
-any_below p n k lt is = any_passes p (range_with_len 0 n) k (in_range n k lt) is
+any_below p n k lt is = any_from p (range_with_len 0 n) k (in_range n k lt) is
 
 pub below_any : (p : ℕ → Bool) (n : ℕ) → list_any p (range_with_len 0 n) ≡ true → Found p n
 below_any p n is = let some = any_tells p (range_with_len 0 n) is in record { k = some.x; within = from_range n some.x some.listed; passes = some.passes }
 
-pub either : (a b : Bool) → (a ≡ true → b ≡ true) → (b ≡ true → a ≡ true) → a ≡ b
-either true b there back = sym (there refl)
-either false true there back = back refl
-either false false there back = refl
-
 pub any_same : (p q : ℕ → Bool) (n : ℕ) → ((k : ℕ) → k < n → p k ≡ q k) → list_any p (range_with_len 0 n) ≡ list_any q (range_with_len 0 n)
-any_same p q n is = either (list_any p (range_with_len 0 n)) (list_any q (range_with_len 0 n))
+any_same p q n is = both_ways (list_any p (range_with_len 0 n)) (list_any q (range_with_len 0 n))
     (λ t. let f = below_any p n t in any_below q n f.k f.within (sym (is f.k f.within) ∙ f.passes))
     (λ t. let f = below_any q n t in any_below p n f.k f.within (is f.k f.within ∙ f.passes))
 

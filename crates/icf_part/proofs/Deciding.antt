@@ -1,56 +1,19 @@
 -- The tests of the definition of leaders decide what they name: equal targets and keys, matching targets, fitting items, congruences.
-use Rattle.std.proofs.Common.{◌≡◌, ◌⊎◌, ℕ, ◌<◌, ◌==◌, ◌&&◌, ◌||◌, ltb, ℤ, Bool, true, false, true≢false, Option, Some, None, List, [], ◌∷◌, length, Contains, Decides, refl, sym, ap, ◌∙◌, subst, inl, inr, ⊎_elim, bytes_eq, int_eq, arith}
+use Rattle.std.proofs.Common.{◌≡◌, ◌⊎◌, ℕ, ◌<◌, ◌==◌, ◌&&◌, ◌||◌, ltb, ℤ, Bool, true, false, true≢false, Option, Some, List, [], ◌∷◌, length, Contains, Decides, refl, sym, ap, ◌∙◌, subst, inl, inr, ⊎_elim, bytes_eq, int_eq, arith}
 use Rattle.std.specs.Bool.{beq}
 use Rattle.std.specs.Cmp.{booleans_Decides}
 use Rattle.std.specs.Cmp.Lexicographic.{pointwise}
 use Rattle.std.specs.List.{list_all, list_any, range_with_len}
 use Rattle.std.proofs.lemmas.Bool.Decides.{Decides-and, Decides-eqb, Decides-int_eq, Decides-like, Decides-ltb, Decides-or}
+use Rattle.std.proofs.lemmas.Bool.{and_from, and_parts}
 use Rattle.std.proofs.lemmas.Slice.Eq.{bytes_eq-Decides, slice_eq-Decides}
+use Rattle.lk_base.proofs.Membership.{any_from, from_range, head_or_tail, in_range, in_tail}
 use Rattle.link_sections.specs.declared.targets.Target.{Target}
-use Rattle.link_sections.specs.declared.targets.Target.TheVariants.{Section, Piece, Number, Zero, Linker, Unbound}
+use Rattle.link_sections.specs.declared.targets.Target.TheVariants.{Section}
 use Rattle.link_sections.specs.FoldItems.{FoldFrame, FoldItem}
+use Rattle.link_sections.proofs.SameTargets.{one_section, target_Decides, target_told}
 use Rattle.icf_part.specs.Folding.{ArePaired, Fits, IsCongruence, Key, Matches, Pair, Site, item_at, key_of, pair, target_at}
 use Rattle.icf_part.specs.Leaders.{are_bytes_of, fits, has_pair, is_congruence, matches, same_frame, same_key, same_site, same_target}
-use Rattle.icf_part.proofs.Paired.{from_range, head_or_tail, in_range, in_tail}
-
--- equal targets
-section_parts : (s o : ℕ) (r : ℤ) (t p : ℕ) (q : ℤ) → Decides (s == t && (o == p && int_eq r q)) ((s ≡ t) × ((o ≡ p) × (r ≡ q)))
-section_parts s o r t p q = Decides-and (s == t) (o == p && int_eq r q) (Decides-eqb s t) (Decides-and (o == p) (int_eq r q) (Decides-eqb o p) (Decides-int_eq r q))
-
-piece_parts : (s m o : ℕ) (r : ℤ) (t n p : ℕ) (q : ℤ) → Decides (s == t && (m == n && (o == p && int_eq r q))) ((s ≡ t) × ((m ≡ n) × ((o ≡ p) × (r ≡ q))))
-piece_parts s m o r t n p q = Decides-and (s == t) (m == n && (o == p && int_eq r q)) (Decides-eqb s t) (section_parts m o r n p q)
-
-one_section : (s o : ℕ) (r : ℤ) (t p : ℕ) (q : ℤ) → s ≡ t → o ≡ p → r ≡ q → Some (Section s o r) ≡ Some (Section t p q)
-one_section s o r t p q e f h = cc
-
-one_piece : (s m o : ℕ) (r : ℤ) (t n p : ℕ) (q : ℤ) → s ≡ t → m ≡ n → o ≡ p → r ≡ q → Some (Piece s m o r) ≡ Some (Piece t n p q)
-one_piece s m o r t n p q e f g h = cc
-
-target_told : (t u : Option Target) → same_target t u ≡ true → t ≡ u
-target_told None None e = refl
-target_told (Some (Section s o r)) (Some (Section t p q)) e =
-    let parts = (section_parts s o r t p q).0 e in
-    one_section s o r t p q parts.0 parts.1.0 parts.1.1
-target_told (Some (Piece s m o r)) (Some (Piece t n p q)) e =
-    let parts = (piece_parts s m o r t n p q).0 e in
-    one_piece s m o r t n p q parts.0 parts.1.0 parts.1.1.0 parts.1.1.1
-target_told (Some (Number m)) (Some (Number n)) e = ap (λ k. Some (Number k)) ((Decides-eqb m n).0 e)
-target_told (Some Zero) (Some Zero) e = refl
-target_told (Some (Linker m)) (Some (Linker n)) e = ap (λ k. Some (Linker k)) ((Decides-eqb m n).0 e)
-target_told (Some Unbound) (Some Unbound) e = refl
-target_told t u e = absurd (true≢false (sym e))
-
-target_own : (t : Option Target) → same_target t t ≡ true
-target_own None = refl
-target_own (Some (Section s o r)) = (section_parts s o r s o r).1 (refl, (refl, refl))
-target_own (Some (Piece s m o r)) = (piece_parts s m o r s m o r).1 (refl, (refl, (refl, refl)))
-target_own (Some (Number m)) = (Decides-eqb m m).1 refl
-target_own (Some Zero) = refl
-target_own (Some (Linker m)) = (Decides-eqb m m).1 refl
-target_own (Some Unbound) = refl
-
-pub target_Decides : (t u : Option Target) → Decides (same_target t u) (t ≡ u)
-target_Decides t u = (target_told t u, λ e. let P : Option Target → Type 0 = λ v. same_target t v ≡ true in subst P e (target_own t))
 
 -- equal keys
 site_from : (s t : Site) → s.offset ≡ t.offset → s.kind ≡ t.kind → s.addend ≡ t.addend → s.is_section_symbol ≡ t.is_section_symbol → s ≡ t
@@ -166,14 +129,6 @@ either_true : (a b : Bool) → (a || b) ≡ true → (a ≡ true) ⊎ (b ≡ tru
 either_true true b e = inl refl
 either_true false b e = inr e
 
-or_left : (a b : Bool) → a ≡ true → (a || b) ≡ true
-or_left true b e = refl
-or_left false b e = absurd (true≢false (sym e))
-
-or_right : (a b : Bool) → b ≡ true → (a || b) ≡ true
-or_right true b e = refl
-or_right false b e = e
-
 pub any_tells : {X : Type 0} (p : X → Bool) (xs : List X) → list_any p xs ≡ true → Passes p xs
 any_tells p [] e = absurd (true≢false (sym e))
 any_tells p (x ∷ xs) e = ⊎_elim
@@ -181,25 +136,10 @@ any_tells p (x ∷ xs) e = ⊎_elim
     (λ (later : list_any p xs ≡ true). let rest = any_tells p xs later in record { x = rest.x; listed = in_tail x rest.x xs rest.listed; passes = rest.passes })
     (either_true (p x) (list_any p xs) e)
 
-pub any_passes : {X : Type 0} (p : X → Bool) (xs : List X) (x : X) → Contains xs x → p x ≡ true → list_any p xs ≡ true
-any_passes p [] x (k, lt, is) passes = absurd (omega (arith, lt))
-any_passes p (y ∷ xs) x has passes = ⊎_elim
-    (λ (here : y ≡ x). or_left (p y) (list_any p xs) (ap p here ∙ passes))
-    (λ (later : Contains xs x). or_right (p y) (list_any p xs) (any_passes p xs x later passes))
-    (head_or_tail y x xs has)
-
-pub both_true : (a b : Bool) → (a && b) ≡ true → (a ≡ true) × (b ≡ true)
-both_true true b e = (refl, e)
-both_true false b e = absurd (true≢false (sym e))
-
-pub and_true : (a b : Bool) → a ≡ true → b ≡ true → (a && b) ≡ true
-and_true true b e f = f
-and_true false b e f = absurd (true≢false (sym e))
-
 pub all_tell : {X : Type 0} (p : X → Bool) (xs : List X) → list_all p xs ≡ true → (x : X) → Contains xs x → p x ≡ true
 all_tell p [] e x (k, lt, is) = absurd (omega (arith, lt))
 all_tell p (y ∷ xs) e x has =
-    let both = both_true (p y) (list_all p xs) e in
+    let both = and_parts (p y) (list_all p xs) e in
     ⊎_elim
     (λ (here : y ≡ x). ap p (sym here) ∙ both.0)
     (λ (later : Contains xs x). all_tell p xs both.1 x later)
@@ -208,7 +148,7 @@ all_tell p (y ∷ xs) e x has =
 pub all_pass : {X : Type 0} (p : X → Bool) (xs : List X) → ((x : X) → Contains xs x → p x ≡ true) → list_all p xs ≡ true
 all_pass p [] each = refl
 all_pass p (y ∷ xs) each =
-    and_true (p y) (list_all p xs) (each y (0, omega arith, refl)) (all_pass p xs (λ x has. each x (in_tail y x xs has)))
+    and_from (p y) (list_all p xs) (each y (0, omega arith, refl)) (all_pass p xs (λ x has. each x (in_tail y x xs has)))
 
 -- sections of a pair
 record AreBytesOf (s t : ℕ) (x y : Option Target) : Type 0 where
@@ -219,7 +159,7 @@ record AreBytesOf (s t : ℕ) (x y : Option Target) : Type 0 where
 
 bytes_told : (s t : ℕ) (x y : Option Target) → are_bytes_of s t x y ≡ true → AreBytesOf s t x y
 bytes_told s t (Some (Section m o r)) y e =
-    let both = both_true (m == s) (same_target y (Some (Section t o r))) e in
+    let both = and_parts (m == s) (same_target y (Some (Section t o r))) e in
     record {
       offset = o;
       rest = r;
@@ -230,7 +170,7 @@ bytes_told s t x y e = absurd (true≢false (sym e))
 
 bytes_are : (s t o : ℕ) (r : ℤ) (x y : Option Target) → x ≡ Some (Section s o r) → y ≡ Some (Section t o r) → are_bytes_of s t x y ≡ true
 bytes_are s t o r x y one two =
-    let here = and_true (s == s) (same_target y (Some (Section t o r))) ((Decides-eqb s s).1 refl) ((target_Decides y (Some (Section t o r))).1 two) in
+    let here = and_from (s == s) (same_target y (Some (Section t o r))) ((Decides-eqb s s).1 refl) ((target_Decides y (Some (Section t o r))).1 two) in
     ap (λ v. are_bytes_of s t v y) one ∙ here
 
 -- a list has a pair
@@ -247,7 +187,7 @@ has_pair_Decides pairs a b = (
       let same = (pair_test found.x a b).0 found.passes in
       let P : Pair → Type 0 = λ p. Contains pairs p in
       subst P (pair_from found.x a b same.0 same.1) found.listed,
-  λ has. any_passes (λ (p : Pair). p.one == a && p.two == b) pairs (pair a b) has ((pair_test (pair a b) a b).1 (refl, refl)),
+  λ has. any_from (λ (p : Pair). p.one == a && p.two == b) pairs (pair a b) has ((pair_test (pair a b) a b).1 (refl, refl)),
 )
 
 module _ (items : List FoldItem) (pairs : List Pair) where
@@ -258,7 +198,7 @@ module _ (items : List FoldItem) (pairs : List Pair) where
         let told = bytes_told (item_at items found.x.one).section (item_at items found.x.two).section t u found.passes in
         record { a = found.x.one; b = found.x.two; offset = told.offset; rest = told.rest; listed = found.listed; one = told.one; two = told.two },
     λ (p : ArePaired items pairs t u).
-        any_passes (λ (q : Pair). are_bytes_of (item_at items q.one).section (item_at items q.two).section t u) pairs (pair p.a p.b) p.listed
+        any_from (λ (q : Pair). are_bytes_of (item_at items q.one).section (item_at items q.two).section t u) pairs (pair p.a p.b) p.listed
         (bytes_are (item_at items p.a).section (item_at items p.b).section p.offset p.rest t u p.one p.two),
   )
 

@@ -4,9 +4,9 @@ use Rattle.std.proofs.lemmas.Bool.{cases_eq, cases_lt}
 use Rattle.std.specs.Global.{Vec}
 use Rattle.std.proofs.lemmas.List.{get_or-map, get_or-replicate, get_or-set_other, get_or-set_same, get_or_past, length-map, length-replicate, length-set, map-set}
 use Rattle.std.proofs.lemmas.List.Elements.{Contains-append_left, Contains-append_right, Contains-append_cases}
+use Rattle.lk_base.proofs.Membership.{only_one}
 use Rattle.icf_part.specs.Classes.{AreAdded, AreItems, lists_of, word}
 use Rattle.icf_part.specs.Edges.{AreInto, end_at}
-use Rattle.icf_part.proofs.AddedClass.{in_one}
 
 -- one element more in the list of a number
 
@@ -30,7 +30,7 @@ one_more_list lists t w lt =
       only = λ p x has. let P : List ℕ → Type 0 = λ l. Contains l x in ⊎_elim
           (λ (e : p ≡ t). ⊎_elim
           (λ (before : Contains (get_or lists t []) x). inl (subst P (sym (ap (λ k. get_or lists k []) e)) before))
-          (λ (last : Contains (w ∷ []) x). inr (e, in_one w x last))
+          (λ (last : Contains (w ∷ []) x). inr (e, only_one w x last))
           (Contains-append_cases (get_or lists t []) (w ∷ []) x (subst P (ap (λ k. get_or (set lists t row) k []) e ∙ here) has)))
           (λ (o : p ≢ t). inl (subst P (get_or-set_other lists t p row [] o) has))
           (cases_eq p t);

@@ -1,10 +1,9 @@
 -- What is compared of unwind records: equal words are of equal records.
 use Rattle.std.proofs.Common.{◌≡◌, ℕ, List, [], ◌∷◌, ◌++◌, length, flat_map, get_or, drop, refl, sym, ap, ◌∙◌, arith, append_assoc}
 use Rattle.link_sections.specs.FoldItems.{FoldFrame}
+use Rattle.link_sections.proofs.SameTargets.{signed_told, signed_wide, split_same}
 use Rattle.icf_part.specs.Signatures.{frame_words, signed_words}
 use Rattle.icf_part.proofs.Deciding.{frame_from}
-use Rattle.icf_part.proofs.Rows.{split_same}
-use Rattle.icf_part.proofs.Targets.{signed_told, signed_wide}
 
 -- parts of known lengths, one after the other
 three_apart : (s t a b c d x y : List ℕ) → length s ≡ length t → length a ≡ length b → length c ≡ length d → (s ++ (a ++ c)) ++ x ≡ (t ++ (b ++ d)) ++ y →

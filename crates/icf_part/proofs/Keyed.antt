@@ -2,8 +2,8 @@
 use Rattle.std.proofs.Common.{◌≡◌, ℕ, ◌/◌, ◌%◌, ◌<◌, ◌^◌, List, map, get_or, Contains, ap, ◌∙◌, subst, arith}
 use Rattle.std.specs.Prelude.{All}
 use Rattle.std.proofs.lemmas.List.Elements.{All-contains}
+use Rattle.lk_base.proofs.Membership.{from_map, in_map}
 use Rattle.icf_part.specs.Classes.{AreSplit, word}
-use Rattle.icf_part.proofs.Paired.{from_map, in_map}
 
 abbrev pub keyed : (labels list : List ℕ) → List ℕ
 keyed labels list = map (λ a. word (get_or labels a 0) a) list

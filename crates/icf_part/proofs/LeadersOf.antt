@@ -1,6 +1,6 @@
 -- The leaders by their definition as a function: they are the leaders, there are no others, and what holds of them.
 use Rattle.std.proofs.Common.{◌≡◌, ◌⊎◌, ℕ, zero, suc, ◌<◌, ◌≤◌, ◌==◌, ◌||◌, Bool, true, false, true≢false, List, length, get_or, All, Decides, refl, sym, ap, ◌∙◌, subst, inl, inr, ⊎_elim, unwrap_or, arith}
-use Rattle.std.proofs.lemmas.Bool.{cases_lt}
+use Rattle.std.proofs.lemmas.Bool.{cases_lt, false_from_ne_true}
 use Rattle.std.proofs.lemmas.Bool.Decides.{Decides-eqb, Decides-or}
 use Rattle.std.proofs.lemmas.Grind.{get_or_default_zero, same_number_lists}
 use Rattle.std.proofs.lemmas.List.{get_or_past}
@@ -17,16 +17,12 @@ stands items a b = b == a || are_folded items b a
 stands_Decides : (items : List FoldItem) (a b : ℕ) → Decides (stands items a b) (StandsFor items b a)
 stands_Decides items a b = Decides-or (b == a) (are_folded items b a) (Decides-eqb b a) (folded_Decides items b a)
 
-not_true : (b : Bool) → (b ≡ true → ⊥) → b ≡ false
-not_true true e = absurd (e refl)
-not_true false e = refl
-
 -- an item has one leader
 leader_is : (items : List FoldItem) (a leader : ℕ) → IsLeader items a leader → leader_in items a ≡ leader
 leader_is items a leader is =
     let test = stands items a in
     let none : (b : ℕ) → b < leader → test b ≡ false = λ b less.
-    not_true (test b) (λ e. let le = is.least b ((stands_Decides items a b).0 e) in omega (arith, le, less)) in
+    false_from_ne_true (test b) (λ e. let le = is.least b ((stands_Decides items a b).0 e) in omega (arith, le, less)) in
     ap (λ o. unwrap_or o a) (first_number test (length items) leader is.within none ((stands_Decides items a leader).1 is.own))
 
 leader_at : (items : List FoldItem) (a : ℕ) → a < length items → get_or (leaders_of items) a 0 ≡ leader_in items a

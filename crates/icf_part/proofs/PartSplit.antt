@@ -3,9 +3,10 @@ use Rattle.std.proofs.Common.{◌≡◌, ◌≢◌, ◌⊎◌, ℕ, ◌+◌, ◌
 use Rattle.std.specs.List.{list_any}
 use Rattle.std.proofs.lemmas.Bool.{both_ways, cases_Bool, eq-eqb, eqb-false, eqb-true}
 use Rattle.std.proofs.lemmas.Grind.{same_number_lists}
+use Rattle.lk_base.proofs.Membership.{any_from}
 use Rattle.icf_part.specs.Classes.{IsPartSplit, class_count, relabelled, size_of}
 use Rattle.icf_part.proofs.Counting.{counted, found}
-use Rattle.icf_part.proofs.Deciding.{any_passes, any_tells}
+use Rattle.icf_part.proofs.Deciding.{any_tells}
 use Rattle.icf_part.proofs.Relabelled.{IsRelabelled}
 use Rattle.icf_part.proofs.SplitCounts.{IsParted, one_class_more}
 
@@ -25,7 +26,7 @@ listed_of part a is =
     let P : ℕ → Type 0 = Contains part in subst P (eqb-true some.x a some.passes) some.listed
 
 any_of : (part : List ℕ) (a : ℕ) → Contains part a → list_any (λ b. b == a) part ≡ true
-any_of part a has = any_passes (λ b. b == a) part a has (eq-eqb a a refl)
+any_of part a has = any_from (λ b. b == a) part a has (eq-eqb a a refl)
 
 label_is : (part : List ℕ) (from to : ℕ) (old : List ℕ) (a : ℕ) → relabelled part from to old a ≡ cond (get_or old a 0 == from && list_any (λ b. b == a) part) to (get_or old a 0)
 unfolding relabelled

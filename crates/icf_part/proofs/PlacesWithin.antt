@@ -4,12 +4,12 @@ use Rattle.std.specs.Prelude.{map}
 use Rattle.std.proofs.lemmas.Bool.{cases_lt}
 use Rattle.std.proofs.lemmas.Grind.{get_or_default_zero}
 use Rattle.std.proofs.lemmas.List.{get_or-map, get_or_past, length-map}
+use Rattle.lk_base.proofs.Membership.{from_flat}
 use Rattle.link_sections.specs.declared.targets.Target.{Target}
 use Rattle.link_sections.specs.declared.targets.Target.TheVariants.{Section, Piece, Number, Zero, Linker, Unbound}
 use Rattle.link_sections.specs.FoldItems.{FoldItem, sections_of}
 use Rattle.icf_part.specs.Folding.{item_at, no_item}
 use Rattle.icf_part.specs.Signatures.{all_places, place_list, place_of, places, reloc_places, target_places}
-use Rattle.icf_part.proofs.Paired.{from_flat}
 use Rattle.icf_part.proofs.SectionPlaces.{place_tells}
 use Rattle.icf_part.proofs.Targets.{sections_wide}
 

@@ -1,6 +1,7 @@
 -- Items of a list that get another label, item after item.
 use Rattle.std.proofs.Common.{◌≡◌, ◌≢◌, ℕ, ◌+◌, ◌<◌, ◌==◌, ◌&&◌, ◌||◌, Bool, true, false, cond, List, [], length, get_or, set, take, refl, sym, subst, ap, ◌∙◌, ⊎_elim, inl, inr, arith}
 use Rattle.std.specs.List.{list_any}
+use Rattle.std.proofs.Math.Bool.{or-false}
 use Rattle.std.proofs.lemmas.Bool.{cases_Bool, cases_eq, eq-eqb, eqb-false, eqb-true, ne_eqb}
 use Rattle.std.proofs.lemmas.List.{get_or-set_other, get_or-set_same, length-set}
 use Rattle.std.proofs.lemmas.List.Folds.{list_any_more}
@@ -29,10 +30,6 @@ own_picked from to value true = refl
 own_picked from to value false = refl
 
 -- one more item is asked for, which is another
-or_false : (b : Bool) → (b || false) ≡ b
-or_false true = refl
-or_false false = refl
-
 pub record IsRelabelled (old part : List ℕ) (from to : ℕ) (now : List ℕ) (moved : ℕ) : Type 0 where
   pub wide : length now ≡ length old
   pub each : (a : ℕ) → a < length old → get_or now a 0 ≡ relabelled part from to old a
@@ -72,7 +69,7 @@ module _ (old part : List ℕ) (from to i : ℕ) (apart : from ≢ to) (lt : i <
       get_or now a 0 ≡ relabelled (take (i + 1) part) from to old a
   other_item now moved a is la other =
       is.each a la ∙ picked (take i part) from to old a
-      ∙ ap (λ any. pick from to (get_or old a 0) (get_or old a 0 == from) any) (sym (or_false (list_any (λ c. c == a) (take i part))))
+      ∙ ap (λ any. pick from to (get_or old a 0) (get_or old a 0 == from) any) (sym (or-false (list_any (λ c. c == a) (take i part))))
       ∙ sym (next_picked a false (ne_eqb (get_or part i 0) a other))
 
   -- it has the label

@@ -2,10 +2,10 @@
 use Rattle.std.proofs.Common.{◌≡◌, ℕ, zero, suc, ◌<◌, Bool, true, false, ℤ, List, [], ◌∷◌, ◌++◌, length, map, flat_map, get_or, drop, refl, sym, ap, ◌∙◌, arith}
 use Rattle.std.proofs.lemmas.List.{length-append, length-map, map-append}
 use Rattle.link_sections.specs.declared.fold_items.FoldReloc.{FoldReloc}
+use Rattle.link_sections.proofs.SameTargets.{signed_told, signed_wide, split_same}
 use Rattle.icf_part.specs.Folding.{Site, site_of, no_reloc}
 use Rattle.icf_part.specs.Signatures.{flag_of, reloc_places, rest_words_of, signed_words, site_words, target_words}
-use Rattle.icf_part.proofs.Rows.{split_same}
-use Rattle.icf_part.proofs.Targets.{Agrees, item_count, signed_told, signed_wide, target_wide}
+use Rattle.icf_part.proofs.Targets.{Agrees, item_count, target_wide}
 
 -- what is the same of each two relocations is so of the lists
 pub along : (g : FoldReloc → List ℕ) (rs qs : List FoldReloc) → map site_of rs ≡ map site_of qs →

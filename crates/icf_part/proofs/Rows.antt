@@ -5,18 +5,8 @@ use Rattle.std.specs.Prelude.{nat_lt, if◌then◌else◌}
 use Rattle.std.proofs.lemmas.Bool.{ltb-true}
 use Rattle.std.proofs.lemmas.List.{length-append}
 use Rattle.std.proofs.lemmas.Nat.{from_le_bytes-to_le_bytes_4, from_le_bytes-to_le_bytes_8}
+use Rattle.link_sections.proofs.SameTargets.{split_same}
 use Rattle.icf_part.specs.Signatures.{AllFit, row_bytes, word_bytes}
-
--- two lists of equal first parts
-pub split_same : {X : Type 0} (a b x y : List X) → length a ≡ length b → a ++ x ≡ b ++ y → (a ≡ b) × (x ≡ y)
-split_same [] [] x y len e = (refl, e)
-split_same [] (q ∷ b) x y len e = absurd (omega arith)
-split_same (p ∷ a) [] x y len e = absurd (omega arith)
-split_same (p ∷ a) (q ∷ b) x y len e =
-    let head : p ≡ q = cc in
-    let tail : a ++ x ≡ b ++ y = cc in
-    let rest = split_same a b x y (omega arith) tail in
-    (cc (rest.0, head), rest.1)
 
 pub first_fits : (w : ℕ) (ws : List ℕ) → AllFit (w ∷ ws) → w < 2 ^ 64
 first_fits w ws fit = fit 0 0 (omega arith)

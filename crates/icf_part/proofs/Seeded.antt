@@ -1,12 +1,12 @@
 -- Which classes wait at first.
-use Rattle.std.proofs.Common.{◌≡◌, ◌≢◌, ◌⊎◌, ℕ, ◌+◌, ◌<◌, ◌≤◌, Bool, true, false, List, [], ◌∷◌, ◌++◌, length, get_or, set, replicate, Contains, refl, sym, ap, ◌∙◌, subst, ⊎_elim, inl, inr, arith}
-use Rattle.std.proofs.lemmas.Bool.{both_ways, cases_eq, cases_lt}
-use Rattle.std.proofs.lemmas.List.{get_or-replicate, get_or-set_other, get_or-set_same, get_or_past, length-replicate, length-set}
+use Rattle.std.proofs.Common.{◌≡◌, ◌≢◌, ◌⊎◌, ℕ, ◌+◌, ◌<◌, ◌≤◌, Bool, true, false, List, [], ◌∷◌, ◌++◌, length, get_or, set, Contains, refl, sym, ap, ◌∙◌, subst, ⊎_elim, inl, inr, arith}
+use Rattle.std.proofs.lemmas.Bool.{cases_eq, cases_lt}
+use Rattle.std.proofs.lemmas.List.{get_or-set_other, get_or-set_same, length-set}
 use Rattle.std.proofs.lemmas.List.Elements.{Contains-append_left, Contains-append_right, Contains-append_cases}
+use Rattle.lk_base.proofs.Membership.{only_one}
 use Rattle.icf_part.specs.Classes.{IsLonger, Waits}
 use Rattle.icf_part.specs.declared.seeds.Waiting.{Waiting}
 use Rattle.icf_part.specs.Edges.{AreWaiting, end_at}
-use Rattle.icf_part.proofs.AddedClass.{in_one}
 
 pub longer_same : (waits : List Bool) (queue : List ℕ) → IsLonger waits queue waits queue
 longer_same waits queue = record { wide = refl; kept = λ label w. w; queued = λ has label w. has label w; inside = λ has label q. has label q }
@@ -35,7 +35,7 @@ longer_one waits queue class lt = record {
       (cases_eq label class);
   inside = λ has label q. ⊎_elim
       (λ (before : Contains queue label). omega (arith, has label before, length-set waits class true))
-      (λ (last : Contains (class ∷ []) label). omega (arith, in_one class label last, lt, length-set waits class true))
+      (λ (last : Contains (class ∷ []) label). omega (arith, only_one class label last, lt, length-set waits class true))
       (Contains-append_cases queue (class ∷ []) label q);
 }
 
@@ -67,23 +67,6 @@ pub record AreWaitingUpto (ends : List (List ℕ)) (labels : List ℕ) (n : ℕ)
       (get_or labels (end_at ends a k) 0 ≡ get_or labels (end_at ends (get_or labels a 0) k) 0) ⊎ Waits waits (get_or labels (end_at ends a k) 0)
   pub queued : (label : ℕ) → Waits waits label → Contains queue label
   pub inside : (label : ℕ) → Contains queue label → label < length labels
-
-nobody_waits : (n label : ℕ) → get_or (replicate n false) label false ≡ false
-nobody_waits n label = ⊎_elim
-    (λ (lt : label < n). get_or-replicate n label false false lt)
-    (λ (past : n ≤ label). get_or_past (replicate n false) label false (omega (arith, past, length-replicate {A = Bool} n false)))
-    (cases_lt label n)
-
-none_queued : (label : ℕ) → Contains [] label → ⊥
-none_queued label (k, lt, e) = omega arith
-
-pub waiting_first : (ends : List (List ℕ)) (labels : List ℕ) (waits : List Bool) (queue : List ℕ) → waits ≡ replicate (length labels) false → queue ≡ [] → AreWaitingUpto ends labels 0 waits queue
-waiting_first ends labels waits queue is empty = record {
-  count = ap length is ∙ length-replicate {A = Bool} (length labels) false;
-  told = λ a k lt. absurd (omega arith);
-  queued = λ label w. absurd (both_ways (get_or waits label false) (ap (λ l. get_or l label false) is ∙ nobody_waits (length labels) label) w);
-  inside = λ label has. let P : List ℕ → Type 0 = λ l. Contains l label in absurd (none_queued label (subst P empty has));
-}
 
 pub waiting_next : (ends : List (List ℕ)) (labels : List ℕ) (n : ℕ) (own first : List ℕ) (w : List Bool) (q : List ℕ) (w2 : List Bool) (q2 : List ℕ) → AreWaitingUpto ends labels n w q →
     own ≡ get_or ends n [] → first ≡ get_or ends (get_or labels n 0) [] → IsLonger w q w2 q2 → Told labels own first (length own) w2 → AreWaitingUpto ends labels (n + 1) w2 q2

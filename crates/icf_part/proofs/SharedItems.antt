@@ -17,9 +17,6 @@ use Rattle.icf_part.proofs.Refined.{one_number, one_text}
 use Rattle.icf_part.proofs.Whole.{all_numbers}
 
 -- marks
-pub marked_first : (bytes : List ℕ) (shared : List Bool) → length shared ≡ length bytes → AreMarked bytes 0 shared
-marked_first bytes shared wide = record { wide = wide; all = λ a lt. absurd (omega (arith, lt)) }
-
 mark_stays : (b : Bool) (xs : List Bool) (i j : ℕ) → i < length xs → get_or xs j false ≡ true → get_or (cond b (set xs i true) xs) j false ≡ true
 mark_stays false xs i j lt is = is
 mark_stays true xs i j lt is = elim (cases_lt i j) [

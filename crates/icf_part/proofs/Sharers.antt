@@ -16,6 +16,7 @@ use Rattle.icf_part.specs.Leaders.{leaders_of}
 use Rattle.icf_part.proofs.ChosenItems.{chosen_at, items_wide}
 use Rattle.icf_part.proofs.Spreading.{IsChosen, all_folded, apart, chosen_order, inside, passes, ranked, sides}
 use Rattle.icf_part.proofs.Whole.{IsFolded}
+use Rattle.icf_part.proofs.Listed.{IsAt}
 
 -- numbers that get leaders, one after the other
 abbrev given : (ns leaders : List ℕ) → List (Option ℕ) → List (Option ℕ)
@@ -61,17 +62,12 @@ given_at (n ∷ ns) (m ∷ ms) l (suc k) rise in_ns in_ms below =
     given_at ns ms (set l n (Some m)) k (λ i j less lt. rise (suc i) (suc j) (omega (arith, less)) (omega (arith, lt)))
     (omega (arith, in_ns)) (omega (arith, in_ms)) (omega (arith, below, length-set l n (Some m)))
 
--- whether a number is in a list
-record IsIn (ns : List ℕ) (n : ℕ) : Type 0 where
-  k : ℕ
-  within : k < length ns
-  is : get_or ns k 0 ≡ n
-
 later : (m : ℕ) (ns : List ℕ) (n : ℕ) → m ≢ n → IsNone ns n → IsNone (m ∷ ns) n
 later m ns n first none zero lt = first
 later m ns n first none (suc k) lt = none k (omega (arith, lt))
 
-where_is : (ns : List ℕ) (n : ℕ) → IsIn ns n ⊎ IsNone ns n
+-- whether a number is in a list
+where_is : (ns : List ℕ) (n : ℕ) → IsAt ns n ⊎ IsNone ns n
 where_is [] n = inr (λ k lt. absurd (omega (arith, lt)))
 where_is (m ∷ ns) n = elim (cases_eq m n) [
   | inl same ↦ inl (record { k = 0; within = omega arith; is = same })

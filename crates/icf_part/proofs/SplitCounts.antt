@@ -1,16 +1,13 @@
 -- A class of which some items get a new label is two classes.
 use Rattle.std.proofs.Common.{◌≡◌, ◌≢◌, ◌⊎◌, ℕ, zero, suc, ◌+◌, ◌<◌, ◌≤◌, ◌==◌, ◌&&◌, ◌||◌, Bool, true, false, cond, not, List, [], ◌∷◌, length, get_or, refl, sym, ap, ◌∙◌, ⊎_elim, arith}
 use Rattle.std.specs.List.{list_any, range_with_len}
+use Rattle.std.proofs.Math.Bool.{or-false}
 use Rattle.std.proofs.lemmas.Bool.{cases_eq, eq-eqb, ne_eqb}
 use Rattle.std.proofs.lemmas.List.Folds.{list_any-append}
 use Rattle.lk_base.proofs.Loops.{range_more}
 use Rattle.icf_part.specs.Classes.{class_count}
 use Rattle.icf_part.specs.Counts.{how_many, is_new}
 use Rattle.icf_part.proofs.Counting.{any_same, any_below, more, none, one_if}
-
-or_false : (b : Bool) → (b || false) ≡ b
-or_false true = refl
-or_false false = refl
 
 or_true : (b : Bool) → (b || true) ≡ true
 or_true true = refl
@@ -20,7 +17,7 @@ abbrev upto : (ℕ → Bool) → ℕ → Bool
 upto p n = list_any p (range_with_len 0 n)
 
 one_any : (p : ℕ → Bool) (n : ℕ) → list_any p (n ∷ []) ≡ p n
-one_any p n = or_false (p n)
+one_any p n = or-false (p n)
 
 any_next : (p : ℕ → Bool) (n : ℕ) → upto p (n + 1) ≡ (upto p n || p n)
 any_next p n = ap (list_any p) (range_more n) ∙ list_any-append p (range_with_len 0 n) (n ∷ []) ∙ ap (λ b. upto p n || b) (one_any p n)

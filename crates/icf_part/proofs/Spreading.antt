@@ -6,6 +6,8 @@ use Rattle.std.proofs.lemmas.Bool.{cases_Bool, cases_lt, eq-eqb, eqb-true}
 use Rattle.std.proofs.lemmas.List.{get_or-map, length-map}
 use Rattle.std.proofs.lemmas.List.Elements.{All-contains, filter_passes}
 use Rattle.std.proofs.lemmas.List.Kept.{AllPairs-from_increasing}
+use Rattle.std.specs.Cmp.{both_ways}
+use Rattle.lk_base.proofs.Membership.{from_filter, from_flat, from_map, from_range, in_filter}
 use Rattle.link_sections.specs.declared.targets.Target.{Target}
 use Rattle.link_sections.specs.declared.targets.Target.TheVariants.{Section}
 use Rattle.link_sections.specs.FoldItems.{FoldItem, section_of, sections_of}
@@ -16,9 +18,9 @@ use Rattle.icf_part.specs.Leaders.{all_pairs, has_pair, same_key}
 use Rattle.icf_part.specs.Numbered.{AreFirsts}
 use Rattle.icf_part.proofs.ChosenItems.{chosen_at, items_wide}
 use Rattle.icf_part.proofs.ChosenRanks.{counts_apart, passes_at, passing_count, passing_rise, passing_within, rank_at, rank_below, ranks_rise}
-use Rattle.icf_part.proofs.Counting.{any_below, below_any, either, most, not_any}
+use Rattle.icf_part.proofs.Counting.{any_below, below_any, most, not_any}
 use Rattle.icf_part.proofs.Deciding.{has_pair_Decides, key_Decides}
-use Rattle.icf_part.proofs.Paired.{classes_have, classes_tell, from_filter, from_flat, from_map, from_range, in_filter}
+use Rattle.icf_part.proofs.Paired.{classes_have, classes_tell}
 use Rattle.icf_part.proofs.Refined.{firsts_lead}
 use Rattle.icf_part.proofs.SectionPlaces.{rising}
 use Rattle.icf_part.proofs.Sublists.{in_pairs}
@@ -308,7 +310,7 @@ module _ (items : List FoldItem) (chosen : List ℕ) (are : AreChosen items chos
         let r = ranked a la is in
         let k = how_many are.test a in
         let c : IsChosen items chosen a = record { k = k; within = r.0; is = r.1 } in
-        either (p a) (q k)
+        both_ways (p a) (q k)
         (λ t. eq-eqb (get_or own k 0) k (apart (get_or own k 0) k (own_within k r.0) r.0 (sym (chosen_leads a c) ∙ eqb-true (get_or l a 0) a t ∙ sym r.1)))
         (λ t. eq-eqb (get_or l a 0) a (chosen_leads a c ∙ ap (λ x. get_or chosen x 0) (eqb-true (get_or own k 0) k t) ∙ r.1)))
         (λ a la fails. eq-eqb (get_or l a 0) a (alone_leads a la fails)) in
@@ -336,7 +338,7 @@ module _ (items : List FoldItem) (chosen : List ℕ) (are : AreChosen items chos
       let k = how_many are.test a in
       let p : ℕ → Bool = λ b. alike items b a in
       let q : ℕ → Bool = λ j. alike some j k in
-      ap not (either (list_any p (range_with_len 0 a)) (list_any q (range_with_len 0 k))
+      ap not (both_ways (list_any p (range_with_len 0 a)) (list_any q (range_with_len 0 k))
       (λ t.
       let f = below_any p a t in
       let lb : f.k < length items = omega (arith, f.within, la) in

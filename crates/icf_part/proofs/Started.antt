@@ -44,7 +44,7 @@ pending_first ends labels waiting ends_are waits = record {
       (waits.told a k la lk);
 }
 
-empty_queue : (queue : List ℕ) (label : ℕ) → length queue ≡ 0 → Contains queue label → ⊥
+pub empty_queue : (queue : List ℕ) (label : ℕ) → length queue ≡ 0 → Contains queue label → ⊥
 empty_queue queue label none (k, lt, e) = omega (arith, none, lt)
 
 pub refined_at_once : (ends : List (List ℕ)) (labels : List ℕ) (waiting : Waiting) → AreFirsts (length ends) labels → AreEnds ends labels → AreWaiting ends labels waiting →

@@ -1,13 +1,14 @@
 -- Whether two items are folded is decided by trying each list that keeps some of all pairs.
 use Rattle.std.proofs.Common.{◌≡◌, ℕ, ◌<◌, ◌&&◌, Bool, true, false, cond, Option, List, [], ◌∷◌, length, map, Contains, Decides, refl, inl, inr, ⊎_elim, filter, arith}
 use Rattle.std.specs.List.{range_with_len}
+use Rattle.std.proofs.lemmas.Bool.{and_from, and_parts}
 use Rattle.std.proofs.lemmas.List.Elements.{All-contains, Contains-append_left, Contains-append_right, filter_passes}
+use Rattle.lk_base.proofs.Membership.{any_from, in_filter, in_flat, in_map, in_range}
 use Rattle.link_sections.specs.declared.targets.Target.{Target}
 use Rattle.link_sections.specs.FoldItems.{FoldItem}
 use Rattle.icf_part.specs.Folding.{AreFolded, ArePaired, Fits, IsCongruence, Matches, Pair, pair}
 use Rattle.icf_part.specs.Leaders.{all_pairs, are_folded, has_pair, is_congruence, sublists}
-use Rattle.icf_part.proofs.Deciding.{and_true, any_passes, any_tells, both_true, congruence_Decides, has_pair_Decides}
-use Rattle.icf_part.proofs.Paired.{in_filter, in_flat, in_map, in_range}
+use Rattle.icf_part.proofs.Deciding.{any_tells, congruence_Decides, has_pair_Decides}
 
 -- what a test keeps of a list
 one_kept : (b : Bool) (p : Pair) (ps kept : List Pair) → Contains (sublists ps) kept → Contains (sublists (p ∷ ps)) (cond b (p ∷ kept) kept)
@@ -43,7 +44,7 @@ module _ (items : List FoldItem) (a b : ℕ) where
   unfolding are_folded
   folded_told e =
       let found = any_tells (λ pairs. is_congruence items pairs && has_pair pairs a b) (sublists (all_pairs (length items))) e in
-      let both = both_true (is_congruence items found.x) (has_pair found.x a b) found.passes in
+      let both = and_parts (is_congruence items found.x) (has_pair found.x a b) found.passes in
       record { pairs = found.x; congruence = (congruence_Decides items found.x).0 both.0; listed = (has_pair_Decides found.x a b).0 both.1 }
 
   folded_found : AreFolded items a b → are_folded items a b ≡ true
@@ -59,8 +60,8 @@ module _ (items : List FoldItem) (a b : ℕ) where
       let from : (x y : ℕ) → Contains kept (pair x y) → Contains pairs (pair x y) = λ x y h.
       (has_pair_Decides pairs x y).0 (All-contains (λ p. test p ≡ true) kept (pair x y) (filter_passes test every) h) in
       let fitting : IsCongruence items kept = record { fits = λ x y h. fits_by_more items pairs kept has x y (f.congruence.fits x y (from x y h)) } in
-      any_passes (λ list. is_congruence items list && has_pair list a b) (sublists every) kept (kept_of test every)
-      (and_true (is_congruence items kept) (has_pair kept a b) ((congruence_Decides items kept).1 fitting) ((has_pair_Decides kept a b).1 (has a b f.listed)))
+      any_from (λ list. is_congruence items list && has_pair list a b) (sublists every) kept (kept_of test every)
+      (and_from (is_congruence items kept) (has_pair kept a b) ((congruence_Decides items kept).1 fitting) ((has_pair_Decides kept a b).1 (has a b f.listed)))
 
   pub folded_Decides : Decides (are_folded items a b) (AreFolded items a b)
   folded_Decides = (folded_told, folded_found)

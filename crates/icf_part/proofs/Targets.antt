@@ -5,10 +5,10 @@ use Rattle.std.proofs.lemmas.List.{get_or-map, length-append, length-map}
 use Rattle.link_sections.specs.declared.targets.Target.{Target}
 use Rattle.link_sections.specs.declared.targets.Target.TheVariants.{Section, Piece, Number, Zero, Linker, Unbound}
 use Rattle.link_sections.specs.FoldItems.{FoldItem, section_of, sections_of}
+use Rattle.link_sections.proofs.SameTargets.{signed_told, signed_wide, split_same}
 use Rattle.icf_part.specs.Folding.{Pair, pair, ArePaired, Matches, classes, item_at, no_item}
 use Rattle.icf_part.specs.Signatures.{place_list, place_of, place_words, signed_words, target_places, target_words}
 use Rattle.icf_part.proofs.Paired.{classes_have}
-use Rattle.icf_part.proofs.Rows.{split_same}
 use Rattle.icf_part.proofs.SectionPlaces.{placed, place_tells}
 
 pub section_at : (items : List FoldItem) (a : ℕ) → a < length items → get_or (sections_of items) a 0 ≡ (item_at items a).section
@@ -18,16 +18,6 @@ section_at items a lt = get_or-map section_of items a no_item 0 lt
 pub sections_wide : (items : List FoldItem) → length (sections_of items) ≡ length items
 unfolding sections_of
 sections_wide items = length-map items section_of
-
-pub signed_wide : (z : ℤ) → length (signed_words z) ≡ 2
-signed_wide (pos n) = refl
-signed_wide (negsuc n) = refl
-
-pub signed_told : (y z : ℤ) → signed_words y ≡ signed_words z → y ≡ z
-signed_told (pos m) (pos n) e = let same : m ≡ n = cc in ap pos same
-signed_told (negsuc m) (negsuc n) e = let same : m ≡ n = cc in ap negsuc same
-signed_told (pos m) (negsuc n) e = absurd (omega (arith, ap (λ l. get_or l 0 0) e))
-signed_told (negsuc m) (pos n) e = absurd (omega (arith, ap (λ l. get_or l 0 0) e))
 
 -- a section that is an item
 known_words : (sections : List ℕ) (s o : ℕ) (r : ℤ) (a : ℕ) → place_of sections s ≡ Some a → target_words sections (Some (Section s o r)) ≡ 5 ∷ o ∷ (signed_words r ++ 1 ∷ 0 ∷ 0 ∷ [])

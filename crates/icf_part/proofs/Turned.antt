@@ -7,12 +7,12 @@ use Rattle.std.proofs.lemmas.Bool.{cases_eq, cases_lt, eq-eqb, eqb-true}
 use Rattle.std.proofs.lemmas.Grind.{get_or_default_zero}
 use Rattle.std.proofs.lemmas.List.{get_or-map, get_or-set_other, get_or-set_same, get_or_past, length-map, length-set, map-set}
 use Rattle.std.proofs.lemmas.List.Elements.{All-contains, filter_passes}
+use Rattle.lk_base.proofs.Membership.{from_filter, from_flat, in_filter, in_flat}
 use Rattle.icf_part.specs.declared.classes.Classes.{Classes}
 use Rattle.icf_part.specs.Classes.{AreKept, ArePlacesSplit, IsKept, lists_of, word}
 use Rattle.icf_part.specs.Edges.{AreInto, IsTurned, end_at}
 use Rattle.icf_part.specs.Signatures.{end_classes}
 use Rattle.icf_part.proofs.Listed.{has_at}
-use Rattle.icf_part.proofs.Paired.{from_filter, from_flat, in_filter, in_flat}
 
 -- the members of a class
 pub record AreMembers (n label : ℕ) (labels own : List ℕ) : Type 0 where

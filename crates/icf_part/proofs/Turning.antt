@@ -3,12 +3,12 @@ use Rattle.std.proofs.Common.{◌≡◌, ◌≢◌, ℕ, ◌<◌, ◌≤◌, Boo
 use Rattle.std.proofs.lemmas.Bool.{both_ways, cases_eq, cases_lt}
 use Rattle.std.proofs.lemmas.List.{ext_get_or, get_or-map, get_or-set_other, get_or-set_same, get_or_past, length-map, length-set}
 use Rattle.std.proofs.lemmas.List.Elements.{Contains-append_cases, Contains-append_left}
+use Rattle.lk_base.proofs.Membership.{only_one}
 use Rattle.icf_part.specs.Classes.{GoesOn, IsKept, IsSettled, Waits}
 use Rattle.icf_part.specs.Edges.{IsPending, IsTurned, end_at}
 use Rattle.icf_part.specs.Folding.{Pair}
 use Rattle.icf_part.specs.Numbered.{AreCarried, AreEnds, IsStable, Joins}
 use Rattle.icf_part.specs.Signatures.{end_classes}
-use Rattle.icf_part.proofs.AddedClass.{in_one}
 
 -- a class leaves the queue
 unwaits : (waits : List Bool) (label other : ℕ) → Waits (set waits label false) other → (other ≢ label) × Waits waits other
@@ -39,7 +39,7 @@ popped n label labels sizes members waits queue left kept is =
           let was = unwaits waits label k w in
           ⊎_elim
           (λ (before : Contains left k). before)
-          (λ (last : Contains (label ∷ []) k). absurd (was.0 (sym (in_one label k last))))
+          (λ (last : Contains (label ∷ []) k). absurd (was.0 (sym (only_one label k last))))
           (Contains-append_cases left (label ∷ []) k (let Q : List ℕ → Type 0 = λ l. Contains l k in subst Q is (kept.queued k was.1)));
       inside = λ k has. kept.inside k (let Q : List ℕ → Type 0 = λ l. Contains l k in subst Q (sym is) (left_in left label k has));
       room = kept.room;

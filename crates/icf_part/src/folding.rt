@@ -14,7 +14,6 @@ ghost use Rattle.icf_part.specs.Signatures.{bytes_of};
 
 use crate::keys::all_keys;
 use crate::numbering::{number_contents, number_outputs, number_rows};
-use crate::parts::pieces_of;
 use crate::place_table::Places;
 use crate::places::{all_places, sections_of};
 use crate::refining::refine;
@@ -27,7 +26,10 @@ use std::alloc::{AllocError, Global};
 use std::ops::Range;
 use std::sync::ledger::Ledger;
 use std::thread::Threads;
-use work_split::Gate;
+use work_split::{Gate, pieces_of_least};
+
+/// Fewer items are not worth a thread.
+const LEAST: usize = 4_096;
 
 /// For each item the place of its leader: the least item that can stand for it. Items are given in order of their sections' numbers. The
 /// answer is the same whatever the number of workers; each makes what is compared of one piece of the items whose contents another has, and
@@ -140,7 +142,7 @@ fn fold_chosen<R: Threads + Sync, G: Gate, L: Ledger>(
 {
     let list = sections_of(alloc, items, chosen)?;
     let sections = Places::of(alloc, list)?;
-    let pieces = pieces_of(alloc, chosen.len(), workers)?;
+    let pieces = pieces_of_least(alloc, chosen.len(), LEAST, workers)?;
     let ends = all_places(rt, alloc, items, chosen, &sections, pieces.as_slice(), gate)?;
     let keys = number_keys(
         rt,

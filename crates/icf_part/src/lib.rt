@@ -1,8 +1,8 @@
 //! Folding of equal code: which sections can stand for one another.
 //!
 //! `sharing` sets apart the items whose contents another has; of texts it does so before there are items, so that a link makes no others. Rows
-//! of bytes are made by workers, one run of the items each (fewer than 16,384 items are one run), and numbered by a table of texts, as names
-//! are (`name_numbers`). `seeds` finds the classes that wait at first, `turns` gives a class its turn, `splitting` splits the others by it,
+//! of bytes are made by workers, one run of the items each, if there are 8,192, and numbered by a table of texts, as names are
+//! (`name_numbers`). `seeds` finds the classes that wait at first, `turns` gives a class its turn, `splitting` splits the others by it,
 //! `refining` goes on until none waits, and `steps` counts how many classes became two. A label that some of its items leave keeps its list of
 //! members, which is cleared of them in its turn: a list is read in that way once for each time that it was made.
 //!
@@ -14,9 +14,9 @@
 //! classes that stay are a congruence, so they are the greatest one. At the end a class's number is the place of its first item.
 //!
 //! `keys` has what must be equal of two items, whatever is folded, and `rests` what is compared of their targets. `places` says which items the
-//! targets of an item are, by a table (`place_table`), and `incoming` which items lead to each. `parts` cuts the items into runs and joins the rows
-//! that workers make of them, `words` writes a row as bytes, and `numbering` numbers them. `classes`, `walks` and `relabel` have the classes by
-//! labels, `runs` finds the runs of a sorted list, and `folding` gives the leaders.
+//! targets of an item are, by a table (`place_table`), and `incoming` which items lead to each. `words` writes a row as bytes, and `numbering`
+//! numbers rows. `classes`, `walks` and `relabel` have the classes by labels, `runs` finds the runs of a sorted list, and `folding` gives the
+//! leaders.
 #![tactic(auto)]
 
 mod classes;
@@ -24,7 +24,6 @@ mod folding;
 mod incoming;
 mod keys;
 mod numbering;
-mod parts;
 mod place_table;
 mod places;
 mod refining;

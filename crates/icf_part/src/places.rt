@@ -7,9 +7,8 @@ ghost use Rattle.work_split.specs.Pieces.{Tiles};
 ghost use Rattle.icf_part.specs.Chosen.{views_at};
 ghost use Rattle.icf_part.specs.Signatures as spec;
 
-use crate::parts::{join_rows, one_part};
 use crate::place_table::Places;
-use flat_rows::Rows;
+use flat_rows::{Rows, join_rows, one_part};
 use link_sections::{FoldItem, FoldReloc, Target};
 use lk_base::{LinkStop, SecNo};
 use std::alloc::{AllocError, Global};
@@ -69,7 +68,7 @@ pub fn all_places<R: Threads + Sync, G: Gate>(
     );
     match found {
         Ok(parts) => {
-            let rows = join_rows(alloc, parts.as_slice())?;
+            let rows = join_rows(alloc, parts)?;
             Ok(rows)
         }
         Err(_) => Err(AllocError),

@@ -7,10 +7,9 @@ ghost use Rattle.work_split.specs.Pieces.{Tiles};
 ghost use Rattle.icf_part.specs.Chosen.{views_at};
 ghost use Rattle.icf_part.specs.Signatures as spec;
 
-use crate::parts::one_part;
 use crate::place_table::Places;
 use crate::words::{push_row, signed_words};
-use flat_rows::Rows;
+use flat_rows::{Rows, one_part};
 use link_sections::{FoldItem, Target};
 use lk_base::{LinkStop, SecNo};
 use std::alloc::{AllocError, Global};

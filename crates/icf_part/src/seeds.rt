@@ -46,7 +46,7 @@ fn compare(
     requires within { (a : ℕ) → a < length classes.now → slice_index classes.now a < length waiting.old.waits.items }
     requires own { (k : ℕ) → k < length own.now → slice_index own.now k < length classes.now }
     ensures longer { OnOk result (IsLonger waiting.old.waits.items waiting.old.queue.items waiting.new.waits.items waiting.new.queue.items) }
-    ensures told { OnOk result ((k : ℕ) → k < length own.now → (slice_index classes.now (slice_index own.now k) ≡ slice_index classes.now (slice_index first.now k)) ⊎ Waits waiting.new.waits.items (slice_index classes.now (slice_index own.now k))) }
+    ensures waits { OnOk result ((k : ℕ) → k < length own.now → (slice_index classes.now (slice_index own.now k) ≡ slice_index classes.now (slice_index first.now k)) ⊎ Waits waiting.new.waits.items (slice_index classes.now (slice_index own.now k))) }
 {
     for k in 0..own.len() {
         let class = class_at(classes, own[k] as usize);
@@ -60,7 +60,7 @@ fn compare(
 fn wait_apart(waiting: &mut Waiting, class: u32, other: u32) -> Result<(), AllocError>
     requires { class < length waiting.old.waits.items }
     ensures longer { OnOk result (IsLonger waiting.old.waits.items waiting.old.queue.items waiting.new.waits.items waiting.new.queue.items) }
-    ensures told { OnOk result ((class ≡ other) ⊎ Waits waiting.new.waits.items class) }
+    ensures waits { OnOk result ((class ≡ other) ⊎ Waits waiting.new.waits.items class) }
 {
     if class == other {
         return Ok(());

@@ -42,11 +42,11 @@ pub fn count_leaders(leaders: &[u32]) -> usize
     ensures { result ≡ leader_count leaders.now }
 {
     (0..leaders.len())
-        .filter(|a| leads_itself(leaders, *a))
+        .filter(|a| is_own_leader(leaders, *a))
         .count()
 }
 
-fn leads_itself(leaders: &[u32], a: usize) -> bool
+fn is_own_leader(leaders: &[u32], a: usize) -> bool
     ensures { result ≡ (slice_index leaders.now a == a) }
 {
     match leaders.get(a) {

@@ -1,9 +1,9 @@
 -- The texts of rows, by number.
-use Rattle.std.proofs.Common.{◌≡◌, ℕ, zero, suc, ◌+◌, ◌-◌, ◌<◌, ◌≤◌, List, [], ◌∷◌, ◌++◌, length, map, flat_map, get_or, take, drop, min, append_assoc, append-nil, refl, sym, ap, ◌∙◌, subst, ⊎_elim, inl, inr, arith}
+use Rattle.std.proofs.Common.{◌≡◌, ℕ, zero, suc, ◌-◌, ◌<◌, ◌≤◌, List, [], ◌∷◌, ◌++◌, length, map, flat_map, get_or, take, drop, min, append_assoc, append-nil, refl, sym, ap, ◌∙◌, subst, ⊎_elim, inl, inr, arith}
 use Rattle.std.specs.Borrow.{Bor}
 use Rattle.std.proofs.Math.Seq.{drop-cons, get_or-append_right, take-nil}
 use Rattle.std.proofs.lemmas.Bool.{cases_lt}
-use Rattle.std.proofs.lemmas.List.{drop_all, get_or_append_left, get_or-map, get_or_push, length-append, length-drop, length-map, map_push, take-append-drop, take_all, take_more, length_push, take-append-le}
+use Rattle.std.proofs.lemmas.List.{drop_all, get_or_append_left, get_or_push, length-append, length-drop, map_push, take-append-drop, take_all, length_push, take-append-le}
 use Rattle.std.proofs.lemmas.List.Concat.{flat_map-append}
 use Rattle.std.proofs.lemmas.List.FromFn.{get_or-map-range_with_len, length-map-range_with_len}
 use Rattle.intern_race.specs.declared.texts.Row.{Row}
@@ -45,9 +45,6 @@ counted_push rows row is counted r lt =
     (cases_lt r (length rows))
 
 -- the texts of the rows before one, and those of the next
-pub row_texts-more : (rows : List Row) (r : ℕ) → r < length rows → row_texts (take (r + 1) rows) ≡ row_texts (take r rows) ++ texts_in (row_at rows r).cut
-row_texts-more rows r lt = ap row_texts (take_more rows r no_row lt) ∙ row_texts-push (take r rows) (row_at rows r)
-
 pub row_text : (rows : List Row) (i r : ℕ) → AreCounted rows → IsRowOf rows i r → text_at (row_texts rows) i ≡ text_at (texts_in (row_at rows r).cut) (i - (row_at rows r).before)
 row_text rows i r counted is =
     let row : Row = row_at rows r in
@@ -63,27 +60,6 @@ row_text rows i r counted is =
     ap (λ l. text_at l i) whole ∙ get_or-append_right left (own ++ rest) i [] (omega (arith, before, from)) ∙ ap (λ k. text_at (own ++ rest) k) place
     ∙ get_or_append_left own rest [] (i - row.before) below
 
--- no text is past the last row
-pub past_rows : (rows : List Row) (i r : ℕ) → length rows ≤ r → length (row_texts (take r rows)) ≤ i → i < length (row_texts rows) → ⊥
-past_rows rows i r past from lt =
-    let same = ap (λ l. length (row_texts l)) (take_all r rows past) in
-    omega (arith, same, from, lt)
-
--- a row that ends at text i or before it
-pub row_passed : (rows : List Row) (i r : ℕ) → r < length rows → AreCounted rows → length (row_texts (take r rows)) ≤ i → length (texts_in (row_at rows r).cut) ≤ i - (row_at rows r).before
-    → length (row_texts (take (r + 1) rows)) ≤ i
-row_passed rows i r lt counted from ends =
-    let before = counted r lt in
-    let more = ap length (row_texts-more rows r lt) ∙ length-append (row_texts (take r rows)) (texts_in (row_at rows r).cut) in
-    omega (arith, before, more, from, ends)
-
-pub row_found : (rows : List Row) (i r : ℕ) → r < length rows → AreCounted rows → length (row_texts (take r rows)) ≤ i → i - (row_at rows r).before < length (texts_in (row_at rows r).cut) → IsRowOf rows i r
-row_found rows i r lt counted from below = let before = counted r lt in record { within = lt; from = omega (arith, before, from); below = below }
-
--- a text after text i that stands in the same row
-pub row_on : (rows : List Row) (i r k : ℕ) → IsRowOf rows i r → (i + k) - (row_at rows r).before < length (texts_in (row_at rows r).cut) → IsRowOf rows (i + k) r
-row_on rows i r k is below = let from = is.from in record { within = is.within; from = omega (arith, from); below = below }
-
 -- a text of bytes that are cut at ends
 pub cut_at : (bytes ends : List ℕ) (k : ℕ) → k < length ends → text_at (cut_texts bytes ends) k ≡ cut_text bytes ends k
 unfolding cut_texts
@@ -93,39 +69,16 @@ pub length-cut_texts : (bytes ends : List ℕ) → length (cut_texts bytes ends)
 unfolding cut_texts
 length-cut_texts bytes ends = length-map-range_with_len (cut_text bytes ends) 0 (length ends)
 
--- a single text, and one of a row
-pub single_text : (singles : List (Bor (List ℕ))) (rows : List Row) (i : ℕ) (blank : Bor (List ℕ)) → i < length singles → text_at (all_texts singles rows) i ≡ (get_or singles i blank).now
-single_text singles rows i blank lt =
-    let long = length-map singles (λ (text : Bor (List ℕ)). text.now) in
-    get_or_append_left (lent_texts singles) (row_texts rows) [] i (omega (arith, long, lt)) ∙ get_or-map (λ (text : Bor (List ℕ)). text.now) singles i blank [] lt
-
-pub later_text : (singles : List (Bor (List ℕ))) (rows : List Row) (i : ℕ) → length singles ≤ i → text_at (all_texts singles rows) i ≡ text_at (row_texts rows) (i - length singles)
-later_text singles rows i ge =
-    let long = length-map singles (λ (text : Bor (List ℕ)). text.now) in
-    get_or-append_right (lent_texts singles) (row_texts rows) i [] (omega (arith, long, ge)) ∙ ap (λ n. text_at (row_texts rows) (i - n)) long
-
-pub later_on : (singles : List (Bor (List ℕ))) (rows : List Row) (i k : ℕ) → length singles ≤ i → text_at (all_texts singles rows) (i + k) ≡ text_at (row_texts rows) ((i - length singles) + k)
-later_on singles rows i k ge =
-    let on : (i + k) - length singles ≡ (i - length singles) + k = omega (arith, ge) in
-    later_text singles rows (i + k) (omega (arith, ge)) ∙ ap (λ n. text_at (row_texts rows) n) on
-
-pub length-all : (singles : List (Bor (List ℕ))) (rows : List Row) → length (all_texts singles rows) ≡ length singles + length (row_texts rows)
-length-all singles rows =
-    let long = length-map singles (λ (text : Bor (List ℕ)). text.now) in
-    length-append (lent_texts singles) (row_texts rows) ∙ ap (λ n. n + length (row_texts rows)) long
-
 -- where a text starts whose end is not the first
 pub start_after : (ends : List ℕ) (k : ℕ) → 0 < k → get_or ends (k - 1) 0 ≡ start_of ends k
 start_after ends zero some = absurd (omega (arith, some))
 start_after ends (suc k) some = let one : suc k - 1 ≡ k = omega arith in ap (λ j. get_or ends j 0) one
 
 -- bytes between two places, of which none is past the end
-drop_past : (bytes : List ℕ) (n : ℕ) → length bytes ≤ n → drop n bytes ≡ []
-drop_past bytes n past = drop_all n bytes past
 
 clip_past : (bytes : List ℕ) (start end to : ℕ) → to ≡ min end (length bytes) → to < start → take (end - start) (drop start bytes) ≡ []
 clip_past bytes start end to last past = ⊎_elim
-    (λ (beyond : length bytes < end). ap (take (end - start)) (drop_past bytes start (omega (arith, past, beyond, last))) ∙ take-nil (end - start))
+    (λ (beyond : length bytes < end). ap (take (end - start)) (drop_all start bytes (omega (arith, past, beyond, last))) ∙ take-nil (end - start))
     (λ (within : end ≤ length bytes). let none : end - start ≡ 0 = omega (arith, past, within, last) in ap (λ n. take n (drop start bytes)) none)
     (cases_lt (length bytes) end)
 

@@ -10,7 +10,7 @@ use Rattle.intern_race.specs.declared.rule.OwnStep.{OwnStep}
 use Rattle.intern_race.specs.declared.rule.Pair.{Pair}
 use Rattle.intern_race.specs.declared.rule.View.{View}
 use Rattle.intern_race.specs.Interning.{AreApart, HasPlaced, IsLeastOf, SeatView, TableView, after_steps, known, pair}
-use Rattle.intern_race.specs.Rule.{IsSeated, IsWordOf, Seated, Tells, TellsApart, seen, view_after, view_after_split, view_joined, view_split}
+use Rattle.intern_race.specs.Rule.{IsSeated, IsWordOf, Seated, Tells, TellsApart, seen, view_after, view_after_split, view_joined}
 use Rattle.intern_race.specs.Hash.{hash_of}
 use Rattle.intern_race.specs.Slots.{least, slot_on}
 use Rattle.intern_race.specs.Texts.{text_at}
@@ -33,11 +33,6 @@ seated-split m m' seated same =
     let after : IsSeated (view_after_split m.0, m.1) = record { live = seated.live; slots = seated.slots; apart = seated.apart } in
     subst IsSeated (sym same) after
 
-pub seated-new : (m m' : Seated) → IsSeated m → m' ≡ (view_split m.0, []) → IsSeated m'
-seated-new m m' seated same =
-    let after : IsSeated (view_split m.0, []) = record { live = seated.live; slots = refl; apart = seated.apart } in
-    subst IsSeated (sym same) after
-
 -- after a join and a load that tells what both seats know
 pub seated-joined : (m w mid m' : Seated) → IsSeated m → mid ≡ (view_joined m.0 w.0, m.1) → TellsApart mid m' → IsSeated m'
 seated-joined m w mid m' seated same told =
@@ -46,14 +41,6 @@ seated-joined m w mid m' seated same told =
     let done : Is m' = subst Is (sym told.same) there in
     let On : Seated → Type 0 = λ x. IsApart x.0 in
     record { live = done.0; slots = done.1; apart = subst On (sym told.same) told.apart }
-
--- what is so of the view is so of what callers see of it
-pub apart_seen : (v : View) (s : SeatView) (texts : List (List ℕ)) → IsApart v → s.texts ≡ v.texts → s.seen ≡ v.seen → s.placed ≡ v.placed → s.texts ≡ texts → AreApart texts (known s)
-apart_seen v s texts apart same is_seen placed are =
-    let One : List (List ℕ) → Type 0 = λ ts. AreApart ts (v.seen ++ v.placed) in
-    let Two : List Pair → Type 0 = λ l. AreApart texts (l ++ v.placed) in
-    let Three : List Pair → Type 0 = λ l. AreApart texts (s.seen ++ l) in
-    subst Three (sym placed) (subst Two (sym is_seen) (subst One (sym same ∙ are) apart))
 
 -- a word that was found is a number that the slot may give
 pub least_seen : (v : View) (s : SeatView) (slot word : ℕ) → IsWordOf v slot word → s.texts ≡ v.texts → s.placed ≡ v.placed → IsLeastOf s slot (least word)

@@ -22,11 +22,6 @@ seen_loaded k w p has =
     (λ (ne : w ≢ none). (ne, only_one (pair k (holder w)) p (subst Has (ne_eqb w none ne) has)))
     (cases_eq w none)
 
-pub loaded_shows : (k w : ℕ) → w ≢ none → Contains (flat_map seen_by (Loaded k w ∷ [])) (pair k (holder w))
-loaded_shows k w ne =
-    let Has : Bool → Type 0 = λ b. Contains ((if b then [] else pair k (holder w) ∷ []) ++ []) (pair k (holder w)) in
-    subst Has (sym (ne_eqb w none ne)) (Contains-push [] (pair k (holder w)))
-
 -- a try shows its own text where the slot was empty, and what it holds where it was not
 pub seen_tried : (k i w : ℕ) (p : Pair) → Contains (flat_map seen_by (Tried k i w ∷ [])) p → ((w ≡ none) × (pair k i ≡ p)) ⊎ ((w ≢ none) × (pair k (holder w) ≡ p))
 seen_tried k i w p has =

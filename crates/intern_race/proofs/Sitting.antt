@@ -1,6 +1,6 @@
 -- A seat stays one of its table's, whatever it does, and what it has placed stays placed.
 use Rattle.std.proofs.Common.{◌≡◌, ℕ, List, flat_map, Contains, sym, ap, ◌∙◌, subst}
-use Rattle.std.proofs.lemmas.List.Elements.{Contains-append_left, Contains-append_right}
+use Rattle.std.proofs.lemmas.List.Elements.{Contains-append_left}
 use Rattle.intern_race.specs.declared.rule.OwnStep.{OwnStep}
 use Rattle.intern_race.specs.declared.rule.Pair.{Pair}
 use Rattle.intern_race.specs.Interning.{SeatView, SitsAt, TableView, after_split, after_steps, joined, newcomer, pair, placed_by}
@@ -37,19 +37,3 @@ pub placed_after : (s s' : SeatView) (own : List OwnStep) (p : Pair) → s' ≡ 
 placed_after s s' own p is has =
     let Has : List Pair → Type 0 = λ l. Contains l p in
     subst Has (sym (ap (λ (x : SeatView). x.placed) is)) (Contains-append_left s.placed (flat_map placed_by own) p has)
-
-pub placed_split : (s s' : SeatView) (p : Pair) → s' ≡ after_split s → Contains s.placed p → Contains s'.placed p
-placed_split s s' p is has = let Has : List Pair → Type 0 = λ l. Contains l p in subst Has (sym (ap (λ (x : SeatView). x.placed) is)) has
-
-pub placed_newcomer : (s s' : SeatView) (p : Pair) → s' ≡ newcomer s → Contains s.placed p → Contains s'.placed p
-placed_newcomer s s' p is has = let Has : List Pair → Type 0 = λ l. Contains l p in subst Has (sym (ap (λ (x : SeatView). x.placed) is)) has
-
-pub placed_joined : (s other s' : SeatView) (p : Pair) → s' ≡ joined s other → Contains s.placed p → Contains s'.placed p
-placed_joined s other s' p is has =
-    let Has : List Pair → Type 0 = λ l. Contains l p in
-    subst Has (sym (ap (λ (x : SeatView). x.placed) is)) (Contains-append_left s.placed other.placed p has)
-
-pub placed_other : (s other s' : SeatView) (p : Pair) → s' ≡ joined s other → Contains other.placed p → Contains s'.placed p
-placed_other s other s' p is has =
-    let Has : List Pair → Type 0 = λ l. Contains l p in
-    subst Has (sym (ap (λ (x : SeatView). x.placed) is)) (Contains-append_right s.placed other.placed p has)

@@ -13,7 +13,7 @@ use Rattle.intern_race.specs.Slots.{holder, none, slot_on}
 use Rattle.intern_race.specs.Texts.{text_at}
 use Rattle.intern_race.specs.Visits.{CanFill, IsVisit}
 use Rattle.intern_race.proofs.Few.{few_passed}
-use Rattle.intern_race.proofs.Shown.{loaded_shows, tried_fills, tried_shows}
+use Rattle.intern_race.proofs.Shown.{tried_fills, tried_shows}
 
 -- steps after steps
 pub steps_twice : (s : SeatView) (one two : List OwnStep) → after_steps (after_steps s one) two ≡ after_steps s (one ++ two)
@@ -160,9 +160,6 @@ Visited i slot number old new = (own : List OwnStep) × IsVisit i slot number ow
 
 one_load : (i slot w : ℕ) → All (IsLook i slot) (Loaded slot w ∷ [])
 one_load i slot w = All-push (IsLook i slot) [] (Loaded slot w) (All-nil (IsLook i slot)) (inl (w, refl))
-
-pub visited_filled : (i slot w : ℕ) (old new : SeatView) → w ≢ none → new ≡ after_steps old (Loaded slot w ∷ []) → Visited i slot (holder w) old new
-visited_filled i slot w old new filled is = (Loaded slot w ∷ [], record { looks = one_load i slot w; shows = loaded_shows slot w filled }, is)
 
 two_looks : (i slot w x : ℕ) (old mid new : SeatView) → mid ≡ after_steps old (Loaded slot w ∷ []) → new ≡ after_steps mid (Tried slot i x ∷ []) → new ≡ after_steps old (Loaded slot w ∷ Tried slot i x ∷ [])
 two_looks i slot w x old mid new one two = two ∙ ap (λ s. after_steps s (Tried slot i x ∷ [])) one ∙ steps_twice old (Loaded slot w ∷ []) (Tried slot i x ∷ [])

@@ -33,12 +33,13 @@ use Rattle.layout.specs.declared.walk.Cursor.{Cursor}
 use Rattle.layout.specs.Layout.{FrameSizes, after_tls_bits, bounds_of, laid_of, layout_of, no_trail, tls_cursor}
 use Rattle.layout.specs.Spots.{StartAligned}
 use Rattle.layout.specs.Walk.{Stands, after, all_put, cursor_at, greatest, is_empty, member_at, members_from, members_still, runs, size_at, stands_along, stands_in, start_of, still}
-use Rattle.layout.proofs.AllHeld.{IsWalked, from_any, get_any, has_member, has_pool, has_section, has_table, it_is, items_own, own_of, walked_by}
+use Rattle.layout.proofs.AllHeld.{IsWalked, from_any, get_any, has_pool, has_section, has_table, it_is, items_own, own_of, walked_by}
 use Rattle.layout.proofs.Held.{from_still}
 use Rattle.layout.proofs.Marks.{HasRoom, found_at, in_members, is_it, stand_at, stands_once}
 use Rattle.layout.proofs.Powers.{divides, through}
 use Rattle.layout.proofs.Runs.{EachRun, each_run}
 use Rattle.layout.proofs.Trails.{all_stands}
+use Rattle.layout.proofs.Listed.{has_member}
 
 -- the greatest of a number and the alignments of some rows
 abbrev most_of : ℕ → List Row → ℕ

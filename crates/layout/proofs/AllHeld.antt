@@ -2,12 +2,13 @@
 use Rattle.std.proofs.Common.{◌≡◌, ℕ, zero, suc, ◌+◌, ◌*◌, ◌^◌, ◌<◌, ◌≤◌, ◌==◌, ◌&&◌, ◌||◌, Bool, true, false, if◌then◌else◌, Option, Some, List, [], ◌∷◌, ◌++◌, flat_map, get_or, length, All, refl, ap, sym, ◌∙◌, subst, append-nil, codes, arith}
 use Rattle.std.specs.Prelude.{slice_get}
 use Rattle.std.specs.List.{list_any, range_with_len}
-use Rattle.std.proofs.lemmas.Bool.{and_from, and_parts, eq-eqb, eqb-true}
+use Rattle.std.proofs.lemmas.Bool.{and_from, and_parts, eq-eqb, eqb-true, or_left, or_right}
 use Rattle.std.proofs.lemmas.Bool.Decides.{nat_tests}
 use Rattle.std.proofs.lemmas.List.{length-replicate}
 use Rattle.std.proofs.lemmas.List.Elements.{All-nil, All-cons, All-append}
 use Rattle.lk_base.specs.declared.abi.TheConstants.{SHF_ALLOC, SHF_WRITE, SHT_PROGBITS}
 use Rattle.lk_base.specs.Arithmetic.{up}
+use Rattle.lk_base.proofs.Membership.{any_here, any_later}
 use Rattle.lk_base.proofs.StableElements.{any_stable}
 use Rattle.lk_tables.specs.Binding.{Bindings}
 use Rattle.lk_tables.specs.Classes.{output_rank}
@@ -43,7 +44,7 @@ use Rattle.layout.proofs.Cursors.{RowFits}
 use Rattle.layout.proofs.Groups.{IsKeyed, class_groups}
 use Rattle.layout.proofs.Held.{Few, IsHeldIn, Other, class_along, content_along, few_other, has_kind, held_along, kind_of, other_class, skip}
 use Rattle.layout.proofs.ItemFacts.{ready_of}
-use Rattle.layout.proofs.Listed.{any_here, any_later, any_one, or_cases, or_left, or_right, pool_listed, runs_any, section_listed, table_listed}
+use Rattle.layout.proofs.Listed.{any_one, or_cases, pool_listed, runs_any, section_listed, table_listed, has_member}
 use Rattle.layout.proofs.Marks.{HasRoom, found_at, in_members, is_it, stand_at, stands_once}
 use Rattle.layout.proofs.OwnRows.{IsRow, each_own}
 use Rattle.layout.proofs.PlacedMembers.{whole_size}
@@ -222,9 +223,6 @@ item_of test class item = is_of class item && test item.content
 
 abbrev has_row : (test : Content → Bool) → List Row → Bool
 has_row test rows = list_any (λ row. test row.content) rows
-
-abbrev pub has_member : (test : Content → Bool) → List Member → Bool
-has_member test members = list_any (λ m. test m.content) members
 
 module _ (test : Content → Bool) where
   own_row_has : (class : Class) (heads : List ℕ → Head) (number : ℕ) (item : Item) → item_of test class item ≡ true → has_row test (own_row class heads number item) ≡ true

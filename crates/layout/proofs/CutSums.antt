@@ -3,13 +3,9 @@ use Rattle.std.proofs.Common.{◌≡◌, ℕ, zero, suc, ◌+◌, ◌-◌, ◌<�
 use Rattle.std.specs.List.{sum_by}
 use Rattle.std.proofs.lemmas.List.Sums.{sum_by-cons}
 use Rattle.link_sections.specs.declared.cuts.Cut.{Cut as HeldCut}
-use Rattle.link_sections.specs.Cuts.{Cut, kept_before, whole_before}
+use Rattle.link_sections.specs.Cuts.{Cut, kept_before}
 use Rattle.link_sections.specs.CutsView.{cut_view, cut_views}
 use Rattle.layout.specs.CutsSoFar.{all_kept}
-
--- one cut more in a sum
-pub next_sum : (f : Cut → ℕ) (acc total : ℕ) (c : Cut) (cs : List Cut) → acc + sum_by f (c ∷ cs) ≡ total → (acc + f c) + sum_by f cs ≡ total
-next_sum f acc total c cs is = omega (arith, sum_by-cons f c cs, is)
 
 -- what is kept before an offset is not more than all that is kept
 pub kept_most : (cuts : List Cut) (o : ℕ) → kept_before cuts o ≤ all_kept cuts
@@ -18,10 +14,6 @@ kept_most (c ∷ cs) o = omega (arith, sum_by-cons (λ c. min (o - c.at) c.kept)
 
 abbrev pub all_whole : List Cut → ℕ
 all_whole cuts = sum_by (λ c. c.whole) cuts
-
-pub whole_most : (cuts : List Cut) (o : ℕ) → whole_before cuts o ≤ all_whole cuts
-whole_most [] o = omega arith
-whole_most (c ∷ cs) o = omega (arith, sum_by-cons (λ c. min (o - c.at) c.whole) c cs, sum_by-cons (λ c. c.whole) c cs, whole_most cs o)
 
 -- a sum has room for each of its terms
 pub room_of_one : (f : Cut → ℕ) (cuts : List HeldCut) (i acc total : ℕ) (d : HeldCut) → i < length cuts

@@ -158,7 +158,7 @@ pub other_class : (own other : Class) (item : Item) (outputs : List OutputSectio
     → Other item outputs
 other_class own other item outputs differ is all = λ k d lt taken.
     let x : OutputSection = get_or outputs k d in
-    let in_it : is_in x.class item.sh_type item.flags ≡ true = (and_parts (bytes_eq x.name (output_name item.name)) (is_in x.class item.sh_type item.flags) taken).1 in
+    let in_it : is_in x.class item.sh_type item.flags ≡ true = (and_parts (is_in x.class item.sh_type item.flags) (bytes_eq (output_name item.name) x.name) taken).0 in
     differ (sym (all k d lt) ∙ sym (kind_is x.class item.sh_type item.flags in_it) ∙ kind_is own item.sh_type item.flags is)
 
 -- the output sections of a class are of it
@@ -234,7 +234,7 @@ module _ (sizes : List (List Cut)) (parts : List Item) (own : Content → Item) 
   takes_own first rows item row start end head is same =
       let name : List ℕ = name_of_item (slice_get parts first.number) in
       let named : name ≡ output_name item.name = ap name_of_item head.number ∙ sym head.named ∙ ap (λ g. name_of_item (slice_get parts g)) (sym same) ∙ is.named in
-      and_from (bytes_eq name (output_name item.name)) (is_in class item.sh_type item.flags) ((bytes_eq-Decides name (output_name item.name)).1 named) is.in_class
+      and_from (is_in class item.sh_type item.flags) (bytes_eq (output_name item.name) name) is.in_class ((bytes_eq-Decides (output_name item.name) name).1 (sym named))
 
   takes_other : (first : Row) (rows : List Row) (item : Item) (row : Row) (start end : ℕ) → IsOwn first → IsRow class parts item row → (first.group ≡ row.group → ⊥)
       → takes item (section_of parts class (first ∷ rows) start end) ≡ true → ⊥
@@ -242,7 +242,7 @@ module _ (sizes : List (List Cut)) (parts : List Item) (own : Content → Item) 
   takes_other first rows item row start end head is differ taken =
       let name : List ℕ = name_of_item (slice_get parts first.number) in
       let named : name ≡ output_name item.name =
-      (bytes_eq-Decides name (output_name item.name)).0 (and_parts (bytes_eq name (output_name item.name)) (is_in class item.sh_type item.flags) taken).0 in
+      sym ((bytes_eq-Decides (output_name item.name) name).0 (and_parts (is_in class item.sh_type item.flags) (bytes_eq (output_name item.name) name) taken).1) in
       let same : output_name (own first.content).name ≡ output_name item.name = sym (ap name_of_item head.number) ∙ named in
       differ (head.group ∙ ap (λ n. (head_of class parts n).group) same ∙ sym is.group)
 

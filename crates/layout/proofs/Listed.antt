@@ -1,10 +1,11 @@
 -- Each section that is its own leader and has bytes in its file is a member, and so are the pools and the table that have bytes.
 use Rattle.std.proofs.Common.{◌≡◌, ◌≢◌, ℕ, zero, suc, ◌+◌, ◌<◌, ◌==◌, ◌&&◌, ◌||◌, not, Bool, true, false, if◌then◌else◌, Option, List, [], ◌∷◌, ◌++◌, flat_map, get_or, length, refl, ap, ◌∙◌, subst, arith}
 use Rattle.std.specs.List.{list_any, range_with_len}
-use Rattle.std.proofs.lemmas.Bool.{and_from, and_parts, eq-eqb, ne_eqb}
-use Rattle.std.proofs.lemmas.List.Folds.{list_any-append}
+use Rattle.std.proofs.Math.Bool.{or_assoc}
+use Rattle.std.proofs.lemmas.Bool.{and_from, and_left, and_parts, and_right, eq-eqb, ne_eqb, or_left, or_right}
 use Rattle.lk_base.specs.declared.abi.TheConstants.{SHF_ALLOC, SHF_WRITE, SHT_NOBITS, SHT_PROGBITS}
 use Rattle.lk_base.specs.Arithmetic.{up}
+use Rattle.lk_base.proofs.Membership.{any_here, any_later}
 use Rattle.lk_base.proofs.StableElements.{any_stable}
 use Rattle.lk_tables.specs.Binding.{Bindings}
 use Rattle.lk_tables.specs.Classes.{is_in, is_nobits, is_tls, may_execute, may_write}
@@ -31,36 +32,13 @@ use Rattle.layout.specs.Walk.{after, beside, cursor_at, is_empty, members_along,
 use Rattle.output_sections.proofs.NextPool.{pool_here}
 use Rattle.layout.proofs.Trails.{all_members}
 
-pub or_left : (a b : Bool) → a ≡ true → (a || b) ≡ true
-or_left true b is = refl
-or_left false b is = let none : ⊥ = cc in absurd none
-
-pub or_right : (a b : Bool) → b ≡ true → (a || b) ≡ true
-or_right true b is = refl
-or_right false b is = is
-
 pub or_cases : (P : Type 0) (a b : Bool) → (a || b) ≡ true → (a ≡ true → P) → (b ≡ true → P) → P
 or_cases P true b is one other = one refl
 or_cases P false b is one other = other is
 
-and_left : (a b : Bool) → a ≡ false → (a && b) ≡ false
-and_left true b is = let none : ⊥ = cc in absurd none
-and_left false b is = refl
-
-and_right : (a b : Bool) → b ≡ false → (a && b) ≡ false
-and_right true b is = is
-and_right false b is = refl
-
 not_true : (b : Bool) → not b ≡ true → b ≡ false
 not_true true is = let none : ⊥ = cc in absurd none
 not_true false is = refl
-
--- one of two lists has it
-pub any_here : {X : Type 0} (test : X → Bool) (xs ys : List X) → list_any test xs ≡ true → list_any test (xs ++ ys) ≡ true
-any_here test xs ys is = list_any-append test xs ys ∙ or_left (list_any test xs) (list_any test ys) is
-
-pub any_later : {X : Type 0} (test : X → Bool) (xs ys : List X) → list_any test ys ≡ true → list_any test (xs ++ ys) ≡ true
-any_later test xs ys is = list_any-append test xs ys ∙ or_right (list_any test xs) (list_any test ys) is
 
 pub any_one : {X : Type 0} (t : Bool) (test : X → Bool) (x : X) → t ≡ true → test x ≡ true → list_any test (if t then x ∷ [] else []) ≡ true
 any_one true test x is passes = or_left (test x) false passes
@@ -148,10 +126,6 @@ or_none : (a c : Bool) → ((a || false) || c) ≡ (a || c)
 or_none true c = refl
 or_none false c = refl
 
-or_more : (a b c : Bool) → ((a || b) || c) ≡ (a || (b || c))
-or_more true b c = refl
-or_more false b c = refl
-
 beside_any : (test : Row → Bool) (row : Row) (os : List (List Row)) → list_any (list_any test) (beside row os) ≡ (test row || list_any (list_any test) os)
 beside_any test row [] = or_none (test row) false
 beside_any test row ([] ∷ rest) = or_none (test row) (list_any (list_any test) rest)
@@ -159,7 +133,7 @@ beside_any test row ((next ∷ run) ∷ rest) = by (next.group == row.group)
   where
     by : (b : Bool) → list_any (list_any test) (if b then (row ∷ next ∷ run) ∷ rest else (row ∷ []) ∷ (next ∷ run) ∷ rest)
         ≡ (test row || list_any (list_any test) ((next ∷ run) ∷ rest))
-    by true = or_more (test row) (list_any test (next ∷ run)) (list_any (list_any test) rest)
+    by true = or_assoc (test row) (list_any test (next ∷ run)) (list_any (list_any test) rest)
     by false = or_none (test row) (list_any (list_any test) ((next ∷ run) ∷ rest))
 
 pub runs_any : (test : Row → Bool) (rows : List Row) → list_any (list_any test) (runs rows) ≡ list_any test rows
@@ -177,38 +151,38 @@ not_empty test (row ∷ rows) is =
     (λ later. and_right (row.size == 0) (is_empty rows) (not_empty test rows later))
 
 -- one of these members passes it
-abbrev pub has : (test : Content → Bool) → List Member → Bool
-has test members = list_any (λ m. test m.content) members
+abbrev pub has_member : (test : Content → Bool) → List Member → Bool
+has_member test members = list_any (λ m. test m.content) members
 
-from_listed : (test : Content → Bool) (sizes : List (List Cut)) (c : ℕ) (rows : List Row) → list_any (row_has test) rows ≡ true → has test (members_from sizes c rows) ≡ true
+from_listed : (test : Content → Bool) (sizes : List (List Cut)) (c : ℕ) (rows : List Row) → list_any (row_has test) rows ≡ true → has_member test (members_from sizes c rows) ≡ true
 from_listed test sizes c [] is = let none : ⊥ = cc in absurd none
 from_listed test sizes c (row ∷ rows) is =
     let at : ℕ = up c row.align in
-    let rest : Bool = has test (members_from sizes (at + size_at sizes at row) rows) in
+    let rest : Bool = has_member test (members_from sizes (at + size_at sizes at row) rows) in
     or_cases ((test row.content || rest) ≡ true) (row_has test row) (list_any (row_has test) rows) is
     (λ here. or_left (test row.content) rest (and_parts (test row.content) (not (row.size == 0)) here).0)
     (λ later. or_right (test row.content) rest (from_listed test sizes (at + size_at sizes at row) rows later))
 
-in_listed : (test : Content → Bool) (sizes : List (List Cut)) (c : Cursor) (rows : List Row) → list_any (row_has test) rows ≡ true → has test (members_in sizes c rows) ≡ true
+in_listed : (test : Content → Bool) (sizes : List (List Cut)) (c : Cursor) (rows : List Row) → list_any (row_has test) rows ≡ true → has_member test (members_in sizes c rows) ≡ true
 unfolding members_in
 in_listed test sizes c rows is = by (is_empty rows) (not_empty test rows is)
   where
-    by : (e : Bool) → e ≡ false → has test (if e then [] else members_from sizes (start_of c rows) rows) ≡ true
+    by : (e : Bool) → e ≡ false → has_member test (if e then [] else members_from sizes (start_of c rows) rows) ≡ true
     by true some = let none : ⊥ = cc in absurd none
     by false some = from_listed test sizes (start_of c rows) rows is
 
 along_listed : (test : Content → Bool) (sizes : List (List Cut)) (c : Cursor) (os : List (List Row)) → list_any (list_any (row_has test)) os ≡ true
-    → has test (members_along sizes c os) ≡ true
+    → has_member test (members_along sizes c os) ≡ true
 along_listed test sizes c [] is = let none : ⊥ = cc in absurd none
 along_listed test sizes c (o ∷ os) is =
     let of : Member → Bool = λ m. test m.content in
-    or_cases (has test (members_in sizes c o ++ members_along sizes (after sizes c o) os) ≡ true)
+    or_cases (has_member test (members_in sizes c o ++ members_along sizes (after sizes c o) os) ≡ true)
     (list_any (row_has test) o) (list_any (list_any (row_has test)) os) is
     (λ here. any_here of (members_in sizes c o) (members_along sizes (after sizes c o) os) (in_listed test sizes c o here))
     (λ later. any_later of (members_in sizes c o) (members_along sizes (after sizes c o) os) (along_listed test sizes (after sizes c o) os later))
 
 class_listed : (test : Content → Bool) (sizes : List (List Cut)) (c : Cursor) (rows : List Row) → list_any (row_has test) rows ≡ true
-    → has test (members_along sizes c (runs rows)) ≡ true
+    → has_member test (members_along sizes c (runs rows)) ≡ true
 class_listed test sizes c rows is = along_listed test sizes c (runs rows) (runs_any (row_has test) rows ∙ is)
 
 -- a section that is not NOBITS is in one of four classes
@@ -231,7 +205,7 @@ bits_differ = λ e. absurd (omega (arith, e))
 
 -- so an item that is not NOBITS and has bytes is a member
 is_member : (test : Content → Bool) (list : List Item) (sizes : List (List Cut)) (bounds : Bounds) (sh_type flags : ℕ) → sh_type ≢ SHT_NOBITS
-    → ((class : Class) → is_in class sh_type flags ≡ true → list_any (item_has test class) list ≡ true) → has test (all_members sizes (orders_of list) bounds) ≡ true
+    → ((class : Class) → is_in class sh_type flags ≡ true → list_any (item_has test class) list ≡ true) → has_member test (all_members sizes (orders_of list) bounds) ≡ true
 unfolding orders_of
 is_member test list sizes bounds sh_type flags bits listed =
     let o : Orders = orders_of list in
@@ -242,7 +216,7 @@ is_member test list sizes bounds sh_type flags bits listed =
     let x : List Member = members_along sizes (cursor_at bounds.rx_start) (runs (rows_in o Rx)) in
     let t : List Member = members_along sizes (tls_cursor sizes o bounds.rw_start bounds.tls_align) (runs (rows_in o TlsBits)) in
     let w : List Member = members_along sizes (cursor_at bounds.tls_bits_end) (runs (rows_in o RwBits)) in
-    by_class (has test (r ++ (x ++ (t ++ w))) ≡ true) sh_type flags bits
+    by_class (has_member test (r ++ (x ++ (t ++ w))) ≡ true) sh_type flags bits
     (λ is. any_here of r (x ++ (t ++ w)) (class_listed test sizes (cursor_at bounds.headers_end) (rows_in o R) (rows R is)))
     (λ is. any_later of r (x ++ (t ++ w)) (any_here of x (t ++ w) (class_listed test sizes (cursor_at bounds.rx_start) (rows_in o Rx) (rows Rx is))))
     (λ is. any_later of r (x ++ (t ++ w)) (any_later of x (t ++ w)
@@ -267,7 +241,7 @@ module _ (files : List File) (b : Bindings) (pools : List Pool) (words : ℕ) (l
       (item_passes (is_section n) class (section_item n s) is (eq-eqb n n refl) some))
 
   pub pools_listed : (p : ℕ) (d : Pool) → p < length pools → AreRising pools → (get_or pools p d).first < section_total files → 0 < (get_or pools p d).size
-      → has (is_pool p) (all_members sizes (orders_of (items files b pools words leaders)) bounds) ≡ true
+      → has_member (is_pool p) (all_members sizes (orders_of (items files b pools words leaders)) bounds) ≡ true
   pools_listed p d below rising lt some =
       let pool : Pool = get_or pools p d in
       let s : InputSection = input_at files b pool.first in
@@ -275,7 +249,7 @@ module _ (files : List File) (b : Bindings) (pools : List Pool) (words : ℕ) (l
       (λ class is. pool_listed files b pools words leaders (item_has (is_pool p) class) p d below rising lt
       (item_passes (is_pool p) class (pool_item p pool.size s) is (eq-eqb p p refl) some))
 
-  pub table_is_listed : 0 < words → has is_table (all_members sizes (orders_of (items files b pools words leaders)) bounds) ≡ true
+  pub table_is_listed : 0 < words → has_member is_table (all_members sizes (orders_of (items files b pools words leaders)) bounds) ≡ true
   table_is_listed some =
       is_member is_table (items files b pools words leaders) sizes bounds SHT_PROGBITS (SHF_WRITE + SHF_ALLOC) bits_differ
       (λ class is. table_listed files b pools words leaders (item_has is_table class) (item_passes is_table class (got_item words) is refl (omega (arith, some))))

@@ -3,7 +3,7 @@ use Rattle.std.proofs.Common.{◌≡◌, ℕ, zero, suc, ◌+◌, ◌*◌, ◌-�
 use Rattle.std.specs.Prelude.{slice_get, unwrap_or}
 use Rattle.std.specs.List.{list_any}
 use Rattle.std.specs.Str.{bytes_eq}
-use Rattle.std.proofs.lemmas.Bool.{and_from, and_parts, leb-true}
+use Rattle.std.proofs.lemmas.Bool.{and_from, and_parts, leb-true, or_left, or_right}
 use Rattle.std.proofs.lemmas.List.{length-drop}
 use Rattle.std.proofs.lemmas.List.Elements.{All-nil, All-head, All-tail, All-cons}
 use Rattle.std.proofs.lemmas.Option.{slice_get_within}
@@ -17,9 +17,8 @@ use Rattle.link_sections.specs.declared.members.Content.{Content}
 use Rattle.output_sections.specs.declared.heads.Head.{Head}
 use Rattle.output_sections.specs.declared.rows.Row.{Row}
 use Rattle.output_sections.specs.Items.{Item}
-use Rattle.output_sections.specs.Order.{goes_to, head_after, head_from, head_of, is_of, key_of, no_head, order_of, orders_of, own_row, row_in, rows_from, rows_in, rows_of, with_item}
+use Rattle.output_sections.specs.Order.{item_goes_to, head_after, head_from, head_of, is_of, key_of, no_head, order_of, orders_of, own_row, row_in, rows_from, rows_in, rows_of, with_item}
 use Rattle.layout.specs.Walk.{name_of_item}
-use Rattle.layout.proofs.Listed.{or_left, or_right}
 use Rattle.std.specs.Prelude.{codes}
 
 -- a priority is a number of five digits, or the one of a name without a number
@@ -81,7 +80,7 @@ record Stays (h : Head) (found : Option Head) : Type 0 where
 
 stays_after : (class : Class) (name : List ℕ) (h : Head) (number : ℕ) (item : Item) → Stays h (head_after class name (Some h) number item)
 unfolding head_after with_item
-stays_after class name h number item = by (goes_to class name item) (nat_lt (priority_of item.name) h.priority)
+stays_after class name h number item = by (item_goes_to class name item) (nat_lt (priority_of item.name) h.priority)
   where
     by : (t s : Bool) → Stays h (if t then Some (if s then record { group = h.group; priority = priority_of item.name; sh_type = item.sh_type } else h) else Some h)
     by true true = record { head = record { group = h.group; priority = priority_of item.name; sh_type = item.sh_type }; is = refl; same = refl }
@@ -103,7 +102,7 @@ record IsFound (parts : List Item) (name : List ℕ) (found : Option Head) : Typ
   there : slice_get parts head.group ≡ Some item
   name_is : output_name item.name ≡ name
 
-after_is : (class : Class) (name : List ℕ) (head : Option Head) (number : ℕ) (item : Item) (t : Bool) → goes_to class name item ≡ t
+after_is : (class : Class) (name : List ℕ) (head : Option Head) (number : ℕ) (item : Item) (t : Bool) → item_goes_to class name item ≡ t
     → head_after class name head number item ≡ (if t then Some (with_item head number item) else head)
 unfolding head_after
 after_is class name head number item t is = ap (λ b. if b then Some (with_item head number item) else head) is
@@ -112,14 +111,14 @@ first_group_is : (number : ℕ) (item : Item) → (with_item None number item).g
 unfolding with_item
 first_group_is number item = refl
 
-found_from : (class : Class) (parts : List Item) (name : List ℕ) (number : ℕ) (rest : List Item) → list_any (goes_to class name) rest ≡ true → Fits parts number rest
+found_from : (class : Class) (parts : List Item) (name : List ℕ) (number : ℕ) (rest : List Item) → list_any (item_goes_to class name) rest ≡ true → Fits parts number rest
     → IsFound parts name (head_from class name None number rest)
 found_from class parts name number [] some fits = let none : ⊥ = cc in absurd none
 found_from class parts name number (item ∷ rest) some fits =
-    by (goes_to class name item) refl some (λ later. found_from class parts name (number + 1) rest later (fits_next parts number item rest fits))
+    by (item_goes_to class name item) refl some (λ later. found_from class parts name (number + 1) rest later (fits_next parts number item rest fits))
   where
-    by : (t : Bool) → goes_to class name item ≡ t → (t || list_any (goes_to class name) rest) ≡ true
-        → (list_any (goes_to class name) rest ≡ true → IsFound parts name (head_from class name None (number + 1) rest))
+    by : (t : Bool) → item_goes_to class name item ≡ t → (t || list_any (item_goes_to class name) rest) ≡ true
+        → (list_any (item_goes_to class name) rest ≡ true → IsFound parts name (head_from class name None (number + 1) rest))
         → IsFound parts name (head_from class name (head_after class name None number item) (number + 1) rest)
     by true is any later =
         let first : Head = with_item None number item in
@@ -165,8 +164,8 @@ one_row : (class : Class) (parts : List Item) (number : ℕ) (item : Item) → l
 unfolding row_in
 one_row class parts number item few at is =
     let name : List ℕ = output_name item.name in
-    let goes : goes_to class name item ≡ true = and_from (is_of class item) (bytes_eq name name) is ((bytes_eq-Decides name name).1 refl) in
-    let found = found_from class parts name 0 parts (any_at (goes_to class name) parts number item at goes) (fits_all parts) in
+    let goes : item_goes_to class name item ≡ true = and_from (is_of class item) (bytes_eq name name) is ((bytes_eq-Decides name name).1 refl) in
+    let found = found_from class parts name 0 parts (any_at (item_goes_to class name) parts number item at goes) (fits_all parts) in
     let head : head_of class parts name ≡ found.head = ap (λ h. unwrap_or h no_head) found.is in
     let there : slice_get parts (head_of class parts name).group ≡ Some found.item = ap (λ (h : Head). slice_get parts h.group) head ∙ found.there in
     record {

@@ -1,5 +1,5 @@
 -- The bytes of a member, from the cuts of its section.
-use Rattle.std.proofs.Common.{◌≡◌, ℕ, zero, suc, ◌+◌, ◌≤◌, List, [], ◌∷◌, length, map, get_or, All, refl, sym, ◌∙◌, subst, inl, inr, arith}
+use Rattle.std.proofs.Common.{◌≡◌, ℕ, ◌+◌, ◌≤◌, List, [], ◌∷◌, length, get_or, All, refl, sym, ◌∙◌, subst, inl, inr, arith}
 use Rattle.std.proofs.lemmas.Bool.{cases_lt}
 use Rattle.std.proofs.lemmas.List.Elements.{All-nil, All-head, All-tail, All-cons}
 use Rattle.std.proofs.Math.ListN.{get_or-eq_default}
@@ -16,12 +16,6 @@ use Rattle.layout.specs.Walk.{cuts_in, size_at}
 pub whole_size : (size : ℕ) → new_offset [] size ≡ size
 unfolding new_offset
 whole_size size = omega arith
-
--- the row of a number, as plain cuts
-pub row_view : (rows : List (List HeldCut)) (n : ℕ) → get_or (map cut_views rows) n [] ≡ cut_views (get_or rows n [])
-row_view [] n = refl
-row_view (r ∷ rs) zero = refl
-row_view (r ∷ rs) (suc n) = row_view rs n
 
 pub no_cuts : AreCuts []
 no_cuts = record {

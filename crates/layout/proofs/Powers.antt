@@ -23,9 +23,9 @@ doubled h k m n half half' none =
     let same : q * m ≡ n = omega (arith, apart, whole, half') in
     subst (λ x. x % m ≡ 0) same (mul-mod_left q m)
 
--- one that is not 1 is even
-even : (n : ℕ) → is_power_of_two n ≡ true → 2 ≤ n → n % 2 ≡ 0
-even n is some =
+-- one that is not 1 is power_even
+pub power_even : (n : ℕ) → is_power_of_two n ≡ true → 2 ≤ n → n % 2 ≡ 0
+power_even n is some =
     let one : count_ones n ≡ 1 = eqb-true (count_ones n) 1 is in
     let step = ones_step n in
     elim (cases_lt 0 (n % 2)) [
@@ -44,8 +44,8 @@ divides_by zero m n low one other le = absurd (omega (arith, low, eqb-true (coun
 divides_by (suc fuel) m n low one other le =
     elim (cases_lt 1 m) [
       | inl more ↦
-          let first : m % 2 ≡ 0 = even m one (omega (arith, more)) in
-          let second : n % 2 ≡ 0 = even n other (omega (arith, more, le)) in
+          let first : m % 2 ≡ 0 = power_even m one (omega (arith, more)) in
+          let second : n % 2 ≡ 0 = power_even n other (omega (arith, more, le)) in
           doubled (m / 2) (n / 2) m n (omega (arith, first)) (omega (arith, second))
           (divides_by fuel (m / 2) (n / 2) (omega (arith, low, more)) (halved m one first) (halved n other second) (omega (arith, le)))
       | inr most ↦

@@ -14,14 +14,14 @@ use Rattle.lk_tables.specs.Inside.{IsBodyInside, IsRelocWithin}
 use Rattle.lk_tables.specs.Sections.{contents_of}
 use Rattle.lk_tables.specs.Relocations.{value_len}
 use Rattle.lk_tables.specs.Sites.{contents_at, relocs_of}
-use Rattle.lk_tables.proofs.Owners.{place_is, place_law}
+use Rattle.lk_tables.proofs.Owners.{owner_below, place_is, place_law}
 use Rattle.lk_tables.proofs.SoundFiles.{inside_body}
 use Rattle.lk_tables.proofs.Widths.{value_least}
 use Rattle.link_sections.specs.Cuts.{AreApart, Cut, kept_before, new_offset, whole_before}
 use Rattle.link_sections.specs.InputSections.{input_at, input_of, is_own}
 use Rattle.link_sections.proofs.CutSums.{new_rises}
 use Rattle.layout.proofs.CutsPassed.{AreFrom, apart_from}
-use Rattle.output_sections.proofs.Sized.{AllSound, live_by, owner_below}
+use Rattle.output_sections.proofs.Sized.{AllSound, live_by}
 
 -- a relocation that lies in a section of so many bytes
 abbrev pub Lies : (contents : List ℕ) → (size : ℕ) → Reloc → Type 0

@@ -45,11 +45,6 @@ pub record Laying (files : List File) (row : ℕ → List Cut) (total i : ℕ) (
   pub views : map cut_views rows ≡ map row (range_with_len 0 i)
   pub sound : All AreCuts rows
 
-pub laying_first : (files : List File) (row : ℕ → List Cut) (total : ℕ) (rows : List (List HeldCut)) → rows ≡ [] → Laying files row total 0 rows
-laying_first files row total rows none =
-    let e : total - 0 ≡ total = omega arith in
-    rw none (record { passes = ap (λ n. flat_map (row_defects files row) (range_with_len 0 n)) e; views = refl; sound = All-nil AreCuts })
-
 pub laying_next : (files : List File) (row : ℕ → List Cut) (total i : ℕ) (rows rows' : List (List HeldCut)) → i < total
     → Laying files row total i rows → map cut_views rows' ≡ map cut_views rows ++ row i ∷ [] → (All AreCuts rows → All AreCuts rows') → row_defects files row i ≡ []
     → Laying files row total (i + 1) rows'

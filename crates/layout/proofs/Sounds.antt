@@ -44,7 +44,7 @@ use Rattle.output_sections.proofs.ItemFacts.{stays_of}
 use Rattle.layout.proofs.ItemFacts.{ready_of}
 use Rattle.layout.proofs.LaidCuts.{laid_apart}
 use Rattle.layout.proofs.LaidHold.{laid_hold, still_met, still_some, still_within}
-use Rattle.layout.proofs.Listed.{all_listed, has, pools_listed, table_is_listed}
+use Rattle.layout.proofs.Listed.{all_listed, pools_listed, table_is_listed, has_member}
 use Rattle.layout.proofs.Marks.{HasRoom, found_at, in_members, stand_at, stands_once}
 use Rattle.layout.proofs.MemberFacts.{IsMade, all_made, part_all}
 use Rattle.layout.proofs.OwnCalls.{IsMet, width_lies}
@@ -66,11 +66,11 @@ no_defects : (limits : Limits) (files : List File) (laid : LaidOut) → layout_d
 unfolding layout_defects
 no_defects limits files laid none = no_phase (cut_defects files laid.cuts (section_total files)) (limit_defects limits laid) none
 
-no_append : (xs ys : List Defect) → xs ++ ys ≡ [] → (xs ≡ []) × (ys ≡ [])
+pub no_append : (xs ys : List Defect) → xs ++ ys ≡ [] → (xs ≡ []) × (ys ≡ [])
 no_append [] ys none = (refl, none)
 no_append (x ∷ xs) ys none = cc
 
-none_at : (f : ℕ → List Defect) (a n k : ℕ) → flat_map f (range_with_len a n) ≡ [] → k < n → f (a + k) ≡ []
+pub none_at : (f : ℕ → List Defect) (a n k : ℕ) → flat_map f (range_with_len a n) ≡ [] → k < n → f (a + k) ≡ []
 none_at f a zero k none lt = absurd (omega (arith, lt))
 none_at f a (suc n) zero none lt =
     let e : a ≡ a + 0 = omega arith in
@@ -187,8 +187,8 @@ pub record IsPlaced (files : List File) (b : Bindings) (pools : List Pool) (word
   pub made : All (IsMade files b pools words leaders sizes) (all_members sizes o bounds)
   pub once : (it : Content) → in_members it (all_stands sizes o bounds) ≤ 1
   pub listed : AreListed files b leaders (all_members sizes o bounds)
-  pub pool_members : (p : ℕ) (d : Pool) → p < length pools → 0 < (get_or pools p d).size → has (is_pool p) (all_members sizes o bounds) ≡ true
-  pub table_member : 0 < words → has is_table (all_members sizes o bounds) ≡ true
+  pub pool_members : (p : ℕ) (d : Pool) → p < length pools → 0 < (get_or pools p d).size → has_member (is_pool p) (all_members sizes o bounds) ≡ true
+  pub table_member : 0 < words → has_member is_table (all_members sizes o bounds) ≡ true
 
 room_at : (starts : List ℕ) (n : ℕ) → All (λ start. start + 2 ^ 30 < 2 ^ 63) starts → get_or starts n 0 + 2 ^ 62 < 2 ^ 64
 room_at starts n low =
@@ -280,7 +280,7 @@ module _ (limits : Limits) (files : List File) (b : Bindings) (pools : List Pool
     size = (placed.made k d lt).table same ∙ ap (λ n. 8 * n) contents.counted;
   }
 
-  pool_listed : (p : ℕ) → p < length laid.merging.pools → 0 < (get_or laid.merging.pools p no_pool).size → has (is_pool p) (all_members sizes o laid.bounds) ≡ true
+  pool_listed : (p : ℕ) → p < length laid.merging.pools → 0 < (get_or laid.merging.pools p no_pool).size → has_member (is_pool p) (all_members sizes o laid.bounds) ≡ true
   pool_listed p lt some =
       let number : p < length pools = omega (arith, lt, contents.count) in
       let none : Pool = record { first = 0; size = 0 } in
@@ -298,9 +298,9 @@ module _ (limits : Limits) (files : List File) (b : Bindings) (pools : List Pool
         sections = subst (All (λ m. (n : ℕ) → m.content ≡ Section n → IsSectionMember files b leaders laid n m)) same (all_sections sound are fit apart);
         listed = subst (AreListed files b leaders) same placed.listed;
         pools = subst (All (λ m. (p : ℕ) → m.content ≡ IsPool p → IsPoolMember laid p m)) same all_pools;
-        pools_listed = λ p lt some. subst (λ l. has (is_pool p) l ≡ true) same (pool_listed p lt some);
+        pools_listed = λ p lt some. subst (λ l. has_member (is_pool p) l ≡ true) same (pool_listed p lt some);
         table = subst (All (λ m. m.content ≡ Got → IsGotMember laid m)) same all_table;
-        table_listed = λ some. subst (λ l. has is_table l ≡ true) same (placed.table_member (omega (arith, some, contents.counted)));
+        table_listed = λ some. subst (λ l. has_member is_table l ≡ true) same (placed.table_member (omega (arith, some, contents.counted)));
         low = subst (All (λ (m : Member). IMAGE_BASE + EHDR_SIZE ≤ m.start)) same (λ k d lt. omega (arith, (inside k d lt).first, up.first));
         above = subst (All (λ (m : Member). laid.bounds.headers_end ≤ m.start)) same (λ k d lt. (inside k d lt).first);
         inside = subst (All (λ (m : Member). m.start + m.size ≤ laid.bounds.file_end)) same (λ k d lt. (inside k d lt).last);

@@ -92,9 +92,6 @@ unfolding trail_of with_bits with_frames with_nobits
 trail_nobits sizes parts o b sections pools = refl
 
 -- where they stand: from the headers on, and not much after the end of the last class
-near_more : (from to later : ℕ) (ms : List Member) → to ≤ later → All (Near from to) ms → (first : ℕ) → first ≤ from → All (Near first later) ms
-near_more from to later ms le all first first_le = λ k d lt. record { first = omega (arith, (all k d lt).first, first_le); low = omega (arith, (all k d lt).low, le) }
-
 pub stands_near : (sizes : List (List Cut)) (o : Orders) (fs : FrameSizes) (b : Bounds) → AllFit sizes o → AreBounds sizes o fs b → AreRising b
     → All (Near b.headers_end (2 ^ 63 - 2 ^ 31)) (all_stands sizes o b)
 stands_near sizes o fs b fit is up =

@@ -1,20 +1,17 @@
 -- Which output section has the bytes of a section: the first of its name in its class (System V gABI, "Sections": sh_addr, sh_size).
 use Rattle.std.specs.Prelude.{◌≡◌, ℕ, ◌+◌, ◌*◌, ◌<◌, ◌≤◌, ◌&&◌, Bool, true, Option, Some, find, List, length, slice_index, slice_index_or}
-use Rattle.std.specs.Str.{bytes_eq}
 use Rattle.lk_tables.specs.Binding.{Bindings}
-use Rattle.lk_tables.specs.Classes.{is_in}
 use Rattle.lk_tables.specs.Files.{File, section_total}
-use Rattle.lk_tables.specs.OutputNames.{output_name}
 use Rattle.link_sections.specs.declared.pools.Pool.{Pool}
 use Rattle.link_sections.specs.Cuts.{new_offset}
 use Rattle.link_sections.specs.InputSections.{input_at}
 use Rattle.link_sections.specs.LaidOut.{LaidOut, OutputSection, cuts_at, start_at}
 use Rattle.link_sections.specs.Leaders.{leads}
 use Rattle.output_sections.specs.Items.{Item, got_item, pool_item, section_item}
+use Rattle.output_sections.specs.Order.{item_goes_to}
 
--- it goes by the name of its output section, and by its class
 abbrev pub takes : Item → OutputSection → Bool
-takes item o = bytes_eq o.name (output_name item.name) && is_in o.class item.sh_type item.flags
+takes item o = item_goes_to o.class o.name item
 
 -- so many bytes from an address on lie in an output section
 pub record Holds (start size : ℕ) (o : OutputSection) : Type 0 where

@@ -8,11 +8,11 @@ use Rattle.lk_base.specs.declared.limits.Limits.{Limits}
 use Rattle.lk_base.specs.Firsts.{BeginsWith, Goes, StopsAt}
 use Rattle.comdat.specs.Discarded.{discarded}
 use Rattle.link_command.specs.Command.{CommandView}
-use Rattle.lk_tables.specs.Binding.{Bindings, first_phase, flag_defects, duplicate_defects}
-use Rattle.lk_tables.specs.BoundNames.{binding_defects, entry_defects}
+use Rattle.lk_tables.specs.Binding.{Bindings, first_phase}
+use Rattle.lk_tables.specs.BoundNames.{binding_defects}
 use Rattle.lk_tables.specs.Files.{File}
 use Rattle.link_passes.specs.Passes.{bound_names, kept_for, piece_defects, link_options_for}
-use Rattle.link_driver.specs.Link.{defects_in, last_phases, later_phases}
+use Rattle.link_driver.specs.Link.{defects_in, last_phases, later_phases, name_phases}
 use Rattle.link_passes.specs.Defects.{opening_defects, reading_defects}
 use Rattle.link_passes.specs.Sources.{Source, files_in}
 
@@ -63,25 +63,22 @@ module _ (limits : Limits) (asked : CommandView) (ss : List Source) where
       left : defects_in limits asked ss ≡ first_phase (later_phases limits asked files)
       left = rest ∙ ap (λ fs. first_phase (later_phases limits asked fs)) (sym are)
 
-      abbrev binding_phases : List (List Defect)
-      binding_phases = flag_defects files ∷ duplicate_defects files (discarded files) ∷ entry_defects files (discarded files) asked.entry ∷ []
-
       pub at_pieces : (stop : LinkStop) → StopsAt stop (piece_defects limits files) → StopsAt stop (defects_in limits asked ss)
       at_pieces stop at = let P : List Defect → Type 0 = λ ds. StopsAt stop ds in
           subst P (sym left) (stopped (piece_defects limits files ∷ []) _ stop (one_stop stop (piece_defects limits files) at))
 
       module _ (few : piece_defects limits files ≡ []) where
         past : defects_in limits asked ss
-            ≡ first_phase (binding_phases ++ last_phases limits (link_options_for asked files (bound_names files asked.entry) (kept_for asked files (bound_names files asked.entry))) files (bound_names files asked.entry) (kept_for asked files (bound_names files asked.entry)))
+            ≡ first_phase (name_phases asked files ++ last_phases limits (link_options_for asked files (bound_names files asked.entry) (kept_for asked files (bound_names files asked.entry))) files (bound_names files asked.entry) (kept_for asked files (bound_names files asked.entry)))
         past = left ∙ passed (piece_defects limits files ∷ []) _ (one_none (piece_defects limits files) few)
 
         pub at_binding : (stop : LinkStop) → StopsAt stop (binding_defects files (discarded files) asked.entry) → StopsAt stop (defects_in limits asked ss)
-        at_binding stop at = let P : List Defect → Type 0 = λ ds. StopsAt stop ds in subst P (sym past) (stopped binding_phases _ stop at)
+        at_binding stop at = let P : List Defect → Type 0 = λ ds. StopsAt stop ds in subst P (sym past) (stopped (name_phases asked files) _ stop at)
 
         module _ (bound : binding_defects files (discarded files) asked.entry ≡ []) (b : Bindings) (names : b ≡ bound_names files asked.entry)
             (kept : List Bool) (stays : kept ≡ kept_for asked files b) where
           then_left : defects_in limits asked ss ≡ first_phase (last_phases limits (link_options_for asked files b kept) files b kept)
-          then_left = past ∙ passed binding_phases _ bound
+          then_left = past ∙ passed (name_phases asked files) _ bound
               ∙ ap (λ n. first_phase (last_phases limits (link_options_for asked files n (kept_for asked files n)) files n (kept_for asked files n))) (sym names)
               ∙ ap (λ k. first_phase (last_phases limits (link_options_for asked files b k) files b k)) (sym stays)
 

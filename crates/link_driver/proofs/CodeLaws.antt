@@ -25,6 +25,8 @@ use Rattle.lk_tables.specs.Binding.{Bindings}
 use Rattle.lk_tables.specs.Files.{File, file_at, no_reloc, section_at, section_total}
 use Rattle.lk_tables.specs.Sites.{contents_at, place_of as site_of, relocs_of}
 use Rattle.lk_tables.specs.TablesView.{files_of}
+use Rattle.lk_tables.specs.Walks.{reloc_defect}
+use Rattle.lk_tables.specs.Misfits.{misfit_defects, value_defects}
 use Rattle.link_sections.specs.declared.got.GotEntry.{GotEntry}
 use Rattle.link_sections.specs.declared.members.Content.{Content}
 use Rattle.link_sections.specs.declared.members.Content.TheVariants.{Section, Pool, Got}
@@ -42,9 +44,10 @@ use Rattle.rv_code.specs.Transfers.{Goes}
 use Rattle.rv_code.proofs.Going.{goes}
 use Rattle.rv_code.proofs.JumpWords.{jal_word as jal_is, short_word}
 use Rattle.relax.proofs.Fitting.{call_kind, call_width, end_is, sound_of}
+use Rattle.layout.proofs.Sounds.{none_at}
 use Rattle.reloc_apply.specs.Founds.{no_member}
-use Rattle.reloc_apply.specs.Relocated.{bytes_after, has_bits, is_laid, misfit_defects, operand, reach_in, reloc_defect, reloc_defects, relocation_defects, section_bytes, section_defects, staying_at, value_at, value_defects, width_at, written_in}
-use Rattle.reloc_apply.specs.Staying.{call_bytes, jal_word, kept_bytes, no_cut, nops, register_of, staying}
+use Rattle.reloc_apply.specs.Relocated.{bytes_after, has_bits, is_laid, operand, reach_in, reloc_defects, relocation_defects, section_bytes, section_defects, staying_at, value_at, width_at, written_in}
+use Rattle.reloc_apply.specs.Staying.{call_bytes, jal_word, kept_bytes, no_cut, nops, staying}
 use Rattle.reloc_apply.specs.Values.{computed, direct_value, entry_of, is_upper_at, label_in, partner_of, place_of, spot_in, sum_of, thread_of, value_of, word_at, word_for}
 use Rattle.reloc_apply.proofs.BytesAfter.{AllFit, after_none, whole_length}
 use Rattle.reloc_apply.proofs.LaidFacts.{IsKnown, any_at, cuts_apart, known, raw_size, stay_size}
@@ -57,7 +60,6 @@ use Rattle.link_driver.proofs.CodeKinds.{Computes, IsJumpLine, IsUpperLine, addr
 use Rattle.link_driver.proofs.CodePlaces.{IsCutOf, away_from_call, away_from_nops, cut_of_call}
 use Rattle.link_driver.proofs.FieldParts.{sum_i, sum_s, taken_if}
 use Rattle.link_driver.proofs.KeptCuts.{are_nops, kept_at_cut}
-use Rattle.link_driver.proofs.Laid.{none_at}
 use Rattle.link_driver.proofs.ShortRegister.{word_register}
 use Rattle.link_driver.proofs.PlacedBytes.{IsAway, IsKept, before_of, before_size, first_then, last_then, placed_holds, placed_reads, placed_size}
 
@@ -107,7 +109,7 @@ short_width : (kind_of R_RISCV_RVC_JUMP).width ≡ 2
 unfolding kind_of
 short_width = refl
 
-call_four : (raw : List ℕ) → call_bytes 4 raw ≡ to_le_bytes w32 (jal_word (register_of (number_of (take 4 (drop 4 raw)))))
+call_four : (raw : List ℕ) → call_bytes 4 raw ≡ to_le_bytes w32 (jal_word (rd_of (number_of (take 4 (drop 4 raw)))))
 unfolding call_bytes
 call_four raw = refl
 
@@ -246,7 +248,7 @@ module _ (files : List File) (b : Bindings) (leaders : List (Option ℕ)) (laid 
       let width : ℕ = width_at files b leaders laid n r in
       let value : Option ℤ = value_of files b leaders laid n r (operand files b leaders laid n p r (pos 0)) in
       let values : value_defects (site_of files n) r (reach_in (is_uleb r.kind) kind width) value ≡ [] =
-      only_values (is_lower r.kind && not (is_some (partner_of files b leaders laid n r))) (reloc_defect kinds.NO_PARTNER (site_of files n) r 0) _ none in
+      only_values (is_lower r.kind && not (is_some (partner_of files b leaders laid n r))) (reloc_defect kinds.NO_PARTNER (site_of files n).file (site_of files n).index r 0) _ none in
       taken_if kind.reach v (no_misfit (site_of files n) r v (misfit_of kind.reach v)
       (sym (ap (λ u. value_defects (site_of files n) r (reach_in u kind width) value) plain ∙ ap (value_defects (site_of files n) r kind.reach) is) ∙ values))
 
@@ -443,7 +445,7 @@ module _ (tables : Tables) (b : Bindings) (leaders : List (Option ℕ)) (laid : 
         let number : acting_number cuts r ≡ R_RISCV_JAL = acting_call cuts r 4 call size_is in
         let wide = call_wide 4 R_RISCV_JAL size_is refl jal_width in
         let word : ℕ = second_word files b leaders laid n k in
-        let x : ℕ = jal_word (register_of word) in
+        let x : ℕ = jal_word (rd_of word) in
         let v : ℤ = distance files b leaders laid n k in
         let old : List ℕ = before_of files b leaders laid n k in
         let new : List ℕ = placed files b leaders laid n k in

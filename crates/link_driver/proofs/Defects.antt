@@ -11,6 +11,8 @@ use Rattle.lk_tables.specs.declared.objects.Reloc.{Reloc}
 use Rattle.lk_tables.specs.Binding.{Bindings}
 use Rattle.lk_tables.specs.Files.{File, no_reloc}
 use Rattle.lk_tables.specs.Sites.{place_of, relocs_of}
+use Rattle.lk_tables.specs.Walks.{reloc_defect}
+use Rattle.lk_tables.specs.Misfits.{misfit_defects, value_defects}
 use Rattle.link_sections.specs.declared.targets.Target.TheVariants as targets
 use Rattle.link_sections.specs.Addresses.{target_address}
 use Rattle.link_sections.specs.Calls.{acting_number, call_size, is_call, kind_by_size}
@@ -19,7 +21,7 @@ use Rattle.link_sections.specs.LaidOut.{LaidOut, address_in, cuts_at, start_at}
 use Rattle.link_sections.specs.PieceTargets.{target_at}
 use Rattle.link_sections.specs.PoolViews.{Merged}
 use Rattle.relax.specs.Jumps.{reach}
-use Rattle.reloc_apply.specs.Relocated.{misfit_defects, operand, reach_in, reloc_defect, reloc_defects, value_defects, width_at}
+use Rattle.reloc_apply.specs.Relocated.{operand, reach_in, reloc_defects, width_at}
 use Rattle.reloc_apply.specs.Values.{addend_of, computed, direct_value, entry_of, partner_of, place_of as place_at, sum_of, target_in, thread_of, value_of}
 use Rattle.link_driver.proofs.Reached.{Reaches}
 use Rattle.link_driver.proofs.Values.{distance_taken}
@@ -111,7 +113,7 @@ module _ (files : List File) (b : Bindings) (leaders : List (Option ℕ)) (laid 
       let width : ℕ = width_at files b leaders laid n r in
       let number : (if is_call r.kind then kind_by_size size r.kind else r.kind) ≡ kind_by_size size r.kind = ap (λ t. if t then kind_by_size size r.kind else r.kind) call in
       let fits = taken_by size r.kind a p is.size is.target_even is.place_even is.ahead is.back in
-      ap (λ t. if t && not (is_some (partner_of files b leaders laid n r)) then reloc_defect kinds.NO_PARTNER (place_of files n) r 0 ∷ [] else value_defects (place_of files n) r (reach_in (is_uleb r.kind) kind width) (value_of files b leaders laid n r held)) line.lower
+      ap (λ t. if t && not (is_some (partner_of files b leaders laid n r)) then reloc_defect kinds.NO_PARTNER (place_of files n).file (place_of files n).index r 0 ∷ [] else value_defects (place_of files n) r (reach_in (is_uleb r.kind) kind width) (value_of files b leaders laid n r held)) line.lower
       ∙ ap (λ u. value_defects (place_of files n) r (reach_in u kind width) (value_of files b leaders laid n r held)) line.plain
       ∙ ap (value_defects (place_of files n) r kind.reach) (own_value held call)
       ∙ ap (λ m. misfit_defects (place_of files n) r (pos a -ℤ pos p) (misfit_of (kind_of m).reach (pos a -ℤ pos p))) number

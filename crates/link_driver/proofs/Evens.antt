@@ -1,13 +1,11 @@
 -- An even offset of a section stays even: cuts stand at even offsets and lose even numbers of bytes.
 use Rattle.std.proofs.Common.{◌≡◌, ℕ, zero, suc, ◌+◌, ◌-◌, ◌*◌, ◌/◌, ◌%◌, ◌<◌, ◌≤◌, ◌==◌, ◌&&◌, ◌||◌, not, Bool, true, false, if◌then◌else◌, List, [], ◌∷◌, ◌++◌, min, refl, sym, ap, ◌∙◌, subst, arith, inl, inr, nat_lt}
 use Rattle.std.specs.Prelude.{All}
-use Rattle.std.specs.Int.{is_power_of_two}
-use Rattle.std.specs.Int.Count.{ones_step}
 use Rattle.std.specs.List.{sum_by}
 use Rattle.std.proofs.Math.Nat.{mod-eq_of_lt}
 use Rattle.std.proofs.lemmas.Bool.{cases_lt, eqb-true, le-ltb}
 use Rattle.std.proofs.lemmas.Bool.Decides.{nat_tests}
-use Rattle.std.proofs.lemmas.Nat.{div-add-mod', mul-mod, zero_from_ones}
+use Rattle.std.proofs.lemmas.Nat.{div-add-mod', mul-mod}
 use Rattle.std.proofs.lemmas.List.Elements.{All-nil, All-head, All-tail, All-cons, All-append}
 use Rattle.std.proofs.lemmas.List.Sums.{sum_by-cons, sum_by_push}
 use Rattle.link_sections.specs.Cuts.{Cut, kept_before, new_offset, whole_before}
@@ -15,16 +13,6 @@ use Rattle.layout.specs.Cutting.{boundary, is_short, kept_at, laid_cut, laid_cut
 use Rattle.layout.proofs.CutsPassed.{AreFrom}
 use Rattle.layout.proofs.LaidCuts.{laid_are, laid_rest}
 use Rattle.layout.proofs.RelocsLie.{low_from}
-
--- a power of two that is not 1
-pub power_even : (n : ℕ) → is_power_of_two n ≡ true → 2 ≤ n → n % 2 ≡ 0
-power_even n is some =
-    let one = eqb-true _ 1 is in
-    let step = ones_step n in
-    elim (cases_lt 0 (n % 2)) [
-      | inl odd ↦ absurd (let none : n / 2 ≡ 0 = zero_from_ones (n / 2) (omega (arith, one, step, odd)) in omega (arith, none, some))
-      | inr even ↦ omega (arith, even)
-    ]
 
 -- so the boundary of an alignment
 above_even : (s power n : ℕ) → power % 2 ≡ 0 → power_above s power n % 2 ≡ 0

@@ -20,7 +20,7 @@ use Rattle.sec_graph.specs.Undefined.{undefined_defects}
 use Rattle.link_passes.specs.Defects.{head_defects_at, opening_defects, reading_defects}
 use Rattle.link_driver.specs.Laws.{AreCounted, StopsAtLeast}
 use Rattle.link_passes.specs.Passes.{LinkOptions, bound_names, kept_for, leaders_in, merged_of, piece_defects, plan_in, link_options_for}
-use Rattle.link_driver.specs.Link.{defects_in, final_phases, laid_out, last_phases, later_phases}
+use Rattle.link_driver.specs.Link.{defects_in, laid_out, last_phases, later_phases}
 use Rattle.link_passes.specs.Sources.{Source, files_in, heads_in}
 use Rattle.link_driver.specs.Values.{value_defects}
 use Rattle.link_driver.proofs.DefectOrder.{Ordered, first_least, first_ordered}
@@ -78,8 +78,8 @@ module _ (limits : Limits) (within : IsWithinStandard limits) (ss : List Source)
         let leaders = leaders_in w files bound kept in
         let laid = laid_out w files bound kept in
         let values = value_defects files bound leaders laid (plan_in w files bound kept) in
-        first_ordered (undefined_defects files bound kept) (final_phases limits w files bound kept) (undefined_ordered files bound kept rise)
-        (λ none. first_ordered (layout_defects limits files (laid_out w files bound kept)) (values ∷ []) (laid_ordered limits w files bound kept rise)
+        first_ordered (undefined_defects files bound kept) (layout_defects limits files laid ∷ values ∷ []) (undefined_ordered files bound kept rise)
+        (λ none. first_ordered (layout_defects limits files laid) (values ∷ []) (laid_ordered limits w files bound kept rise)
         (λ nor. first_ordered values [] (values_ordered files bound (merged_of w files bound kept) leaders laid rise) (λ no. tt)))
 
     binding_ordered : AreCounted ss → Ordered (first_phase (later_phases limits asked files))

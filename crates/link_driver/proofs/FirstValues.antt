@@ -11,6 +11,7 @@ use Rattle.lk_base.specs.Firsts.{BeginsWith, StopsAt}
 use Rattle.lk_base.specs.RelocKinds.{is_among}
 use Rattle.lk_base.specs.Order.{stable_order}
 use Rattle.lk_base.specs.declared.abi.TheConstants.{SHT_PROGBITS}
+use Rattle.lk_base.proofs.NoneGiven.{none_at}
 use Rattle.lk_tables.specs.declared.records.FrameNo.{FrameNo}
 use Rattle.lk_tables.specs.declared.section_places.SectionPlace.{SectionPlace}
 use Rattle.lk_tables.specs.Binding.{Bindings}
@@ -46,21 +47,6 @@ flat_same f g zero a same = refl
 flat_same f g (suc count) a same =
     ap (λ l. l ++ flat_map f (range_with_len (a + 1) count)) (same a (omega arith) (omega arith))
     ∙ ap (λ l. g a ++ l) (flat_same f g count (a + 1) (λ n low high. same n (omega (arith, low)) (omega (arith, high))))
-
-left_none : {X : Type 0} (xs ys : List X) → xs ++ ys ≡ [] → xs ≡ []
-left_none [] ys none = refl
-left_none (x ∷ xs) ys none = cc
-
-right_none : {X : Type 0} (xs ys : List X) → xs ++ ys ≡ [] → ys ≡ []
-right_none [] ys none = none
-right_none (x ∷ xs) ys none = cc
-
-pub none_at : {X : Type 0} (f : ℕ → List X) (count a n : ℕ) → flat_map f (range_with_len a count) ≡ [] → a ≤ n → n < a + count → f n ≡ []
-none_at f zero a n none low high = absurd (omega (arith, low, high))
-none_at f (suc count) a n none low high = elim (cases_lt a n) [
-  | inl lt ↦ none_at f count (a + 1) n (right_none (f a) _ none) (omega (arith, lt)) (omega (arith, high))
-  | inr le ↦ let same : a ≡ n = omega (arith, le, low) in subst (λ (k : ℕ). f k ≡ []) same (left_none (f a) _ none)
-]
 
 -- of two walks over the same numbers, of which at each number one gives nothing, the first defect of both is the earlier of the first of each
 module _ (Of : ℕ → Defect → Type 0) (f g h : ℕ → List Defect) (of_f : (n : ℕ) → AllByRecursion (Of n) (f n)) (of_g : (n : ℕ) → AllByRecursion (Of n) (g n)) where

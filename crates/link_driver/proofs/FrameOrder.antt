@@ -23,10 +23,11 @@ use Rattle.lk_tables.specs.Records.{RecordView, cie_before, cie_of, count, end_a
 use Rattle.lk_tables.specs.Sections.{contents_of}
 use Rattle.lk_tables.specs.Sites.{contents_at, place_of, relocs_of}
 use Rattle.lk_tables.specs.Targets.{is_gone}
+use Rattle.lk_tables.specs.Misfits.{misfit_defects, value_defects}
 use Rattle.link_sections.specs.LaidOut.{LaidOut}
 use Rattle.link_sections.specs.PoolViews.{Merged}
 use Rattle.eh_frame.specs.declared.placing.Placed.{Placed}
-use Rattle.eh_frame.specs.Bytes.{all_placed, placed_order, is_of, misfit_defects, order_of, placed_cies, placed_defects, placed_fdes, placed_from, record_defects, reloc_defects, value_defects, value_in}
+use Rattle.eh_frame.specs.Bytes.{all_placed, placed_order, is_of, order_of, placed_cies, placed_defects, placed_fdes, placed_from, record_defects, reloc_defects, value_in}
 use Rattle.eh_frame.specs.Laws.{comes_before}
 use Rattle.eh_frame.specs.Plan.{CieKey, cie_key, cie_no, first_cies, is_alike, is_owner_in_place, plan_of, record_by, size_of, with_cie, written_cies, written_fdes}
 use Rattle.eh_frame.proofs.Places.{place_le}

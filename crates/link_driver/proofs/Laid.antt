@@ -1,7 +1,6 @@
 -- What is known of a layout that was made over the least safe sizes.
-use Rattle.std.proofs.Common.{◌≡◌, ℕ, zero, suc, ◌+◌, ◌<◌, ◌≤◌, ◌%◌, ◌==◌, ◌&&◌, ◌||◌, Bool, true, false, cond, Option, List, [], ◌∷◌, ◌++◌, length, map, flat_map, get_or, filter, refl, sym, ap, ◌∙◌, subst, arith, inl, inr, nat_lt}
+use Rattle.std.proofs.Common.{◌≡◌, ℕ, ◌+◌, ◌<◌, ◌≤◌, ◌%◌, ◌==◌, ◌&&◌, ◌||◌, Bool, true, false, cond, Option, List, [], ◌∷◌, length, map, get_or, filter, refl, sym, ap, ◌∙◌, subst, arith, inl, inr, nat_lt}
 use Rattle.std.specs.Prelude.{All, nat_le}
-use Rattle.std.specs.List.{range_with_len}
 use Rattle.std.proofs.lemmas.Bool.{and_parts, cases_lt, eqb-true, ltb-true, or_cases}
 use Rattle.std.proofs.lemmas.List.{get_or_default, get_or_past}
 use Rattle.std.proofs.lemmas.List.Elements.{All-nil, All-cons}
@@ -33,6 +32,7 @@ use Rattle.output_sections.specs.Items.{AreLeaders, HaveFirsts, IsStaying, Item,
 use Rattle.layout.specs.Layout.{FrameSizes, bounds_of, cut_defects, cuts_of as laid_cuts_of, laid_by, laid_of, layout_defects, layout_of, limit_defects, no_trail, trail_of}
 use Rattle.output_sections.specs.Order.{members_in, orders_of}
 use Rattle.layout.specs.Spots.{HaveAlignments}
+use Rattle.layout.proofs.Sounds.{none_at}
 use Rattle.output_sections.proofs.ItemFacts.{stays_of}
 use Rattle.output_sections.proofs.Sized.{all_sound, modest}
 use Rattle.layout.proofs.Trails.{all_members, trail_members}
@@ -86,19 +86,6 @@ no_phase (x ∷ xs) ys none = cc
 no_short : (limits : Limits) (files : List File) (laid : LaidOut) → layout_defects limits files laid ≡ [] → cut_defects files laid.cuts (section_total files) ≡ []
 unfolding layout_defects
 no_short limits files laid none = no_phase (cut_defects files laid.cuts (section_total files)) (limit_defects limits laid) none
-
-no_append : (xs ys : List Defect) → xs ++ ys ≡ [] → (xs ≡ []) × (ys ≡ [])
-no_append [] ys none = (refl, none)
-no_append (x ∷ xs) ys none = cc
-
-pub none_at : (f : ℕ → List Defect) (a n k : ℕ) → flat_map f (range_with_len a n) ≡ [] → k < n → f (a + k) ≡ []
-none_at f a zero k none lt = absurd (omega (arith, lt))
-none_at f a (suc n) zero none lt =
-    let e : a ≡ a + 0 = omega arith in
-    subst (λ m. f m ≡ []) e (no_append (f a) (flat_map f (range_with_len (a + 1) n)) none).0
-none_at f a (suc n) (suc k) none lt =
-    let e : (a + 1) + k ≡ a + suc k = omega arith in
-    subst (λ m. f m ≡ []) e (none_at f (a + 1) n k (no_append (f a) (flat_map f (range_with_len (a + 1) n)) none).1 (omega (arith, lt)))
 
 -- each item has an alignment
 all_aligned : (tables : Tables) (b : Bindings) (pools : List Pool) (words : ℕ) (leaders : List (Option ℕ)) → AreFew (files_of tables) → IsBindingOf (files_of tables) b → AreLeaders (files_of tables) b leaders

@@ -16,6 +16,8 @@ use Rattle.lk_tables.specs.declared.section_places.SectionPlace.{SectionPlace}
 use Rattle.lk_tables.specs.Binding.{Bindings}
 use Rattle.lk_tables.specs.Files.{File, file_at, no_reloc, section_total}
 use Rattle.lk_tables.specs.Sites.{place_of, relocs_of}
+use Rattle.lk_tables.specs.Walks.{reloc_defect}
+use Rattle.lk_tables.specs.Misfits.{misfit_defects, value_defects}
 use Rattle.layout.specs.Cutting.{cuts_after, is_short, laid_cut, laid_cuts, short_defect, short_defects}
 use Rattle.layout.specs.Layout.{FrameSizes, all_cuts, cuts_of, cut_defects, laid_by, laid_of, layout_defects, layout_of, limit_defects}
 use Rattle.link_sections.specs.declared.pools.Pool.{Pool}
@@ -29,7 +31,7 @@ use Rattle.relax.specs.declared.calls.Call.{Call}
 use Rattle.output_sections.specs.declared.rows.Row.{Row}
 use Rattle.relax.specs.CallSizes as calls
 use Rattle.relax.specs.CallSizes.{cut_of, cuts_by, is_cut}
-use Rattle.reloc_apply.specs.Relocated.{defects_at, misfit_defects, operand, reach_in, reloc_at, reloc_defect, reloc_defects, section_defects, value_defects, width_at}
+use Rattle.reloc_apply.specs.Relocated.{defects_at, operand, reach_in, reloc_at, reloc_defects, section_defects, width_at}
 use Rattle.reloc_apply.specs.Values.{partner_of, value_of}
 use Rattle.link_passes.specs.Passes.{LinkOptions, leaders_in, plan_in}
 use Rattle.link_driver.specs.Link.{cuts_in, laid_out, sizes_in}
@@ -158,14 +160,14 @@ module _ (files : List File) (b : Bindings) (leaders : List (Option ℕ)) (laid 
   reloc_of : (n : ℕ) (p r : Reloc) → AllByRecursion (OfReloc (place_of files n).file (place_of files n).index r) (reloc_defects files b leaders laid n p r)
   unfolding reloc_defects
   reloc_of n p r =
-      all_if (OfReloc (place_of files n).file (place_of files n).index r) (alone n r) (reloc_defect NO_PARTNER (place_of files n) r 0 ∷ []) (misfitting n p r)
+      all_if (OfReloc (place_of files n).file (place_of files n).index r) (alone n r) (reloc_defect NO_PARTNER (place_of files n).file (place_of files n).index r 0 ∷ []) (misfitting n p r)
       (record { own = record { file = refl; section = refl }; place = refl }, tt)
       (values_of (place_of files n) r (reach_at n r) (value_by n p r))
 
   reloc_up : (n : ℕ) (p r : Reloc) → Ordered (reloc_defects files b leaders laid n p r)
   unfolding reloc_defects
   reloc_up n p r =
-      up_if NotAfter (alone n r) (reloc_defect NO_PARTNER (place_of files n) r 0 ∷ []) (misfitting n p r) (tt, tt)
+      up_if NotAfter (alone n r) (reloc_defect NO_PARTNER (place_of files n).file (place_of files n).index r 0 ∷ []) (misfitting n p r) (tt, tt)
       (values_up (place_of files n) r (reach_at n r) (value_by n p r))
 
   abbrev of_section : (n : ℕ) → List Defect

@@ -24,7 +24,7 @@ use Rattle.link_sections.specs.Sound.{is_section}
 use Rattle.output_sections.specs.declared.heads.Head.{Head}
 use Rattle.output_sections.specs.declared.rows.Row.{Row}
 use Rattle.output_sections.specs.Items.{Item, got_item, items, items_at, own_item, pool_at, pool_item, section_item}
-use Rattle.output_sections.specs.Order.{goes_to, head_after, head_from, head_of, is_of, key_of, no_head, order_of, own_row, row_in, rows_from, rows_of, with_item}
+use Rattle.output_sections.specs.Order.{item_goes_to, head_after, head_from, head_of, is_of, key_of, no_head, order_of, own_row, row_in, rows_from, rows_of, with_item}
 use Rattle.link_driver.proofs.Orders.{Later, Pairs, pairs_append, pairs_order}
 
 -- what a row has of its item and of its output section
@@ -87,7 +87,7 @@ pub record HasFirst (class : Class) (name : List ℕ) (number : ℕ) (rest : Lis
   pub place : ℕ
   pub group : head.group ≡ number + place
   pub low : place < length rest
-  pub goes : (d : Item) → goes_to class name (get_or rest place d) ≡ true
+  pub goes : (d : Item) → item_goes_to class name (get_or rest place d) ≡ true
 
 record Keeps (h : Head) (found : Option Head) : Type 0 where
   head : Head
@@ -110,7 +110,7 @@ keeps : (class : Class) (name : List ℕ) (h : Head) (number : ℕ) (rest : List
 unfolding head_after
 keeps class name h number [] = record { head = h; is = refl; group = refl }
 keeps class name h number (item ∷ rest) =
-    by (goes_to class name item) (keeps class name (with_item (Some h) number item) (number + 1) rest) (keeps class name h (number + 1) rest)
+    by (item_goes_to class name item) (keeps class name (with_item (Some h) number item) (number + 1) rest) (keeps class name h (number + 1) rest)
   where
     by : (b : Bool) → Keeps (with_item (Some h) number item) (head_from class name (Some (with_item (Some h) number item)) (number + 1) rest)
         → Keeps h (head_from class name (Some h) (number + 1) rest)
@@ -118,22 +118,22 @@ keeps class name h number (item ∷ rest) =
     by true one other = record { head = one.head; is = one.is; group = one.group ∙ one_more h number item }
     by false one other = other
 
-first_from : (class : Class) (name : List ℕ) (number k : ℕ) (rest : List Item) (d : Item) → k < length rest → goes_to class name (get_or rest k d) ≡ true
+first_from : (class : Class) (name : List ℕ) (number k : ℕ) (rest : List Item) (d : Item) → k < length rest → item_goes_to class name (get_or rest k d) ≡ true
     → HasFirst class name number rest (head_from class name None number rest)
 unfolding head_after
 first_from class name number k [] d lt goes = absurd (omega (arith, lt))
 first_from class name number k (item ∷ rest) d lt goes =
-    by (goes_to class name item) refl (keeps class name (with_item None number item) (number + 1) rest) (λ other. later k lt goes other)
+    by (item_goes_to class name item) refl (keeps class name (with_item None number item) (number + 1) rest) (λ other. later k lt goes other)
     (λ i low passes. first_from class name (number + 1) i rest d low passes)
   where
-    later : (j : ℕ) → j < length (item ∷ rest) → goes_to class name (get_or (item ∷ rest) j d) ≡ true → goes_to class name item ≡ false
-        → (i : ℕ) × (i < length rest) × (goes_to class name (get_or rest i d) ≡ true)
+    later : (j : ℕ) → j < length (item ∷ rest) → item_goes_to class name (get_or (item ∷ rest) j d) ≡ true → item_goes_to class name item ≡ false
+        → (i : ℕ) × (i < length rest) × (item_goes_to class name (get_or rest i d) ≡ true)
     later zero lt goes other = absurd (false≢true (sym other ∙ goes))
     later (suc i) lt goes other = (i, omega (arith, lt), goes)
 
-    by : (b : Bool) → goes_to class name item ≡ b → Keeps (with_item None number item) (head_from class name (Some (with_item None number item)) (number + 1) rest)
-        → (goes_to class name item ≡ false → (i : ℕ) × (i < length rest) × (goes_to class name (get_or rest i d) ≡ true))
-        → ((i : ℕ) → i < length rest → goes_to class name (get_or rest i d) ≡ true → HasFirst class name (number + 1) rest (head_from class name None (number + 1) rest))
+    by : (b : Bool) → item_goes_to class name item ≡ b → Keeps (with_item None number item) (head_from class name (Some (with_item None number item)) (number + 1) rest)
+        → (item_goes_to class name item ≡ false → (i : ℕ) × (i < length rest) × (item_goes_to class name (get_or rest i d) ≡ true))
+        → ((i : ℕ) → i < length rest → item_goes_to class name (get_or rest i d) ≡ true → HasFirst class name (number + 1) rest (head_from class name None (number + 1) rest))
         → HasFirst class name number (item ∷ rest) (head_from class name (if b then Some (with_item None number item) else None) (number + 1) rest)
     by true here one next more = record {
       head = one.head;
@@ -164,16 +164,16 @@ text_is a = let d = bytes_eq-Decides a a in d.1 refl
 
 pub record InGroup (class : Class) (its : List Item) (r : Row) (name : List ℕ) : Type 0 where
   pub low : r.group < length its
-  pub goes : (d : Item) → goes_to class name (get_or its r.group d) ≡ true
+  pub goes : (d : Item) → item_goes_to class name (get_or its r.group d) ≡ true
 
 pub group_of_row : (class : Class) (its : List Item) (r : Row) (is : IsRowOf class its r) → InGroup class its r (output_name is.item.name)
 group_of_row class its r is =
     let name : List ℕ = output_name is.item.name in
-    let goes : goes_to class name (get_or its is.number is.item) ≡ true =
-    ap (goes_to class name) (is.at is.item) ∙ and_from (is_of class is.item) (bytes_eq name name) is.of (text_is name) in
+    let goes : item_goes_to class name (get_or its is.number is.item) ≡ true =
+    ap (item_goes_to class name) (is.at is.item) ∙ and_from (is_of class is.item) (bytes_eq name name) is.of (text_is name) in
     let first = first_from class name 0 is.number its is.item is.low goes in
     let own : r.group ≡ first.place = is.has.group ∙ ap (λ h. (unwrap_or h no_head).group) first.is ∙ first.group ∙ (let e : 0 + first.place ≡ first.place = omega arith in e) in
-    record { low = omega (arith, own, first.low); goes = λ d. ap (λ k. goes_to class name (get_or its k d)) own ∙ first.goes d }
+    record { low = omega (arith, own, first.low); goes = λ d. ap (λ k. item_goes_to class name (get_or its k d)) own ∙ first.goes d }
 
 pub same_names : (class : Class) (its : List Item) (r s : Row) (one : IsRowOf class its r) (other : IsRowOf class its s) → r.group ≡ s.group → output_name one.item.name ≡ output_name other.item.name
 same_names class its r s one other same =
@@ -181,7 +181,7 @@ same_names class its r s one other same =
     let b = group_of_row class its s other in
     let it : Item = get_or its r.group one.item in
     let x = (and_parts (is_of class it) (bytes_eq (output_name it.name) (output_name one.item.name)) (a.goes one.item)).1 in
-    let y = (and_parts (is_of class it) (bytes_eq (output_name it.name) (output_name other.item.name)) (ap (λ k. goes_to class (output_name other.item.name) (get_or its k one.item)) same ∙ b.goes one.item)).1 in
+    let y = (and_parts (is_of class it) (bytes_eq (output_name it.name) (output_name other.item.name)) (ap (λ k. item_goes_to class (output_name other.item.name) (get_or its k one.item)) same ∙ b.goes one.item)).1 in
     sym (texts_same (output_name it.name) (output_name one.item.name) x) ∙ texts_same (output_name it.name) (output_name other.item.name) y
 
 pub same_groups : (class : Class) (its : List Item) (r s : Row) (one : IsRowOf class its r) (other : IsRowOf class its s) → output_name one.item.name ≡ output_name other.item.name

@@ -7,7 +7,7 @@ use Rattle.std.proofs.lemmas.List.Sums.{fails_before_first, passes_at_first}
 use Rattle.lk_tables.specs.declared.classes.Class.{Class}
 use Rattle.lk_tables.specs.declared.classes.Class.TheVariants.{R, Rx, TlsBits, TlsNobits, RwBits, RwNobits}
 use Rattle.lk_tables.specs.Binding.{Bindings}
-use Rattle.lk_tables.specs.Classes.{is_in}
+use Rattle.lk_tables.specs.Classes.{is_in, class_no}
 use Rattle.lk_tables.specs.Files.{File, section_total}
 use Rattle.lk_tables.specs.OutputNames.{output_name, priority_of}
 use Rattle.link_sections.specs.declared.members.Content.{Content}
@@ -17,7 +17,7 @@ use Rattle.link_sections.specs.InputSections.{input_at}
 use Rattle.link_sections.specs.Leaders.{leads}
 use Rattle.output_sections.specs.declared.rows.Row.{Row}
 use Rattle.output_sections.specs.Items.{Item, items}
-use Rattle.output_sections.specs.Order.{class_at, class_no, goes_to, is_content, is_section, key_of, members_in, number_in, order_of, orders_of, rows_in, own_section}
+use Rattle.output_sections.specs.Order.{class_at, item_goes_to, is_content, is_section, key_of, members_in, number_in, order_of, orders_of, rows_in, own_section}
 use Rattle.relax.specs.CallSizes.{is_at, member_at, no_member, place_in}
 use Rattle.link_driver.proofs.Classes.{class_some, one_class}
 use Rattle.link_driver.proofs.Flat.{IsAt, before, find, flat_at, flat_low}
@@ -157,7 +157,7 @@ module _ (files : List File) (b : Bindings) (pools : List Pool) (words : ℕ) (l
       let item : Item = get_or its r.group d in
       let first = and_parts (is_in x.class item.sh_type item.flags) (bytes_eq (output_name item.name) (output_name one.item.name)) (a.goes d) in
       let second = and_parts (is_in y.class item.sh_type item.flags) (bytes_eq (output_name item.name) (output_name other.item.name))
-      (ap (λ k. goes_to y.class (output_name other.item.name) (get_or its k d)) group ∙ c.goes d) in
+      (ap (λ k. item_goes_to y.class (output_name other.item.name) (get_or its k d)) group ∙ c.goes d) in
       one_class x.class y.class item.sh_type item.flags first.0 second.0
 
   pub class_of : (class : Class) (n m i j : ℕ) → i < length ms → j < length ms → (member_at ms i).content ≡ Section n → (member_at ms j).content ≡ Section m

@@ -10,13 +10,13 @@ use Rattle.lk_base.specs.declared.defects.LinkStop.{LinkStop}
 use Rattle.lk_base.specs.declared.defects.LinkStop.TheVariants as stops
 use Rattle.lk_base.specs.declared.limits.Limits.{Limits}
 use Rattle.lk_base.specs.Firsts.{Goes, StopsAt}
-use Rattle.lk_tables.specs.Binding.{Bindings, duplicate_defects, first_phase, flag_defects}
-use Rattle.lk_tables.specs.BoundNames.{binding_defects, entry_defects}
+use Rattle.lk_tables.specs.Binding.{Bindings, first_phase}
+use Rattle.lk_tables.specs.BoundNames.{binding_defects}
 use Rattle.lk_tables.specs.Files.{File}
 use Rattle.lk_tables.specs.FramePlans.{PlanView}
 use Rattle.link_passes.specs.Defects.{opening_defects, reading_defects}
 use Rattle.link_passes.specs.Passes.{LinkOptions, bound_names, kept_for, leaders_in, piece_defects, plan_in, link_options_for}
-use Rattle.link_driver.specs.Link.{binding_phases, laid_out, placing_defects, placing_phases}
+use Rattle.link_driver.specs.Link.{binding_phases, laid_out, name_phases, placing_defects, placing_phases}
 use Rattle.link_driver.specs.Phases.{HoldsAtStop, HoldsPast, ShortenedCallsReach}
 use Rattle.link_passes.specs.Sources.{Source, files_in}
 use Rattle.link_driver.specs.Values.{value_defects}
@@ -78,20 +78,17 @@ module _ (limits : Limits) (asked : CommandView) (ss : List Source) where
     early_pieces stop at = let P : List Defect → Type 0 = λ ds. StopsAt stop ds in
         subst P (sym left) (stopped (piece_defects limits files ∷ []) _ stop (one_stop stop (piece_defects limits files) at))
 
-    abbrev name_phases : List (List Defect)
-    name_phases = flag_defects files ∷ duplicate_defects files (discarded files) ∷ entry_defects files (discarded files) asked.entry ∷ []
-
     module _ (few : piece_defects limits files ≡ []) where
       past : placing_defects limits asked ss
-          ≡ first_phase (name_phases ++ placing_of files (bound_names files asked.entry) (kept_for asked files (bound_names files asked.entry)))
+          ≡ first_phase (name_phases asked files ++ placing_of files (bound_names files asked.entry) (kept_for asked files (bound_names files asked.entry)))
       past = left ∙ passed (piece_defects limits files ∷ []) _ (one_none (piece_defects limits files) few)
 
       pub early_binding : (stop : LinkStop) → StopsAt stop (binding_defects files (discarded files) asked.entry) → StopsAt stop (placing_defects limits asked ss)
-      early_binding stop at = let P : List Defect → Type 0 = λ ds. StopsAt stop ds in subst P (sym past) (stopped name_phases _ stop at)
+      early_binding stop at = let P : List Defect → Type 0 = λ ds. StopsAt stop ds in subst P (sym past) (stopped (name_phases asked files) _ stop at)
 
       pub placing_left : binding_defects files (discarded files) asked.entry ≡ [] → (b : Bindings) → b ≡ bound_names files asked.entry →
           (kept : List Bool) → kept ≡ kept_for asked files b → placing_defects limits asked ss ≡ first_phase (placing_of files b kept)
       placing_left bound b names kept stays =
-          past ∙ passed name_phases _ bound
+          past ∙ passed (name_phases asked files) _ bound
           ∙ ap (λ n. first_phase (placing_of files n (kept_for asked files n))) (sym names)
           ∙ ap (λ k. first_phase (placing_of files b k)) (sym stays)

@@ -8,10 +8,10 @@ use Rattle.lk_tables.specs.Files.{File, no_reloc}
 use Rattle.lk_tables.specs.Sites.{relocs_of}
 use Rattle.link_sections.specs.Calls.{acting_number}
 use Rattle.link_sections.specs.LaidOut.{LaidOut, cuts_at}
-use Rattle.rv_code.specs.Places.{HoldsValue, ReadsBack, patched}
+use Rattle.rv_code.specs.Places.{HoldsValue, ReadsBack, patched, held_at}
 use Rattle.rv_code.proofs.ReadingBack.{reads_back, sound_kind}
 use Rattle.reloc_apply.specs.Relocated.{bytes_after, filled, operand, put, section_bytes, staying_at, value_at}
-use Rattle.reloc_apply.specs.Values.{held_in, value_of}
+use Rattle.reloc_apply.specs.Values.{value_of}
 use Rattle.reloc_apply.proofs.BytesAfter.{AllFit, after_length, after_next, after_none, whole_length}
 use Rattle.reloc_apply.proofs.States.{Fits, at_of, fill, filled_length, kind_at, plain_few, plain_width, put_after, put_before, put_within, width_of}
 use Rattle.link_driver.proofs.FieldParts.{patched_holds}
@@ -89,7 +89,7 @@ module _ (files : List File) (b : Bindings) (leaders : List (Option ℕ)) (laid 
   abbrev filled_of : (k : ℕ) → List ℕ
   filled_of k =
       fill files b leaders laid n (own (k - 1)) (own k)
-      (held_in (width_of files b leaders laid n (own k)) (at_of files b leaders laid n (own k)) (bytes_after files b leaders laid n k)) (before_of k)
+      (held_at (width_of files b leaders laid n (own k)) (at_of files b leaders laid n (own k)) (bytes_after files b leaders laid n k)) (before_of k)
 
   filled_size : AllFit files b leaders laid n → (k : ℕ) → k < length (relocs_of files n) → length (filled_of k) ≡ width_of files b leaders laid n (own k)
   filled_size fit k lt = filled_length (is_uleb (own k).kind) (kind_at files b leaders laid n (own k)) _ (before_of k) ∙ before_size fit k lt
@@ -114,7 +114,7 @@ module _ (files : List File) (b : Bindings) (leaders : List (Option ℕ)) (laid 
   unfolding value_at
   filled_is k v plain is =
       ap (λ u. filled u (kind_at files b leaders laid n (own k)) (value_of files b leaders laid n (own k) (operand files b leaders laid n (own (k - 1)) (own k)
-      (held_in (width_of files b leaders laid n (own k)) (at_of files b leaders laid n (own k)) (bytes_after files b leaders laid n k)))) (before_of k)) plain
+      (held_at (width_of files b leaders laid n (own k)) (at_of files b leaders laid n (own k)) (bytes_after files b leaders laid n k)))) (before_of k)) plain
       ∙ ap (λ o. filled false (kind_at files b leaders laid n (own k)) o (before_of k)) is
 
   -- the value is held there, and reads back

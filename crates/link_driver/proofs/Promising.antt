@@ -26,7 +26,7 @@ same_inputs words before after asked asked' inputs inputs' accepts given =
     let e : Some asked ≡ Some asked' = sym accepts.asks ∙ given.asks in
     let same : asked ≡ asked' = cc in
     let loaded : AreContents before.files asked'.inputs inputs = rw (ap (λ (a : CommandView). a.inputs) same) at accepts.loaded in
-    (same, one_content before.files asked'.inputs inputs inputs' given.told loaded given.inputs_are)
+    (same, one_content before.files asked'.inputs inputs inputs' given.visible loaded given.inputs_are)
 
 not_three : (s : ℕ) → s ≡ 3 → (s ≡ 1) ⊎ ((s ≡ 2) ⊎ (s ≡ 4)) → ⊥
 not_three s is (inl h) = omega arith

@@ -36,6 +36,7 @@ use Rattle.link_sections.specs.PoolViews.{Merged}
 use Rattle.link_sections.proofs.CutSums.{new_rises}
 use Rattle.layout.specs.Cutting.{is_short, laid_cuts}
 use Rattle.layout.proofs.CutsPassed.{AreFrom, apart_from}
+use Rattle.layout.proofs.Powers.{power_even}
 use Rattle.output_sections.specs.Order.{is_content, number_in}
 use Rattle.output_sections.proofs.ItemFacts.{members_known, stays_of}
 use Rattle.layout.proofs.SizeBounds.{apart_at}
@@ -50,7 +51,7 @@ use Rattle.relax.proofs.CutSteps.{size_one}
 use Rattle.relax.proofs.Fitting.{call_plain, call_width, live_from}
 use Rattle.relax.proofs.RowFacts.{rows_sound}
 use Rattle.link_driver.proofs.Classes.{HasBits}
-use Rattle.link_driver.proofs.Evens.{MayBeEven, laid_even, offset_even, power_even}
+use Rattle.link_driver.proofs.Evens.{MayBeEven, laid_even, offset_even}
 use Rattle.link_driver.proofs.Given.{IsGiven, the_members, the_rows}
 use Rattle.link_driver.proofs.Losses.{lower, nearer}
 use Rattle.link_driver.proofs.Members.{at_place, place_low}

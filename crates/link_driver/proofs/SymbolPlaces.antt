@@ -48,7 +48,7 @@ use Rattle.layout.specs.Holding.{AreHeld, Holds, IsHeld, takes}
 use Rattle.layout.proofs.SizeBounds.{apart_at}
 use Rattle.symbol_table.specs.declared.symbols.TablePlace.{TablePlace}
 use Rattle.symbol_table.specs.declared.symbols.TablePlace.TheVariants.{Output}
-use Rattle.symbol_table.specs.Outputs.{first_passing, goes_to, place_in, place_or}
+use Rattle.symbol_table.specs.Outputs.{first_passing, place_in, place_or}
 use Rattle.symbol_table.specs.SymbolTable.{TableSymbol, entry_by, entry_of, is_taken, own_symbol, section_in, size_in, table_value}
 use Rattle.link_passes.specs.Leaders.{AreAlike, GoWithLeaders}
 use Rattle.link_driver.specs.Symbols.{HasItsSection, HasNumber, IsListed, StandsIn, SymbolsStand}
@@ -96,9 +96,9 @@ numbered : (o : Option ℕ) (number : ℕ) → place_or o ≡ Output number → 
 numbered None number is = cc
 numbered (Some k) number is = let same : k ≡ number = cc in ap Some same
 
-place_is_first : (laid : LaidOut) (s : InputSection) (number : ℕ) → place_in laid s ≡ Output number → first_passing (goes_to s) 1 laid.outputs ≡ Some number
+place_is_first : (laid : LaidOut) (s : InputSection) (n number : ℕ) → place_in laid s ≡ Output number → first_passing (takes (section_item n s)) 1 laid.outputs ≡ Some number
 unfolding place_in
-place_is_first laid s number is = numbered (first_passing (goes_to s) 1 laid.outputs) number is
+place_is_first laid s n number is = numbered (first_passing (takes (section_item n s)) 1 laid.outputs) number is
 
 file_is : (class f i : ℕ) → class ≤ 2 → f < 2 ^ 24 → i < 2 ^ 32 → file_of (rank_of class f i) ≡ f
 file_is class f i few file symbol = omega arith
@@ -264,14 +264,14 @@ module _ (tables : Tables) (b : Bindings) (kept : List Bool) (leaders : List (Op
 
   -- it goes where the section goes that is written in its place
   same_output : (n m : ℕ) → GoWithLeaders files b kept laid.merging.merged leaders → leader_at leaders n ≡ Some m
-      → find (goes_to (input_at files b n)) laid.outputs ≡ find (takes (section_item m (input_at files b m))) laid.outputs
+      → find (takes (section_item n (input_at files b n))) laid.outputs ≡ find (takes (section_item m (input_at files b m))) laid.outputs
   same_output n m go led =
       let s : InputSection = input_at files b n in
       let l : InputSection = input_at files b m in
-      find_same (goes_to s) (takes (section_item m l)) laid.outputs (λ x.
-      ap (λ name. bytes_eq x.name name && is_in x.class s.sh_type s.flags) (go.output n m led)
-      ∙ ap (λ sort. bytes_eq x.name (output_name l.name) && is_in x.class sort s.flags) (go.sh_type n m led)
-      ∙ ap (λ flags. bytes_eq x.name (output_name l.name) && is_in x.class l.sh_type flags) (go.flags n m led))
+      find_same (takes (section_item n s)) (takes (section_item m l)) laid.outputs (λ x.
+      ap (λ name. is_in x.class s.sh_type s.flags && bytes_eq name x.name) (go.output n m led)
+      ∙ ap (λ sort. is_in x.class sort s.flags && bytes_eq (output_name l.name) x.name) (go.sh_type n m led)
+      ∙ ap (λ flags. is_in x.class l.sh_type flags && bytes_eq (output_name l.name) x.name) (go.flags n m led))
 
   named_at : (n m : ℕ) → AreLeaders files b leaders → AreAlike files b leaders → GoWithLeaders files b kept laid.merging.merged leaders → AreSectionsHeld → leader_at leaders n ≡ Some m
       → 0 < (input_at files b n).size → (t : TableSymbol) → t.section ≡ place_in laid (input_at files b n) → HasNumber laid t
@@ -282,9 +282,9 @@ module _ (tables : Tables) (b : Bindings) (kept : List Bool) (leaders : List (Op
       let here = held m (lead.stay n m led).number (lead.own n m led) in
       let bytes : 0 < l.size = omega (arith, some, alike n m led) in
       let there = here.there bytes in
-      let found : find (goes_to s) laid.outputs ≡ Some there.0 = same_output n m go led ∙ there.1.0 in
-      let number = found_first (goes_to s) 1 laid.outputs there.0 found in
-      let first = first_at (goes_to s) 1 number.0 laid.outputs number.1 in
+      let found : find (takes (section_item n s)) laid.outputs ≡ Some there.0 = same_output n m go led ∙ there.1.0 in
+      let number = found_first (takes (section_item n s)) 1 laid.outputs there.0 found in
+      let first = first_at (takes (section_item n s)) 1 number.0 laid.outputs number.1 in
       record {
         number = number.0;
         output = first.output;
@@ -299,7 +299,7 @@ module _ (tables : Tables) (b : Bindings) (kept : List Bool) (leaders : List (Op
   stands_at f i n offset m number is lead alike go sound held lt live bound_is other led place =
       let s : InputSection = input_at files b n in
       let l : InputSection = input_at files b m in
-      let first = first_at (goes_to s) 1 number laid.outputs (place_is_first laid s number place) in
+      let first = first_at (takes (section_item n s)) 1 number laid.outputs (place_is_first laid s n number place) in
       let o : OutputSection = first.output in
       let same = same_output n m go led in
       let here = held m (lead.stay n m led).number (lead.own n m led) in

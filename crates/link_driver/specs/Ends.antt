@@ -171,7 +171,7 @@ pub record EndsSo (words : List (List ℕ)) (before after : Store) (say say' err
   pub line : List ℕ
   pub ends : Ends (command_of_words words) before after say say' status line
   pub one_line : HasLine status line
-  pub told : IsReported line err err'
+  pub reported : IsReported line err err'
   -- where there is no line, nothing was asked of the standard error
   pub silent : line ≡ [] → err' ≡ err
   -- no count falls

@@ -53,48 +53,49 @@ module _ (w : LinkOptions) (files : List File) (b : Bindings) (kept : List Bool)
   laid_out =
       with_contents (layout_of files b (pool_heads (pools_of files kept)) (word_count (table_of w files b kept)) (leaders_in w files b kept) cuts_in (sizes_in (plan_in w files b kept))) (pools_of files kept) (table_of w files b kept)
 
--- the phases of a link after its files are read, each with its defects in order: float ABIs agree, no name is defined twice, the entry is
--- defined, what is referred to is, the layout has room, and the values of relocations fit
+-- the phases once names are bound: what is referred to is defined, the layout has room, and the values of relocations fit
 module _ (limits : Limits) (w : LinkOptions) (files : List File) (b : Bindings) (kept : List Bool) where
-  abbrev pub final_phases : List (List Defect)
-  final_phases = layout_defects limits files (laid_out w files b kept)
-      ∷ value_defects files b (leaders_in w files b kept) (laid_out w files b kept) (plan_in w files b kept)
-      ∷ []
-
-  abbrev pub last_phases : List (List Defect)
-  last_phases = undefined_defects files b kept ∷ final_phases
-
-  -- the phases before values are computed
+  -- those before values are computed
   abbrev pub placing_phases : List (List Defect)
   placing_phases = undefined_defects files b kept ∷ layout_defects limits files (laid_out w files b kept) ∷ []
 
--- pieces are few enough, and names are bound
-abbrev pub binding_phases : Limits → CommandView → List File → List (List Defect)
-binding_phases limits asked files =
-    piece_defects limits files
-    ∷ flag_defects files
+  abbrev pub last_phases : List (List Defect)
+  last_phases = placing_phases ++ value_defects files b (leaders_in w files b kept) (laid_out w files b kept) (plan_in w files b kept) ∷ []
+
+-- names are bound: float ABIs agree, no name is defined twice, and the entry is defined
+abbrev pub name_phases : CommandView → List File → List (List Defect)
+name_phases asked files =
+    flag_defects files
     ∷ duplicate_defects files (discarded files)
     ∷ entry_defects files (discarded files) asked.entry
     ∷ []
 
+-- pieces are few enough, and names are bound
+abbrev pub binding_phases : Limits → CommandView → List File → List (List Defect)
+binding_phases limits asked files = piece_defects limits files ∷ name_phases asked files
+
+-- the phases after the files are read
 abbrev pub later_phases : Limits → CommandView → List File → List (List Defect)
 later_phases limits asked files =
     binding_phases limits asked files
     ++ last_phases limits (link_options_for asked files (bound_names files asked.entry) (kept_for asked files (bound_names files asked.entry)))
     files (bound_names files asked.entry) (kept_for asked files (bound_names files asked.entry))
 
+-- the phases of a link, each with its defects in order: heads are read, then bodies, and these follow
+abbrev pub phases_with : Limits → CommandView → List Source → (later : List (List Defect)) → List (List Defect)
+phases_with limits asked ss later = reading_defects limits ss ∷ opening_defects limits asked.undefined ss ∷ later
+
 -- the defects are those of the first phase that has any
 unfoldable pub defects_in : Limits → CommandView → List Source → List Defect
-defects_in limits asked ss =
-    first_phase (reading_defects limits ss ∷ opening_defects limits asked.undefined ss ∷ later_phases limits asked (files_in asked.undefined ss))
+defects_in limits asked ss = first_phase (phases_with limits asked ss (later_phases limits asked (files_in asked.undefined ss)))
 
 -- the defects of the phases up to the layout alone: if there is none, only the values of relocations are left to fail
 unfoldable pub placing_defects : Limits → CommandView → List Source → List Defect
 placing_defects limits asked ss =
     let files = files_in asked.undefined ss in
     let b = bound_names files asked.entry in
-    first_phase (reading_defects limits ss ∷ opening_defects limits asked.undefined ss
-    ∷ (binding_phases limits asked files ++ placing_phases limits (link_options_for asked files b (kept_for asked files b)) files b (kept_for asked files b)))
+    first_phase (phases_with limits asked ss
+    (binding_phases limits asked files ++ placing_phases limits (link_options_for asked files b (kept_for asked files b)) files b (kept_for asked files b)))
 
 abbrev pub defects_of : Limits → CommandView → List (List ℕ) → List Defect
 defects_of limits asked inputs = defects_in limits asked (sources limits inputs)
@@ -193,8 +194,8 @@ pub record Link : Type 0 where
   pub err : List ℕ
 
 -- a line and nothing else
-abbrev pub told : ℕ → List ℕ → Link
-told status line = record { status = status; executable = []; map = []; say = []; err = line }
+abbrev pub failed : ℕ → List ℕ → Link
+failed status line = record { status = status; executable = []; map = []; say = []; err = line }
 
 abbrev pub line : List ℕ → List ℕ
 line text = text ++ 10 ∷ []
@@ -217,7 +218,7 @@ cannot_report = line (codes "rvld: cannot report")
 
 -- what a link of inputs with these bytes gives
 abbrev pub link_with : CommandView → List (List ℕ) → List Defect → Link
-link_with asked inputs (defect ∷ defects) = told 1 (line_of_defect asked inputs defect)
+link_with asked inputs (defect ∷ defects) = failed 1 (line_of_defect asked inputs defect)
 link_with asked inputs [] =
     let ss = sources standard inputs in
     record {
@@ -234,5 +235,5 @@ link_over asked inputs = link_with asked inputs (defects_of standard asked input
 -- the definition of all that a command gives, where each file that it names is there and has these bytes; no command is asked where it was
 -- refused
 unfoldable pub link : Option CommandView → List (List ℕ) → Link
-link None given = told 2 bad_command
+link None given = failed 2 bad_command
 link (Some asked) given = link_over asked (contents_for asked given)

@@ -13,7 +13,7 @@ use Rattle.link_driver.specs.Unwound.{Plans}
 -- an accepted command over a store whose files are seen, with these contents as its inputs
 pub record IsGiven (words : List (List ℕ)) (before : Store) (asked : CommandView) (inputs : List (List ℕ)) : Type 0 where
   pub asks : command_of_words words ≡ Some asked
-  pub told : IsSome before.files
+  pub visible : IsSome before.files
   pub inputs_are : AreContents before.files asked.inputs inputs
 
 -- no load, begin, append or put failed

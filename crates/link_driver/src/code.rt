@@ -1,7 +1,7 @@
 //! What code does at the places of relocations.
 
 ghost use Rattle.std.specs.Prelude.{◌≡◌, []};
-ghost use Rattle.link_sections.specs.Views.{binding_in, files_in, laid_in, leaders_in};
+ghost use Rattle.link_sections.specs.Views.{by_view, files_in, laid_in, leaders_in};
 ghost use Rattle.reloc_apply.specs.Relocated.{relocation_defects};
 ghost use Rattle.link_driver.specs.Code as spec;
 
@@ -14,6 +14,6 @@ use link_sections::View;
 /// here is in the clause.
 pub fn prove_code_stands(view: &View)
     requires cuts { spec.HaveOwnCuts (files_in view.now) (leaders_in view.now) (laid_in view.now) }
-    requires done { relocation_defects (files_in view.now) (binding_in view.now) (leaders_in view.now) (laid_in view.now) ≡ [] }
-    ensures { spec.CodeStands (files_in view.now) (binding_in view.now) (leaders_in view.now) (laid_in view.now) }
+    requires done { by_view relocation_defects view.now ≡ [] }
+    ensures { by_view spec.CodeStands view.now }
 {}

@@ -7,11 +7,11 @@ ghost use Rattle.lk_depot.specs.Loading.{name_at};
 ghost use Rattle.lk_depot.specs.declared.kinds.FileKind.TheVariants.{Executable};
 ghost use Rattle.lk_depot.specs.Store.{Store};
 ghost use Rattle.link_command.specs.Command.{command_of_words, command_view, texts_of};
-ghost use Rattle.link_passes.specs.Contents.{input_contents, input_names};
+ghost use Rattle.link_passes.specs.Contents.{input_contents, input_names, sources_of};
 ghost use Rattle.link_passes.specs.Given.{contents_for, names_for};
 ghost use Rattle.link_passes.specs.Known.{AreHeads};
 ghost use Rattle.link_driver.specs.Link.{cannot_read, line_of_defect};
-ghost use Rattle.link_passes.specs.Sources.{sources};
+ghost use Rattle.link_passes.specs.Sources as spec;
 ghost use Rattle.lk_base.specs.Limits.{standard};
 ghost use Rattle.link_driver.specs.Phases.{IsLinked};
 ghost use Rattle.link_driver.specs.Ends.{Accepts, HasLine, IsCut, IsReported, Ends, EndsSo};
@@ -21,9 +21,9 @@ ghost use Rattle.link_driver.specs.Endings.{status_of, reported_line, ReportsDef
 use crate::diagnostics::{Lines, line_about, line_for, lines_for};
 use crate::line::Line;
 use crate::linked::Linked;
-use crate::linking::link_with_heads;
+use crate::linking::link_sources;
 use link_command::{Command, Wanted, command_of};
-use link_passes::{Inputs, find_sources, generated_inputs, inputs_of};
+use link_passes::{Inputs, Source, find_sources, generated_inputs, inputs_of};
 use lk_base::{Defect, Limits, LinkStop};
 use lk_depot::{Depot, Failed, FileKind, LoadAllStop, Sink, put_all, say_all};
 use lk_tables::Head;
@@ -109,27 +109,38 @@ fn unreadable_input(alloc: Global, command: &Command, index: usize) -> Ending
     Ending::Unread { line }
 }
 
-/// The first defect, by the files of the link, which are found once more for its line.
-fn report_defect(alloc: Global, command: &Command, inputs: &Inputs, defect: &Defect) -> Ending
-    requires { input_names inputs.now ≡ names_for (command_view command.now) }
+/// The first defect. Its line speaks of the files of the link.
+fn report_defect(
+    alloc: Global,
+    command: &Command,
+    inputs: &Inputs,
+    sources: &[Source],
+    defect: &Defect,
+) -> Ending
+    requires names { input_names inputs.now ≡ names_for (command_view command.now) }
+    requires sources { sources_of sources.now ≡ spec.sources standard (input_contents inputs.now) }
     ensures { ReportsDefect (line_of_defect (command_view command.now) (input_contents inputs.now) defect.now) result }
 {
-    let Ok(sources) = find_sources(alloc, &Limits::standard(), inputs) else {
-        return Ending::Memory;
-    };
-    let Ok(line) = line_for(alloc, command, inputs, sources.as_slice(), defect) else {
+    let Ok(line) = line_for(alloc, command, inputs, sources, defect) else {
         return Ending::Memory;
     };
     Ending::Defective { line }
 }
 
 /// Why there is no link.
-fn report_stop(alloc: Global, command: &Command, inputs: &Inputs, stop: &LinkStop) -> Ending
-    requires { input_names inputs.now ≡ names_for (command_view command.now) }
+fn report_stop(
+    alloc: Global,
+    command: &Command,
+    inputs: &Inputs,
+    sources: &[Source],
+    stop: &LinkStop,
+) -> Ending
+    requires names { input_names inputs.now ≡ names_for (command_view command.now) }
+    requires sources { sources_of sources.now ≡ spec.sources standard (input_contents inputs.now) }
     ensures { ReportsStop (command_view command.now) (input_contents inputs.now) stop.now result }
 {
     match stop {
-        LinkStop::Defect(defect) => report_defect(alloc, command, inputs, defect),
+        LinkStop::Defect(defect) => report_defect(alloc, command, inputs, sources, defect),
         LinkStop::Memory => Ending::Memory,
     }
 }
@@ -191,7 +202,7 @@ pub fn link_inputs<R: Threads + Sync, D: Depot, S: Sink, G: Gate>(
 ) -> Ending
     requires some { 1 ≤ command.now.threads }
     requires most { command.now.threads ≤ 64 }
-    requires known { IfSome known (λ list. AreHeads (sources standard (input_contents inputs.now)) list.items) }
+    requires known { IfSome known (λ list. AreHeads (spec.sources standard (input_contents inputs.now)) list.items) }
     requires names { input_names inputs.now ≡ names_for (command_view command.now) }
     ensures ends { (before : Store) (given : List (List ℕ)) → AreLoaded (command_view command.now) before (D.store depot.old) given
         → input_contents inputs.now ≡ contents_for (command_view command.now) given
@@ -201,9 +212,14 @@ pub fn link_inputs<R: Threads + Sync, D: Depot, S: Sink, G: Gate>(
     ensures say_faults { (S.output say.old).faults ≤ (S.output say.new).faults }
 {
     let limits = Limits::standard();
-    let linked = match link_with_heads(rt, alloc, command, inputs, known, &limits, gate) {
+    // The files of the link: the inputs, each archive followed by its members. The line of a defect speaks of them, too.
+    let Ok(found) = find_sources(alloc, &limits, inputs) else {
+        return Ending::Memory;
+    };
+    let sources = found.as_slice();
+    let linked = match link_sources(rt, alloc, command, inputs, sources, known, &limits, gate) {
         Ok(linked) => linked,
-        Err(stop) => return report_stop(alloc, command, inputs, &stop),
+        Err(stop) => return report_stop(alloc, command, inputs, sources, &stop),
     };
     let Ok(lines) = lines_for(alloc, command) else {
         return Ending::Memory;
@@ -356,7 +372,7 @@ pub fn line(ending: &Ending) -> &[u8]
 
 /// Writes a line to the standard error, where there is one.
 pub fn report_line<E: Sink>(err: &mut E, line: &[u8])
-    ensures told { IsReported line.now (E.output err.old) (E.output err.new) }
+    ensures reported { IsReported line.now (E.output err.old) (E.output err.new) }
     ensures silent { line.now ≡ [] → (E.output err.new) ≡ (E.output err.old) }
     ensures faults { (E.output err.old).faults ≤ (E.output err.new).faults }
 {

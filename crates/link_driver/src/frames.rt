@@ -5,7 +5,7 @@ ghost use Rattle.elf_out.specs.Standing.{FitFrames};
 ghost use Rattle.elf_out.specs.TablesView.{frame_contents};
 ghost use Rattle.layout.specs.Layout.{frame_sizes};
 ghost use Rattle.layout.specs.Spots.{HasFrames};
-ghost use Rattle.link_sections.specs.Views.{binding_in, files_in, laid_in, leaders_in};
+ghost use Rattle.link_sections.specs.Views.{binding_in, by_view, files_in, laid_in, leaders_in};
 ghost use Rattle.lk_tables.specs.FramePlans.{plan_view};
 ghost use Rattle.lk_tables.specs.Frames.{AreListsWithin, all_lists, lists_of};
 ghost use Rattle.eh_frame.specs.Bytes.{frame_defects};
@@ -44,10 +44,10 @@ pub fn write_frames<R: Threads + Sync, G: Gate>(
     requires plain { ArePlain (all_lists (files_in view.now)) }
     requires plan { plan_view plan.now ≡ plan_of (files_in view.now) (binding_in view.now) (laid_in view.now).merging.merged (all_lists (files_in view.now)) (leaders_in view.now) }
     requires framed { HasFrames (frame_sizes plan.now) view.now.layout.now.bounds }
-    ensures goes { spec.Leaves result (spec.value_defects (files_in view.now) (binding_in view.now) (leaders_in view.now) (laid_in view.now) (plan_view plan.now)) (relocation_defects (files_in view.now) (binding_in view.now) (leaders_in view.now) (laid_in view.now)) }
-    ensures contents { IfOk result (λ frames. frame_contents frames ≡ spec.contents_with (files_in view.now) (binding_in view.now) (leaders_in view.now) (laid_in view.now) (plan_view plan.now)) }
+    ensures goes { spec.Leaves result (by_view spec.value_defects view.now (plan_view plan.now)) (by_view relocation_defects view.now) }
+    ensures contents { IfOk result (λ frames. frame_contents frames ≡ by_view spec.contents_with view.now (plan_view plan.now)) }
     ensures fit { IfOk result (λ frames. FitFrames view.now.layout.now.bounds (frame_contents frames)) }
-    ensures records { IfOk result (λ frames. Unwinds (files_in view.now) (binding_in view.now) (leaders_in view.now) (laid_in view.now) (plan_view plan.now) (frame_contents frames)) }
+    ensures records { IfOk result (λ frames. by_view Unwinds view.now (plan_view plan.now) (frame_contents frames)) }
 {
     match write(rt, alloc, view, plan, workers, gate) {
         Ok(frames) => {
@@ -73,8 +73,8 @@ fn first_stop<R: Threads + Sync, G: Gate>(
     requires lead { AreLeaders (files_in view.now) (binding_in view.now) (leaders_in view.now) }
     requires lists { lists_of plan.now.frames.now ≡ all_lists (files_in view.now) }
     requires plan { plan_view plan.now ≡ plan_of (files_in view.now) (binding_in view.now) (laid_in view.now).merging.merged (all_lists (files_in view.now)) (leaders_in view.now) }
-    requires stop { StopsAt stop (frame_defects (files_in view.now) (binding_in view.now) (leaders_in view.now) (laid_in view.now) (lists_of plan.now.frames.now) (plan_view plan.now) (laid_in view.now).bounds.frames) }
-    ensures { StopsAt result (spec.value_defects (files_in view.now) (binding_in view.now) (leaders_in view.now) (laid_in view.now) (plan_view plan.now)) }
+    requires stop { StopsAt stop (by_view frame_defects view.now (lists_of plan.now.frames.now) (plan_view plan.now) (laid_in view.now).bounds.frames) }
+    ensures { StopsAt result (by_view spec.value_defects view.now (plan_view plan.now)) }
 {
     match check_relocations(rt, alloc, view, workers, gate) {
         Ok(()) => stop,

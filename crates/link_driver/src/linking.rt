@@ -112,18 +112,14 @@ pub fn lay_out<'a, R: Threads + Sync, G: Gate>(
         rt, alloc, tables, binding, pools, leaders, &sections, on, workers, gate,
     )?;
     // Everything has its address, and each alignment the bytes that it keeps, from here on.
-    match place(
+    let layout = place(
         alloc, tables, binding, pools, got, leaders, &sections, &sizes, plan, limits,
-    ) {
-        Ok(layout) => {
-            // A law of these sizes and this layout; nothing is computed.
-            prove_calls_reach(
-                tables, binding, pools, got, leaders, &sections, &sizes, plan, &layout, limits, on,
-            );
-            Ok(layout)
-        }
-        Err(stop) => Err(stop),
-    }
+    )?;
+    // A law of these sizes and this layout; nothing is computed.
+    prove_calls_reach(
+        tables, binding, pools, got, leaders, &sections, &sizes, plan, &layout, limits, on,
+    );
+    Ok(layout)
 }
 
 /// What is made of files whose names are bound and numbered, if these sections are kept. Files are shown by `names`.
@@ -158,20 +154,14 @@ fn link_kept<'a, 't, R: Threads + Sync, G: Gate>(
 {
     let numbers = numbers_of(tables);
     // What kept sections refer to is defined, and nothing moves, from here on.
-    let (uppers, placement) = match place_and_check(
+    let (uppers, placement) = place_and_check(
         rt, alloc, limits, tables, binding, frames, kept, barred, numbers, options, workers, gate,
-    ) {
-        Ok(both) => both,
-        Err(stop) => return Err(stop),
-    };
+    )?;
     // Each relocation can be done, and no more memory is needed for the executable, from here on.
-    let written = match write(
+    let written = write(
         rt, alloc, tables, binding, kept, barred, &placement, &uppers, numbers, names, options,
         workers, gate,
-    ) {
-        Ok(written) => written,
-        Err(stop) => return Err(stop),
-    };
+    )?;
     Ok(Settled {
         uppers,
         placement,
@@ -227,10 +217,10 @@ fn link_and_explain<'a, 't, R: Threads + Sync, G: Gate>(
         let made = link_kept(
             rt, alloc, limits, tables, binding, frames, kept, barred, names, options, workers, gate,
         );
-        let told = why_text(
+        let answers = why_text(
             rt, alloc, tables, binding, frames, graph, kept, barred, names, command, workers, gate,
         );
-        return (made, told);
+        return (made, answers);
     }
     join_mut(
         rt,
@@ -255,7 +245,8 @@ fn link_and_explain<'a, 't, R: Threads + Sync, G: Gate>(
     )
 }
 
-/// Links the files of a command, which are found in these inputs: pass after pass, and the defects of each are those of its phase.
+/// Links the files of a command, which are found in these inputs: pass after pass, and the defects of each are those of its phase. Heads that are
+/// `known` from an earlier reading are not read again.
 pub fn link_sources<'a, R: Threads + Sync, G: Gate>(
     rt: &R,
     alloc: Global,
@@ -276,23 +267,14 @@ pub fn link_sources<'a, R: Threads + Sync, G: Gate>(
     let undefined = command.undefined.as_slice();
     let unique = command.unique.as_slice();
     // The heads of all files are read, unless they are known, and the bodies of those that take part.
-    let (tables, records) = match read_files_after(
+    let (tables, records) = read_files_after(
         rt, alloc, limits, sources, known, undefined, workers, gate,
-    ) {
-        Ok(both) => both,
-        Err(stop) => return Err(stop),
-    };
+    )?;
     // Of copies of groups one stays, all names are bound, and there are no more pieces than a link may have, from here on.
     let entry = command.entry.as_str();
     let (few, bound) = bind_and_count(rt, alloc, limits, &tables, entry, workers, gate);
-    match few {
-        Ok(()) => {}
-        Err(stop) => return Err(stop),
-    }
-    let binding = match bound {
-        Ok(binding) => binding,
-        Err(stop) => return Err(stop),
-    };
+    few?;
+    let binding = bound?;
     // Each FDE has the section of its function from here on.
     let frames = find_frames(rt, alloc, &tables, &binding, records, workers, gate)?;
     // With `--gc-sections` what is neither a root nor reached from one is left out from here on.
@@ -321,7 +303,7 @@ pub fn link_sources<'a, R: Threads + Sync, G: Gate>(
     // Files are shown by these names, in the map and in what is said of what the command asks why.
     let names = names_if(alloc, wants_names(options.map, command), inputs, sources)?;
     // The passes from what is undefined to what is written; and beside them the answers to `--why-live` and `--why-apart`.
-    let (made, told) = link_and_explain(
+    let (made, answers) = link_and_explain(
         rt,
         alloc,
         limits,
@@ -337,12 +319,9 @@ pub fn link_sources<'a, R: Threads + Sync, G: Gate>(
         workers,
         gate,
     );
-    let settled = match made {
-        Ok(settled) => settled,
-        Err(stop) => return Err(stop),
-    };
+    let settled = made?;
     // All that is written is settled from here on.
-    let Ok(why) = told else {
+    let Ok(why) = answers else {
         return Err(LinkStop::Memory);
     };
     // The tables, and what was made of them, are the answer's own from here on.
@@ -387,25 +366,6 @@ pub fn link<'a, R: Threads + Sync, G: Gate>(
     ensures after { AfterLink limits.now (command_view command.now) (shown_files (input_names inputs.now) (input_contents inputs.now) (sources limits.now (input_contents inputs.now))) (sources limits.now (input_contents inputs.now)) result }
     ensures least { AreCounted (sources limits.now (input_contents inputs.now)) → AreLeast (command_view command.now) (sources limits.now (input_contents inputs.now)) }
 {
-    link_with_heads(rt, alloc, command, inputs, None, limits, gate)
-}
-
-/// Does what [`link`] does, and reads no heads where those of all files are `known` from an earlier reading.
-pub fn link_with_heads<'a, R: Threads + Sync, G: Gate>(
-    rt: &R,
-    alloc: Global,
-    command: &Command,
-    inputs: &'a Inputs,
-    known: Option<Vec<Option<Head>>>,
-    limits: &Limits,
-    gate: &G,
-) -> Result<Linked<'a>, LinkStop>
-    requires limits { IsWithinStandard limits.now }
-    requires known { IfSome known (λ list. AreHeads (sources limits.now (input_contents inputs.now)) list.items) }
-    requires some { 1 ≤ command.now.threads }
-    requires most { command.now.threads ≤ 64 }
-    ensures { AfterLink limits.now (command_view command.now) (shown_files (input_names inputs.now) (input_contents inputs.now) (sources limits.now (input_contents inputs.now))) (sources limits.now (input_contents inputs.now)) result }
-{
     // The files of the link: the inputs, each archive followed by its members.
     let sources = find_sources(alloc, limits, inputs)?;
     link_sources(
@@ -414,7 +374,7 @@ pub fn link_with_heads<'a, R: Threads + Sync, G: Gate>(
         command,
         inputs,
         sources.as_slice(),
-        known,
+        None,
         limits,
         gate,
     )

@@ -76,43 +76,18 @@ fn find_placement<'a, 't, R: Threads + Sync, G: Gate>(
     let leaders = find_leaders(
         rt, alloc, tables, binding, frames, kept, barred, &pools, options, workers, gate,
     )?;
+    let lead = leaders.as_slice();
     // Which unwind records are written is settled from here on.
     let plan = find_plan(
-        rt,
-        alloc,
-        tables,
-        binding,
-        frames,
-        kept,
-        barred,
-        &pools,
-        leaders.as_slice(),
-        options,
-        workers,
-        gate,
+        rt, alloc, tables, binding, frames, kept, barred, &pools, lead, options, workers, gate,
     )?;
     // The global offset table has all its entries from here on.
-    let got = entries(alloc, tables, numbers, &uppers, leaders.as_slice())?;
+    let got = entries(alloc, tables, numbers, &uppers, lead)?;
     // Nothing moves from here on.
-    let layout = match lay_out(
-        rt,
-        alloc,
-        limits,
-        tables,
-        binding,
-        kept,
-        barred,
-        &pools,
-        leaders.as_slice(),
-        &plan,
-        &got,
-        options,
-        workers,
-        gate,
-    ) {
-        Ok(layout) => layout,
-        Err(stop) => return Err(stop),
-    };
+    let layout = lay_out(
+        rt, alloc, limits, tables, binding, kept, barred, &pools, lead, &plan, &got, options,
+        workers, gate,
+    )?;
     let placement = Placement {
         pools,
         leaders,
@@ -153,17 +128,13 @@ pub fn place_and_check<'a, 't, R: Threads + Sync, G: Gate>(
 {
     if workers == 1 {
         // What kept sections refer to is defined from here on.
-        let _ = match check_defined(tables, binding, frames, kept) {
-            Ok(defined) => defined,
-            Err(stop) => return Err(stop),
-        };
-        return match find_placement(
+        check_defined(tables, binding, frames, kept)?;
+        // Nothing moves from here on.
+        let both = find_placement(
             rt, alloc, limits, tables, binding, frames, kept, barred, numbers, options, workers,
             gate,
-        ) {
-            Ok(both) => Ok(both),
-            Err(stop) => Err(stop),
-        };
+        )?;
+        return Ok(both);
     }
     let (defined, placed) = join_mut(
         rt,
@@ -182,12 +153,7 @@ pub fn place_and_check<'a, 't, R: Threads + Sync, G: Gate>(
         },
     );
     // What is undefined is of the earlier phase.
-    let _ = match defined {
-        Ok(defined) => defined,
-        Err(stop) => return Err(stop),
-    };
-    match placed {
-        Ok(both) => Ok(both),
-        Err(stop) => Err(stop),
-    }
+    defined?;
+    let both = placed?;
+    Ok(both)
 }

@@ -12,7 +12,7 @@ ghost use Rattle.layout.specs.Layout.{frame_sizes};
 ghost use Rattle.layout.specs.Spots.{HasFrames};
 ghost use Rattle.link_sections.specs.GotView.{entries_of};
 ghost use Rattle.link_sections.specs.Sound.{IsSound};
-ghost use Rattle.link_sections.specs.Views.{binding_in, files_in, laid_in, leaders_in};
+ghost use Rattle.link_sections.specs.Views.{binding_in, by_view, files_in, laid_in, leaders_in};
 ghost use Rattle.lk_base.specs.Firsts.{Goes};
 ghost use Rattle.lk_tables.specs.BindingView.{binding_view};
 ghost use Rattle.lk_tables.specs.BoundNames.{IsBindingOf};
@@ -160,11 +160,11 @@ fn make_in_parallel<R: Threads + Sync, G: Gate>(
     requires plain { ArePlain (all_lists (files_in view.now)) }
     requires plan { plan_view plan.now ≡ plan_of (files_in view.now) (binding_in view.now) (laid_in view.now).merging.merged (all_lists (files_in view.now)) (leaders_in view.now) }
     requires framed { HasFrames (frame_sizes plan.now) view.now.layout.now.bounds }
-    ensures goes { Leaves result.0 (value_defects (files_in view.now) (binding_in view.now) (leaders_in view.now) (laid_in view.now) (plan_view plan.now)) (relocation_defects (files_in view.now) (binding_in view.now) (leaders_in view.now) (laid_in view.now)) }
-    ensures contents { IfOk result.0 (λ frames. frame_contents frames ≡ contents_with (files_in view.now) (binding_in view.now) (leaders_in view.now) (laid_in view.now) (plan_view plan.now)) }
+    ensures goes { Leaves result.0 (by_view value_defects view.now (plan_view plan.now)) (by_view relocation_defects view.now) }
+    ensures contents { IfOk result.0 (λ frames. frame_contents frames ≡ by_view contents_with view.now (plan_view plan.now)) }
     ensures fit { IfOk result.0 (λ frames. FitFrames view.now.layout.now.bounds (frame_contents frames)) }
-    ensures records { IfOk result.0 (λ frames. Unwinds (files_in view.now) (binding_in view.now) (leaders_in view.now) (laid_in view.now) (plan_view plan.now) (frame_contents frames)) }
-    ensures tested { Goes result.1 (relocation_defects (files_in view.now) (binding_in view.now) (leaders_in view.now) (laid_in view.now)) }
+    ensures records { IfOk result.0 (λ frames. by_view Unwinds view.now (plan_view plan.now) (frame_contents frames)) }
+    ensures tested { Goes result.1 (by_view relocation_defects view.now) }
     ensures prepared { IfOk result.1 (IsPreparedFor view.now) }
 {
     if workers == 1 {
@@ -175,11 +175,11 @@ fn make_in_parallel<R: Threads + Sync, G: Gate>(
         rt,
         &mut || -> Result<FrameBytes, LinkStop>
             requires { (1 ≤ workers) × (workers ≤ 64) × AreLeaders (files_in view.now) (binding_in view.now) (leaders_in view.now) × record_lists plan.now.frames.now ≡ all_lists (files_in view.now) × AreListsWithin (files_in view.now) (all_lists (files_in view.now)) × ArePlain (all_lists (files_in view.now)) × plan_view plan.now ≡ plan_of (files_in view.now) (binding_in view.now) (laid_in view.now).merging.merged (all_lists (files_in view.now)) (leaders_in view.now) × HasFrames (frame_sizes plan.now) view.now.layout.now.bounds }
-            ensures { Leaves result (value_defects (files_in view.entry.now) (binding_in view.entry.now) (leaders_in view.entry.now) (laid_in view.entry.now) (plan_view plan.entry.now)) (relocation_defects (files_in view.entry.now) (binding_in view.entry.now) (leaders_in view.entry.now) (laid_in view.entry.now)) × IfOk result (λ frames. frame_contents frames ≡ contents_with (files_in view.entry.now) (binding_in view.entry.now) (leaders_in view.entry.now) (laid_in view.entry.now) (plan_view plan.entry.now)) × IfOk result (λ frames. FitFrames view.entry.now.layout.now.bounds (frame_contents frames)) × IfOk result (λ frames. Unwinds (files_in view.entry.now) (binding_in view.entry.now) (leaders_in view.entry.now) (laid_in view.entry.now) (plan_view plan.entry.now) (frame_contents frames)) }
+            ensures { Leaves result (by_view value_defects view.entry.now (plan_view plan.entry.now)) (by_view relocation_defects view.entry.now) × IfOk result (λ frames. frame_contents frames ≡ by_view contents_with view.entry.now (plan_view plan.entry.now)) × IfOk result (λ frames. FitFrames view.entry.now.layout.now.bounds (frame_contents frames)) × IfOk result (λ frames. by_view Unwinds view.entry.now (plan_view plan.entry.now) (frame_contents frames)) }
         { write_frames(rt, alloc, view, plan, workers, &OpenGate) },
         &mut || -> Result<Prepared, LinkStop>
             requires { (1 ≤ workers) × (workers ≤ 64) }
-            ensures { Goes result (relocation_defects (files_in view.entry.now) (binding_in view.entry.now) (leaders_in view.entry.now) (laid_in view.entry.now)) × IfOk result (IsPreparedFor view.entry.now) }
+            ensures { Goes result (by_view relocation_defects view.entry.now) × IfOk result (IsPreparedFor view.entry.now) }
         { prepare(rt, alloc, view, workers, gate) },
     )
 }
@@ -254,14 +254,8 @@ pub fn write<R: Threads + Sync, G: Gate>(
     };
     // Each relocation can be done from here on; headers, symbols and unwind records are made.
     let (framed, made) = make_in_parallel(rt, alloc, &view, &placement.plan, workers, gate);
-    let frames = match framed {
-        Ok(frames) => frames,
-        Err(stop) => return Err(stop),
-    };
-    let prepared = match made {
-        Ok(prepared) => prepared,
-        Err(stop) => return Err(stop),
-    };
+    let frames = framed?;
+    let prepared = made?;
     // Laws of what was made; nothing is computed.
     prove_file_stands(&view, &frames);
     prove_code_stands(&view);

@@ -5,13 +5,14 @@ ghost use Rattle.link_gen.specs.Contents.{IsSmall, contents_of};
 ghost use Rattle.link_gen.specs.Elf as elf;
 ghost use Rattle.link_gen.specs.Generated as spec;
 
-use crate::numbers::{digit_count, push_decimal, push_zeros};
+use crate::numbers::{digit_count, push_zeros};
 use crate::sections::{Contents, Section, push_section_names, section_names_size};
 use crate::symbols::{
     NUMBER_SIZE, RET_SIZE, Symbol, f_size, push_symbol_names, push_symbol_table, symbol_names_size,
 };
 use elf_fields::{push_long, push_word};
 use lk_base::abi::{R_RISCV_64, R_RISCV_CALL_PLT, R_RISCV_RELAX, RELA_SIZE, SYM_SIZE};
+use lk_base::push_decimal;
 use std::alloc::AllocError;
 
 /// `auipc ra, 0`, and `jalr ra, 0(ra)`.

@@ -6,7 +6,7 @@
 //! pointer to that string. Object 0 has `_start` too. So each function `f` is reached from `_start`, no `d` is, some `f` and `g` are
 //! equal, and each string stands in every eleventh object.
 //!
-//! `numbers` has zero bytes and decimal numbers, `symbols` the symbols of an object with their table and their names, `sections` the ten
+//! `numbers` has zero bytes and counts digits, `symbols` the symbols of an object with their table and their names, `sections` the ten
 //! sections, their names and the file header, `contents` what stands in each section, and `generator` whole objects.
 #![tactic(auto)]
 

@@ -1,4 +1,4 @@
-//! Zero bytes, and numbers as names have them.
+//! Zero bytes, and how many digits a number has.
 
 ghost use Rattle.std.specs.Prelude.{◌≡◌, ◌≤◌, ◌++◌, length, decimal, OnOk};
 ghost use Rattle.link_gen.specs.Elf as spec;
@@ -12,19 +12,6 @@ pub fn push_zeros(out: &mut Vec<u8>, count: u64) -> Result<(), AllocError>
     for _zero in 0..count {
         out.push(0)?;
     }
-    Ok(())
-}
-
-/// Adds a number's decimal digits.
-pub fn push_decimal(out: &mut Vec<u8>, n: u32) -> Result<(), AllocError>
-    ensures { OnOk result (out.new.items ≡ out.old.items ++ decimal n) }
-{
-    if n < 10 {
-        out.push(b'0' + n as u8)?;
-        return Ok(());
-    }
-    push_decimal(out, n / 10)?;
-    out.push(b'0' + (n % 10) as u8)?;
     Ok(())
 }
 

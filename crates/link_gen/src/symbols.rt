@@ -7,9 +7,10 @@ ghost use Rattle.link_gen.specs.Contents.{name_bytes, symbol_names, symbol_view}
 ghost use Rattle.link_gen.specs.Elf as elf;
 ghost use Rattle.link_gen.specs.Generated as spec;
 
-use crate::numbers::{digit_count, push_decimal};
+use crate::numbers::digit_count;
 use elf_fields::{SymbolEntry, push_symbol_entry};
 use lk_base::abi::{SHN_UNDEF, STB_GLOBAL, STB_LOCAL, STT_FUNC, STT_NOTYPE, STT_SECTION};
+use lk_base::push_decimal;
 use std::alloc::{AllocError, Global};
 
 // The sections that have symbols, by number.

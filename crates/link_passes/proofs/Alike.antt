@@ -15,10 +15,10 @@ use Rattle.lk_tables.specs.Sections.{is_written}
 use Rattle.lk_tables.specs.Sites.{place_of}
 use Rattle.lk_tables.specs.TablesView.{files_of}
 use Rattle.lk_tables.specs.Targets.{is_gone}
+use Rattle.lk_tables.proofs.BoundHas.{each_flat, one_if}
 use Rattle.lk_tables.proofs.Owners.{place_of_number}
 use Rattle.lk_tables.proofs.SoundFiles.{inside_head, sound_file}
 use Rattle.lk_tables.proofs.SoundHead.{written_read}
-use Rattle.output_sections.proofs.Sized.{each_flat, one_if}
 use Rattle.link_sections.specs.FoldItems.{FoldItem}
 use Rattle.link_sections.specs.InputSections.{input_at, may_stay_at}
 use Rattle.link_sections.specs.Leaders.{fold_each, folded_leaders, is_kept, leader_at, own_leaders, section_at as section_in}

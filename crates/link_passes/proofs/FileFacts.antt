@@ -1,16 +1,16 @@
 -- Sources by number, and what the first phase makes sure of.
-use Rattle.std.proofs.Common.{◌≡◌, ℕ, zero, suc, ◌+◌, ◌<◌, ◌≤◌, ◌^◌, Bool, true, false, List, [], ◌∷◌, ◌++◌, length, map, min, flat_map, get_or, drop, refl, sym, ap, ◌∙◌, arith, subst, inl, inr, Option, Some, None, Result, Ok, Err}
+use Rattle.std.proofs.Common.{◌≡◌, ℕ, zero, suc, ◌<◌, ◌≤◌, ◌^◌, Bool, true, false, List, [], ◌∷◌, length, map, min, get_or, drop, refl, sym, ap, ◌∙◌, arith, subst, Option, Some, None, Result, Ok, Err}
 use Rattle.std.specs.Prelude.{◌&&◌, not, slice_index_or, MatchOption, if◌then◌else◌}
 use Rattle.std.specs.List.{range_with_len}
 use Rattle.std.proofs.lemmas.List.FromFn.{get_or-map-range_with_len, length-map-range_with_len}
 use Rattle.lk_tables.specs.declared.files.File.{File as LentFile}
 use Rattle.lk_tables.specs.declared.heads.Head.{Head}
 use Rattle.lk_tables.specs.FileView.{file_view, file_views}
-use Rattle.std.proofs.lemmas.Bool.{cases_lt}
 use Rattle.std.proofs.lemmas.List.{get_or-map, length-drop, length-map, length-take}
 use Rattle.lk_base.specs.declared.abi.TheConstants.{FILE_MAX}
 use Rattle.lk_base.specs.declared.defects.Flaw.{Flaw}
 use Rattle.lk_base.specs.declared.limits.Limits.{Limits}
+use Rattle.lk_base.proofs.NoneGiven.{left_none, none_at}
 use Rattle.lk_tables.specs.declared.spans.Span.{Span}
 use Rattle.lk_tables.specs.Files.{File, no_head}
 use Rattle.lk_tables.specs.Heads.{HeadView, fields_of, head_of, head_view}
@@ -31,22 +31,6 @@ pub text_short : (b text : List ℕ) (span : Span) → text ≡ text_of b span �
 unfolding text_of
 text_short b text span is short =
     omega (arith, ap (length {A = ℕ}) is, length-take span.len (drop span.from b), length-drop span.from b)
-
--- the first part of a list that is empty
-first_none : {X : Type 0} (a b : List X) → a ++ b ≡ [] → a ≡ []
-first_none [] b e = refl
-first_none (x ∷ a) b e = cc
-
-rest_none : {X : Type 0} (a b : List X) → a ++ b ≡ [] → b ≡ []
-rest_none [] b e = e
-rest_none (x ∷ a) b e = cc
-
-none_in : {X : Type 0} (f : ℕ → List X) (m i k : ℕ) → flat_map f (range_with_len i m) ≡ [] → i ≤ k → k < i + m → f k ≡ []
-none_in f zero i k e low high = absurd (omega arith)
-none_in f (suc m) i k e low high = elim (cases_lt i k) [
-  | inl lt ↦ none_in f m (i + 1) k (rest_none (f i) (flat_map f (range_with_len (i + 1) m)) e) (omega arith) (omega arith)
-  | inr le ↦ let same : i ≡ k = omega arith in subst (λ (j : ℕ). f j ≡ []) same (first_none (f i) (flat_map f (range_with_len (i + 1) m)) e)
-]
 
 no_flaw : (f : ℕ) (b : List ℕ) (r : Result HeadView Flaw) → head_of b ≡ r → flaws f r ≡ [] → head_of b ≡ Ok (fields_of b)
 no_flaw f b (Ok v) is none = is ∙ ap (λ (h : HeadView). Ok h) (head_is b v is).fields
@@ -90,7 +74,7 @@ pub each_whole : (limits : Limits) (list : List LentSource) → reading_defects 
 unfolding reading_defects
 each_whole limits list none few f lt whole =
     headed_source (source_at (sources_of list) f) f whole (all_short list f lt)
-    (none_in (head_defects_at (sources_of list)) (min (length (sources_of list)) limits.files) 0 f (first_none _ _ none) (omega arith) (omega arith))
+    (none_at (head_defects_at (sources_of list)) (min (length (sources_of list)) limits.files) 0 f (left_none _ _ none) (omega arith) (omega arith))
 
 -- and so each that has a body
 pub each_headed : (limits : Limits) (list : List LentSource) (live : List Bool) → reading_defects limits (sources_of list) ≡ [] → length (sources_of list) ≤ limits.files →

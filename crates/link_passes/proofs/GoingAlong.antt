@@ -9,7 +9,7 @@ use Rattle.lk_tables.specs.Binding.{Bindings}
 use Rattle.lk_tables.specs.Files.{File, section_total}
 use Rattle.lk_tables.specs.OutputNames.{output_name}
 use Rattle.lk_tables.specs.Sites.{place_of}
-use Rattle.output_sections.proofs.Sized.{each_flat, one_if}
+use Rattle.lk_tables.proofs.BoundHas.{each_flat, one_if}
 use Rattle.link_sections.specs.FoldItems.{FoldItem}
 use Rattle.link_sections.specs.InputSections.{input_at, input_of}
 use Rattle.link_sections.specs.Leaders.{fold_each, folded_leaders, is_kept, leader_at, own_leaders, section_at as section_in}

@@ -1,5 +1,5 @@
 -- The sections that are kept may be.
-use Rattle.std.proofs.Common.{◌≡◌, ℕ, zero, suc, ◌+◌, ◌<◌, ◌≤◌, ◌==◌, ◌&&◌, Bool, true, false, Option, Some, None, List, [], ◌∷◌, ◌++◌, length, refl, sym, ap, ◌∙◌, subst, arith, inl, inr}
+use Rattle.std.proofs.Common.{◌≡◌, ℕ, ◌<◌, ◌==◌, ◌&&◌, Bool, true, false, Option, Some, None, List, [], ◌∷◌, ◌++◌, length, refl, sym, ap, ◌∙◌, subst, arith, inl, inr}
 use Rattle.std.specs.Prelude.{not, flat_map, if◌then◌else◌, Contains, IfSome, ◌↔◌}
 use Rattle.std.specs.List.{All, range_with_len}
 use Rattle.std.proofs.lemmas.Bool.{and_parts, cases_lt}
@@ -13,17 +13,16 @@ use Rattle.lk_tables.specs.declared.bounds.Spot.TheVariants as targets
 use Rattle.lk_tables.specs.declared.heads.Symbol.{Symbol}
 use Rattle.lk_tables.specs.declared.objects.Reloc.{Reloc}
 use Rattle.lk_tables.specs.declared.records.FrameNo.{FrameNo}
-use Rattle.lk_tables.specs.declared.section_places.SectionPlace.{SectionPlace}
 use Rattle.lk_tables.specs.BoundNames.{IsBindingOf, bindings, with_linker}
 use Rattle.lk_tables.specs.Binding.{Bindings, offered_bindings}
-use Rattle.lk_tables.specs.Files.{AreFew, File, file_at, first_section, is_section_symbol, section_count, section_no, section_total, symbol_at}
+use Rattle.lk_tables.specs.Files.{AreFew, File, file_at, is_section_symbol, section_count, section_no, section_total, symbol_at}
 use Rattle.lk_tables.specs.Frames.{all_lists, frames_at}
 use Rattle.lk_tables.specs.Reach.{IsReach}
-use Rattle.lk_tables.specs.Sites.{IsPlaceOf, place_of}
+use Rattle.lk_tables.specs.Sites.{place_of}
 use Rattle.lk_tables.specs.Targets.{bound, entry_bound, spot_by, spot_of}
 use Rattle.lk_tables.proofs.BoundHas.{each_flat, either, one_if}
 use Rattle.lk_tables.proofs.ByNumber.{length_by_section, read_by_section}
-use Rattle.lk_tables.proofs.Owners.{IsOwner, place_is, place_law}
+use Rattle.lk_tables.proofs.Owners.{place_of_number}
 use Rattle.link_sections.specs.InputSections.{all_kept, input_of, may_stay, may_stay_at}
 use Rattle.link_sections.specs.Leaders.{is_kept}
 use Rattle.link_sections.proofs.BoundStays.{Stays, bound_stays, entry_stays, stays_at}
@@ -36,22 +35,6 @@ use Rattle.sec_graph.proofs.Closing.{bounds_stay}
 use Rattle.sec_graph.proofs.FrameEnds.{fdes_below}
 use Rattle.link_passes.specs.declared.collecting.SectionGraph.{SectionGraph}
 use Rattle.link_passes.specs.Tables.{IsCollected, IsGraph, MayStay}
-
--- a section's number belongs to a file
-owner_below : (files : List File) (section m : ℕ) → m ≤ length files → section < first_section files m → (f : ℕ) × IsOwner files section f
-owner_below files section zero le lt = absurd (omega arith)
-owner_below files section (suc m) le lt = elim (cases_lt section (first_section files m)) [
-  | inl below ↦ owner_below files section m (omega arith) below
-  | inr from ↦
-      let e : m + 1 ≡ suc m = omega arith in
-      (m, record { file = omega arith; from = from; below = omega (arith, lt, ap (first_section files) e) })
-]
-
-place_of_number : (files : List File) (n : ℕ) → n < section_total files → IsPlaceOf files n (place_of files n)
-place_of_number files n lt =
-    let owner = owner_below files n (length files) (omega arith) lt in
-    let P : SectionPlace → Type 0 = λ p. IsPlaceOf files n p in
-    subst P (sym (place_is files n owner.0 owner.1)) (place_law files n owner.0 owner.1)
 
 -- a link that collects nothing
 pub all_stay : (files : List File) (b : Bindings) → MayStay files b (all_kept files b)

@@ -7,10 +7,12 @@ use Rattle.std.proofs.lemmas.List.FromFn.{fill_by_all, length-map-range_with_len
 use Rattle.asked_names.specs.AskedNames.{named_sections}
 use Rattle.lk_tables.specs.Binding.{Bindings}
 use Rattle.lk_tables.specs.Files.{File, section_total}
+use Rattle.lk_tables.specs.Reach.{with_marked}
+use Rattle.lk_tables.proofs.Marking.{length_marked}
 use Rattle.link_command.specs.declared.command.IcfMode.{IcfMode}
 use Rattle.link_command.specs.Command.{is_safe}
-use Rattle.sec_graph.specs.Taken.{address_taken, with_marked}
-use Rattle.sec_graph.proofs.Marking.{length_marked, marked_at}
+use Rattle.sec_graph.specs.Taken.{address_taken}
+use Rattle.sec_graph.proofs.Marking.{marked_at}
 use Rattle.link_passes.specs.Passes.{barred_of, is_apart}
 
 module _ (files : List File) (b : Bindings) (kept : List Bool) where

@@ -81,10 +81,7 @@ fn read_piece(
     let mut bodies = Vec::with_capacity(alloc, piece.end - piece.start)?;
     for at in piece.start..piece.end {
         let wanted = has_body(sources, live, at);
-        let body = match read_wanted(alloc, &files[at], at as u32, wanted) {
-            Ok(body) => body,
-            Err(stop) => return Err(stop),
-        };
+        let body = read_wanted(alloc, &files[at], at as u32, wanted)?;
         bodies.push(body)?;
     }
     Ok(bodies)
@@ -172,10 +169,7 @@ pub fn read_bodies<'a, R: Threads + Sync, G: Gate>(
     ensures plain { IfOk result (λ both. ArePlain (all_lists (files_of both.0))) }
     ensures numbered { IfOk result (λ both. have_numbers both.0 ≡ true) }
 {
-    let bodies = match read_numbered(rt, alloc, sources, live, &mut heads, workers, gate) {
-        Ok(bodies) => bodies,
-        Err(stop) => return Err(stop),
-    };
+    let bodies = read_numbered(rt, alloc, sources, live, &mut heads, workers, gate)?;
     let parts = split_bodies(alloc, bodies)?;
     let count = count_sections(heads.files(), parts.0.as_slice());
     if let Err(defect) = check_count(limits.sections, count) {

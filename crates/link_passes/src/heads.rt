@@ -79,10 +79,7 @@ fn read_piece(
 {
     let mut heads = Vec::with_capacity(alloc, piece.end - piece.start)?;
     for at in piece.start..piece.end {
-        let head = match read_one(alloc, &sources[at], at as u32) {
-            Ok(head) => head,
-            Err(stop) => return Err(stop),
-        };
+        let head = read_one(alloc, &sources[at], at as u32)?;
         heads.push(head)?;
     }
     Ok(heads)
@@ -213,10 +210,7 @@ pub fn read_heads<'a, R: Threads + Sync, G: Gate>(
     ensures symbols { IfOk result (λ heads. symbol_total (heads_of heads) ≤ limits.now.symbols) }
 {
     let count = (sources.len() as u64).min(limits.files);
-    let list = match heads_for(rt, alloc, sources, known, count as usize, workers, gate) {
-        Ok(list) => list,
-        Err(stop) => return Err(stop),
-    };
+    let list = heads_for(rt, alloc, sources, known, count as usize, workers, gate)?;
     if let Err(defect) = check_count(limits.files, sources.len() as u64) {
         return Err(LinkStop::Defect(defect));
     }

@@ -126,10 +126,7 @@ fn read_and_number<R: Threads + Sync, G: Gate>(
         { read_each(rt, alloc, sources, live, files, workers, gate) },
     );
     // A defect of a body is reported even where there is no memory for the names.
-    let bodies = match bodies {
-        Ok(bodies) => bodies,
-        Err(stop) => return Err(stop),
-    };
+    let bodies = bodies?;
     heads.keep_names(names?);
     Ok(bodies)
 }

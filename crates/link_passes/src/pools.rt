@@ -15,8 +15,7 @@ ghost use Rattle.str_merge.specs.Small.{AreWritten};
 use link_sections::Pools;
 use lk_base::LinkStop;
 use lk_tables::{Binding, Frames, Tables, Uppers};
-use reloc_apply::find_uppers;
-use sec_graph::undefined;
+use sec_graph::{find_uppers, undefined};
 use std::alloc::{AllocError, Global};
 use std::thread::{Threads, join_mut};
 use str_merge::merge;
@@ -72,12 +71,5 @@ pub fn find_pools<R: Threads + Sync, G: Gate>(
             ensures { IfOk result (AreListed (section_uppers (files_of tables.entry.now))) }
         { find_uppers(alloc, tables) },
     );
-    let pools = match pools {
-        Ok(pools) => pools,
-        Err(stop) => return Err(stop),
-    };
-    match uppers {
-        Ok(uppers) => Ok((pools, uppers)),
-        Err(stop) => Err(stop),
-    }
+    Ok((pools?, uppers?))
 }

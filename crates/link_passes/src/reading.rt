@@ -82,10 +82,7 @@ pub fn read_files_after<'a, R: Threads + Sync, G: Gate>(
     ensures inside { IfOk result (λ both. AreInside (files_of both.0)) }
     ensures heads_inside { IfOk result (λ both. AreHeadsInside (sources_of sources.now) (files_of both.0)) }
 {
-    let mut heads = match read_heads(rt, alloc, limits, sources, known, workers, gate) {
-        Ok(heads) => heads,
-        Err(stop) => return Err(stop),
-    };
+    let mut heads = read_heads(rt, alloc, limits, sources, known, workers, gate)?;
     number_for_members(rt, alloc, sources, &mut heads, workers, gate)?;
     let live = live(rt, alloc, &heads, undefined, workers, gate)?;
     read_bodies(

@@ -1,11 +1,11 @@
 -- One entry more in the linker's table, and how many words it has at most.
-use Rattle.std.proofs.Common.{◌≡◌, ℕ, zero, suc, ◌+◌, ◌*◌, ◌<◌, ◌≤◌, ◌==◌, ◌&&◌, Bool, true, false, cond, List, [], ◌∷◌, ◌++◌, length, take, get_or, refl, sym, ap, ◌∙◌, arith, inl, inr, eqb, ltb}
+use Rattle.std.proofs.Common.{◌≡◌, ℕ, zero, suc, ◌+◌, ◌*◌, ◌<◌, ◌≤◌, ◌==◌, ◌&&◌, Bool, true, false, cond, List, [], ◌∷◌, ◌++◌, length, take, get_or, refl, sym, ap, ◌∙◌, arith, inl, inr, ltb}
 use Rattle.std.specs.Prelude.{Option, Some, None, is_some, option_map, find, All, count_by}
 use Rattle.std.specs.List.{sum_by}
 use Rattle.std.specs.HashMap.{HashMap, get}
 use Rattle.std.specs.Map.{lookup}
 use Rattle.std.specs.Option.{option_or}
-use Rattle.std.proofs.lemmas.Bool.{and_parts, cases_Bool, cases_lt, eq-eqb, eqb-true, false≢true, le-ltb, lt-ltb}
+use Rattle.std.proofs.lemmas.Bool.{and_from, and_parts, cases_Bool, cases_lt, eq-eqb, eqb-true, false≢true, le-ltb, lt-ltb}
 use Rattle.std.proofs.lemmas.List.{get_or_append_left, length-append, take_all}
 use Rattle.std.proofs.Math.Seq.{get_or-append_seam}
 use Rattle.std.proofs.lemmas.List.Elements.{All-head, All-tail, All-append}
@@ -17,6 +17,7 @@ use Rattle.link_sections.specs.declared.got.GotEntry.{GotEntry}
 use Rattle.link_sections.specs.declared.got.GotUse.{GotUse}
 use Rattle.link_sections.specs.declared.got.GotUse.TheVariants.{Address, ThreadOffset, GeneralDynamic}
 use Rattle.link_sections.specs.GotEntries.{AreNumbered, AreUnlike, entry_of, eq_keys, is_entry, same_use, word_count, word_of, words_of}
+use Rattle.link_sections.proofs.MergedAt.{some_map}
 
 -- uses that are the same are equal
 pub same_equal : (a b : GotUse) → same_use a b ≡ true → a ≡ b
@@ -44,12 +45,8 @@ entry_is key usage e is =
     let both = and_parts (e.key == key) (same_use e.usage usage) is in
     record { key_is = eqb-true e.key key both.0; use_is = same_equal e.usage usage both.1 }
 
-both_true : (a b : Bool) → a ≡ true → b ≡ true → (a && b) ≡ true
-both_true true b p q = q
-both_true false b p q = p
-
 pub own_entry : (e : GotEntry) → is_entry e.key e.usage e ≡ true
-own_entry e = both_true (e.key == e.key) (same_use e.usage e.usage) (eq-eqb e.key e.key refl) (same_itself e.usage)
+own_entry e = and_from (e.key == e.key) (same_use e.usage e.usage) (eq-eqb e.key e.key refl) (same_itself e.usage)
 
 -- none passes where none is found
 passes_step : (p : GotEntry → Bool) (e : GotEntry) (es : List GotEntry) (d : GotEntry) →
@@ -66,10 +63,6 @@ found_passes p (e ∷ es) none k d lt = passes_step p e es d (found_passes p es)
 none_of : {X : Type 0} (o : Option X) → is_some o ≡ false → o ≡ None
 none_of None e = refl
 none_of (Some x) e = cc
-
-some_map : {X Y : Type 0} (f : X → Y) (o : Option X) → is_some (option_map f o) ≡ is_some o
-some_map f None = refl
-some_map f (Some x) = refl
 
 pub has_word : (es : List GotEntry) (key : ℕ) (usage : GotUse) → is_some (word_of es key usage) ≡ is_some (entry_of es key usage)
 has_word es key usage = some_map (λ (e : GotEntry). e.word) (entry_of es key usage)
@@ -124,7 +117,7 @@ like_back e x other = elim (cases_Bool (is_entry x.key x.usage e)) [
   | inl same ↦
       let is = entry_is x.key x.usage e same in
       let P : GotEntry → Bool = λ y. is_entry e.key e.usage y in
-      let own = both_true (x.key == e.key) (same_use x.usage e.usage) (eq-eqb x.key e.key (sym is.key_is)) (ap (λ u. same_use x.usage u) is.use_is ∙ same_itself x.usage) in
+      let own = and_from (x.key == e.key) (same_use x.usage e.usage) (eq-eqb x.key e.key (sym is.key_is)) (ap (λ u. same_use x.usage u) is.use_is ∙ same_itself x.usage) in
       absurd (false≢true (sym other ∙ own))
   | inr differ ↦ differ
 ]
@@ -150,26 +143,6 @@ found_at old false false e None is same none = sym is
 found_at old false false e (Some x) is same none = sym is
 found_at old true false e o is same none = cc
 found_at old false true e o is same none = cc
-
-eqb_back : (a b : ℕ) → eqb a b ≡ eqb b a
-eqb_back a b = elim (cases_Bool (eqb a b)) [
-  | inl same ↦ same ∙ sym (eq-eqb b a (sym (eqb-true a b same)))
-  | inr other ↦ elim (cases_Bool (eqb b a)) [
-    | inl same ↦ absurd (false≢true (sym other ∙ eq-eqb a b (sym (eqb-true b a same))))
-    | inr differ ↦ other ∙ sym differ
-  ]
-]
-
-use_back : (a b : GotUse) → same_use a b ≡ same_use b a
-use_back Address Address = refl
-use_back Address ThreadOffset = refl
-use_back Address GeneralDynamic = refl
-use_back ThreadOffset Address = refl
-use_back ThreadOffset ThreadOffset = refl
-use_back ThreadOffset GeneralDynamic = refl
-use_back GeneralDynamic Address = refl
-use_back GeneralDynamic ThreadOffset = refl
-use_back GeneralDynamic GeneralDynamic = refl
 
 none_same : (es : List GotEntry) (e : GotEntry) (key : ℕ) (usage : GotUse) → is_some (entry_of es e.key e.usage) ≡ false → is_entry key usage e ≡ true →
     entry_of es key usage ≡ None

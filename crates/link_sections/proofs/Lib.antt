@@ -10,4 +10,5 @@ pub mod PastSections
 mod PastSymbols
 pub mod PoolHeads
 pub mod PoolPositions
+pub mod SameTargets
 pub mod SymbolSums

@@ -15,7 +15,7 @@ merged_is rows [] n = refl
 merged_is rows (m ∷ list) zero = refl
 merged_is rows (m ∷ list) (suc n) = merged_is rows list n
 
-some_map : {X Y : Type 0} (f : X → Y) (x : Option X) → is_some (option_map f x) ≡ is_some x
+pub some_map : {X Y : Type 0} (f : X → Y) (x : Option X) → is_some (option_map f x) ≡ is_some x
 some_map f None = refl
 some_map f (Some x) = refl
 

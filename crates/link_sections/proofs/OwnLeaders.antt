@@ -36,7 +36,7 @@ value None = 0
 pub same_number : (n m : ℕ) → Some n ≡ Some m → n ≡ m
 same_number n m e = ap value e
 
-chosen : (on : Bool) (n m : ℕ) → (if on then Some n else None) ≡ Some m → (on ≡ true) × (n ≡ m)
+pub chosen : (on : Bool) (n m : ℕ) → (if on then Some n else None) ≡ Some m → (on ≡ true) × (n ≡ m)
 chosen true n m is = (refl, same_number n m is)
 chosen false n m is = let no : ⊥ = cc in absurd no
 

@@ -9,7 +9,7 @@ use Rattle.lk_tables.specs.declared.bounds.Bound.TheVariants.{InSection, Number,
 use Rattle.lk_tables.specs.declared.classes.Class.{Class}
 use Rattle.lk_tables.specs.declared.classes.Class.TheVariants.{R, Rx, TlsBits, TlsNobits, RwBits, RwNobits}
 use Rattle.lk_tables.specs.declared.linker_symbols.Edge.{Edge}
-use Rattle.lk_tables.specs.declared.linker_symbols.Edge.TheVariants.{ImageStart, CodeEnd, BitsEnd, ZerosEnd, Table, GlobalPointer, PreinitStart, PreinitEnd, InitStart, InitEnd, FiniStart, FiniEnd, FrameStart}
+use Rattle.lk_tables.specs.declared.linker_symbols.Edge.TheVariants.{ImageStart, CodeEnd, BitsEnd, NobitsEnd, Table, GlobalPointer, PreinitStart, PreinitEnd, InitStart, InitEnd, FiniStart, FiniEnd, FrameStart}
 use Rattle.lk_tables.specs.Binding.{Bindings}
 use Rattle.lk_tables.specs.Files.{File, file_at, by_symbol}
 use Rattle.lk_tables.specs.LinkerSymbols.{bound_section, edge_of, is_bound_no, is_stop_no}
@@ -70,7 +70,7 @@ module _ (laid : LaidOut) where
   edge_address ImageStart = IMAGE_BASE
   edge_address CodeEnd = laid.bounds.rx_end
   edge_address BitsEnd = laid.bounds.bits_end
-  edge_address ZerosEnd = laid.bounds.nobits_end
+  edge_address NobitsEnd = laid.bounds.nobits_end
   edge_address Table = laid.got
   edge_address GlobalPointer = start_or laid.bounds.tls_bits_end (rw_place (codes ".sdata")) + 0x800
   edge_address PreinitStart = start_or IMAGE_BASE (array_place (codes ".preinit_array"))

@@ -20,3 +20,7 @@ leaders_in view = view.leaders.now
 
 abbrev pub laid_in : View → LaidOut
 laid_in view = with_contents (layout_view view.layout.now) (pools_view (files_in view) view.pools.now) (entries_of view.got.now)
+
+-- what a definition over plain lists says of the tables that a view lends
+abbrev pub by_view {ℓ} : {X : Type ℓ} → (List File → Bindings → List (Option ℕ) → LaidOut → X) → View → X
+by_view f view = f (files_in view) (binding_in view) (leaders_in view) (laid_in view)

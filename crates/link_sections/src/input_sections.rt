@@ -2,8 +2,6 @@
 
 ghost use Rattle.std.specs.Prelude.{◌≡◌, ◌<◌, ◌≤◌, ◌++◌, ◌∷◌, [], length, find, is_some, IfOk, OnOk, map};
 ghost use Rattle.std.specs.List.{range_with_len};
-ghost use Rattle.std.specs.List.Sorted.{IsNonDecreasingBy};
-ghost use Rattle.lk_tables.specs.declared.commons.BoundCommon.{BoundCommon};
 ghost use Rattle.lk_tables.specs.BindingView.{binding_view};
 ghost use Rattle.lk_tables.specs.Files.{file_at, section_count, section_total};
 ghost use Rattle.lk_tables.specs.FileView.{file_view};
@@ -100,25 +98,10 @@ fn common_in(tables: &Tables, binding: &Binding, file: FileNo, index: u32) -> Op
     requires { file < length (files_of tables.now) }
     ensures { result ≡ spec.common_in (files_of tables.now) (binding_view binding.now) file index }
 {
-    common_of(
-        binding.commons(file as usize),
+    binding.room(
+        file as usize,
         tables.section_no(file as usize, index as usize),
     )
-}
-
-/// The COMMON symbol whose room has a section number, of symbols in order of these.
-fn common_of(commons: &[BoundCommon], section: usize) -> Option<BoundCommon>
-    requires { IsNonDecreasingBy (λ (c : BoundCommon). c.section) commons.now }
-    ensures { result ≡ spec.common_of commons.now section }
-{
-    let n = commons.partition_point(|common| (common.section as usize) < section);
-    let Some(common) = commons.get(n) else {
-        return None;
-    };
-    if common.section as usize != section {
-        return None;
-    }
-    Some(*common)
 }
 
 /// Whether the section of an index of a file that takes part may be kept: it is written and was not discarded with its group, or it is

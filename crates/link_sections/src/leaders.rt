@@ -39,8 +39,8 @@ fn own_leader(kept: &[bool], pools: &Pools, section: usize) -> Option<SecNo>
     None
 }
 
-/// Whether a section is kept.
-fn is_kept(kept: &[bool], section: usize) -> bool
+/// Whether a section is kept; past the end of the list none is.
+pub fn is_kept(kept: &[bool], section: usize) -> bool
     ensures { result ≡ spec.is_kept kept.now section }
 {
     match kept.get(section) {

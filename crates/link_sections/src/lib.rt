@@ -36,7 +36,7 @@ pub use got::{Got, GotEntry, GotUse};
 pub use got_lists::{key_of, use_of};
 pub use input_sections::{InputSection, all_kept, input_in, input_section, may_stay};
 pub use layouts::{Bounds, Layout, OutputPlace, OutputSection};
-pub use leaders::{fold_leaders, leads, own_leaders};
+pub use leaders::{fold_leaders, is_kept, leads, own_leaders};
 pub use links::LaidLink;
 pub use members::{Content, Member};
 pub use numbers::{leader_of, number_at, offset_in, start_of};

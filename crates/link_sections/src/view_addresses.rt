@@ -3,7 +3,7 @@
 ghost use Rattle.std.specs.Prelude.{◌≡◌, ◌^◌, ◌<◌, ◌≤ℤ◌, pos, length};
 ghost use Rattle.link_sections.specs.Addresses as spec;
 ghost use Rattle.link_sections.specs.LaidOut as laid;
-ghost use Rattle.link_sections.specs.Views.{binding_in, files_in, laid_in, leaders_in};
+ghost use Rattle.link_sections.specs.Views.{by_view, files_in, laid_in, leaders_in};
 
 use crate::byte_addresses::{in_piece, in_section};
 use crate::links::link_of;
@@ -14,7 +14,7 @@ use lk_base::{FileNo, SecNo, SymNo};
 /// What a symbol of a file stands for: an address or a number; 0 if it stands for nothing, or if the file has no such symbol.
 pub fn symbol_address(view: &View, file: FileNo, symbol: SymNo) -> u64
     requires { file < length (files_in view.now) }
-    ensures { result ≡ spec.symbol_address (files_in view.now) (binding_in view.now) (leaders_in view.now) (laid_in view.now) file symbol }
+    ensures { result ≡ by_view spec.symbol_address view.now file symbol }
 {
     if view.tables.file(file).symbols().len() <= symbol as usize {
         return 0;
@@ -46,7 +46,7 @@ pub fn piece_address(view: &View, pool: u32, piece: u32, offset: u64) -> i128
 
 /// The address at which the executable starts: that of what the entry's name is bound to.
 pub fn entry_address(view: &View) -> u64
-    ensures { result ≡ spec.entry_address (files_in view.now) (binding_in view.now) (leaders_in view.now) (laid_in view.now) }
+    ensures { result ≡ by_view spec.entry_address view.now }
 {
     view.addresses.entry
 }

@@ -1,6 +1,7 @@
 pub mod Decimals
 pub mod EscapedNames
 pub mod Loops
+pub mod Membership
 pub mod Multiples
 pub mod Ranges
 pub mod ShownBytes
@@ -8,3 +9,4 @@ pub mod StableOrder
 mod TableByNumber
 pub mod TableLines
 pub mod StableElements
+pub mod NoneGiven

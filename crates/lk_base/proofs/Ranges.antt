@@ -1,8 +1,10 @@
 -- Runs of numbers, and lists over them.
-use Rattle.std.proofs.Common.{◌≡◌, ℕ, zero, suc, ◌+◌, ◌-◌, ◌<◌, ◌≤◌, List, [], ◌∷◌, ◌++◌, map, flat_map, get_or, append_assoc, sym, ap, ◌∙◌, arith}
-use Rattle.std.specs.List.{range_with_len}
+use Rattle.std.proofs.Common.{◌≡◌, ℕ, zero, suc, ◌+◌, ◌-◌, ◌<◌, ◌≤◌, List, [], ◌∷◌, ◌++◌, map, flat_map, get_or, append_assoc, sym, ap, ◌∙◌, arith, refl, Bool, cond, take}
+use Rattle.std.specs.List.{filter, range_with_len}
 use Rattle.std.proofs.lemmas.Grind.{flat_map-append}
-use Rattle.std.proofs.lemmas.List.FromFn.{get_or-range_with_len, map-range_with_len_more}
+use Rattle.std.proofs.lemmas.List.FromFn.{get_or-range_with_len, length-range_with_len, map-range_with_len_more, take-map-range_with_len}
+use Rattle.std.specs.Prelude.{All}
+use Rattle.std.proofs.lemmas.List.{map-id}
 
 -- a run in two parts
 pub range_parts : (a m b : ℕ) → range_with_len a (m + b) ≡ range_with_len a m ++ range_with_len (a + m) b
@@ -36,3 +38,23 @@ row_step give n prefix old new x held is own =
     is ∙ ap (λ l. l ++ x ∷ []) held ∙ ap (λ y. (prefix ++ map give (range_with_len 0 n)) ++ y ∷ []) own
     ∙ append_assoc prefix (map give (range_with_len 0 n)) (give n ∷ [])
     ∙ ap (λ l. prefix ++ l) (sym (map-range_with_len_more give 0 n n (omega arith)))
+
+pub each_below : (n : ℕ) → All (λ k. k < n) (range_with_len 0 n)
+each_below n = λ i d lt. let at = get_or-range_with_len 0 n i d (omega (arith, length-range_with_len 0 n)) in omega (arith, length-range_with_len 0 n)
+
+-- the same elements
+pub same_range : {X : Type 0} (g k : ℕ → List X) (a n : ℕ) → ((j : ℕ) → a ≤ j → j < a + n → g j ≡ k j) → flat_map g (range_with_len a n) ≡ flat_map k (range_with_len a n)
+same_range g k a zero each = refl
+same_range g k a (suc n) each =
+    ap (λ xs. xs ++ flat_map g (range_with_len (a + 1) n)) (each a (omega arith) (omega arith))
+    ∙ ap (λ xs. k a ++ xs) (same_range g k (a + 1) n (λ j low high. each j (omega arith) (omega arith)))
+
+pub filter_same : (p q : ℕ → Bool) (a n : ℕ) → ((k : ℕ) → a ≤ k → k < a + n → p k ≡ q k) → filter p (range_with_len a n) ≡ filter q (range_with_len a n)
+filter_same p q a zero each = refl
+filter_same p q a (suc n) each =
+    ap (λ b. cond b (a ∷ filter p (range_with_len (a + 1) n)) (filter p (range_with_len (a + 1) n))) (each a (omega arith) (omega arith))
+    ∙ ap (λ l. cond (q a) (a ∷ l) l) (filter_same p q (a + 1) n (λ k low high. each k (omega arith) (omega arith)))
+
+pub take_range : (n f : ℕ) → f ≤ n → take f (range_with_len 0 n) ≡ range_with_len 0 f
+take_range n f le =
+    ap (take f) (sym (map-id (range_with_len 0 n))) ∙ take-map-range_with_len (λ (x : ℕ). x) 0 n f le ∙ map-id (range_with_len 0 f)

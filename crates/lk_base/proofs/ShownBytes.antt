@@ -1,11 +1,12 @@
 -- Each byte of a defect's line is one that a terminal shows.
-use Rattle.std.proofs.Common.{◌≡◌, ℕ, zero, suc, ◌/◌, ◌%◌, ◌<◌, ◌≤◌, Bool, true, false, ◌&&◌, if◌then◌else◌, ◌==◌, List, [], ◌∷◌, ◌++◌, All, codes, Fits, w8, get_or, refl, ◌∙◌, arith}
+use Rattle.std.proofs.Common.{◌≡◌, ℕ, zero, suc, ◌/◌, ◌%◌, ◌<◌, Bool, true, false, ◌&&◌, if◌then◌else◌, ◌==◌, List, [], ◌∷◌, ◌++◌, All, codes, Fits, w8, get_or, refl, ◌∙◌, arith}
 use Rattle.std.specs.Fmt.{decimal, digit_glyph, digits, digits_onto}
 use Rattle.std.specs.List.{list_all}
 use Rattle.std.proofs.lemmas.List.Elements.{All-from_get_or, All-head, All-tail}
 use Rattle.std.proofs.lemmas.List.Folds.{list_all-append}
 use Rattle.std.proofs.lemmas.List.Sums.{AllPass-from_list_all}
 use Rattle.std.proofs.Math.Nat.{div-lt_iff_lt-mul, mod-lt}
+use Rattle.std.proofs.lemmas.Bool.{and_from}
 use Rattle.lk_base.specs.Kinds.{names_other_file}
 use Rattle.lk_base.specs.Lines.{IsOneLine, defect_line, escaped, escaped_byte, hex_digit, is_plain, is_shown, line_text, shown_file, shown_other, title_of}
 use Rattle.lk_base.specs.declared.defects.Defect.{Defect}
@@ -17,16 +18,8 @@ use Rattle.lk_base.specs.declared.kinds.DefectKind.TheVariants.{F01, F02, F03, F
 abbrev pub AreShown : List ℕ → Type 0
 AreShown xs = list_all is_shown xs ≡ true
 
-both : (p q : Bool) → p ≡ true → q ≡ true → (p && q) ≡ true
-both true true hp hq = refl
-both true false hp hq = hq
-both false q hp hq = hp
-
-shown_between : (b : ℕ) → 32 ≤ b → b ≤ 126 → is_shown b ≡ true
-shown_between b low high = grind arith
-
 pub shown-append : (xs ys : List ℕ) → AreShown xs → AreShown ys → AreShown (xs ++ ys)
-shown-append xs ys hx hy = list_all-append is_shown xs ys ∙ both (list_all is_shown xs) (list_all is_shown ys) hx hy
+shown-append xs ys hx hy = list_all-append is_shown xs ys ∙ and_from (list_all is_shown xs) (list_all is_shown ys) hx hy
 
 shown_plain : (b : ℕ) → is_plain b ≡ true → is_shown b ≡ true
 shown_plain b plain = grind arith
@@ -39,12 +32,12 @@ shown-escaped_byte b small = by_kind (is_plain b) refl
   where
     by_kind : (t : Bool) → is_plain b ≡ t
         → AreShown (if t then b ∷ [] else codes "%" ++ hex_digit (b / 16) ∷ hex_digit (b % 16) ∷ [])
-    by_kind true plain = both (is_shown b) true (shown_plain b plain) refl
+    by_kind true plain = and_from (is_shown b) true (shown_plain b plain) refl
     by_kind false _ =
         let low : b % 16 < 16 = mod-lt b (omega arith) in
         let high : b / 16 < 16 = (div-lt_iff_lt-mul {k = 16} {x = b} {y = 16} (omega arith)).1 small in
-        both (is_shown (hex_digit (b / 16))) (is_shown (hex_digit (b % 16)) && true) (shown-hex_digit (b / 16) high)
-        (both (is_shown (hex_digit (b % 16))) true (shown-hex_digit (b % 16) low) refl)
+        and_from (is_shown (hex_digit (b / 16))) (is_shown (hex_digit (b % 16)) && true) (shown-hex_digit (b / 16) high)
+        (and_from (is_shown (hex_digit (b % 16))) true (shown-hex_digit (b % 16) low) refl)
 
 pub shown-escaped : (name : List ℕ) → All (λ b. b < 256) name → AreShown (escaped name)
 shown-escaped [] bytes = refl
@@ -58,7 +51,7 @@ shown-digits_onto : (k n : ℕ) (ds : List ℕ) → AreShown ds → AreShown (di
 shown-digits_onto zero n ds shown = shown
 shown-digits_onto (suc k) n ds shown =
     let more : AreShown (digit_glyph false (n % 10) ∷ ds) =
-    both (is_shown (digit_glyph false (n % 10))) (list_all is_shown ds) (shown-digit_glyph (n % 10) (mod-lt n (omega arith))) shown in
+    and_from (is_shown (digit_glyph false (n % 10))) (list_all is_shown ds) (shown-digit_glyph (n % 10) (mod-lt n (omega arith))) shown in
     by_rest (n / 10 == 0) more (shown-digits_onto k (n / 10) (digit_glyph false (n % 10) ∷ ds) more)
   where
     by_rest : (t : Bool) → AreShown (digit_glyph false (n % 10) ∷ ds) → AreShown (digits_onto k 10 false (n / 10) (digit_glyph false (n % 10) ∷ ds))

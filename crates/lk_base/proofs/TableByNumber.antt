@@ -1,7 +1,7 @@
 -- A table of kinds by number holds what the lines say, where it does so at each number up to the last that has a line.
 use Rattle.std.proofs.Common.{◌≡◌, ℕ, ◌+◌, ◌≤◌, ◌==◌, ◌&&◌, ◌||◌, Bool, true, false, nat_lt, if◌then◌else◌, IfSome, is_some, Option, Some, None, List, [], ◌∷◌, map, get_or, refl, sym, ap, ◌∙◌, arith, inl, inr}
 use Rattle.std.specs.List.{range_with_len}
-use Rattle.std.proofs.lemmas.Bool.{and_parts, cases_lt, ltb-true, ne_eqb}
+use Rattle.std.proofs.lemmas.Bool.{and_parts, cases_lt, ltb-true, ne_eqb, or_parts}
 use Rattle.std.proofs.lemmas.List.{get_or_past}
 use Rattle.std.proofs.lemmas.List.FromFn.{get_or-map-range_with_len}
 use Rattle.std.proofs.Math.ListN.{get_or-map}
@@ -16,12 +16,6 @@ all_below most (l ∷ ls) = nat_lt l.number most && all_below most ls
 
 differs : (a n most : ℕ) → nat_lt a most ≡ true → most ≤ n → (a == n) ≡ false
 differs a n most low past = let less = ltb-true a most low in ne_eqb a n (λ same. absurd (omega (arith, less, same, past)))
-
-unknown_past : (most : ℕ) (ls : List Line) (n : ℕ) → all_below most ls ≡ true → most ≤ n → kind_in ls n ≡ unknown
-unknown_past most [] n all past = refl
-unknown_past most (l ∷ ls) n all past =
-    let parts = and_parts (nat_lt l.number most) (all_below most ls) all in
-    ap (λ b. if b then l.kind else kind_in ls n) (differs l.number n most parts.0 past) ∙ unknown_past most ls n parts.1 past
 
 not_among_past : (most : ℕ) (ls : List Line) (n : ℕ) → all_below most ls ≡ true → most ≤ n → is_among (map (λ (l : Line). l.number) ls) n ≡ false
 not_among_past most [] n all past = refl
@@ -74,14 +68,10 @@ width_is table is n r read = few_by r n (line_is table is n r read)
 pub linked_is : (table : List (Option code.Kind)) → IsTable table → (n : ℕ) (r : Option code.Kind) → r ≡ get_or table n None → is_some r ≡ is_linked n
 linked_is table is n r read = some_by r (is_linked n) (kind_of n) (ap line_view read ∙ same_at table is n)
 
-or_false : (a b : Bool) → (a || b) ≡ false → (a ≡ false) × (b ≡ false)
-or_false true b out = absurd cc
-or_false false b out = (refl, out)
-
 no_line : (ls : List Line) (n : ℕ) → is_among (map (λ (l : Line). l.number) ls) n ≡ false → kind_in ls n ≡ unknown
 no_line [] n out = refl
 no_line (l ∷ ls) n out =
-    let parts = or_false (l.number == n) (is_among (map (λ (l : Line). l.number) ls) n) out in
+    let parts = or_parts (l.number == n) (is_among (map (λ (l : Line). l.number) ls) n) out in
     ap (λ b. if b then l.kind else kind_in ls n) parts.0 ∙ no_line ls n parts.1
 
 unlinked : (n : ℕ) → is_linked n ≡ false → kind_of n ≡ unknown

@@ -5,6 +5,7 @@
 pub mod abi;
 mod arithmetic;
 mod defects;
+mod digits;
 pub mod kinds;
 mod limits;
 mod lines;
@@ -13,6 +14,7 @@ pub mod relocations;
 
 pub use arithmetic::{low_bits, up};
 pub use defects::{Defect, Flaw, LinkStop, Misfit, ReadFault};
+pub use digits::push_decimal;
 pub use kinds::DefectKind;
 pub use limits::{Limits, check_count, check_file_size, count_defect};
 pub use lines::{line_of, push_escaped};

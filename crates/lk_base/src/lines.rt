@@ -42,7 +42,7 @@ fn push_each_escaped(line: &mut Vec<u8>, name: &[u8]) -> Result<(), AllocError>
 pub fn push_escaped(line: &mut Vec<u8>, name: &[u8]) -> Result<(), AllocError>
     ensures ok { OnOk result (line.new.items ≡ line.old.items ++ escaped name.now) }
     ensures err { OnErr result (line.new.items ≡ line.old.items) }
-    ensures told { IsRecoverable name.now }
+    ensures recoverable { IsRecoverable name.now }
 {
     let start = line.len();
     let pushed = push_each_escaped(line, name);

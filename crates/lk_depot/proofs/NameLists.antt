@@ -91,10 +91,3 @@ front_lacking files names i j before within gone = record {
 not_before : (files : Option Files) (names : List (List ℕ)) (i j : ℕ) → IsFirstLacking files names i → IsFirstLacking files names j → i < j → ⊥
 not_before files names i j one other before =
     not_lacking files (take j names) other.earlier.0 i other.earlier.1 (front_lacking files names i j before (omega (arith, other.within)) one)
-
--- There is at most one first name that is lacking.
-pub same_first_lacking : (files : Option Files) (names : List (List ℕ)) (i j : ℕ) → IsFirstLacking files names i → IsFirstLacking files names j → i ≡ j
-same_first_lacking files names i j one other =
-    let not_less = not_before files names i j one other in
-    let not_more = not_before files names j i other one in
-    omega arith

@@ -80,9 +80,6 @@ put_swapped m a b v w apart =
 pub content_put_same : (files : Files) (name bytes : List ℕ) → content (insert files name bytes) name ≡ bytes
 content_put_same files name bytes = ap (λ o. unwrap_or o []) (get_put_same files name bytes)
 
-pub content_put_other : (files : Files) (name q bytes : List ℕ) → q ≢ name → content (insert files name bytes) q ≡ content files q
-content_put_other files name q bytes apart = ap (λ o. unwrap_or o []) (get_put_other files name q bytes apart)
-
 pub added_nothing : (name : List ℕ) (files : Files) → added name [] files ≡ files
 unfolding added
 added_nothing name files = refl
@@ -115,14 +112,6 @@ get_added_other name q [] files apart = refl
 get_added_other name q (b ∷ bytes) files apart = get_put_other files name q (content files name ++ b ∷ bytes) apart
 
 -- These laws of maps that contracts may not see.
-pub put_if_seen_twice : {X : Type 0} (name : List ℕ) (v w : X) (names : Option (Named X)) → put_if_seen name w (put_if_seen name v names) ≡ put_if_seen name w names
-put_if_seen_twice name v w None = refl
-put_if_seen_twice name v w (Some m) = ap Some (put_twice m name v w)
-
-pub put_if_seen_swapped : {X : Type 0} (a b : List ℕ) (v w : X) (names : Option (Named X)) → a ≢ b → put_if_seen b w (put_if_seen a v names) ≡ put_if_seen a v (put_if_seen b w names)
-put_if_seen_swapped a b v w None apart = refl
-put_if_seen_swapped a b v w (Some m) apart = ap Some (put_swapped m a b v w apart)
-
 pub added_if_seen_nothing : (name : List ℕ) (files : Option Files) → added_if_seen name [] files ≡ files
 added_if_seen_nothing name None = refl
 added_if_seen_nothing name (Some m) = ap Some (added_nothing name m)

@@ -1,9 +1,10 @@
 -- What the calls on a shelf answer and leave, said of its outputs.
-use Rattle.std.proofs.Common.{◌≡◌, ℕ, ◌-◌, ◌<◌, ◌≤◌, min, Bool, true, false, not, cond, nat_lt, nat_le, ◌||◌, ◌&&◌, ◌==◌, List, [], ◌∷◌, ◌++◌, length, set, take, refl, sym, ◌∙◌, ap, subst, arith, eq-eqb, None, Some, Option, Ok, Err}
+use Rattle.std.proofs.Common.{◌≡◌, ℕ, ◌-◌, ◌<◌, ◌≤◌, min, Bool, true, false, not, cond, nat_lt, nat_le, ◌&&◌, ◌==◌, List, [], ◌∷◌, ◌++◌, length, set, take, sym, ◌∙◌, ap, subst, arith, eq-eqb, None, Some, Option, Ok, Err}
 use Rattle.std.proofs.lemmas.Grind.{common_steps}
 use Rattle.std.proofs.lemmas.List.{length-take}
 use Rattle.std.specs.FinMap.{get, insert, contains_key, len}
 use Rattle.std.specs.Prelude.{if◌then◌else◌, ok_or}
+use Rattle.std.proofs.lemmas.Bool.{and_left, and_right, not_from_false, not_from_true, or_from, or_left, or_right}
 use Rattle.lk_depot.specs.Faults.{next_count}
 use Rattle.lk_depot.specs.Files.{Files, content, added}
 use Rattle.lk_depot.specs.Held.{Held}
@@ -16,32 +17,6 @@ use Rattle.lk_depot.proofs.OutputMaps.{IsHeldAt, started, not_output, is_output_
 picked : {X : Type 0} (b v : Bool) (x y : X) → b ≡ v → cond b x y ≡ cond v x y
 picked b v x y e = ap (λ test. cond test x y) e
 
-or_first : (a b : Bool) → a ≡ true → (a || b) ≡ true
-or_first true b e = refl
-or_first false b e = cc
-
-or_second : (a b : Bool) → b ≡ true → (a || b) ≡ true
-or_second true b e = refl
-or_second false b e = e
-
-or_none : (a b : Bool) → a ≡ false → b ≡ false → (a || b) ≡ false
-or_none true b e f = cc
-or_none false b e f = f
-
-and_first_not : (a b : Bool) → a ≡ false → (a && b) ≡ false
-and_first_not true b e = cc
-and_first_not false b e = refl
-
-and_second_not : (a b : Bool) → b ≡ false → (a && b) ≡ false
-and_second_not true b e = e
-and_second_not false b e = refl
-
-not_false : (a : Bool) → a ≡ false → not a ≡ true
-not_false a e = ap not e
-
-not_true : (a : Bool) → a ≡ true → not a ≡ false
-not_true a e = ap not e
-
 longer_not : {n : ℕ} → n ≤ 256 → nat_lt 256 n ≡ false
 longer_not {n} short = grind (arith, common_steps)
 
@@ -53,23 +28,23 @@ some_not {n} some = grind (arith, common_steps)
 
 -- Why an append is refused.
 refuses_no_output : (s : Shelf) (name : List ℕ) → is_output s name ≡ false → refuses_append s name ≡ true
-refuses_no_output s name e = or_second _ _ (or_first _ _ (not_false _ e))
+refuses_no_output s name e = or_right _ _ (or_left _ _ (not_from_false _ e))
 
 refuses_full : (s : Shelf) (name : List ℕ) → room_left s name ≡ 0 → refuses_append s name ≡ true
-refuses_full s name e = or_second _ _ (or_second _ _ (eq-eqb _ _ e))
+refuses_full s name e = or_right _ _ (or_right _ _ (eq-eqb _ _ e))
 
 takes_some : (s : Shelf) (name : List ℕ) → fails_now s ≡ false → is_output s name ≡ true → 0 < room_left s name → refuses_append s name ≡ false
-takes_some s name listed output room = or_none _ _ listed (or_none _ _ (not_true _ output) (some_not room))
+takes_some s name listed output room = or_from _ _ listed (or_from _ _ (not_from_true _ output) (some_not room))
 
 -- Why a begin is refused.
 refuses_third : (s : Shelf) (name : List ℕ) → is_output s name ≡ false → len s.kinds ≡ 2 → refuses_begin s name ≡ true
-refuses_third s name new two = or_second _ _ (or_second _ _ (ap (λ b. not b && nat_le 2 (len s.kinds)) new ∙ ap (nat_le 2) two))
+refuses_third s name new two = or_right _ _ (or_right _ _ (ap (λ b. not b && nat_le 2 (len s.kinds)) new ∙ ap (nat_le 2) two))
 
 begins_anew : (s : Shelf) (name : List ℕ) → fails_now s ≡ false → length name ≤ 256 → is_output s name ≡ true → refuses_begin s name ≡ false
-begins_anew s name listed short output = or_none _ _ listed (or_none _ _ (longer_not short) (and_first_not _ _ (not_true _ output)))
+begins_anew s name listed short output = or_from _ _ listed (or_from _ _ (longer_not short) (and_left _ _ (not_from_true _ output)))
 
 begins_new : (s : Shelf) (name : List ℕ) → fails_now s ≡ false → length name ≤ 256 → len s.kinds < 2 → refuses_begin s name ≡ false
-begins_new s name listed short spare = or_none _ _ listed (or_none _ _ (longer_not short) (and_second_not _ _ (two_not spare)))
+begins_new s name listed short spare = or_from _ _ listed (or_from _ _ (longer_not short) (and_right _ _ (two_not spare)))
 
 -- What a call that is refused answers and leaves.
 abbrev pub BeginRefused : Shelf → List ℕ → FileKind → Type 0

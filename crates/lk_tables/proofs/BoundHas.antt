@@ -22,12 +22,7 @@ use Rattle.lk_tables.specs.Targets.{bound, bound_by, definition, entry_bound, ra
 use Rattle.lk_tables.proofs.ByNumber.{read_by_symbol}
 use Rattle.lk_tables.proofs.FirstNumbers.{first_within}
 use Rattle.lk_tables.proofs.LinkerNumbers.{IfNumber, linker_few, linker_named, same_no}
-
-file_is : (class f i : ℕ) → class ≤ 2 → f < 2 ^ 24 → i < 2 ^ 32 → file_of (rank_of class f i) ≡ f
-file_is class f i few file symbol = omega arith
-
-symbol_is : (class f i : ℕ) → i < 2 ^ 32 → symbol_of_rank (rank_of class f i) ≡ i
-symbol_is class f i symbol = omega arith
+use Rattle.lk_tables.proofs.RankParts.{file_is, symbol_is}
 
 pub class_few : (s : Symbol) → class_of s ≤ 2
 class_few s = few_by (is_common s.place) _
@@ -104,7 +99,7 @@ number_named : (files : List File) (b : Bindings) (P : Bound → Type 0) (o : Op
 number_named files b P None none own few = none_named files b P none
 number_named files b P (Some n) none own few = subst P (sym (linker_named files b n few)) (own n refl)
 
-few_numbers : (files : List File) (o : Option ℕ) → AreFew files → IfNumber (λ n. n < fixed_count + 2 * section_total files) o → IfNumber (λ n. n < 2 ^ 31) o
+pub few_numbers : (files : List File) (o : Option ℕ) → AreFew files → IfNumber (λ n. n < fixed_count + 2 * section_total files) o → IfNumber (λ n. n < 2 ^ 31) o
 few_numbers files None few below = tt
 few_numbers files (Some n) few below = omega (arith, below, few.section_count_is)
 

@@ -2,10 +2,11 @@
 use Rattle.std.proofs.Common.{◌≡◌, ℕ, zero, suc, ◌+◌, ◌<◌, ◌≤◌, List, Option, None, if◌then◌else◌, [], ◌∷◌, ◌++◌, length, map, take, sum, refl, sym, ap, ◌∙◌, subst, arith, get_or}
 use Rattle.std.specs.Prelude.{flat_map, slice_index_or}
 use Rattle.std.specs.List.{range_with_len}
-use Rattle.std.proofs.lemmas.List.{length-map, map-id, take-map}
+use Rattle.std.proofs.lemmas.List.{length-map, take-map}
 use Rattle.std.proofs.lemmas.List.Concat.{get_or-flat_map}
-use Rattle.std.proofs.lemmas.List.FromFn.{length-range_with_len, get_or-range_with_len, get_or-map-range_with_len, length-map-range_with_len, take-map-range_with_len, fill_by_all}
+use Rattle.std.proofs.lemmas.List.FromFn.{length-range_with_len, get_or-range_with_len, get_or-map-range_with_len, length-map-range_with_len, fill_by_all}
 use Rattle.lk_base.proofs.Loops.{count_step, flat_step}
+use Rattle.lk_base.proofs.Ranges.{same_range, take_range}
 use Rattle.lk_tables.specs.declared.objects.Object.{Object}
 use Rattle.lk_tables.specs.Files.{File, file_at, no_file, symbol_at, symbol_name, first_section, first_symbol, section_count, section_no, section_total, symbol_no, symbol_total, by_section, by_symbol}
 use Rattle.lk_tables.specs.Gathering.{with_object, with_objects}
@@ -20,10 +21,6 @@ rows_upto row starts n first more (suc f) le =
     let P : ℕ → Type 0 = λ k. length (flat_map row (range_with_len 0 k)) ≡ starts k in
     let one : f + 1 ≡ suc f = omega arith in
     subst P one (count_step row f ∙ ap (λ k. k + length (row f)) (rows_upto row starts n first more f (omega arith)) ∙ sym (more f (omega arith)))
-
-take_range : (n f : ℕ) → f ≤ n → take f (range_with_len 0 n) ≡ range_with_len 0 f
-take_range n f le =
-    ap (take f) (sym (map-id (range_with_len 0 n))) ∙ take-map-range_with_len (λ (x : ℕ). x) 0 n f le ∙ map-id (range_with_len 0 f)
 
 read_rows : {X : Type 0} (row : ℕ → List X) (starts : ℕ → ℕ) (n : ℕ) → starts 0 ≡ 0 → ((f : ℕ) → f < n → starts (f + 1) ≡ starts f + length (row f)) →
     (f i : ℕ) (d : X) → f < n → i < length (row f) → get_or (flat_map row (range_with_len 0 n)) (starts f + i) d ≡ get_or (row f) i d
@@ -59,10 +56,6 @@ section_steps files give f lt =
     section_more files f lt ∙ ap (λ k. first_section files f + k) (sym (length-map-range_with_len (give f) 0 (section_count (file_at files f))))
 
 -- a loop that pushes file by file: one file more, and all
-pub symbol_rows_step : {X : Type 0} (files : List File) (give : ℕ → ℕ → X) (f : ℕ) (old new : List X) →
-    old ≡ symbol_rows files give f → new ≡ old ++ symbol_row files give f → new ≡ symbol_rows files give (f + 1)
-symbol_rows_step files give f old new held is = flat_step (symbol_row files give) f old new held is
-
 pub section_rows_step : {X : Type 0} (files : List File) (give : ℕ → ℕ → X) (f : ℕ) (old new : List X) →
     old ≡ section_rows files give f → new ≡ old ++ section_row files give f → new ≡ section_rows files give (f + 1)
 section_rows_step files give f old new held is = flat_step (section_row files give) f old new held is
@@ -117,9 +110,6 @@ file_at_heads (x ∷ xs) (suc f) = file_at_heads xs f
 pub head_alone : (files : List File) (f : ℕ) → (file_at (heads_alone files) f).head ≡ (file_at files f).head
 head_alone files f = ap (λ (x : File). x.head) (file_at_heads files f)
 
-pub bytes_alone : (files : List File) (f : ℕ) → (file_at (heads_alone files) f).bytes ≡ (file_at files f).bytes
-bytes_alone files f = ap (λ (x : File). x.bytes) (file_at_heads files f)
-
 pub length_heads : (files : List File) → length (heads_alone files) ≡ length files
 length_heads files = length-map files headed_file
 
@@ -157,10 +147,6 @@ heads_with_objects files objects =
     (λ f lt. file_at_heads (with_objects files objects) f ∙ ap headed_file (file_at_with_objects files objects f lt))
     ∙ sym (headed_list files)
 
-pub first_symbol_with_objects : (files : List File) (objects : List (Option Object)) (f : ℕ) → first_symbol (with_objects files objects) f ≡ first_symbol files f
-first_symbol_with_objects files objects f =
-    sym (first_symbol_alone (with_objects files objects) f) ∙ ap (λ (l : List File). first_symbol l f) (heads_with_objects files objects) ∙ first_symbol_alone files f
-
 pub symbol_total_with_objects : (files : List File) (objects : List (Option Object)) → symbol_total (with_objects files objects) ≡ symbol_total files
 symbol_total_with_objects files objects =
     sym (symbol_total_alone (with_objects files objects)) ∙ ap symbol_total (heads_with_objects files objects) ∙ symbol_total_alone files
@@ -172,24 +158,18 @@ map_same g h a (suc n) each =
     ap (λ x. x ∷ map g (range_with_len (a + 1) n)) (each a (omega arith) (omega arith))
     ∙ ap (λ l. h a ∷ l) (map_same g h (a + 1) n (λ k low high. each k (omega arith) (omega arith)))
 
-flat_same : {X : Type 0} (g h : ℕ → List X) (a n : ℕ) → ((k : ℕ) → a ≤ k → k < a + n → g k ≡ h k) → flat_map g (range_with_len a n) ≡ flat_map h (range_with_len a n)
-flat_same g h a zero each = refl
-flat_same g h a (suc n) each =
-    ap (λ l. l ++ flat_map g (range_with_len (a + 1) n)) (each a (omega arith) (omega arith))
-    ∙ ap (λ l. h a ++ l) (flat_same g h (a + 1) n (λ k low high. each k (omega arith) (omega arith)))
-
 pub by_symbol_same : {X : Type 0} (files : List File) (give other : ℕ → ℕ → X) →
     ((f i : ℕ) → f < length files → i < length (file_at files f).head.symbols → give f i ≡ other f i) → by_symbol files give ≡ by_symbol files other
 unfolding by_symbol
 by_symbol_same files give other each =
-    flat_same (symbol_row files give) (symbol_row files other) 0 (length files)
+    same_range (symbol_row files give) (symbol_row files other) 0 (length files)
     (λ f low high. map_same (give f) (other f) 0 (length (file_at files f).head.symbols) (λ i from below. each f i (omega arith) (omega arith)))
 
 pub by_section_same : {X : Type 0} (files : List File) (give other : ℕ → ℕ → X) →
     ((f k : ℕ) → f < length files → k < section_count (file_at files f) → give f k ≡ other f k) → by_section files give ≡ by_section files other
 unfolding by_section
 by_section_same files give other each =
-    flat_same (section_row files give) (section_row files other) 0 (length files)
+    same_range (section_row files give) (section_row files other) 0 (length files)
     (λ f low high. map_same (give f) (other f) 0 (section_count (file_at files f)) (λ k from below. each f k (omega arith) (omega arith)))
 
 -- symbols, names and their numbers are the heads' alone
@@ -197,7 +177,7 @@ pub by_symbol_alone : {X : Type 0} (files : List File) (give : ℕ → ℕ → X
 unfolding by_symbol
 by_symbol_alone files give =
     ap (λ n. flat_map (symbol_row (heads_alone files) give) (range_with_len 0 n)) (length_heads files)
-    ∙ flat_same (symbol_row (heads_alone files) give) (symbol_row files give) 0 (length files)
+    ∙ same_range (symbol_row (heads_alone files) give) (symbol_row files give) 0 (length files)
     (λ f low high. ap (λ (x : File). map (give f) (range_with_len 0 (length x.head.symbols))) (file_at_heads files f))
 
 pub name_at_alone : (files : List File) (f i : ℕ) → name_at (heads_alone files) f i ≡ name_at files f i
@@ -210,13 +190,13 @@ pub names_in_alone : (files : List File) (f : ℕ) → names_in (heads_alone fil
 unfolding names_in
 names_in_alone files f =
     ap (λ (x : File). flat_map (name_at (heads_alone files) f) (range_with_len 0 (length x.head.symbols))) (file_at_heads files f)
-    ∙ flat_same (name_at (heads_alone files) f) (name_at files f) 0 (length (file_at files f).head.symbols) (λ i low high. name_at_alone files f i)
+    ∙ same_range (name_at (heads_alone files) f) (name_at files f) 0 (length (file_at files f).head.symbols) (λ i low high. name_at_alone files f i)
 
 pub names_alone : (files : List File) → names (heads_alone files) ≡ names files
 unfolding names
 names_alone files =
     ap (λ n. flat_map (names_in (heads_alone files)) (range_with_len 0 n)) (length_heads files)
-    ∙ flat_same (names_in (heads_alone files)) (names_in files) 0 (length files) (λ f low high. names_in_alone files f)
+    ∙ same_range (names_in (heads_alone files)) (names_in files) 0 (length files) (λ f low high. names_in_alone files f)
 
 pub name_number_alone : (files : List File) (f i : ℕ) → name_number (heads_alone files) f i ≡ name_number files f i
 unfolding name_number

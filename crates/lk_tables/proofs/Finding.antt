@@ -1,10 +1,10 @@
 -- The first element that passes a test, also by bisection of a list in order.
-use Rattle.std.proofs.Common.{◌≡◌, ℕ, zero, suc, ◌<◌, ◌≤◌, ◌==◌, Bool, true, false, cond, List, [], ◌∷◌, length, map, get_or, refl, sym, ap, ◌∙◌, subst, arith, Vec, Global, Some, None, inl, inr}
+use Rattle.std.proofs.Common.{◌≡◌, ℕ, zero, suc, ◌<◌, ◌≤◌, ◌==◌, Bool, true, false, cond, List, [], ◌∷◌, length, get_or, refl, sym, ap, ◌∙◌, arith, Some, None, inl, inr}
 use Rattle.std.specs.Prelude.{find}
 use Rattle.std.specs.List.{All, range_with_len}
 use Rattle.std.specs.List.Sorted.{IsNonDecreasingBy}
 use Rattle.std.proofs.lemmas.Bool.{ne_eqb, eq-eqb, cases_lt}
-use Rattle.std.proofs.lemmas.List.{get_or_past, get_or-map, length-map}
+use Rattle.std.proofs.lemmas.List.{get_or_past}
 use Rattle.std.proofs.lemmas.List.FromFn.{length-range_with_len, get_or-range_with_len}
 use Rattle.std.proofs.lemmas.List.Sorted.{IsNonDecreasingBy-short}
 
@@ -67,13 +67,10 @@ ordered_at key lists k ordered = elim (cases_lt k (length lists)) [
       IsNonDecreasingBy-short key (get_or lists k []) (omega (arith, past))
 ]
 
--- what holds of lists that are held holds of them as plain lists
-pub each_in_order : {X : Type 0} (key : X → ℕ) (lists : List (Vec X Global)) →
-    ((k : ℕ) (d : Vec X Global) → k < length lists → IsNonDecreasingBy key (get_or lists k d).items) →
-    All (IsNonDecreasingBy key) (map (λ (list : Vec X Global). list.items) lists)
-each_in_order key [] each = λ k d lt. absurd (omega (arith, lt))
-each_in_order {X} key (x ∷ xs) each = λ k d lt.
-    let items : Vec X Global → List X = λ list. list.items in
-    let less : k < length (x ∷ xs) = omega (arith, lt, length-map (x ∷ xs) items) in
-    let P : List X → Type 0 = λ list. IsNonDecreasingBy key list in
-    subst P (sym (get_or-map items (x ∷ xs) k x d less)) (each k x less)
+-- no number passes
+pub no_number : (p : ℕ → Bool) (n : ℕ) → ((k : ℕ) → k < n → p k ≡ false) → find p (range_with_len 0 n) ≡ None
+no_number p n fails =
+    find_nothing p (range_with_len 0 n) 0 (λ k less.
+    let lt : k < n = omega (arith, less, length-range_with_len 0 n) in
+    let is : get_or (range_with_len 0 n) k 0 ≡ k = get_or-range_with_len 0 n k 0 lt ∙ omega arith in
+    ap p is ∙ fails k lt)

@@ -1,10 +1,8 @@
 -- The numbers of files' first symbols and first sections: sums over the files before them.
-use Rattle.std.proofs.Common.{◌≡◌, ℕ, ◌+◌, ◌<◌, ◌≤◌, List, [], ◌∷◌, ◌++◌, length, map, take, sum, refl, sym, ap, ◌∙◌, subst, arith, get_or}
+use Rattle.std.proofs.Common.{◌≡◌, ℕ, ◌+◌, ◌<◌, ◌≤◌, List, [], ◌∷◌, ◌++◌, length, map, take, sum, refl, sym, ap, ◌∙◌, arith, get_or}
 use Rattle.std.specs.List.{range_with_len, sum_by}
 use Rattle.std.proofs.lemmas.List.{get_or-map, take_all, take-take}
 use Rattle.std.proofs.lemmas.List.FromFn.{length-map-range_with_len, get_or-map-range_with_len, map-range_with_len_more}
-use Rattle.std.specs.List.Sorted.{IsNonDecreasing}
-use Rattle.std.proofs.lemmas.List.Sorted.{IsNonDecreasingBy-from_default}
 use Rattle.std.proofs.lemmas.List.Sums.{sum-map, sum_by_more, sum_by-take-le}
 use Rattle.lk_tables.specs.declared.files.File.{File as LentFile}
 use Rattle.lk_tables.specs.Files.{File, file_at, no_file, first_section, first_symbol, section_count, section_total, symbol_total}
@@ -36,16 +34,6 @@ first_at starts firsts n f is le = ap (λ l. get_or l f 0) is ∙ get_or-map-ran
 pub first_read : (starts : ℕ → ℕ) (firsts : List ℕ) (n f x : ℕ) → firsts ≡ map starts (range_with_len 0 (n + 1)) → f ≤ n → x ≡ get_or firsts f x → x ≡ starts f
 first_read starts firsts n f x is le read =
     read ∙ ap (λ l. get_or l f x) is ∙ get_or-map-range_with_len starts 0 (n + 1) f f x (omega arith) (omega arith)
-
-pub firsts_rise : (starts : ℕ → ℕ) (firsts : List ℕ) (n : ℕ) → firsts ≡ map starts (range_with_len 0 (n + 1)) → ((f g : ℕ) → f ≤ g → starts f ≤ starts g) → IsNonDecreasing firsts
-firsts_rise starts firsts n is up =
-    let P : List ℕ → Type 0 = λ l. IsNonDecreasing l in
-    let all = map starts (range_with_len 0 (n + 1)) in
-    subst P (sym is) (IsNonDecreasingBy-from_default (λ (x : ℕ). x) all 0 (λ i j le lt.
-    let few : length all ≡ n + 1 = length-map-range_with_len starts 0 (n + 1) in
-    let low : get_or all i 0 ≡ starts i = get_or-map-range_with_len starts 0 (n + 1) i i 0 (omega arith) (omega arith) in
-    let high : get_or all j 0 ≡ starts j = get_or-map-range_with_len starts 0 (n + 1) j j 0 (omega arith) (omega arith) in
-    omega (arith, up i j le)))
 
 -- what is the first number of each file, file by file
 pub next_start : (starts : ℕ → ℕ) (old new : List ℕ) (f start : ℕ) → old ≡ map starts (range_with_len 0 f) → new ≡ old ++ start ∷ [] → start ≡ starts f → new ≡ map starts (range_with_len 0 (f + 1))

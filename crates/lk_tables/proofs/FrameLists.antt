@@ -5,11 +5,11 @@ use Rattle.std.specs.Borrow.{Bor}
 use Rattle.std.specs.Prelude.{Option, find, option_map}
 use Rattle.std.specs.Global.{Vec}
 use Rattle.std.specs.List.Sorted.{IsNonDecreasingBy}
-use Rattle.std.proofs.lemmas.Bool.{cases_lt, ltb-true}
+use Rattle.std.proofs.lemmas.Bool.{cases_lt, eqb-true, ltb-true}
 use Rattle.std.proofs.lemmas.List.{get_or_past, get_or-map, length-map}
 use Rattle.std.proofs.lemmas.List.Kept.{AllPairs-from_increasing}
 use Rattle.lk_tables.specs.declared.records.Record.{Record}
-use Rattle.lk_tables.specs.Frames.{AreInOrder, RecordList, list_view, list_views}
+use Rattle.lk_tables.specs.Frames.{AreInOrder, RecordList, is_number, list_view, list_views}
 use Rattle.lk_tables.specs.RecordViews.{record_view, record_views}
 use Rattle.lk_tables.proofs.Finding.{missing_past}
 
@@ -68,3 +68,7 @@ pub item_at : (records : List Record) (at : ℕ) (r : Option (Bor Record)) → I
     option_map (λ (x : Bor Record). record_view x.now) r ≡ get_or (map (λ x. Some x) (record_views records)) at None
 item_at records at None is = sym (none_at records at is.3)
 item_at records at (Some r) is = sym (some_at records at r.now (ltb-true at (length records) (sym is.0)) is.1)
+
+pub number_is : (o : Option ℕ) (k : ℕ) → is_number o k ≡ true → o ≡ Some k
+number_is None k is = let no : ⊥ = cc in absurd no
+number_is (Some m) k is = ap Some (eqb-true m k is)

@@ -8,6 +8,7 @@ pub mod FirstNumbers
 pub mod FrameLists
 pub mod HeadFacts
 pub mod LinkerNumbers
+pub mod Marking
 pub mod Owners
 pub mod Passing
 pub mod Putting
@@ -20,3 +21,4 @@ pub mod LiveFiles
 pub mod SectionFiles
 pub mod SoundFiles
 pub mod SoundGroups
+pub mod RankParts

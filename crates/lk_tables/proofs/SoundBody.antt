@@ -27,7 +27,7 @@ use Rattle.lk_tables.specs.Inside.{IsAlignment, IsLinked, IsPadding, IsRelocBefo
 use Rattle.lk_tables.specs.Names.{text_of}
 use Rattle.lk_tables.specs.Objects.{ObjectView, BodyOf, object_of, object_checks, parts_of, group_of, relocs_in, relocs_for}
 use Rattle.lk_base.specs.Order.{put_in, stable_order}
-use Rattle.lk_tables.specs.Relocations.{end_of, pair_checks, place_width, width_of, rela_count, reloc, target_of, target_bytes, is_alignment, is_past_target, is_bad_addend, is_bad_padding, entry_checks, in_order, overlap_checks, entries_checks, relocs_of}
+use Rattle.lk_tables.specs.Relocations.{end_of, pair_checks, place_width, width_of, rela_count, reloc, relocated_section, target_bytes, is_alignment, is_past_target, is_bad_addend, is_bad_padding, entry_checks, in_order, overlap_checks, entries_checks, relocs_of}
 use Rattle.lk_tables.specs.Sections.{section_of, is_null, is_read, is_written, takes_relocs, is_loaded, loaded_types, contents_of}
 use Rattle.lk_tables.specs.Symbols.{symtab_of, symbol_of, symbol_count, symbol_place, is_common, is_undef}
 use Rattle.lk_tables.proofs.BodyFacts.{symbol_at, length_symbols, section_inside, sections_pass, sections_are, symbols_are}
@@ -120,12 +120,12 @@ padding_of addend e =
     record { some = some_padding addend p.0; even = eqb-true (unsigned_abs addend % 2) 0 (not_false _ p.1) }
 
 -- one relocation, from the checks of its entry
-within_of : (b : List ℕ) (n i j : ℕ) → n ≡ symbol_count b → passes (entry_checks b i j) ≡ Ok tt → is_read b (target_of b i) ≡ true →
-    IsRelocWithin b n (target_of b i) (reloc b i j)
+within_of : (b : List ℕ) (n i j : ℕ) → n ≡ symbol_count b → passes (entry_checks b i j) ≡ Ok tt → is_read b (relocated_section b i) ≡ true →
+    IsRelocWithin b n (relocated_section b i) (reloc b i j)
 unfolding entry_checks is_past_target is_bad_addend
 within_of b n i j counted e read =
     let r = reloc b i j in
-    let s = target_of b i in
+    let s = relocated_section b i in
     let lines : NoneBroken (entry_checks b i j) = none_from_ok (entry_checks b i j) (tt {0}) (tt {0}) e in
     let c = target_bytes b i in
     let p = or_parts (s.sh_type == SHT_NOBITS) (ends_past s.size r.offset (place_width r)) lines.1.1.0 in

@@ -8,6 +8,7 @@ use Rattle.std.proofs.lemmas.List.{get_or-map, length-map}
 use Rattle.std.proofs.lemmas.List.Elements.{All-from_recursion, All-filter, All-map, filter_passes}
 use Rattle.std.proofs.lemmas.List.FromFn.{length-range_with_len, get_or-range_with_len}
 use Rattle.std.proofs.lemmas.List.Kept.{AllPairs-filter}
+use Rattle.lk_base.proofs.Ranges.{each_below}
 use Rattle.lk_tables.specs.declared.heads.Place.{Place}
 use Rattle.lk_tables.specs.declared.heads.Place.TheVariants.{Undef, Absolute, Common, Within}
 use Rattle.lk_tables.specs.declared.heads.Section.{Section}
@@ -131,12 +132,6 @@ group_before b j i lt group sound = record {
 }
 
 -- all groups
-below : (n : ℕ) → All (λ k. k < n) (range_with_len 0 n)
-below n k d lt =
-    let len : length (range_with_len 0 n) ≡ n = length-range_with_len 0 n in
-    let is : get_or (range_with_len 0 n) k d ≡ 0 + k = get_or-range_with_len 0 n k d (omega (arith, len)) in
-    omega (arith, len, is)
-
 rising : (n : ℕ) → AllPairs (λ x y. x < y) (range_with_len 0 n)
 rising n i j d lt high =
     let len : length (range_with_len 0 n) ≡ n = length-range_with_len 0 n in
@@ -155,7 +150,7 @@ pub groups_within : (b : List ℕ) (head : HeadView) (n : ℕ) → HeadOf b head
     ((i : ℕ) → i < n → is_group b i ≡ true → IsSoundGroup b i) → All (IsGroupWithin b (length head.sections)) (map (group_of b) (filter (is_group b) (range_with_len 0 n)))
 groups_within b head n is inside le sound =
     let ks = filter (is_group b) (range_with_len 0 n) in
-    let low = All-filter (is_group b) (λ k. k < n) (range_with_len 0 n) (below n) in
+    let low = All-filter (is_group b) (λ k. k < n) (range_with_len 0 n) (each_below n) in
     let group = filter_passes (is_group b) (range_with_len 0 n) in
     All-map (IsGroupWithin b (length head.sections)) (group_of b) ks (λ k d lt.
     group_within b head (get_or ks k d) is inside (omega (arith, low k d lt)) (group k d lt) (sound (get_or ks k d) (low k d lt) (group k d lt)))
@@ -164,7 +159,7 @@ pub groups_apart : (b : List ℕ) (n : ℕ) → ((i : ℕ) → i < n → is_grou
     → AllPairs IsGroupBefore (map (group_of b) (filter (is_group b) (range_with_len 0 n)))
 groups_apart b n sound =
     let ks = filter (is_group b) (range_with_len 0 n) in
-    let low = All-filter (is_group b) (λ k. k < n) (range_with_len 0 n) (below n) in
+    let low = All-filter (is_group b) (λ k. k < n) (range_with_len 0 n) (each_below n) in
     let group = filter_passes (is_group b) (range_with_len 0 n) in
     let rises = AllPairs-filter (λ x y. x < y) (is_group b) (range_with_len 0 n) (rising n) in
     pairs_map IsGroupBefore (group_of b) ks (λ i j d lt high.

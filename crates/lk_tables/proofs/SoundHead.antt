@@ -16,7 +16,6 @@ use Rattle.lk_tables.specs.declared.heads.Symbol.{Symbol}
 use Rattle.lk_tables.specs.Checks.{◌says◌, passes, NoneBroken}
 use Rattle.lk_tables.specs.FileHeader.{section_count, e_shoff, is_strtab, header, header_checks, identity_checks, form_checks, table_checks}
 use Rattle.lk_tables.specs.Heads.{HeadView, HeadOf, head_of, fields_of, head_checks, all_section_checks, all_symbol_checks}
-use Rattle.lk_tables.specs.Indexed.{IsIndexed}
 use Rattle.lk_tables.specs.Inside.{IsNameWithin, IsPlaceWithin, IsNullSymbol, HasLocalsFirst, IsHeadInside}
 use Rattle.lk_tables.specs.Names.{is_zero, text_of, name_len}
 use Rattle.lk_tables.specs.Sections.{section_of, is_null, is_frame, is_read, is_written, written_at, is_loaded, loaded_types, is_bad_symtab, names_from, names_size}
@@ -386,16 +385,3 @@ head_is b head e = record { fields = checked_value (head_checks b) (fields_of b)
 
 pub head_of_is : (b : List ℕ) (head : HeadView) → head_of b ≡ Ok head → IsHeadInside b head
 head_of_is b head e = head_inside b head (head_is b head e)
-
--- and so each index and each offset of it lies where it must
-pub indexed : (b : List ℕ) (head : HeadView) → head_of b ≡ Ok head → IsIndexed b head
-indexed b head e =
-    let inside = head_of_is b head e in
-    record {
-      few = inside.few;
-      entries = inside.entries;
-      contents = inside.contents;
-      places = λ i k lt stands.
-          let P : Place → Type 0 = λ p. IsPlaceWithin (length head.sections) p in
-          subst P (stands (symbol_of b 0)) (inside.places i (symbol_of b 0) lt);
-    }

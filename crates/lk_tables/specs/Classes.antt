@@ -28,6 +28,15 @@ is_in TlsNobits sh_type flags = is_tls flags && is_nobits sh_type
 is_in RwBits sh_type flags = not (is_tls flags) && may_write flags && not (is_nobits sh_type)
 is_in RwNobits sh_type flags = not (is_tls flags) && may_write flags && is_nobits sh_type
 
+-- the place of a class in the order in which they stand
+abbrev pub class_no : Class → ℕ
+class_no R = 0
+class_no Rx = 1
+class_no TlsBits = 2
+class_no TlsNobits = 3
+class_no RwBits = 4
+class_no RwNobits = 5
+
 -- the place of a name in a table, or the table's length
 abbrev pub place_of : List (List ℕ) → List ℕ → ℕ
 place_of table name = position_or_len (λ known. bytes_eq known name) table

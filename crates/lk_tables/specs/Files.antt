@@ -1,6 +1,6 @@
 -- The files of a link by number: the command's objects in the order of the command, each archive followed by its members.
 -- A place past the end of a table names something that takes no part in the link.
-use Rattle.std.specs.Prelude.{◌≡◌, ℕ, ◌+◌, ◌^◌, ◌<◌, ◌≤◌, ◌&&◌, ◌==◌, not, nat_lt, pos, Bool, true, false, Ok, if◌then◌else◌, List, [], length, map, take, slice_index_or, sum, count_by, flat_map}
+use Rattle.std.specs.Prelude.{◌≡◌, ℕ, ◌+◌, ◌^◌, ◌<◌, ◌≤◌, ◌&&◌, ◌==◌, not, nat_lt, pos, Bool, false, Ok, if◌then◌else◌, List, [], length, map, take, slice_index_or, sum, count_by, flat_map}
 use Rattle.std.specs.List.{range_with_len}
 use Rattle.lk_base.specs.declared.abi.TheConstants.{STB_LOCAL, STT_NOTYPE, SHT_NULL, FILE_MAX}
 use Rattle.lk_tables.specs.declared.heads.Section.{Section}
@@ -9,8 +9,8 @@ use Rattle.lk_tables.specs.declared.heads.Place.TheVariants.{Undef}
 use Rattle.lk_tables.specs.Symbols.{is_common}
 pub use Rattle.lk_tables.specs.Symbols.{is_section_symbol}
 use Rattle.lk_tables.specs.declared.objects.Reloc.{Reloc}
-use Rattle.lk_tables.specs.Heads.{HeadView, fields_of, head_of}
-use Rattle.lk_tables.specs.Objects.{ObjectView, parts_of, object_of}
+use Rattle.lk_tables.specs.Heads.{HeadView, head_of}
+use Rattle.lk_tables.specs.Objects.{ObjectView, object_of}
 use Rattle.lk_tables.specs.Names.{no_name, text_of}
 pub use Rattle.lk_tables.specs.Relocations.{no_reloc}
 use Rattle.lk_tables.specs.Sections.{is_frame, is_written}
@@ -39,10 +39,6 @@ no_object = record { groups = []; relocs = [] }
 
 abbrev pub no_file : File
 no_file = record { live = false; member = false; bytes = []; head = no_head; object = no_object }
-
--- an object that takes part, as its bytes say it
-abbrev pub object_file : List ℕ → File
-object_file b = record { live = true; member = false; bytes = b; head = fields_of b; object = parts_of b }
 
 -- by number: a file, its symbols, its sections and their relocations
 abbrev pub file_at : List File → ℕ → File

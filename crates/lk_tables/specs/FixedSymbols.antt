@@ -4,7 +4,7 @@ use Rattle.std.specs.Prelude.{ℕ, nat_lt, Option, Some, None, if◌then◌else�
 use Rattle.std.specs.List.{position_or_len}
 use Rattle.std.specs.Str.{bytes_eq}
 use Rattle.lk_tables.specs.declared.linker_symbols.Edge.{Edge}
-use Rattle.lk_tables.specs.declared.linker_symbols.Edge.TheVariants.{ImageStart, CodeEnd, BitsEnd, ZerosEnd, Table, GlobalPointer, PreinitStart, PreinitEnd, InitStart, InitEnd, FiniStart, FiniEnd, FrameStart}
+use Rattle.lk_tables.specs.declared.linker_symbols.Edge.TheVariants.{ImageStart, CodeEnd, BitsEnd, NobitsEnd, Table, GlobalPointer, PreinitStart, PreinitEnd, InitStart, InitEnd, FiniStart, FiniEnd, FrameStart}
 
 -- a fixed name and what its address is
 pub record LinkerSymbol : Type 0 where
@@ -25,8 +25,8 @@ fixed_symbols =
     ∷ names (codes "_edata") BitsEnd
     ∷ names (codes "edata") BitsEnd
     ∷ names (codes "__bss_start") BitsEnd
-    ∷ names (codes "_end") ZerosEnd
-    ∷ names (codes "end") ZerosEnd
+    ∷ names (codes "_end") NobitsEnd
+    ∷ names (codes "end") NobitsEnd
     ∷ names (codes "_GLOBAL_OFFSET_TABLE_") Table
     ∷ names (codes "__global_pointer$") GlobalPointer
     ∷ names (codes "__preinit_array_start") PreinitStart

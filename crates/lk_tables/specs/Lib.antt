@@ -16,8 +16,8 @@ pub mod Frames
 pub mod Gathering
 pub mod Groups
 pub mod Heads
-pub mod Indexed
 pub mod Inside
+pub mod Misfits
 pub mod NameNumbers
 pub mod Names
 pub mod Numbers

@@ -4,6 +4,8 @@ use Rattle.std.specs.Prelude.{ℕ, ◌+◌, ◌*◌, ◌-◌, Bool, ◌&&◌, �
 use Rattle.std.specs.Borrow.{Bor}
 use Rattle.std.specs.List.{starts_with}
 use Rattle.std.specs.Str.{bytes_eq}
+use Rattle.lk_tables.specs.declared.classes.Class.{Class}
+use Rattle.lk_tables.specs.Classes.{is_in}
 
 -- names that are lent, as texts
 abbrev pub texts : List (Bor (List ℕ)) → List (List ℕ)
@@ -31,6 +33,14 @@ gathered (prefix ∷ rest) name = if is_under prefix name then prefix else gathe
 -- the name of a section's output section; COMMON is the name of the room of COMMON symbols
 unfoldable pub output_name : List ℕ → List ℕ
 output_name name = if bytes_eq name (codes "COMMON") then codes ".bss" else gathered prefixes name
+
+-- an output section has the sections of one name in one class: whether a section of a name, a type and flags goes to that of a class and a name
+abbrev pub goes_to : (name : List ℕ) → (sh_type flags : ℕ) → Class → (output : List ℕ) → Bool
+goes_to name sh_type flags class output = is_in class sh_type flags && bytes_eq (output_name name) output
+
+-- functions to call at the start and at the end are made of sections of these names
+abbrev pub is_init_or_fini : List ℕ → Bool
+is_init_or_fini name = bytes_eq name (codes ".init") || bytes_eq name (codes ".fini")
 
 -- a decimal number after the digits of n, if each byte is a digit
 abbrev pub number_of : List ℕ → ℕ → Option ℕ

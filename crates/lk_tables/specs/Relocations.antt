@@ -58,11 +58,11 @@ abbrev pub reloc : List ℕ → ℕ → ℕ → Reloc
 reloc b i j = reloc_at b (rela_place b i j)
 
 -- the section that it relocates, and its bytes
-abbrev pub target_of : List ℕ → ℕ → Section
-target_of b i = section_of b (section_of b i).info
+abbrev pub relocated_section : List ℕ → ℕ → Section
+relocated_section b i = section_of b (section_of b i).info
 
 abbrev pub target_bytes : List ℕ → ℕ → List ℕ
-target_bytes b i = contents_of b (target_of b i)
+target_bytes b i = contents_of b (relocated_section b i)
 
 -- the relocation's bytes, of a ULEB128 number the first one, end past its section, or the section has none in the file
 unfoldable pub is_past_target : Section → Reloc → Bool
@@ -87,8 +87,8 @@ is_bad_kind b target kind = not (is_linked kind) || (is_frame b target && not (i
 unfoldable pub entry_checks : List ℕ → ℕ → ℕ → List Check
 entry_checks b i j =
     (nat_le (symbol_count b) (reloc b i j).symbol says flaw_at BAD_RELOC i (rela_place b i j))
-    ∷ (is_bad_kind b (target_of b i) (reloc b i j).kind says unknown_kind i (rela_place b i j) (reloc b i j).kind)
-    ∷ (is_past_target (target_of b i) (reloc b i j) says flaw_at BAD_RELOC i (rela_place b i j))
+    ∷ (is_bad_kind b (relocated_section b i) (reloc b i j).kind says unknown_kind i (rela_place b i j) (reloc b i j).kind)
+    ∷ (is_past_target (relocated_section b i) (reloc b i j) says flaw_at BAD_RELOC i (rela_place b i j))
     ∷ (not (is_some (width_of (target_bytes b i) (reloc b i j))) says flaw_at BAD_ULEB i (rela_place b i j))
     ∷ (is_bad_addend (reloc b i j) says flaw_at BAD_RELOC i (rela_place b i j))
     ∷ []

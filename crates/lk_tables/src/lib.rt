@@ -20,15 +20,19 @@ mod gathering;
 mod heads;
 mod identifiers;
 mod linker_symbols;
+mod misfits;
 mod names;
 mod numbering;
+mod numbers;
 mod objects;
 mod opening;
 mod output_names;
+mod parts;
 mod places;
 mod ranks;
 mod reading;
 mod records;
+mod reloc_offsets;
 mod section_places;
 mod spans;
 mod starts;
@@ -52,10 +56,13 @@ pub use linker_symbols::{
     Edge, FIXED_COUNT, FRAME_START_NO, bound_section, edge_of, fixed_no, is_stop, start_no,
     start_of, stop_no, stop_of,
 };
+pub use misfits::misfit_defect;
 pub use names::text_of;
 pub use numbering::NameNumbers;
+pub use numbers::{half_at, sxword_at, word_at, xword_at};
 pub use objects::{Group, Object, Reloc};
-pub use output_names::{output_name, priority_of};
+pub use output_names::{is_init_or_fini, output_name, priority_of};
+pub use parts::part_of;
 pub use ranks::{
     NO_RANK, class_of, class_of_rank, file_of, is_linker_rank, is_offer, linker_rank, rank_of,
     symbol_of,
@@ -65,6 +72,7 @@ pub use reading::{
     is_visible, is_written,
 };
 pub use records::{FrameNo, Record};
+pub use reloc_offsets::relocs_before;
 pub use section_places::SectionPlace;
 pub use spans::Span;
 pub use starts::{first_symbols, section_count};

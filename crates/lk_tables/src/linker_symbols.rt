@@ -20,7 +20,7 @@ pub enum Edge {
     /// The end of what is written and has bytes in the file, where what has none there starts.
     BitsEnd,
     /// The end of what is written and has no bytes in the file.
-    ZerosEnd,
+    NobitsEnd,
     /// The linker's global offset table.
     Table,
     /// What the global pointer register holds.
@@ -77,8 +77,8 @@ const FIXED: [FixedSymbol; 18] = [
     fixed!(b"_edata", BitsEnd),
     fixed!(b"edata", BitsEnd),
     fixed!(b"__bss_start", BitsEnd),
-    fixed!(b"_end", ZerosEnd),
-    fixed!(b"end", ZerosEnd),
+    fixed!(b"_end", NobitsEnd),
+    fixed!(b"end", NobitsEnd),
     fixed!(b"_GLOBAL_OFFSET_TABLE_", Table),
     fixed!(b"__global_pointer$", GlobalPointer),
     fixed!(b"__preinit_array_start", PreinitStart),

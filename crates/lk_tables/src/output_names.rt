@@ -1,7 +1,7 @@
 //! The output section to which a section goes, and its place among the members of it, by its name alone.
 
 ghost use Rattle.std.specs.Prelude.{◌≡◌, ◌≤◌, length};
-ghost use Rattle.lk_tables.specs.OutputNames.{gathered, is_numbered, is_under, number_of, output_name, priority_of, texts};
+ghost use Rattle.lk_tables.specs.OutputNames.{gathered, is_init_or_fini, is_numbered, is_under, number_of, output_name, priority_of, texts};
 
 const PREFIXES: [&[u8]; 16] = [
     b".text",
@@ -31,6 +31,13 @@ pub fn output_name<'a>(name: &'a [u8]) -> &'a [u8]
         return b".bss";
     }
     gathered(&PREFIXES, name)
+}
+
+/// Whether sections of a name are put together to functions to call at the start and at the end.
+pub fn is_init_or_fini(name: &[u8]) -> bool
+    ensures { result ≡ is_init_or_fini name.now }
+{
+    name == b".init".as_slice() || name == b".fini".as_slice()
 }
 
 /// The priority of a section among the members of its output section: N for a name `.init_array.N` or `.fini_array.N` of one to

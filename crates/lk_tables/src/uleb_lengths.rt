@@ -1,18 +1,19 @@
 //! How long ULEB128 numbers are (DWARF, "Variable Length Data"), in the contents of a section.
 
-ghost use Rattle.std.specs.Prelude.{◌≡◌, take, drop};
+ghost use Rattle.std.specs.Prelude.{◌≡◌};
 ghost use Rattle.std.specs.List.{position};
 ghost use Rattle.lk_tables.specs.Sections as sections;
 ghost use Rattle.lk_tables.specs.UlebLengths as spec;
 
 use crate::heads::Section;
+use crate::parts::part_of;
 use lk_base::abi::PLACE_MAX;
 
 /// The bytes of a section in its file, as far as the file has them.
 pub fn contents_of<'a>(bytes: &'a [u8], section: &Section) -> &'a [u8]
     ensures { result.now ≡ sections.contents_of bytes.now section.now }
 {
-    first_bytes(bytes_from(bytes, section.offset), section.size)
+    part_of(bytes, section.offset, section.size)
 }
 
 /// How many bytes a ULEB128 number at an offset of a section's contents has: up to the first of which bit 7 is clear. None if that is not
@@ -21,7 +22,7 @@ pub fn contents_of<'a>(bytes: &'a [u8], section: &Section) -> &'a [u8]
 pub fn uleb_len(contents: &[u8], offset: u64) -> Option<u64>
     ensures { result ≡ spec.uleb_len contents.now offset }
 {
-    match last_byte(first_bytes(bytes_from(contents, offset), PLACE_MAX)) {
+    match last_byte(part_of(contents, offset, PLACE_MAX)) {
         Some(last) => Some(last as u64 + 1),
         None => None,
     }
@@ -32,18 +33,4 @@ fn last_byte(bytes: &[u8]) -> Option<usize>
     ensures { result ≡ position spec.is_last bytes.now }
 {
     bytes.iter().position(|byte| *byte < 128)
-}
-
-/// Bytes from an offset on; none past the end.
-fn bytes_from(bytes: &[u8], offset: u64) -> &[u8]
-    ensures { result.now ≡ drop offset bytes.now }
-{
-    &bytes[(offset as usize).min(bytes.len())..]
-}
-
-/// So many of the first bytes, or all.
-fn first_bytes(bytes: &[u8], count: u64) -> &[u8]
-    ensures { result.now ≡ take count bytes.now }
-{
-    &bytes[..(count as usize).min(bytes.len())]
 }

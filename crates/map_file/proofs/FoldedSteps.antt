@@ -23,11 +23,6 @@ pub none_listed : (view : View) (number n : ℕ) → is_other (leader_at (leader
 none_listed view number n is =
     ap (λ a. one_if (a && is_output number (place_in (laid_in view) (input_at (files_in view) (binding_in view) (leader_of (leaders_in view) n)))) n) is
 
-pub one_listed : (view : View) (number n : ℕ) → is_other (leader_at (leaders_in view) n) n ≡ true →
-    own_folded view number n ≡ one_if (is_output number (place_in (laid_in view) (input_at (files_in view) (binding_in view) (leader_of (leaders_in view) n)))) n
-one_listed view number n is =
-    ap (λ a. one_if (a && is_output number (place_in (laid_in view) (input_at (files_in view) (binding_in view) (leader_of (leaders_in view) n)))) n) is
-
 same_number : (a c : ℕ) → (a == c) ≡ true → c ≡ a
 same_number a c is = grind (arith, nat_tests)
 

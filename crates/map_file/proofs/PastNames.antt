@@ -1,5 +1,5 @@
 -- The name of a section of a file past the last: it can only be the room of a COMMON symbol.
-use Rattle.std.proofs.Common.{◌≡◌, ℕ, ◌+◌, ◌≤◌, true, false, cond, Option, Some, None, List, [], length, map, sum, codes, refl, sym, ap, ◌∙◌, arith}
+use Rattle.std.proofs.Common.{◌≡◌, ℕ, ◌+◌, ◌≤◌, true, false, cond, Option, List, [], length, map, sum, codes, sym, ap, ◌∙◌, arith}
 use Rattle.std.specs.Prelude.{is_some, nat_lt}
 use Rattle.std.proofs.lemmas.Bool.{cond-false, le-ltb}
 use Rattle.std.proofs.lemmas.List.{get_or_past, take_all}
@@ -8,6 +8,7 @@ use Rattle.lk_tables.specs.Binding.{Bindings}
 use Rattle.lk_tables.specs.Files.{File, file_at, first_section, no_file, section_count, section_total}
 use Rattle.lk_tables.specs.InputSections.{InputSection, common_in, common_of, input_of, room_input, section_input}
 use Rattle.lk_tables.specs.Targets.{commons_at}
+use Rattle.link_sections.proofs.PastSections.{name_none, name_some}
 
 first_past : (files : List File) (f : ℕ) → length files ≤ f → first_section files f ≡ section_total files
 first_past files f past =
@@ -21,14 +22,6 @@ room_past files b f k past =
     ap (λ (x : File). cond (nat_lt k (length x.head.sections)) (section_input x k) (room_input (common_in files b f k))) none
     ∙ cond-false (nat_lt k 0) (section_input no_file k) (room_input (common_in files b f k)) (le-ltb k 0 (omega arith))
     ∙ ap (λ first. room_input (common_of (commons_at b.commons f) (first + k))) (first_past files f past)
-
-name_some : (o : Option BoundCommon) → is_some o ≡ true → codes "COMMON" ≡ (room_input o).name
-name_some None is = cc
-name_some (Some c) is = refl
-
-name_none : (o : Option BoundCommon) → is_some o ≡ false → [] ≡ (room_input o).name
-name_none None is = refl
-name_none (Some c) is = cc
 
 pub named_past : (files : List File) (b : Bindings) (f k number : ℕ) (o : Option BoundCommon) → length files ≤ f → number ≡ section_total files + k →
     o ≡ common_of (commons_at b.commons f) number → is_some o ≡ true → codes "COMMON" ≡ (input_of files b f k).name

@@ -4,13 +4,12 @@ ghost use Rattle.std.specs.Prelude.{◌≡◌, ◌<◌, ◌++◌, flat_map, leng
 ghost use Rattle.std.specs.List.{range_with_len};
 ghost use Rattle.lk_tables.specs.Files.{file_at, section_count, section_no, section_total};
 ghost use Rattle.lk_tables.specs.Sites.{place_of};
-ghost use Rattle.link_sections.specs.Leaders as leading;
 ghost use Rattle.link_sections.specs.Views.{binding_in, files_in};
 ghost use Rattle.map_file.specs.Left as spec;
 ghost use Rattle.map_file.specs.MapText as lines;
 
 use crate::lines::push_section;
-use link_sections::{View, may_stay};
+use link_sections::{View, is_kept, may_stay};
 use lk_base::{FileNo, SecNo};
 use lk_tables::{SectionPlace, section_count};
 use std::alloc::AllocError;
@@ -100,20 +99,10 @@ fn is_dropped(view: &View, place: SectionPlace, section: SecNo) -> bool
     requires place { place ≡ place_of (files_in view.now) section }
     ensures { result ≡ lines.is_dropped (files_in view.now) (binding_in view.now) view.now.kept.now section }
 {
-    if is_kept(view.kept, section) {
+    if is_kept(view.kept, section as usize) {
         return false;
     }
     may_stay(view.tables, view.binding, place.file, place.index)
-}
-
-/// Whether a section is kept.
-fn is_kept(kept: &[bool], section: SecNo) -> bool
-    ensures { result ≡ leading.is_kept kept.now section }
-{
-    match kept.get(section as usize) {
-        Some(kept) => *kept,
-        None => false,
-    }
 }
 
 /// Whether a section would be written, but was discarded with its group.

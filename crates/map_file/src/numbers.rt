@@ -1,6 +1,6 @@
 //! Numbers as the map shows them.
 
-ghost use Rattle.std.specs.Prelude.{◌≡◌, ◌%◌, ◌++◌, codes, decimal, OnOk};
+ghost use Rattle.std.specs.Prelude.{◌≡◌, ◌%◌, ◌++◌, codes, OnOk};
 ghost use Rattle.map_file.specs.MapText as spec;
 
 use std::alloc::AllocError;
@@ -36,18 +36,5 @@ pub fn push_hex(text: &mut Vec<u8>, number: u64) -> Result<(), AllocError>
         low_digit(number / 0x10),
         low_digit(number),
     ])?;
-    Ok(())
-}
-
-/// Adds a number's decimal digits.
-pub fn push_decimal(text: &mut Vec<u8>, number: u32) -> Result<(), AllocError>
-    ensures { OnOk result (text.new.items ≡ text.old.items ++ decimal number) }
-{
-    if number < 10 {
-        text.push(b'0' + number as u8)?;
-        return Ok(());
-    }
-    push_decimal(text, number / 10)?;
-    text.push(b'0' + (number % 10) as u8)?;
     Ok(())
 }

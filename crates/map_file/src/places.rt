@@ -7,9 +7,8 @@ ghost use Rattle.link_sections.specs.InputSections.{input_of};
 ghost use Rattle.link_sections.specs.Views.{binding_in, files_in};
 ghost use Rattle.map_file.specs.MapView as spec;
 
-use crate::numbers::push_decimal;
 use link_sections::{View, input_in};
-use lk_base::{FileNo, SecNo, push_escaped};
+use lk_base::{FileNo, SecNo, push_decimal, push_escaped};
 use lk_tables::{SectionPlace, Tables};
 use std::alloc::AllocError;
 

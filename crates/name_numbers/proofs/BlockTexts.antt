@@ -79,14 +79,6 @@ others_next texts k number text numbers more list longer push also is held =
           (cases_lt n k);
     }
 
--- a text of the list, and its number
-pub other_read : (texts : List (List ℕ)) (count n : ℕ) (text : Bor (List ℕ)) (numbers : List ℕ) (list : List (Bor (List ℕ))) → n < count → text ≡ get_or list n text → AreOthers texts count numbers list →
-    text.now ≡ text_at texts (get_or numbers n 0)
-other_read texts count n text numbers list lt at held =
-    let listed = held.listed in
-    let now : Bor (List ℕ) → List ℕ = λ t. t.now in
-    ap now at ∙ sym (get_or-map now list n text [] (omega (arith, lt, listed))) ∙ held.each n lt
-
 -- no text has a slot
 pub none_early : (t : TableView) (placed : List Pair) (from count : ℕ) (slots : List ℕ) → count ≤ length slots → ((k : ℕ) → k < length slots → get_or slots k 0 ≡ no_slot) → AreEarly t placed from count slots
 none_early t placed from count slots wide none = record { wide = wide; each = λ k lt. inl (none k (omega (arith, wide, lt))) }

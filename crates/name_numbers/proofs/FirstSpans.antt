@@ -16,12 +16,13 @@ use Rattle.std.proofs.lemmas.Bool.{cases_Bool, cases_eq, cases_lt, cond-true, co
 use Rattle.lk_tables.specs.declared.heads.Symbol.{Symbol}
 use Rattle.lk_tables.specs.NameNumbers.{is_named}
 use Rattle.lk_tables.specs.Names.{text_of}
+use Rattle.lk_tables.proofs.BoundHas.{one_if}
 use Rattle.name_numbers.specs.declared.spans.NameSpan.{NameSpan}
 use Rattle.name_numbers.specs.declared.spans.Spot.{Spot}
 use Rattle.name_numbers.specs.Marks.{Marks}
 use Rattle.name_numbers.specs.Spans.{symbol_in, is_one_span, index_or, first_span, first_or_none, spot, spot_at, spots, span_of, place_of, span_cmp, spot_cmp, no_spot, is_same_span}
 use Rattle.name_numbers.proofs.Runs.{Runs, runs_sorted, marks_moved, Exact, same_number, then_second, first_tie}
-use Rattle.name_numbers.proofs.Walks.{walk_push, walk_skip, all_range, all_if, in_range, in_if}
+use Rattle.name_numbers.proofs.Walks.{walk_push, walk_skip, all_range, in_range, in_if}
 
 -- the first number of a range that passes a test
 pub record IsFirstOf (p : ℕ → Bool) (a n q : ℕ) : Type 0 where
@@ -133,7 +134,7 @@ unfolding spots spot_at
 spot_is symbols s has =
     All-contains (IsSpot symbols) (spots symbols) s
     (all_range (IsSpot symbols) (spot_at symbols) 0 (length symbols) (λ i low high.
-    all_if (IsSpot symbols) (is_named (symbol_in symbols i)) (spot (symbol_in symbols i).name.from (symbol_in symbols i).name.len i)
+    one_if (IsSpot symbols) (is_named (symbol_in symbols i)) (spot (symbol_in symbols i).name.from (symbol_in symbols i).name.len i)
     (λ named. record { inside = omega arith; named = named; from = refl; len = refl })))
     has
 

@@ -15,9 +15,10 @@ use Rattle.work_split.specs.Tasks.{IsAt}
 use Rattle.work_split.proofs.ListedRuns.{first_run}
 use Rattle.work_split.proofs.RunsBeside.{GoesBeside, joined_beside}
 use Rattle.work_split.proofs.Sharing.{given_from}
+use Rattle.work_split.proofs.Tiling.{at_place}
 use Rattle.name_numbers.specs.Placed.{AreHashes, HasHashes}
 use Rattle.name_numbers.specs.Texts.{hash_at}
-use Rattle.name_numbers.proofs.Placing.{at_place, hash_read, length_hashes, tags_listed, two_runs}
+use Rattle.name_numbers.proofs.Placing.{hash_read, length_hashes, tags_listed, two_runs}
 
 -- the answers of `over_pieces`
 pub hashes_from : {T : Type 0} (texts : List (List ℕ)) (cuts : List (Range ℕ)) (given : List T) (lists : List (Result (Vec ℕ) LinkStop)) → length cuts ≡ length given → length lists ≡ length cuts →

@@ -1,8 +1,7 @@
 -- A hash of which some bytes are taken in, and lists of hashes.
-use Rattle.std.proofs.Common.{◌≡◌, ℕ, ◌+◌, ◌<◌, ◌*◌, ◌%◌, ◌^◌, List, [], ◌∷◌, ◌++◌, length, map, get_or, drop, sym, ap, ◌∙◌, arith, append_assoc}
-use Rattle.std.specs.Prelude.{bit_xor}
+use Rattle.std.proofs.Common.{◌≡◌, ℕ, ◌+◌, List, [], ◌∷◌, ◌++◌, map, drop, sym, ap, ◌∙◌, arith, append_assoc}
 use Rattle.std.specs.List.{range_with_len}
-use Rattle.std.proofs.lemmas.List.{append-nil, drop_more, map-append}
+use Rattle.std.proofs.lemmas.List.{append-nil, map-append}
 use Rattle.std.proofs.lemmas.List.FromFn.{map-range_with_len_more}
 use Rattle.rayon.specs.Shown.{run-append}
 use Rattle.intern_race.specs.Hash.{hash_from}
@@ -10,11 +9,6 @@ use Rattle.intern_race.specs.Hash.{hash_from}
 -- the bytes before one are taken in, if what is left makes the whole hash of them
 abbrev pub IsHashing : (whole : ℕ) → (text : List ℕ) → (k hash : ℕ) → Type 0
 IsHashing whole text k hash = hash_from hash (drop k text) ≡ whole
-
-pub hash_next : (whole : ℕ) (text : List ℕ) (k hash next : ℕ) → k < length text → next ≡ (bit_xor hash (get_or text k 0) * 0x100000001b3) % 2 ^ 64 →
-    IsHashing whole text k hash → IsHashing whole text (k + 1) next
-hash_next whole text k hash next lt is held =
-    ap (λ h. hash_from h (drop (k + 1) text)) is ∙ sym (ap (hash_from hash) (drop_more text k 0 lt)) ∙ held
 
 -- a run of numbers' values more, after a list, and one more
 pub run_joined : (f : ℕ → ℕ) (start n m : ℕ) (old now new : List ℕ) → now ≡ old ++ map f (range_with_len start n) → new ≡ now ++ map f (range_with_len (start + n) m) →

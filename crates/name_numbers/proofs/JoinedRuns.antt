@@ -1,21 +1,17 @@
 -- What several workers list, each of a run of files, is, joined, what one lists of all.
-use Rattle.std.proofs.Common.{◌≡◌, ℕ, suc, ◌+◌, ◌-◌, ◌<◌, ◌≤◌, List, [], ◌∷◌, ◌++◌, length, map, drop, get_or, refl, sym, ap, ◌∙◌, arith, append_assoc}
+use Rattle.std.proofs.Common.{◌≡◌, ℕ, suc, ◌+◌, ◌-◌, ◌<◌, ◌≤◌, List, [], ◌∷◌, ◌++◌, length, map, drop, get_or, sym, ap, ◌∙◌, arith, append_assoc}
 use Rattle.std.specs.Prelude.{flat_map}
 use Rattle.std.specs.List.{range_with_len}
 use Rattle.std.proofs.Math.Seq.{drop-cons}
 use Rattle.std.proofs.lemmas.Grind.{flat_map-append}
-use Rattle.std.proofs.lemmas.List.{append-nil, at_drop_all, map-append}
+use Rattle.std.proofs.lemmas.List.{append-nil, at_drop_all}
+use Rattle.lk_base.proofs.Loops.{map_flat}
 use Rattle.lk_base.proofs.Ranges.{two_parts}
 use Rattle.lk_tables.specs.Files.{File}
 use Rattle.work_split.proofs.RunsBeside.{GoesBeside}
 use Rattle.name_numbers.specs.declared.keys.Listed.{Listed}
 use Rattle.name_numbers.specs.Columns.{AreRuns, HasKeys, IsEmpty, IsJoin, Joins, firsts_of, symbols_of, texts_of}
 use Rattle.name_numbers.specs.Keys.{firsts_in, keys_in, place_of_key, text_of_key}
-
--- each element of a walk, seen through a view
-walk_viewed : {X Y : Type 0} (view : X → Y) (g : ℕ → List X) (ns : List ℕ) → map view (flat_map g ns) ≡ flat_map (λ n. map view (g n)) ns
-walk_viewed view g [] = refl
-walk_viewed view g (n ∷ ns) = map-append view (g n) (flat_map g ns) ∙ ap (λ l. map view (g n) ++ l) (walk_viewed view g ns)
 
 -- one list of several runs
 abbrev IsList : {Y : Type 0} → (Listed → List Y) → (ℕ → List Y) → (a b : ℕ) → List Listed → Type 0
@@ -50,8 +46,8 @@ module _ (files : List File) where
   run_one a b run held =
       let ns = range_with_len a (b - a) in
       record {
-        texts = list_one texts_of (λ f. map text_of_key (keys_in files f)) a b run (held.own.texts ∙ walk_viewed text_of_key (keys_in files) ns);
-        symbols = list_one symbols_of (λ f. map place_of_key (keys_in files f)) a b run (held.own.symbols ∙ walk_viewed place_of_key (keys_in files) ns);
+        texts = list_one texts_of (λ f. map text_of_key (keys_in files f)) a b run (held.own.texts ∙ map_flat text_of_key (keys_in files) ns);
+        symbols = list_one symbols_of (λ f. map place_of_key (keys_in files f)) a b run (held.own.symbols ∙ map_flat place_of_key (keys_in files) ns);
         firsts = list_one firsts_of (firsts_in files) a b run held.firsts;
       }
 
@@ -60,8 +56,8 @@ module _ (files : List File) where
       let ns = range_with_len a (b - a) in
       record {
         own = record {
-          texts = is.texts ∙ are.texts ∙ sym (walk_viewed text_of_key (keys_in files) ns);
-          symbols = is.symbols ∙ are.symbols ∙ sym (walk_viewed place_of_key (keys_in files) ns);
+          texts = is.texts ∙ are.texts ∙ sym (map_flat text_of_key (keys_in files) ns);
+          symbols = is.symbols ∙ are.symbols ∙ sym (map_flat place_of_key (keys_in files) ns);
         };
         firsts = is.firsts ∙ are.firsts;
       }

@@ -24,13 +24,14 @@ use Rattle.lk_tables.proofs.FirstNumbers.{file_read, first_within}
 use Rattle.lk_tables.specs.Files.{File, file_at, symbol_at, symbol_name, first_symbol, symbol_no, symbol_total}
 use Rattle.lk_tables.specs.Names.{text_of}
 use Rattle.lk_tables.specs.NameNumbers.{is_named}
+use Rattle.lk_tables.proofs.BoundHas.{one_if}
 use Rattle.name_numbers.specs.declared.sorting.Key.{Key}
 use Rattle.name_numbers.specs.Keys.{KeyView, key_view, key_views, key_of, key_in, keys_in, keys, first_in, first_no, no_key, key_cmp, key_text, text_of_key, place_of_key, HaveHashes}
 use Rattle.name_numbers.specs.Marks.{Marks}
 use Rattle.name_numbers.specs.Spans.{symbol_in, first_span, first_or_none}
 use Rattle.intern_race.specs.Hash.{hash_of}
 use Rattle.name_numbers.proofs.Runs.{Runs, Marked, marks_all, marks_viewed, runs_by, runs_sorted, Exact, same_number, then_second, first_tie}
-use Rattle.name_numbers.proofs.Walks.{all_range, all_if, in_range, in_if}
+use Rattle.name_numbers.proofs.Walks.{all_range, in_range, in_if}
 
 abbrev pub view_of : (hash : ℕ) (text : List ℕ) (at : ℕ) → KeyView
 view_of hash text at = record { hash = hash; text = text; at = at }
@@ -135,7 +136,7 @@ key_is files v has =
     (all_range (IsKey files) (keys_in files) 0 (length files) (λ f low high.
     let symbols = (file_at files f).head.symbols in
     all_range (IsKey files) (key_in (file_at files f).bytes symbols (first_symbol files f)) 0 (length symbols) (λ i low2 high2.
-    all_if (IsKey files) (is_named (symbol_in symbols i) && first_span symbols i == i) (key_of (text_of (file_at files f).bytes (symbol_in symbols i).name) (first_symbol files f + i)) (λ both.
+    one_if (IsKey files) (is_named (symbol_in symbols i) && first_span symbols i == i) (key_of (text_of (file_at files f).bytes (symbol_in symbols i).name) (first_symbol files f + i)) (λ both.
     let parts = and_parts (is_named (symbol_in symbols i)) (first_span symbols i == i) both in
     record { file = f; symbol = i; within = omega arith; inside = omega arith; named = parts.0; first = eqb-true (first_span symbols i) i parts.1; is = refl }))))
     has
@@ -222,4 +223,4 @@ keys_hashed files =
     let P : KeyView → Type 0 = λ v. v.hash ≡ hash_of v.text in
     all_range P (keys_in files) 0 (length files) (λ f low high.
     all_range P (key_in (file_at files f).bytes (file_at files f).head.symbols (first_symbol files f)) 0 (length (file_at files f).head.symbols) (λ i low2 high2.
-    all_if P _ (key_of (text_of (file_at files f).bytes (symbol_in (file_at files f).head.symbols i).name) (first_symbol files f + i)) (λ both. refl)))
+    one_if P _ (key_of (text_of (file_at files f).bytes (symbol_in (file_at files f).head.symbols i).name) (first_symbol files f + i)) (λ both. refl)))

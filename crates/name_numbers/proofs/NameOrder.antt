@@ -8,8 +8,9 @@ use Rattle.std.proofs.lemmas.Bool.{cases_Bool, cond-true, cond-false, both_ways}
 use Rattle.std.proofs.lemmas.Slice.Eq.{bytes_eq-Decides}
 use Rattle.lk_tables.specs.Files.{File, file_at, symbol_at, symbol_name, first_symbol, symbol_no}
 use Rattle.lk_tables.specs.NameNumbers.{is_named, Named, name_at, names_in, names, number_or, number_of}
+use Rattle.lk_tables.proofs.BoundHas.{one_if}
 use Rattle.lk_tables.proofs.FirstNumbers.{first_more}
-use Rattle.name_numbers.proofs.Walks.{all_range, all_if, in_range, in_if}
+use Rattle.name_numbers.proofs.Walks.{all_range, in_range, in_if}
 
 -- places rise from `low` on, and stay below `high`
 abbrev pub Rise : {X : Type 0} → (X → ℕ) → (low high : ℕ) → List X → Type 0
@@ -154,7 +155,7 @@ name_is files n has =
     All-contains P (names files) n
     (all_range P (names_in files) 0 (length files) (λ f low high.
     all_range P (name_at files f) 0 (length (file_at files f).head.symbols) (λ i low2 high2.
-    all_if P (is_named (symbol_at (file_at files f) i)) (named (symbol_name (file_at files f) i) (symbol_no files f i)) (λ is.
+    one_if P (is_named (symbol_at (file_at files f) i)) (named (symbol_name (file_at files f) i) (symbol_no files f i)) (λ is.
     record { file = f; symbol = i; within = omega arith; inside = omega arith; named = is; same = refl; is = refl }))))
     has
 

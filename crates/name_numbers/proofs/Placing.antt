@@ -1,5 +1,5 @@
 -- Texts that are placed by seats of one table, and the numbers that their slots give once the seats are joined.
-use Rattle.std.proofs.Common.{◌≡◌, ℕ, zero, suc, ◌+◌, ◌-◌, ◌<◌, ◌≤◌, Result, Ok, Err, List, [], ◌∷◌, ◌++◌, length, map, get_or, All, IfOk, Contains, refl, sym, ap, ◌∙◌, subst, ⊎_elim, inr, arith}
+use Rattle.std.proofs.Common.{◌≡◌, ℕ, ◌+◌, ◌-◌, ◌<◌, ◌≤◌, Result, Ok, Err, List, [], ◌∷◌, ◌++◌, length, map, get_or, All, IfOk, Contains, refl, sym, ap, ◌∙◌, subst, ⊎_elim, inr, arith}
 use Rattle.std.specs.Prelude.{Option, Some, None, IfSome}
 use Rattle.std.specs.Global.{Vec}
 use Rattle.std.specs.List.{range_with_len}
@@ -23,16 +23,10 @@ use Rattle.lk_base.proofs.Ranges.{range_parts}
 use Rattle.work_split.proofs.ListedRuns.{first_run}
 use Rattle.work_split.proofs.RunsBeside.{GoesBeside, joined_beside}
 use Rattle.work_split.proofs.Sharing.{given_from}
-use Rattle.work_split.proofs.Tiling.{tiles_cover}
+use Rattle.work_split.proofs.Tiling.{at_place, tiles_cover}
 use Rattle.name_numbers.specs.declared.racing.Placed.{Placed}
 use Rattle.name_numbers.specs.Placed.{AreDone, AreJoined, AreNumbered, ArePlaced, AreSlots, HasDone, HasSlots, IsReady, KeepsPlaced, Knows, slots_of}
 use Rattle.name_numbers.specs.Texts.{hash_at, number_at, text_at, text_number, text_numbers}
-
--- an element that stands at a place
-pub at_place : {X : Type 0} (xs : List X) (w : ℕ) → w < length xs → (x : X) × IsAt xs w x
-at_place [] w lt = absurd (omega (arith, lt))
-at_place (x ∷ xs) zero lt = (x, refl)
-at_place (x ∷ xs) (suc w) lt = at_place xs w (omega (arith, lt))
 
 -- a seat after steps of its own
 pub keeps_after : (s s' : SeatView) (own : List OwnStep) → s' ≡ after_steps s own → KeepsPlaced s.placed s'.placed

@@ -1,6 +1,5 @@
 -- The marks of texts' keys are the indexes of the first equal texts.
 use Rattle.std.proofs.Common.{◌≡◌, ℕ, ◌+◌, ◌<◌, ◌≤◌, true, false, List, [], ◌∷◌, ◌++◌, length, map, get_or, Bool, Contains, refl, sym, ap, ◌∙◌, subst, ⊎_elim, arith}
-use Rattle.std.specs.Borrow.{Bor}
 use Rattle.std.specs.List.{range_with_len}
 use Rattle.std.specs.List.Sorted.{IsPermutation}
 use Rattle.std.specs.Str.{bytes_eq}
@@ -16,7 +15,7 @@ use Rattle.intern_race.specs.Hash.{hash_of}
 use Rattle.name_numbers.specs.declared.sorting.Key.{Key}
 use Rattle.name_numbers.specs.Keys.{KeyView, key_of, key_view, key_views, text_of_key, place_of_key, HaveHashes}
 use Rattle.name_numbers.specs.Marks.{Marks}
-use Rattle.name_numbers.specs.Texts.{lent_texts, text_at, text_keys, text_number, text_numbers}
+use Rattle.name_numbers.specs.Texts.{text_at, text_keys, text_number, text_numbers}
 use Rattle.name_numbers.proofs.Runs.{marks_moved}
 use Rattle.name_numbers.proofs.Keyed.{view_of}
 use Rattle.name_numbers.proofs.Walks.{walk_map}
@@ -98,9 +97,6 @@ pub texts_marked : (texts : List (List ℕ)) (slice : List Key) (old ns : List �
 texts_marked texts slice old ns moved wide m =
     let own = marks_moved text_of_key place_of_key (text_keys texts) (key_views slice) old ns moved m in
     texts_numbered texts old ns own (own.wide ∙ wide)
-
-pub length_texts : (list : List (Bor (List ℕ))) → length (lent_texts list) ≡ length list
-length_texts list = length-map list (λ (text : Bor (List ℕ)). text.now)
 
 -- a number of a text that is there: it is below their count, and that text stands at it
 pub record IsNumberOf (texts : List (List ℕ)) (text : List ℕ) (number : ℕ) : Type 0 where

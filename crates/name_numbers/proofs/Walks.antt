@@ -4,7 +4,7 @@ use Rattle.std.specs.Prelude.{flat_map}
 use Rattle.std.specs.List.{range_with_len}
 use Rattle.std.proofs.lemmas.List.{flat_map_more, append-nil}
 use Rattle.std.proofs.lemmas.List.FromFn.{map-range_with_len_more}
-use Rattle.std.proofs.lemmas.List.Elements.{All-nil, All-cons, All-append, Contains-append_left, Contains-append_right}
+use Rattle.std.proofs.lemmas.List.Elements.{All-nil, All-append, Contains-append_left, Contains-append_right}
 use Rattle.std.proofs.Math.Nat.{eq-or-lt_of_le}
 use Rattle.lk_base.proofs.Loops.{range_more}
 
@@ -42,20 +42,10 @@ in_range g a zero j x low high has = absurd (omega arith)
 in_range g a (suc n) j x low high has = in_later g a n j x (λ more. in_range g (a + 1) n j x more (omega arith) has) low has
 
 -- one or none
-pub all_if : {X : Type 0} (P : X → Type 0) (b : Bool) (x : X) → (b ≡ true → P x) → All P (if b then x ∷ [] else [])
-all_if P true x holds = All-cons P x [] (holds refl) (All-nil P)
-all_if P false x holds = All-nil P
 
 pub in_if : {X : Type 0} (b : Bool) (x : X) → b ≡ true → Contains (if b then x ∷ [] else []) x
 in_if true x is = (0, omega arith, refl)
 in_if false x is = absurd cc
-
--- the same elements
-pub same_range : {X : Type 0} (g k : ℕ → List X) (a n : ℕ) → ((j : ℕ) → a ≤ j → j < a + n → g j ≡ k j) → flat_map g (range_with_len a n) ≡ flat_map k (range_with_len a n)
-same_range g k a zero each = refl
-same_range g k a (suc n) each =
-    ap (λ xs. xs ++ flat_map g (range_with_len (a + 1) n)) (each a (omega arith) (omega arith))
-    ∙ ap (λ xs. k a ++ xs) (same_range g k (a + 1) n (λ j low high. each j (omega arith) (omega arith)))
 
 pub same_map : {X : Type 0} (g k : ℕ → X) (a n : ℕ) → ((j : ℕ) → g j ≡ k j) → map g (range_with_len a n) ≡ map k (range_with_len a n)
 same_map g k a zero each = refl

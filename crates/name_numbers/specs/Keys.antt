@@ -25,9 +25,6 @@ key_view key = record { hash = key.name.hash; text = key.name.text.now; at = key
 abbrev pub key_views : List Key → List KeyView
 key_views list = map key_view list
 
-abbrev pub hash_of_key : KeyView → ℕ
-hash_of_key v = v.hash
-
 abbrev pub text_of_key : KeyView → List ℕ
 text_of_key v = v.text
 

@@ -10,11 +10,11 @@ use Rattle.lk_tables.specs.OutputNames.{priority_of}
 use Rattle.output_sections.specs.declared.heads.Head.{Head}
 use Rattle.output_sections.specs.HeadLaw.{AreHeads, IsHead, item_at}
 use Rattle.output_sections.specs.Items.{Item, got_item}
-use Rattle.output_sections.specs.Order.{goes_to, head_after, head_from, head_of, no_head, with_item}
+use Rattle.output_sections.specs.Order.{item_goes_to, head_after, head_from, head_of, no_head, with_item}
 
 module _ (class : Class) (name : List ℕ) where
   abbrev test : Item → Bool
-  test = goes_to class name
+  test = item_goes_to class name
 
   -- what is found after some items
   abbrev IsSoFar : List Item → Option Head → Type 0
@@ -122,9 +122,9 @@ module _ (class : Class) (name : List ℕ) where
 
   step : (done : List Item) (item : Item) (head : Option Head) → IsSoFar done head → IsSoFar (done ++ (item ∷ [])) (head_after class name head (length done) item)
   unfolding head_after
-  step done item head so_far = by (goes_to class name item) refl head so_far
+  step done item head so_far = by (item_goes_to class name item) refl head so_far
     where
-      by : (t : Bool) → goes_to class name item ≡ t → (o : Option Head) → IsSoFar done o
+      by : (t : Bool) → item_goes_to class name item ≡ t → (o : Option Head) → IsSoFar done o
           → IsSoFar (done ++ (item ∷ [])) (if t then Some (with_item o (length done) item) else o)
       by true goes None none = first_item done item goes none
       by true goes (Some h) is = next_item done item h goes is

@@ -1,16 +1,16 @@
 -- What is known of each item of a link.
-use Rattle.std.proofs.Common.{◌≡◌, ℕ, zero, suc, ◌+◌, ◌*◌, ◌≤◌, ◌<◌, ◌==◌, Bool, true, false, if◌then◌else◌, Option, Some, None, List, [], ◌∷◌, length, flat_map, get_or, All, refl, ap, ◌∙◌, sym, arith}
+use Rattle.std.proofs.Common.{◌≡◌, ℕ, zero, suc, ◌+◌, ◌*◌, ◌≤◌, ◌<◌, ◌==◌, Bool, true, false, if◌then◌else◌, Option, List, [], ◌∷◌, length, flat_map, get_or, All, refl, ap, ◌∙◌, sym, arith}
 use Rattle.std.specs.List.{range_with_len}
-use Rattle.std.proofs.lemmas.Bool.Decides.{nat_tests}
 use Rattle.std.proofs.lemmas.List.Elements.{All-nil, All-cons, All-append}
 use Rattle.lk_tables.specs.declared.classes.Class.{Class}
 use Rattle.lk_tables.specs.Binding.{Bindings}
 use Rattle.lk_tables.specs.Files.{File, section_total}
+use Rattle.lk_tables.proofs.FrameLists.{number_is}
 use Rattle.link_sections.specs.declared.members.Content.{Content}
 use Rattle.link_sections.specs.declared.members.Content.TheVariants.{Section, Pool as IsPool, Got}
 use Rattle.link_sections.specs.declared.pools.Pool.{Pool}
 use Rattle.link_sections.specs.InputSections.{InputSection, input_at}
-use Rattle.link_sections.specs.Leaders.{is_number, leader_at, leads}
+use Rattle.link_sections.specs.Leaders.{leader_at, leads}
 use Rattle.output_sections.specs.declared.heads.Head.{Head}
 use Rattle.output_sections.specs.Items.{AreLeaders, IsStaying, Item, got_item, items, items_at, own_item, pool_at, pool_item, section_item}
 use Rattle.output_sections.specs.Order.{IsKnown, is_content, members_in, number_in, orders_of, row_in}
@@ -91,12 +91,8 @@ module _ (files : List File) (b : Bindings) (pools : List Pool) (words : ℕ) (l
       (All-nil IsOf))
 
 -- a section that is its own leader may stay
-leader_is : (l : Option ℕ) (n : ℕ) → is_number l n ≡ true → l ≡ Some n
-leader_is None n is = cc
-leader_is (Some m) n is = let same : m ≡ n = grind (arith, nat_tests) in ap (λ k. Some k) same
-
 pub stays_of : (files : List File) (b : Bindings) (leaders : List (Option ℕ)) (n : ℕ) → AreLeaders files b leaders → leads leaders n ≡ true → IsStaying files b n
-stays_of files b leaders n are is = are.stay n n (leader_is (leader_at leaders n) n is)
+stays_of files b leaders n are is = are.stay n n (number_is (leader_at leaders n) n is)
 
 -- so its row is one of a section of the link, with its size, if it is one of a section
 content_is : (c : Content) → is_content c ≡ true → c ≡ Section (number_in c)

@@ -15,7 +15,7 @@ use Rattle.output_sections.specs.declared.rows.Row.{Row}
 use Rattle.output_sections.specs.Heads.{ByName, IsHeads, IsLast, IsNone, IsNoted, IsPushed, Stays, head_in, seen}
 use Rattle.output_sections.specs.Items.{Item}
 use Rattle.output_sections.specs.ItemViews.{item_view, items_view}
-use Rattle.output_sections.specs.Order.{goes_to, head_after, head_of, is_of, no_head, own_row, rows_from, rows_of, with_item}
+use Rattle.output_sections.specs.Order.{item_goes_to, head_after, head_of, is_of, no_head, own_row, rows_from, rows_of, with_item}
 use Rattle.output_sections.proofs.HeadSteps.{IsNoting, noting_first, noting_next, own_same}
 use Rattle.output_sections.proofs.RowSteps.{own_none}
 
@@ -25,7 +25,7 @@ IsMet class heads item = is_of class (item_view item) ≡ true → is_some (seen
 
 some_after : (class : Class) (name : List ℕ) (o : Option Head) (number : ℕ) (item : Item) → is_some o ≡ true → is_some (head_after class name o number item) ≡ true
 unfolding head_after
-some_after class name o number item some = by (goes_to class name item)
+some_after class name o number item some = by (item_goes_to class name item)
   where
     by : (b : Bool) → is_some (if b then Some (with_item o number item) else o) ≡ true
     by true = refl

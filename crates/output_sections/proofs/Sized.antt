@@ -1,11 +1,11 @@
 -- The items of sound files have sizes and alignments as they can be, are few, and have few bytes together.
-use Rattle.std.proofs.Common.{◌≡◌, ℕ, zero, suc, ◌+◌, ◌-◌, ◌<◌, ◌≤◌, ◌==◌, Bool, true, false, ◌&&◌, List, [], ◌∷◌, length, flat_map, refl, sym, arith, subst, cond, inl, inr, count_ones}
+use Rattle.std.proofs.Common.{◌≡◌, ℕ, ◌-◌, ◌<◌, ◌≤◌, ◌==◌, Bool, true, false, ◌&&◌, List, [], ◌∷◌, length, flat_map, refl, sym, arith, subst, cond, inl, inr, count_ones}
 use Rattle.std.specs.Prelude.{if◌then◌else◌, max, find, is_some, Option, Some}
 use Rattle.std.specs.Int.{is_power_of_two}
 use Rattle.std.specs.Int.Count.{ones_step}
 use Rattle.std.specs.List.{All, range_with_len}
 use Rattle.std.specs.Str.{bytes_eq}
-use Rattle.std.proofs.lemmas.List.Elements.{All-nil, All-cons, All-head, All-tail, All-append}
+use Rattle.std.proofs.lemmas.List.Elements.{All-head, All-tail}
 use Rattle.std.proofs.lemmas.List.FromFn.{get_or-map-range_with_len}
 use Rattle.std.proofs.lemmas.Bool.{and_parts, ltb-true, cases_lt, eq-eqb}
 use Rattle.std.proofs.lemmas.Nat.{ones_le_self}
@@ -24,7 +24,8 @@ use Rattle.lk_tables.specs.Ranks.{rank_of}
 use Rattle.lk_tables.specs.Symbols.{is_common}
 use Rattle.lk_tables.specs.TablesView.{files_of}
 use Rattle.lk_tables.specs.Targets.{commons_at}
-use Rattle.lk_tables.proofs.Owners.{IsOwner, place_is, place_law, written_within}
+use Rattle.lk_tables.proofs.BoundHas.{each_flat, each_if, one_if}
+use Rattle.lk_tables.proofs.Owners.{IsOwner, owner_below, place_is, place_law, written_within}
 use Rattle.lk_tables.proofs.SoundFiles.{inside_body, sound_file}
 use Rattle.link_sections.specs.InputSections.{InputSection, common_in, input_at, input_of, is_own, may_stay, may_stay_at, room_input, section_input}
 use Rattle.output_sections.specs.Items.{IsStaying}
@@ -35,21 +36,6 @@ AllSound files = (f : ℕ) → (file_at files f).live ≡ true → IsSound (file
 
 pub all_sound : (tables : Tables) → AllSound (files_of tables)
 all_sound tables = λ f live. sound_file tables f live
-
--- each of a list over a range, and of a list that stands if a test passes
-pub each_flat : {X : Type 0} (P : X → Type 0) (f : ℕ → List X) (from n : ℕ) → ((k : ℕ) → k < from + n → All P (f k)) →
-    All P (flat_map f (range_with_len from n))
-each_flat P f from zero each = All-nil P
-each_flat P f from (suc n) each =
-    All-append P (f from) (flat_map f (range_with_len (from + 1) n)) (each from (omega arith))
-    (each_flat P f (from + 1) n (λ k lt. each k (omega (arith, lt))))
-
-pub each_if : {X : Type 0} (P : X → Type 0) (b : Bool) (xs : List X) → (b ≡ true → All P xs) → All P (if b then xs else [])
-each_if P true xs each = each refl
-each_if P false xs each = All-nil P
-
-pub one_if : {X : Type 0} (P : X → Type 0) (b : Bool) (x : X) → (b ≡ true → P x) → All P (if b then x ∷ [] else [])
-one_if P b x one = each_if P b (x ∷ []) (λ is. All-cons P x [] (one is) (All-nil P))
 
 -- what may go into an executable
 pub record IsModest (s : InputSection) : Type 0 where
@@ -218,16 +204,6 @@ modest_of files b f k binds sound lt live stays =
     by_own (is_own files b f k) (writes (file_at files f) k) _ (is_some (common_in files b f k)) (section_input (file_at files f) k) (room_input (common_in files b f k)) stays
     (modest_section (file_at files f) k (sound f live))
     (room_found _ (commons_at b.commons f) (modest_rooms files b f binds sound lt))
-
--- the file of each section number
-pub owner_below : (files : List File) (section n : ℕ) → n ≤ length files → section < first_section files n → (f : ℕ) × IsOwner files section f
-owner_below files section zero le below = absurd (omega arith)
-owner_below files section (suc n) le below = elim (cases_lt section (first_section files n)) [
-  | inl early ↦ owner_below files section n (omega arith) early
-  | inr late ↦
-      let e : suc n ≡ n + 1 = omega arith in
-      (n, record { file = omega arith; from = late; below = subst (λ m. section < first_section files m) e below })
-]
 
 pub live_by : (b : Bool) (n k : ℕ) → k < (if b then n else 0) → b ≡ true
 live_by true n k lt = refl

@@ -1,6 +1,6 @@
 -- The items of sound files have sizes and alignments as they can be, are few, and have few bytes together.
 use Rattle.std.proofs.Common.{◌≡◌, ℕ, zero, suc, ◌+◌, ◌*◌, ◌^◌, ◌<◌, ◌≤◌, ◌==◌, Bool, true, false, List, [], ◌∷◌, length, flat_map, refl, ap, arith, subst, inl, inr, count_ones}
-use Rattle.std.specs.Prelude.{if◌then◌else◌, Option, Some, None}
+use Rattle.std.specs.Prelude.{if◌then◌else◌, Option}
 use Rattle.std.specs.Int.{is_power_of_two}
 use Rattle.std.specs.Int.Count.{ones_step}
 use Rattle.std.specs.List.{All, range_with_len, sum_by}
@@ -12,21 +12,18 @@ use Rattle.std.proofs.lemmas.Nat.{ones_le_self}
 use Rattle.lk_base.specs.declared.abi.TheConstants.{NOBITS_MAX}
 use Rattle.lk_tables.specs.Binding.{Bindings}
 use Rattle.lk_tables.specs.Files.{File, section_total}
+use Rattle.lk_tables.proofs.BoundHas.{each_flat, one_if}
+use Rattle.lk_tables.proofs.FrameLists.{number_is}
 use Rattle.link_sections.specs.declared.members.Content.TheVariants.{Section}
 use Rattle.link_sections.specs.declared.pools.Pool.{Pool}
 use Rattle.link_sections.specs.InputSections.{InputSection, input_at}
-use Rattle.link_sections.specs.Leaders.{is_number, leader_at, leads}
+use Rattle.link_sections.specs.Leaders.{leader_at, leads}
 use Rattle.link_sections.specs.Pools.{pool_bytes}
 use Rattle.output_sections.specs.Items.{AreLeaders, HaveFirsts, IsSized, IsStaying, Item, got_item, items, items_at, own_item, pool_at, pool_item, section_item}
-use Rattle.output_sections.proofs.Sized.{IsModest, each_flat, one_if}
+use Rattle.output_sections.proofs.Sized.{IsModest}
 
 abbrev bytes : List Item → ℕ
 bytes list = sum_by (λ item. item.size) list
-
--- the leader of a section that is its own leader is that section
-leader_is : (o : Option ℕ) (n : ℕ) → is_number o n ≡ true → o ≡ Some n
-leader_is None n is = let no : ⊥ = cc in absurd no
-leader_is (Some m) n is = ap Some (eqb-true m n is)
 
 sized_section : (n : ℕ) (s : InputSection) → IsModest s → IsSized (section_item n s)
 sized_section n s is =
@@ -165,7 +162,7 @@ eight_power =
 module _ (files : List File) (b : Bindings) (pools : List Pool) (words : ℕ) (leaders : List (Option ℕ)) (modest : (n : ℕ) → IsStaying files b n → IsModest (input_at files b n))
     (lead : AreLeaders files b leaders) (firsts : HaveFirsts files b pools) (small : pool_bytes pools < 2 ^ 60) (few : section_total files ≤ 2 ^ 28) (room : words < 2 ^ 34) where
   own_modest : (n : ℕ) → leads leaders n ≡ true → IsModest (input_at files b n)
-  own_modest n own = modest n (lead.stay n n (leader_is (leader_at leaders n) n own))
+  own_modest n own = modest n (lead.stay n n (number_is (leader_at leaders n) n own))
 
   pool_modest : (n : ℕ) (list : List Pool) → HaveFirsts files b list → All (λ q. q.first ≡ n → IsModest (input_at files b n)) list
   pool_modest n [] all = All-nil (λ (q : Pool). q.first ≡ n → IsModest (input_at files b n))

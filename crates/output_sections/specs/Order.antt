@@ -3,7 +3,6 @@
 use Rattle.std.specs.Prelude.{◌≡◌, ℕ, ◌+◌, ◌-◌, ◌*◌, ◌^◌, ◌<◌, ◌&&◌, nat_lt, Bool, true, false, Option, Some, None, unwrap_or, if◌then◌else◌, List, [], ◌∷◌, ◌++◌, map, flat_map, slice_index_or, Result, IfOk}
 use Rattle.std.specs.Global.{Vec}
 use Rattle.std.specs.List.{range_with_len}
-use Rattle.std.specs.Str.{bytes_eq}
 use Rattle.std.specs.declared.ops.Range.{Range}
 use Rattle.lk_base.specs.declared.defects.LinkStop.{LinkStop}
 use Rattle.lk_base.specs.declared.abi.TheConstants.{SHT_PROGBITS}
@@ -11,9 +10,9 @@ use Rattle.lk_base.specs.Order.{stable_order}
 use Rattle.lk_tables.specs.declared.classes.Class.{Class}
 use Rattle.lk_tables.specs.declared.classes.Class.TheVariants.{R, Rx, TlsBits, TlsNobits, RwBits, RwNobits}
 use Rattle.lk_tables.specs.Binding.{Bindings}
-use Rattle.lk_tables.specs.Classes.{is_in, output_rank}
+use Rattle.lk_tables.specs.Classes.{is_in, output_rank, class_no}
 use Rattle.lk_tables.specs.Files.{File, section_total}
-use Rattle.lk_tables.specs.OutputNames.{output_name, priority_of}
+use Rattle.lk_tables.specs.OutputNames.{output_name, priority_of, goes_to}
 use Rattle.link_sections.specs.declared.members.Content.{Content}
 use Rattle.link_sections.specs.declared.members.Content.TheVariants.{Section, Pool as IsPool, Got}
 use Rattle.link_sections.specs.InputSections.{input_at}
@@ -25,8 +24,8 @@ use Rattle.output_sections.specs.Items.{Item}
 abbrev pub is_of : Class → Item → Bool
 is_of class item = is_in class item.sh_type item.flags
 
-abbrev pub goes_to : Class → (name : List ℕ) → Item → Bool
-goes_to class name item = is_of class item && bytes_eq (output_name item.name) name
+abbrev pub item_goes_to : Class → (name : List ℕ) → Item → Bool
+item_goes_to class name item = goes_to item.name item.sh_type item.flags class name
 
 -- an output section with one more item: the number of the first item in command order stays; the item that stands first in the output
 -- section is the one of least priority, and of those alike the first
@@ -38,7 +37,7 @@ with_item (Some head) number item = if nat_lt (priority_of item.name) head.prior
 
 -- the output section of a name after an item, and after items that are numbered from `number` on
 unfoldable pub head_after : Class → (name : List ℕ) → Option Head → (number : ℕ) → Item → Option Head
-head_after class name head number item = if goes_to class name item then Some (with_item head number item) else head
+head_after class name head number item = if item_goes_to class name item then Some (with_item head number item) else head
 
 abbrev pub head_from : Class → (name : List ℕ) → Option Head → (number : ℕ) → List Item → Option Head
 head_from class name head number [] = head
@@ -85,17 +84,9 @@ key_of row = (row.rank * 2 ^ 32 + row.group) * 2 ^ 32 + row.priority
 abbrev pub order_of : Class → List Item → List Row
 order_of class items = stable_order key_of (rows_of class items)
 
--- the classes in the order in which they stand, and the place of each
+-- the classes in the order in which they stand
 abbrev pub classes : List Class
 classes = R ∷ Rx ∷ TlsBits ∷ TlsNobits ∷ RwBits ∷ RwNobits ∷ []
-
-abbrev pub class_no : Class → ℕ
-class_no R = 0
-class_no Rx = 1
-class_no TlsBits = 2
-class_no TlsNobits = 3
-class_no RwBits = 4
-class_no RwNobits = 5
 
 abbrev pub class_at : (place : ℕ) → Class
 class_at place = slice_index_or classes place RwNobits

@@ -4,10 +4,11 @@ ghost use Rattle.std.specs.Prelude.{◌≡◌, ℕ, ◌<◌, ◌++◌, ◌∷◌
 ghost use Rattle.std.specs.List.{list_any};
 ghost use Rattle.std.specs.List.Sorted.{IsNonDecreasingBy};
 ghost use Rattle.lk_base.specs.Order.{stable_order};
+ghost use Rattle.lk_tables.specs.Classes.{class_no};
 ghost use Rattle.output_sections.specs.Heads.{IsHeads, IsLast, IsNoted, IsPushed, Stays, head_in, last_row};
 ghost use Rattle.output_sections.specs.ItemViews.{item_view, items_view};
 ghost use Rattle.output_sections.specs.Present.{is_item_of};
-ghost use Rattle.output_sections.specs.Order.{class_no, key_of, no_head, order_of, own_row, rows_of};
+ghost use Rattle.output_sections.specs.Order.{key_of, no_head, order_of, own_row, rows_of};
 
 use crate::heads::{ClassHeads, Head, Last, no_head, note_item, turn_to};
 use crate::items::Item;

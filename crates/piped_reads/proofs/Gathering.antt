@@ -1,5 +1,5 @@
 -- What the loader and the parsers leave, gathered one after the other.
-use Rattle.std.proofs.Common.{◌≡◌, ℕ, ◌+◌, ◌<◌, ◌≤◌, Bool, true, false, List, [], ◌++◌, sym, ap, ◌∙◌, subst, arith, Result}
+use Rattle.std.proofs.Common.{◌≡◌, ℕ, ◌+◌, ◌<◌, ◌≤◌, Bool, true, false, List, ◌++◌, sym, ap, ◌∙◌, subst, arith, Result}
 use Rattle.std.specs.Prelude.{sum_by, if◌then◌else◌}
 use Rattle.std.proofs.lemmas.List.Elements.{All-append, All-weaker}
 use Rattle.std.proofs.lemmas.List.Sums.{sum_by-append}
@@ -8,27 +8,8 @@ use Rattle.lk_depot.specs.declared.stops.LoadAllStop.{LoadAllStop}
 use Rattle.piped_reads.specs.declared.files.Took.{Took}
 use Rattle.piped_reads.specs.declared.pieces.Piece.{Piece}
 use Rattle.piped_reads.specs.declared.rule.Hand.{Hand}
-use Rattle.piped_reads.specs.Loads.{AreGathered, AreOfLoaded, ArePut, AreReadBelow, GoesOn, IsKept, IsShare, LoadsEnd, end_marks, items_of, piece_of, weight_of}
+use Rattle.piped_reads.specs.Loads.{AreGathered, AreOfLoaded, AreReadBelow, IsShare, LoadsEnd, items_of, piece_of, weight_of}
 use Rattle.piped_reads.specs.Readings.{IsPiped}
-
--- what the loader leaves: after its loads it took pieces, and put end marks
-pub gathered_alone : (index : ℕ) (before after : Store) (names : List (List ℕ)) (put taken put' taken' : List Piece) (took took' : List Took) (stop : Result (Unit {0}) LoadAllStop) (count : ℕ)
-    → IsKept before after → ArePut index before after names put took stop → taken ≡ [] → GoesOn 0 taken taken' took took' → put' ≡ put ++ end_marks count
-    → AreGathered 0 before after names put' taken' took' stop
-gathered_alone index before after names put taken put' taken' took took' stop count kept held none goes marks = record {
-  buffers = held.buffers;
-  kept = held.kept;
-  marks = count;
-  store = kept;
-  loaded = held.loaded;
-  each = λ weight.
-      let is : sum_by weight put' ≡ sum_by weight put + sum_by weight (end_marks count) = ap (sum_by weight) marks ∙ sum_by-append weight put (end_marks count) in
-      omega (arith, is, held.each weight);
-  once = λ weight.
-      let nothing : sum_by weight taken ≡ 0 = ap (sum_by weight) none in
-      omega (arith, nothing, goes.once weight, held.once weight);
-  read = All-weaker (λ (t : Took). IsPiped t.file × (t.file.by ≡ 0)) (λ (t : Took). IsPiped t.file × (t.file.by ≤ 0)) (λ t read. (read.0, omega (arith, read.1))) took' (goes.read held.read);
-}
 
 -- with what one more parser took, whether its results could be added or not
 some_added : (most by : ℕ) (before after : Store) (names : List (List ℕ)) (put put' taken taken' theirs : List Piece) (took took' more : List Took) (stop stop' : Result (Unit {0}) LoadAllStop)

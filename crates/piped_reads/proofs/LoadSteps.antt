@@ -6,13 +6,11 @@ use Rattle.std.specs.FinMap.{get}
 use Rattle.std.proofs.lemmas.List.{length_push, take_all}
 use Rattle.std.proofs.lemmas.List.Elements.{All-nil, All-push}
 use Rattle.std.proofs.lemmas.List.Sums.{sum_by_push}
-use Rattle.lk_depot.specs.Faults.{Rose}
-use Rattle.lk_depot.specs.Files.{Files, Lacks}
-use Rattle.lk_depot.specs.Loading.{AfterLoads, AreContents, name_at}
+use Rattle.lk_depot.specs.Files.{Files}
+use Rattle.lk_depot.specs.Loading.{AfterLoads, AreContents}
 use Rattle.lk_depot.specs.Store.{Store}
 use Rattle.lk_depot.proofs.NameLists.{loaded_one_more}
 use Rattle.lk_depot.specs.declared.stops.LoadAllStop.{LoadAllStop}
-use Rattle.lk_depot.specs.declared.stops.LoadAllStop.TheVariants.{Absent, Failed, Memory}
 use Rattle.piped_reads.specs.declared.files.Took.{Took}
 use Rattle.piped_reads.specs.declared.pieces.Piece.{Piece}
 use Rattle.piped_reads.specs.declared.pieces.Piece.TheVariants.{Loaded}
@@ -111,34 +109,6 @@ stopped before now after names index put took stop why held = record {
   once = held.once;
   read = held.read;
 }
-
-lacks_at : (files now : Option Files) (name other : List ℕ) → now ≡ files → name ≡ other → Lacks now name → Lacks files other
-lacks_at files now name other same named lacks = subst (λ (p : Option Files × List ℕ). Lacks p.0 p.1) (λ i. (same i, named i)) lacks
-
-pub put_absent : (before now after : Store) (names : List (List ℕ)) (index : ℕ) (name : List ℕ) (put : List Piece) (took : List Took)
-    → index < length names → name ≡ name_at names index → now.files ≡ before.files → Lacks now.files name → after.unread ≡ now.unread
-    → ArePut index before now (take index names) put took (Ok tt) → ArePut index before after names put took (Err (Absent index))
-put_absent before now after names index name put took within named same lacks unread held =
-    stopped before now after names index put took (Absent index)
-    (record { within = within; lacks = lacks_at before.files now.files name (name_at names index) same named lacks; earlier = (items_of held.buffers, held.loaded.0) }, unread ∙ held.loaded.1)
-    held
-
-pub put_failed : (before now after : Store) (names : List (List ℕ)) (index : ℕ) (name : List ℕ) (put : List Piece) (took : List Took)
-    → index < length names → name ≡ name_at names index → before.faults ≤ now.faults → Rose now.faults after.faults → after.unread ≡ now.unread ++ name ∷ []
-    → ArePut index before now (take index names) put took (Ok tt) → ArePut index before after names put took (Err (Failed index))
-put_failed before now after names index name put took within named later rose unread held =
-    stopped before now after names index put took (Failed index)
-    (record {
-      within = within;
-      rose = omega (arith, later, rose);
-      unread = unread ∙ (λ i. held.loaded.1 i ++ named i ∷ []);
-      earlier = (items_of held.buffers, held.loaded.0);
-    })
-    held
-
-pub put_memory : (before now after : Store) (names : List (List ℕ)) (index : ℕ) (put : List Piece) (took : List Took) → after.unread ≡ now.unread
-    → ArePut index before now (take index names) put took (Ok tt) → ArePut index before after names put took (Err Memory)
-put_memory before now after names index put took unread held = stopped before now after names index put took Memory (unread ∙ held.loaded.1) held
 
 -- a store after one more load
 pub kept_more : (before now after : Store) → IsKept before now → after.files ≡ now.files → after.kinds ≡ now.kinds → after.begun ≡ now.begun → now.faults ≤ after.faults → IsKept before after

@@ -1,5 +1,5 @@
 -- Results after a piece, and after many.
-use Rattle.std.proofs.Common.{◌≡◌, ℕ, zero, suc, ◌+◌, ◌≤◌, List, [], ◌∷◌, ◌++◌, All, refl, sym, ap, subst, ⊎_elim, inl, arith}
+use Rattle.std.proofs.Common.{◌≡◌, ℕ, zero, suc, ◌+◌, ◌≤◌, List, [], ◌∷◌, ◌++◌, All, sym, ap, subst, ⊎_elim, arith}
 use Rattle.std.specs.Prelude.{map, sum_by}
 use Rattle.std.specs.List.{range_with_len}
 use Rattle.std.specs.Global.{Vec}
@@ -30,23 +30,6 @@ read_added piece by old new added read = ⊎_elim
     subst (AreReadBy by) (sym more.2) (All-push (λ (t : Took). IsPiped t.file × (t.file.by ≡ by)) old more.0 read (more.1.read, more.1.who)))
     added
 
--- no piece yet, and one piece more
-pub goes_nowhere : (by : ℕ) (taken : List Piece) (took : List Took) → GoesOn by taken taken took took
-goes_nowhere by taken took = record { once = λ weight. omega arith; read = λ read. read }
-
-pub goes_further : (by : ℕ) (taken now next : List Piece) (took held more : List Took) (piece : Piece) → GoesOn by taken now took held → next ≡ now ++ piece ∷ [] → IsAdded piece by held more
-    → GoesOn by taken next took more
-goes_further by taken now next took held more piece so_far push added = record {
-  once = λ weight.
-      let is : sum_by weight next ≡ sum_by weight (now ++ piece ∷ []) = ap (sum_by weight) push in
-      omega (arith, so_far.once weight, is, sum_by_push weight now piece, weight_added weight piece by held more added);
-  read = λ read. read_added piece by held more added (so_far.read read);
-}
-
--- an end mark was taken
-pub goes_past : (by : ℕ) (taken now next : List Piece) (took held : List Took) (piece : Piece) → GoesOn by taken now took held → next ≡ now ++ piece ∷ [] → GoesOn by taken next took held
-goes_past by taken now next took held piece so_far push = goes_further by taken now next took held held piece so_far push (inl refl)
-
 -- what a parser has at its end, from nothing
 pub share_of : (by : ℕ) (taken now : List Piece) (took held : List Took) → taken ≡ [] → took ≡ [] → GoesOn by taken now took held → IsShare by now held
 share_of by taken now took held none nothing goes = record {
@@ -56,9 +39,6 @@ share_of by taken now took held none nothing goes = record {
       omega (arith, goes.once weight, a, b);
   read = goes.read (subst (AreReadBy by) (sym nothing) (All-nil (λ (t : Took). IsPiped t.file × (t.file.by ≡ by))));
 }
-
-pub no_share : (by : ℕ) (taken : List Piece) (took : List Took) → taken ≡ [] → took ≡ [] → IsShare by taken took
-no_share by taken took none nothing = share_of by taken taken took took none nothing (goes_nowhere by taken took)
 
 -- a file is not of the index of one before it, nor of an end mark's
 file_apart : (index : ℕ) (bytes : Vec ℕ) (piece : Piece) → IsBelow index piece → IsApart piece (Loaded index bytes)

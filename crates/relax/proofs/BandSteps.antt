@@ -8,7 +8,8 @@ use Rattle.relax.specs.declared.bands.Open.{Open}
 use Rattle.relax.specs.declared.jumps.Jump.{Jump}
 use Rattle.relax.specs.Bands.{AreRaised, IsBanded, first_size, is_far, is_late, is_near, is_open, least_span, raised_from, span_of, twice}
 use Rattle.relax.specs.Jumps.{AreBelow, AreLawful, AreSafe, IsJump, IsLawful, allows, is_allowed, jump_at, jump_bytes, lost_before, lost_in, lost_upto, size_at}
-use Rattle.relax.proofs.LeastSizes.{IsOne, allows_less, below_step, eight_allows, lawful_most, lawful_step, small_if, upto_more}
+use Rattle.relax.proofs.LeastSizes.{allows_less, below_step, eight_allows, lawful_most, lawful_step, small_if, upto_more}
+use Rattle.relax.specs.Placing.{IsOneSize}
 
 -- what the calls between two points lose: no less than none, and no more than six each
 upto_rises : (z : List ℕ) (a n : ℕ) → a + n ≤ length z → lost_upto z a ≤ lost_upto z (a + n)
@@ -80,7 +81,7 @@ unfolding allows
 four_allows true x is = let low = leb-true x 2046 is in le-leb x 1048574 (omega (arith, low))
 four_allows false x is = let low = leb-true x 2048 is in le-leb x 1048576 (omega (arith, low))
 
-allows_more : (s t : ℕ) (f : Bool) (x : ℕ) → IsOne s → IsOne t → s ≤ t → allows s f x ≡ true → allows t f x ≡ true
+allows_more : (s t : ℕ) (f : Bool) (x : ℕ) → IsOneSize s → IsOneSize t → s ≤ t → allows s f x ≡ true → allows t f x ≡ true
 allows_more s t f x one other le is =
     let P : ℕ → Type 0 = λ n. allows n f x ≡ true in
     elim other [
@@ -105,7 +106,7 @@ far_differs j n far le = elim (cases_Bool (allows 4 j.forwards n)) [
   | inr not_so ↦ not_so
 ]
 
-far_eight : (s : ℕ) (j : Jump) (n : ℕ) → IsOne s → allows 4 j.forwards n ≡ false → allows s j.forwards n ≡ true → s ≡ 8
+far_eight : (s : ℕ) (j : Jump) (n : ℕ) → IsOneSize s → allows 4 j.forwards n ≡ false → allows s j.forwards n ≡ true → s ≡ 8
 far_eight s j n one differs is =
     let P : ℕ → Type 0 = λ m. allows m j.forwards n ≡ true in
     elim one [
@@ -133,7 +134,7 @@ module _ (jumps : List Jump) (are : (k : ℕ) → k < length jumps → IsJump (l
       let j = jump_at jumps k in
       let own = is.each k lt in
       let low = own.0 in
-      let least : IsOne j.least = elim (are k lt).least [ inl two ↦ inl two | inr four ↦ inr (inl four) ] in
+      let least : IsOneSize j.least = elim (are k lt).least [ inl two ↦ inl two | inr four ↦ inr (inl four) ] in
       allows_more j.least (size_at z k) j.forwards (jump_bytes z j) least own.1 low (allows_less j.least j.forwards (jump_bytes z j) (span_of j) (own_bytes z k is lt).0 near)
 
   far_safe : (y : List ℕ) (k : ℕ) → AreSafe jumps y → k < length jumps → is_far (jump_at jumps k) ≡ true → size_at y k ≡ 8

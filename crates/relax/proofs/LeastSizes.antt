@@ -11,6 +11,7 @@ use Rattle.std.proofs.lemmas.List.Sums.{sum_by-le, sum_by-take-le, sum_by-set, s
 use Rattle.lk_base.proofs.Loops.{range_more}
 use Rattle.relax.specs.declared.jumps.Jump.{Jump}
 use Rattle.relax.specs.Jumps.{AreBelow, AreLawful, AreSafe, IsJump, IsLawful, all_lost, allows, is_allowed, is_small, jump_at, jump_bytes, least_of, lost_before, lost_in, lost_sums, lost_upto, no_jump, raised, raised_size, reach, size_at, some_rises}
+use Rattle.relax.specs.Placing.{IsOneSize}
 
 -- what calls lose, one call on
 pub upto_more : (z : List ℕ) (k : ℕ) → k < length z → lost_upto z (k + 1) ≡ lost_upto z k + (8 - size_at z k)
@@ -100,10 +101,7 @@ unfolding allows
 eight_allows f x = refl
 
 -- a small size is doubled: no lawful size lies between
-abbrev pub IsOne : ℕ → Type 0
-IsOne s = (s ≡ 2) ⊎ ((s ≡ 4) ⊎ (s ≡ 8))
-
-raised_low : (s t : ℕ) → IsOne s → IsOne t → s < t → 2 * s ≤ t
+raised_low : (s t : ℕ) → IsOneSize s → IsOneSize t → s < t → 2 * s ≤ t
 raised_low s t a b lt = elim a [
   | inl two ↦ elim b [
     | inl x ↦ omega arith
@@ -121,7 +119,7 @@ raised_low s t a b lt = elim a [
   ]
 ]
 
-eight_stays : (s : ℕ) → IsOne s → (s ≡ 8 → ⊥) → IsOne (2 * s)
+eight_stays : (s : ℕ) → IsOneSize s → (s ≡ 8 → ⊥) → IsOneSize (2 * s)
 eight_stays s a other = elim a [
   | inl two ↦ inr (inl (omega (arith, two)))
   | inr q ↦ elim q [ inl four ↦ inr (inr (omega (arith, four))) | inr eight ↦ absurd (other eight) ]

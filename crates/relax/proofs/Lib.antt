@@ -5,7 +5,6 @@ pub mod CutSteps
 pub mod Fitting
 mod Hints
 mod LeastSizes
-mod ListSteps
 mod NoCalls
 mod Places
 pub mod PointSteps

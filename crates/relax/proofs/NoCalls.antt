@@ -1,12 +1,13 @@
 -- Where no call may be relaxed there is none: no sizes, and each section is cut as if each of its calls had eight bytes.
 use mathlib.Core.Path.{fun_ext}
-use Rattle.std.proofs.Common.{◌≡◌, ℕ, suc, ◌<◌, ◌==◌, ◌&&◌, ◌||◌, Bool, true, false, if◌then◌else◌, List, Option, [], ◌∷◌, ◌++◌, length, map, flat_map, get_or, refl, sym, ap, ◌∙◌, arith, inl, inr}
+use Rattle.std.proofs.Common.{◌≡◌, ℕ, suc, ◌<◌, ◌==◌, ◌&&◌, Bool, true, false, if◌then◌else◌, List, Option, [], ◌∷◌, ◌++◌, length, map, get_or, refl, sym, ap, ◌∙◌, arith, inl, inr}
 use Rattle.std.specs.List.{All, list_all, list_any, range_with_len}
 use Rattle.std.proofs.lemmas.Bool.{cases_lt, false≢true}
 use Rattle.std.proofs.lemmas.List.{get_or_past}
 use Rattle.std.proofs.lemmas.List.Folds.{list_any_at, list_any_none}
 use Rattle.std.proofs.lemmas.List.FromFn.{fill_by_all, get_or-map-range_with_len, get_or-range_with_len, length-map-range_with_len, length-range_with_len}
 use Rattle.lk_base.specs.declared.abi.TheConstants.{R_RISCV_RELAX}
+use Rattle.lk_base.proofs.NoneGiven.{flat_none}
 use Rattle.lk_tables.specs.declared.objects.Reloc.{Reloc}
 use Rattle.lk_tables.specs.declared.tables.Tables.{Tables}
 use Rattle.lk_tables.specs.Binding.{Bindings}
@@ -27,20 +28,12 @@ use Rattle.relax.specs.Unrelaxed.{has_relax, may_relax, relaxes, some_relaxes, u
 use Rattle.relax.proofs.CutSteps.{size_none}
 use Rattle.relax.proofs.Fitting.{live_from}
 
-flat_none : {X Y : Type 0} (f : X → List Y) (xs : List X) → ((x : X) → f x ≡ []) → flat_map f xs ≡ []
-flat_none f [] none = refl
-flat_none f (x ∷ xs) none = ap (λ l. l ++ flat_map f xs) (none x) ∙ flat_none f xs none
-
 any_none : {X : Type 0} (p : X → Bool) (xs : List X) (i : ℕ) (d : X) → list_any p xs ≡ false → i < length xs → p (get_or xs i d) ≡ false
 any_none p xs i d none lt = go (p (get_or xs i d)) refl
   where
     go : (b : Bool) → p (get_or xs i d) ≡ b → b ≡ false
     go true is = absurd (false≢true (sym none ∙ list_any_at p xs i d lt is))
     go false is = refl
-
-pub any_through : {X Y : Type 0} (p : Y → Bool) (view : X → Y) (xs : List X) → list_any p (map view xs) ≡ list_any (λ x. p (view x)) xs
-any_through p view [] = refl
-any_through p view (x ∷ xs) = ap (λ b. p (view x) || b) (any_through p view xs)
 
 -- the linker may relax nothing in any section
 none_at : (tables : Tables) (n : ℕ) → some_relaxes (files_of tables) ≡ false → n < section_total (files_of tables) → has_relax (relocs_of (files_of tables) n) ≡ false

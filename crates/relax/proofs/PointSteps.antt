@@ -1,16 +1,15 @@
 -- Points of members: their places, and the calls before them.
-use Rattle.std.proofs.Common.{◌≡◌, ℕ, zero, suc, ◌+◌, ◌-◌, ◌<◌, ◌≤◌, ◌⊎◌, ◌==◌, Bool, true, false, cond, List, [], ◌∷◌, ◌++◌, length, map, take, flat_map, get_or, min, refl, sym, ap, ◌∙◌, subst, arith, inl, inr}
+use Rattle.std.proofs.Common.{◌≡◌, ℕ, zero, suc, ◌+◌, ◌-◌, ◌<◌, ◌≤◌, ◌⊎◌, ◌==◌, Bool, true, false, cond, List, [], ◌∷◌, ◌++◌, length, map, flat_map, get_or, min, refl, sym, ap, ◌∙◌, subst, arith, inl, inr}
 use Rattle.std.specs.Prelude.{if◌then◌else◌, nat_le, nat_lt, All}
 use Rattle.std.specs.List.{range_with_len, sum_by}
 use Rattle.std.proofs.lemmas.Bool.{cases_Bool, cases_lt, eqb-false, eqb-true, le-leb, le-ltb, lt-leb, lt-ltb}
-use Rattle.std.proofs.lemmas.List.{get_or_past, get_or_default, map-append, take_more}
+use Rattle.std.proofs.lemmas.List.{get_or_past, get_or_default}
 use Rattle.std.proofs.lemmas.List.Elements.{All-append, All-nil}
 use Rattle.std.proofs.lemmas.List.Sums.{prefix_len-le-length, sum_by-cons, sum_by_push}
 use Rattle.std.proofs.lemmas.List.FromFn.{fill_by_all, get_or-map-range_with_len}
 use Rattle.lk_base.proofs.Loops.{count_step, range_more}
 use Rattle.link_sections.specs.Cuts.{Cut, kept_before, new_offset, whole_before}
 use Rattle.relax.specs.declared.calls.Call.{Call}
-use Rattle.relax.specs.declared.jumps.Jump.{Jump}
 use Rattle.relax.specs.declared.jumps.Mark.{Mark}
 use Rattle.relax.specs.declared.jumps.Point.{Point}
 use Rattle.output_sections.specs.declared.rows.Row.{Row}
@@ -86,9 +85,6 @@ whole_low z m from size o (c ∷ cs) is le =
 -- what is left of them, by the number that ended and the depth in the next
 abbrev lost_by : List ℕ → (call depth : ℕ) → ℕ
 lost_by z call depth = lost_upto z call + lost_in depth (size_at z call)
-
-ended_cons : (c : Call) (cs : List Call) (o : ℕ) → ended (c ∷ cs) o ≡ cond (nat_le (c.offset + 8) o) (1 + ended cs o) 0
-ended_cons c cs o = refl
 
 row_sums : (z : List ℕ) (m from size o : ℕ) (row : List Call) → Follow from size row → m + length row ≤ length z → ((k : ℕ) → size_at z k ≤ 8) →
     kept_before (sized z m row) o + lost_by z (m + ended row o) (depth_in row (ended row o) o) ≡ whole_before (sized z m row) o + lost_upto z m
@@ -326,13 +322,7 @@ calls_within ms rows sound =
     let is = sound.each i (omega (arith, lt, sound.count)) k d less in
     record { from = omega (arith, lt, sound.count, is.from); to = is.to; least = is.least })
 
--- the jumps that calls are
-pub jumps_step : (ms : List Row) (rows : List (List Call)) (calls : List Call) (k : ℕ) (d : Call) (old new : List Jump) (j : Jump) → k < length calls →
-    old ≡ map (jump_of ms rows) (take k calls) → new ≡ old ++ j ∷ [] → j ≡ jump_of ms rows (get_or calls k d) → new ≡ map (jump_of ms rows) (take (k + 1) calls)
-jumps_step ms rows calls k d old new j lt held is own =
-    is ∙ ap (λ l. l ++ j ∷ []) held ∙ ap (λ x. map (jump_of ms rows) (take k calls) ++ x ∷ []) own
-    ∙ sym (map-append (jump_of ms rows) (take k calls) (get_or calls k d ∷ [])) ∙ ap (map (jump_of ms rows)) (sym (take_more calls k d lt))
-
+-- the first call of a mark
 pub mark_first : (ms : List Row) (rows : List (List Call)) (m : Mark) (i : ℕ) → m ≡ mark_at ms rows i → m.first ≡ first_call rows i
 unfolding mark_at
 mark_first ms rows m i is = ap (λ (x : Mark). x.first) is

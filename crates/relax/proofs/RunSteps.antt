@@ -33,9 +33,6 @@ pub record AreFirstRuns (w : ℕ) (z runs : List ℕ) (first : ℕ) : Type 0 whe
   pub place : first ≡ min (length runs * w) (length z)
   pub each : (j : ℕ) → j < length runs → lost_upto z (j * w) + get_or runs j 0 ≡ lost_upto z (j * w + w)
 
-pub no_runs : (w : ℕ) (z : List ℕ) → AreFirstRuns w z [] 0
-no_runs w z = record { place = omega arith; each = λ j lt. absurd (omega (arith, lt)) }
-
 run_lost : (z : List ℕ) (first m next x : ℕ) → first ≤ m → next ≡ min m (length z) → first ≤ next → x ≡ lost_upto z next - lost_upto z first → lost_upto z first + x ≡ lost_upto z m
 run_lost z first m next x low is up lost = elim (cases_lt (length z) m) [
   | inl past ↦
@@ -63,9 +60,6 @@ one_run w z runs first next x is lt to lost =
             omega (arith, own, sum, ap (lost_upto z) from, ap (λ n. lost_upto z (n + w)) from)
       ];
     }
-
-pub all_runs : (w : ℕ) (z runs : List ℕ) (first : ℕ) → AreFirstRuns w z runs first → length z ≤ first → AreRuns w z runs
-all_runs w z runs first is end = record { covers = omega (arith, is.place, end); each = is.each }
 
 -- one size that rises takes what it gains off its run
 pub run_falls : (w : ℕ) (z runs : List ℕ) (k s p : ℕ) → AreRuns w z runs → k < length z → size_at z k ≤ s → s ≤ 8 → p * w ≤ k → k < p * w + w → p < length runs →

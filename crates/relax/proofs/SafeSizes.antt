@@ -1,10 +1,11 @@
 -- Sizes that the jumps allow are safe, and the least of these are the least of each call.
-use Rattle.std.proofs.Common.{◌≡◌, ℕ, suc, ◌<◌, ◌≤◌, ◌⊎◌, ◌==◌, ◌&&◌, ◌||◌, Bool, true, false, List, [], ◌∷◌, ◌++◌, length, map, flat_map, get_or, refl, sym, ap, ◌∙◌, subst, arith, inl, inr}
+use Rattle.std.proofs.Common.{◌≡◌, ℕ, suc, ◌<◌, ◌≤◌, ◌⊎◌, ◌==◌, ◌&&◌, ◌||◌, Bool, true, false, List, [], ◌∷◌, length, map, flat_map, get_or, refl, sym, ap, ◌∙◌, subst, arith, inl, inr}
 use Rattle.std.specs.Prelude.{if◌then◌else◌, nat_le}
 use Rattle.std.specs.List.{All, list_all, list_any, range_with_len}
-use Rattle.std.proofs.lemmas.Bool.{and_from, and_parts, cases_lt, eq-eqb, eqb-true, false≢true, le-leb, leb-true, or_cases}
+use Rattle.std.proofs.lemmas.Bool.{and_from, and_parts, cases_lt, eq-eqb, eqb-true, false≢true, le-leb, leb-true, or_cases, or_right}
 use Rattle.std.proofs.lemmas.List.{get_or-map, get_or_default, get_or_past, length-map}
 use Rattle.std.proofs.lemmas.List.Elements.{All-map}
+use Rattle.std.proofs.lemmas.List.Folds.{list_any-append}
 use Rattle.std.proofs.lemmas.List.FromFn.{fill_by_all, get_or-range_with_len, length-range_with_len}
 use Rattle.std.proofs.lemmas.List.Sums.{AllPass-from_list_all, list_all-from_AllPass}
 use Rattle.relax.specs.declared.calls.Call.{Call}
@@ -17,14 +18,6 @@ use Rattle.relax.specs.Placing.{IsOneSize}
 use Rattle.relax.specs.Points.{AreSoundRows, IsLowJump, jump_of, jumps_in, point_at}
 use Rattle.relax.proofs.LeastSizes.{lawful_most}
 use Rattle.relax.proofs.PointSteps.{IsWithin, calls_within, distance_is, jump_ordered, point_within}
-
-either_or : (a b c : Bool) → (a || (b || c)) ≡ ((a || b) || c)
-either_or true b c = refl
-either_or false b c = refl
-
-any_append : {Y : Type 0} (q : Y → Bool) (ys zs : List Y) → list_any q (ys ++ zs) ≡ (list_any q ys || list_any q zs)
-any_append q [] zs = refl
-any_append q (y ∷ ys) zs = ap (λ b. q y || b) (any_append q ys zs) ∙ either_or (q y) (list_any q ys) (list_any q zs)
 
 module _ (ms : List Row) (rows : List (List Call)) (sound : AreSoundRows ms rows) where
   abbrev jumps : List Jump
@@ -90,10 +83,6 @@ module _ (ms : List Row) (rows : List (List Call)) (sound : AreSoundRows ms rows
       | inr eight ↦ or_right (s == 2) (s == 4 || s == 8) (or_right (s == 4) (s == 8) (eq-eqb s 8 eight))
     ]
   ]
-    where
-      or_right : (a b : Bool) → b ≡ true → (a || b) ≡ true
-      or_right true b e = refl
-      or_right false b e = e
 
   size_one : (s : ℕ) → (s == 2 || (s == 4 || s == 8)) ≡ true → IsOneSize s
   size_one s is = elim (or_cases (s == 2) (s == 4 || s == 8) is) [
@@ -179,7 +168,7 @@ module _ (ms : List Row) (rows : List (List Call)) (sound : AreSoundRows ms rows
   -- each list of sizes is one of all
   any_flat : {X Y : Type 0} (p : Y → Bool) (g : X → List Y) (xs : List X) → list_any p (flat_map g xs) ≡ list_any (λ x. list_any p (g x)) xs
   any_flat p g [] = refl
-  any_flat p g (x ∷ xs) = any_append p (g x) (flat_map g xs) ∙ ap (λ b. list_any p (g x) || b) (any_flat p g xs)
+  any_flat p g (x ∷ xs) = list_any-append p (g x) (flat_map g xs) ∙ ap (λ b. list_any p (g x) || b) (any_flat p g xs)
 
   assigned : (p : List ℕ → Bool) (z : List ℕ) → All IsOneSize z → p z ≡ true → list_any p (all_assignments (length z)) ≡ true
   assigned p [] all passes = ap (λ b. b || false) passes
@@ -187,16 +176,12 @@ module _ (ms : List Row) (rows : List (List Call)) (sound : AreSoundRows ms rows
       any_flat p (λ y. (2 ∷ y) ∷ ((4 ∷ y) ∷ ((8 ∷ y) ∷ []))) (all_assignments (length z))
       ∙ assigned (λ y. p (2 ∷ y) || (p (4 ∷ y) || (p (8 ∷ y) || false))) z (λ k d lt. all (suc k) d (omega (arith, lt))) (head_is s (all 0 s (omega arith)) passes)
     where
-      or_true : (a b : Bool) → b ≡ true → (a || b) ≡ true
-      or_true true b e = refl
-      or_true false b e = e
-
       head_is : (t : ℕ) → IsOneSize t → p (t ∷ z) ≡ true → (p (2 ∷ z) || (p (4 ∷ z) || (p (8 ∷ z) || false))) ≡ true
       head_is t one is = elim one [
         | inl two ↦ ap (λ b. b || (p (4 ∷ z) || (p (8 ∷ z) || false))) (ap (λ n. p (n ∷ z)) (sym two) ∙ is)
         | inr more ↦ elim more [
-          | inl four ↦ or_true (p (2 ∷ z)) (p (4 ∷ z) || (p (8 ∷ z) || false)) (ap (λ b. b || (p (8 ∷ z) || false)) (ap (λ n. p (n ∷ z)) (sym four) ∙ is))
-          | inr eight ↦ or_true (p (2 ∷ z)) (p (4 ∷ z) || (p (8 ∷ z) || false)) (or_true (p (4 ∷ z)) (p (8 ∷ z) || false) (ap (λ b. b || false) (ap (λ n. p (n ∷ z)) (sym eight) ∙ is)))
+          | inl four ↦ or_right (p (2 ∷ z)) (p (4 ∷ z) || (p (8 ∷ z) || false)) (ap (λ b. b || (p (8 ∷ z) || false)) (ap (λ n. p (n ∷ z)) (sym four) ∙ is))
+          | inr eight ↦ or_right (p (2 ∷ z)) (p (4 ∷ z) || (p (8 ∷ z) || false)) (or_right (p (4 ∷ z)) (p (8 ∷ z) || false) (ap (λ b. b || false) (ap (λ n. p (n ∷ z)) (sym eight) ∙ is)))
         ]
       ]
 

@@ -21,7 +21,7 @@ use output_sections::Row;
 use std::alloc::{AllocError, Global};
 use std::ops::Range;
 use std::thread::Threads;
-use work_split::{Gate, over_shares, pieces};
+use work_split::{Gate, over_shares, pieces_of_least};
 
 /// Fewer calls are not worth a thread.
 const LEAST: usize = 8_192;
@@ -109,21 +109,10 @@ fn bands_of<R: Threads + Sync, G: Gate>(
     requires low { All points.IsLowMark marks.now }
     ensures { IfOk result (spec.HasBands members.now rows.now 0 (length (all_calls rows.now))) }
 {
-    let pieces = pieces_of(alloc, count_of(rows), workers)?;
+    let pieces = pieces_of_least(alloc, count_of(rows), LEAST, workers)?;
     let parts = all_parts(rt, alloc, members, rows, marks, pieces.as_slice(), gate)?;
     let whole = join_bands(alloc, parts)?;
     Ok(whole)
-}
-
-/// So many calls cut into pieces of about the same length: one for each worker, or fewer where pieces would be shorter than [`LEAST`].
-fn pieces_of(alloc: Global, calls: usize, workers: u32) -> Result<Vec<Range<usize>>, AllocError>
-    requires some { 1 ≤ workers }
-    requires most { workers ≤ 64 }
-    ensures tiles { IfOk result (λ pieces. Tiles 0 calls pieces.items) }
-    ensures most { IfOk result (λ pieces. length pieces.items ≤ 64) }
-{
-    let wanted = (calls / LEAST).min(workers as usize).max(1);
-    pieces(alloc, calls, wanted as u32)
 }
 
 /// What is known of all calls, in parts: each worker makes one, of a piece of the calls.

@@ -23,10 +23,9 @@ use crate::calls::{Call, Scene, place_of, places_of};
 use crate::cutting::push_cut;
 use crate::jumps::{Mark, count_of, marks_of};
 use crate::listing::call_rows;
-use crate::parts::{join_rows, one_part};
 use crate::solving::size_at;
 use crate::unrelaxed::{may_relax, unrelaxed_sizes};
-use flat_rows::Rows;
+use flat_rows::{Rows, join_rows, one_part};
 use link_sections::{Cut, Pools, Sizes};
 use lk_base::relocations::moves_bytes;
 use lk_base::{LinkStop, SecNo};
@@ -35,7 +34,7 @@ use output_sections::{OutputSections, Row};
 use std::alloc::{AllocError, Global};
 use std::ops::Range;
 use std::thread::Threads;
-use work_split::{Gate, over_shares, pieces};
+use work_split::{Gate, over_shares, pieces_of_least};
 
 /// Fewer sections are not worth a thread.
 const LEAST: usize = 4_096;
@@ -143,7 +142,7 @@ fn cut_rows<R: Threads + Sync, G: Gate>(
     ensures views { IfOk result (λ rows. map cut_views rows ≡ spec.all_cuts (files_of scene.now.tables.now) scene.now.members.now calls.now sizes.now) }
     ensures sound { IfOk result (λ rows. All AreCuts rows) }
 {
-    let pieces = pieces_of(alloc, scene.tables.section_count(), workers)?;
+    let pieces = pieces_of_least(alloc, scene.tables.section_count(), LEAST, workers)?;
     let parts = all_parts(
         rt,
         alloc,
@@ -156,17 +155,6 @@ fn cut_rows<R: Threads + Sync, G: Gate>(
     )?;
     let rows = join_rows(alloc, parts)?;
     Ok(rows)
-}
-
-/// So many sections cut into pieces of about the same length: one for each worker, or fewer where pieces would be shorter than [`LEAST`].
-fn pieces_of(alloc: Global, sections: usize, workers: u32) -> Result<Vec<Range<usize>>, AllocError>
-    requires some { 1 ≤ workers }
-    requires most { workers ≤ 64 }
-    ensures tiles { IfOk result (λ pieces. Tiles 0 sections pieces.items) }
-    ensures most { IfOk result (λ pieces. length pieces.items ≤ 64) }
-{
-    let wanted = (sections / LEAST).min(workers as usize).max(1);
-    pieces(alloc, sections, wanted as u32)
 }
 
 /// The cuts of all sections, in parts: each worker makes one, of a piece of the sections.

@@ -20,7 +20,6 @@ mod jumps;
 mod keeping;
 mod listing;
 mod losses;
-mod parts;
 mod settling;
 mod solving;
 mod unrelaxed;

@@ -5,13 +5,12 @@ ghost use Rattle.work_split.specs.Pieces.{Tiles};
 ghost use Rattle.relax.specs.Scenes.{IsCallPart, calls_between, rows_in};
 
 use crate::calls::{Call, Scene, calls_of};
-use crate::parts::{join_rows, one_part};
-use flat_rows::Rows;
+use flat_rows::{Rows, join_rows, one_part};
 use lk_base::LinkStop;
 use std::alloc::{AllocError, Global};
 use std::ops::Range;
 use std::thread::Threads;
-use work_split::{Gate, over_shares, pieces};
+use work_split::{Gate, over_shares, pieces_of_least};
 
 /// Fewer members are not worth a thread.
 const LEAST: usize = 4_096;
@@ -30,21 +29,10 @@ pub fn call_rows<R: Threads + Sync, G: Gate>(
     requires most { workers ≤ 64 }
     ensures { IfOk result (λ rows. rows ≡ rows_in scene.now on) }
 {
-    let pieces = pieces_of(alloc, scene.members.len(), workers)?;
+    let pieces = pieces_of_least(alloc, scene.members.len(), LEAST, workers)?;
     let parts = all_parts(rt, alloc, scene, on, pieces.as_slice(), gate)?;
     let rows = join_rows(alloc, parts)?;
     Ok(rows)
-}
-
-/// So many members cut into pieces of about the same length: one for each worker, or fewer where pieces would be shorter than [`LEAST`].
-fn pieces_of(alloc: Global, members: usize, workers: u32) -> Result<Vec<Range<usize>>, AllocError>
-    requires some { 1 ≤ workers }
-    requires most { workers ≤ 64 }
-    ensures tiles { IfOk result (λ pieces. Tiles 0 members pieces.items) }
-    ensures most { IfOk result (λ pieces. length pieces.items ≤ 64) }
-{
-    let wanted = (members / LEAST).min(workers as usize).max(1);
-    pieces(alloc, members, wanted as u32)
 }
 
 /// The calls of all members, in parts: each worker makes one, of a piece of the members.

@@ -13,8 +13,7 @@ ghost use Rattle.relax.specs.Unrelaxed as spec;
 ghost use Rattle.work_split.specs.Pieces.{Tiles};
 
 use crate::cutting::push_cut;
-use crate::parts::{join_rows, one_part};
-use flat_rows::Rows;
+use flat_rows::{Rows, join_rows, one_part};
 use link_sections::{Cut, Sizes};
 use lk_base::abi::R_RISCV_RELAX;
 use lk_base::{FileNo, LinkStop};

@@ -4,6 +4,7 @@ use Rattle.std.specs.Prelude.{if◌then◌else◌}
 use Rattle.std.specs.List.{range_with_len}
 use Rattle.lk_base.specs.Firsts.{BeginsWith}
 use Rattle.lk_base.specs.declared.defects.Defect.{Defect}
+use Rattle.lk_base.proofs.NoneGiven.{either_none, left_none, right_none}
 use Rattle.lk_tables.specs.Binding.{Bindings}
 use Rattle.lk_tables.specs.Files.{File, section_total}
 use Rattle.lk_tables.specs.Sites.{relocs_of}
@@ -12,25 +13,12 @@ use Rattle.link_sections.specs.Sound.{IsSound}
 use Rattle.reloc_apply.specs.Relocated.{defects_at, is_laid, reloc_at, relocation_defects, section_defects, section_touching, touches, touching_defects}
 use Rattle.reloc_apply.proofs.LaidFacts.{known}
 
--- both of two lists are empty that are empty together
-first_empty : {X : Type 0} (xs ys : List X) → xs ++ ys ≡ [] → xs ≡ []
-first_empty [] ys none = refl
-first_empty (x ∷ xs) ys none = let clash : ⊥ = cc in absurd clash
-
-second_empty : {X : Type 0} (xs ys : List X) → xs ++ ys ≡ [] → ys ≡ []
-second_empty [] ys none = none
-second_empty (x ∷ xs) ys none = let clash : ⊥ = cc in absurd clash
-
 -- what gives nothing of each of which another gives nothing
 all_empty : {X : Type 0} (f g : ℕ → List X) (ks : List ℕ) → ((k : ℕ) → f k ≡ [] → g k ≡ []) → flat_map f ks ≡ [] → flat_map g ks ≡ []
 all_empty f g [] each none = refl
 all_empty {X} f g (k ∷ ks) each none =
-    let rest : flat_map g ks ≡ [] = all_empty f g ks each (second_empty (f k) (flat_map f ks) none) in
-    ap₂ (λ (xs ys : List X). xs ++ ys) (each k (first_empty (f k) (flat_map f ks) none)) rest
-
-chosen_empty : {X : Type 0} (t : Bool) (xs : List X) → xs ≡ [] → (if t then xs else []) ≡ []
-chosen_empty true xs none = none
-chosen_empty false xs none = refl
+    let rest : flat_map g ks ≡ [] = all_empty f g ks each (right_none (f k) (flat_map f ks) none) in
+    ap₂ (λ (xs ys : List X). xs ++ ys) (each k (left_none (f k) (flat_map f ks) none)) rest
 
 -- a list that is taken by one test is empty where another one is that is taken by a test that passes then
 laid_empty : {X : Type 0} (laid leads : Bool) (xs ys : List X) → (laid ≡ true → leads ≡ true) → (xs ≡ [] → ys ≡ []) → (if leads then xs else []) ≡ []
@@ -51,7 +39,7 @@ module _ (files : List File) (b : Bindings) (leaders : List (Option ℕ)) (laid 
       laid_empty (is_laid files b leaders laid n) _ (flat_map (defects_at files b leaders laid n) ks) (flat_map (Touching n) ks)
       (λ is. (known files b leaders laid n sound is).section.own)
       (all_empty (defects_at files b leaders laid n) (Touching n) ks
-      (λ k each. chosen_empty (touches files b leaders laid from len n (reloc_at files b leaders laid n k)) (defects_at files b leaders laid n k) each)) none
+      (λ k each. either_none (touches files b leaders laid from len n (reloc_at files b leaders laid n k)) (defects_at files b leaders laid n k) each)) none
 
   pub touching_clear : relocation_defects files b leaders laid ≡ [] → touching_defects files b leaders laid from len ≡ []
   unfolding relocation_defects touching_defects

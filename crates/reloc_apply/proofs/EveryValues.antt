@@ -11,10 +11,12 @@ use Rattle.lk_tables.specs.declared.section_places.SectionPlace.{SectionPlace}
 use Rattle.lk_tables.specs.Binding.{Bindings}
 use Rattle.lk_tables.specs.Files.{File}
 use Rattle.lk_tables.specs.Sites as sites
+use Rattle.lk_tables.specs.Walks.{reloc_defect}
+use Rattle.lk_tables.specs.Misfits.{value_defects}
 use Rattle.link_sections.specs.Calls.{acting_kind, acting_number, call_size, is_call, kind_by_size}
 use Rattle.link_sections.specs.Cuts.{Cut}
 use Rattle.link_sections.specs.LaidOut.{LaidOut, cuts_at}
-use Rattle.reloc_apply.specs.Relocated.{operand, reach_in, reloc_defect, reloc_defects, value_defects, width_at}
+use Rattle.reloc_apply.specs.Relocated.{operand, reach_in, reloc_defects, width_at}
 use Rattle.reloc_apply.specs.Sites.{every_kinds, takes_every}
 use Rattle.reloc_apply.specs.Values.{partner_of, value_of}
 
@@ -78,6 +80,6 @@ module _ (files : List File) (b : Bindings) (leaders : List (Option ℕ)) (laid 
       let one = and_parts (not (is_lower r.kind)) (not (is_uleb r.kind) && (not (is_call r.kind) && is_any (kind_of r.kind).reach)) (free_is r.kind is) in
       let two = and_parts (not (is_uleb r.kind)) (not (is_call r.kind) && is_any (kind_of r.kind).reach) one.1 in
       let three = and_parts (not (is_call r.kind)) (is_any (kind_of r.kind).reach) two.1 in
-      ap (λ t. if t && not (is_some (partner_of files b leaders laid n r)) then reloc_defect kinds.NO_PARTNER place r 0 ∷ [] else value_defects place r reach value) (off_is (is_lower r.kind) one.0)
+      ap (λ t. if t && not (is_some (partner_of files b leaders laid n r)) then reloc_defect kinds.NO_PARTNER place.file place.index r 0 ∷ [] else value_defects place r reach value) (off_is (is_lower r.kind) one.0)
       ∙ ap (λ q. value_defects place r q value) (reach_free (cuts_at laid n) r width (off_is (is_uleb r.kind) two.0) (off_is (is_call r.kind) three.0) three.1)
       ∙ none_wrong place r value

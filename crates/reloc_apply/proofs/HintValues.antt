@@ -11,12 +11,15 @@ use Rattle.lk_tables.specs.Binding.{Bindings}
 use Rattle.lk_tables.specs.Files.{File}
 use Rattle.lk_tables.specs.Relocations.{value_len}
 use Rattle.lk_tables.specs.Sites as sites
+use Rattle.lk_tables.specs.Walks.{reloc_defect}
+use Rattle.lk_tables.specs.Misfits.{value_defects}
 use Rattle.link_sections.specs.Calls.{acting_kind, acting_number, call_size, is_call, kind_by_size, width_in}
 use Rattle.link_sections.specs.Cuts.{Cut}
 use Rattle.link_sections.specs.LaidOut.{LaidOut, cuts_at}
+use Rattle.rv_code.specs.Places.{held_at}
 use Rattle.reloc_apply.specs.Image.{over, piece}
-use Rattle.reloc_apply.specs.Relocated.{filled, operand, put, reach_in, reloc_defect, reloc_defects, value_defects, width_at}
-use Rattle.reloc_apply.specs.Values.{computed, direct_value, entry_of, held_in, offset_of, partner_of, place_of, sum_of, thread_of, value_of}
+use Rattle.reloc_apply.specs.Relocated.{filled, operand, put, reach_in, reloc_defects, width_at}
+use Rattle.reloc_apply.specs.Values.{computed, direct_value, entry_of, offset_of, partner_of, place_of, sum_of, thread_of, value_of}
 use Rattle.reloc_apply.proofs.Placing.{past, under}
 
 hint_lower : is_lower R_RISCV_RELAX ≡ false
@@ -53,7 +56,7 @@ module _ (files : List File) (b : Bindings) (leaders : List (Option ℕ)) (laid 
       let at = offset_of files b leaders laid n r in
       let w = width_at files b leaders laid n r in
       let e : at + 0 ≡ at = omega arith in
-      ap (λ v. take at bytes ++ (filled (is_uleb r.kind) (acting_kind (cuts_at laid n) r) v (take w (drop at bytes)) ++ drop (at + w) bytes)) (hint_value (operand files b leaders laid n p r (held_in w at bytes)))
+      ap (λ v. take at bytes ++ (filled (is_uleb r.kind) (acting_kind (cuts_at laid n) r) v (take w (drop at bytes)) ++ drop (at + w) bytes)) (hint_value (operand files b leaders laid n p r (held_at w at bytes)))
       ∙ ap (λ m. take at bytes ++ (take m (drop at bytes) ++ drop (at + m) bytes)) hint_width
       ∙ ap (λ m. take at bytes ++ drop m bytes) e ∙ take-append-drop at bytes
 
@@ -62,6 +65,6 @@ module _ (files : List File) (b : Bindings) (leaders : List (Option ℕ)) (laid 
   hint_defects p =
       let place = sites.place_of files n in
       let reach = reach_in (is_uleb r.kind) (acting_kind (cuts_at laid n) r) (width_at files b leaders laid n r) in
-      ap (λ t. if t && not (is_some (partner_of files b leaders laid n r)) then reloc_defect kinds.NO_PARTNER place r 0 ∷ []
+      ap (λ t. if t && not (is_some (partner_of files b leaders laid n r)) then reloc_defect kinds.NO_PARTNER place.file place.index r 0 ∷ []
       else value_defects place r reach (value_of files b leaders laid n r (operand files b leaders laid n p r (pos 0)))) (ap is_lower is ∙ hint_lower)
       ∙ ap (value_defects place r reach) (hint_value (operand files b leaders laid n p r (pos 0)))

@@ -67,7 +67,7 @@ not_true : (b : Bool) → not b ≡ true → b ≡ false
 not_true true is = cc
 not_true false is = refl
 
-is_not : (x y : ℕ) → not (x == y) ≡ true → x ≢ y
+pub is_not : (x y : ℕ) → not (x == y) ≡ true → x ≢ y
 is_not x y is = λ same. let clash : (x == y) ≡ true = eq-eqb x y same in let off = not_true (x == y) is in let none : ⊥ = cc in none
 
 pub record IsOwn (files : List File) (b : Bindings) (f k : ℕ) : Type 0 where

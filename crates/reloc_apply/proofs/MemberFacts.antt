@@ -1,13 +1,13 @@
 -- What is known of the members of a layout by their numbers in its list.
-use Rattle.std.proofs.Common.{◌≡◌, ℕ, zero, suc, ◌+◌, ◌<◌, ◌≤◌, ◌||◌, Bool, true, false, List, [], ◌∷◌, length, get_or, refl, sym, ap, ◌∙◌, arith, subst, inl, inr, min, Option, None, Some}
+use Rattle.std.proofs.Common.{◌≡◌, ℕ, zero, suc, ◌+◌, ◌<◌, ◌||◌, Bool, true, false, List, [], ◌∷◌, length, get_or, refl, sym, ap, ◌∙◌, arith, min, Option, None, Some}
 use Rattle.std.specs.List.{list_any}
 use Rattle.std.specs.List.Sorted.{IsNonDecreasingBy}
-use Rattle.std.proofs.lemmas.Bool.{cases_lt, eq-eqb}
+use Rattle.std.proofs.lemmas.Bool.{eq-eqb, or_right}
 use Rattle.std.proofs.lemmas.List.Sorted.{IsNonDecreasingBy-from_all_adjacent}
 use Rattle.lk_tables.specs.Binding.{Bindings}
-use Rattle.lk_tables.specs.Files.{File, IsSound as IsSoundFile, file_at, first_section, section_total}
-use Rattle.lk_tables.specs.Sites.{IsPlaceOf, place_of}
-use Rattle.lk_tables.proofs.Owners.{IsOwner, place_is, place_law}
+use Rattle.lk_tables.specs.Files.{File, IsSound as IsSoundFile, file_at, section_total}
+use Rattle.lk_tables.specs.Sites.{place_of}
+use Rattle.lk_tables.proofs.Owners.{place_of_number}
 use Rattle.link_sections.specs.declared.members.Content.TheVariants.{Section}
 use Rattle.link_sections.specs.declared.members.Member.{Member}
 use Rattle.link_sections.specs.declared.views.View.{View}
@@ -32,30 +32,11 @@ pub ends_rise : (members : List Member) (most : ℕ) → AreOneAfterOther member
 ends_rise members most order =
     IsNonDecreasingBy-from_all_adjacent (λ (m : Member). min (m.start + m.size) most) members (λ k d lt. let next = order k d lt in omega (arith, next))
 
--- each section's number is that of a place
-owner_upto : (files : List File) (n m : ℕ) → m ≤ length files → n < first_section files m → (f : ℕ) × IsOwner files n f
-owner_upto files n zero le lt = absurd (omega arith)
-owner_upto files n (suc m) le lt = elim (cases_lt n (first_section files m)) [
-  | inl less ↦ owner_upto files n m (omega arith) less
-  | inr from ↦
-      let e : m + 1 ≡ suc m = omega arith in
-      (m, record { file = omega arith; from = from; below = omega (arith, lt, ap (first_section files) e) })
-]
-
-pub place_holds : (files : List File) (n : ℕ) → n < section_total files → IsPlaceOf files n (place_of files n)
-place_holds files n lt =
-    let owner = owner_upto files n (length files) (omega arith) lt in
-    subst (IsPlaceOf files n) (sym (place_is files n owner.0 owner.1)) (place_law files n owner.0 owner.1)
-
 -- an element of a list passes a test
 pub any_from : {X : Type 0} (p : X → Bool) (xs : List X) (k : ℕ) (d : X) → k < length xs → p (get_or xs k d) ≡ true → list_any p xs ≡ true
 any_from p [] k d lt is = absurd (omega (arith, lt))
 any_from p (x ∷ xs) zero d lt is = ap (λ b. b || list_any p xs) is
-any_from p (x ∷ xs) (suc k) d lt is = either (p x) (list_any p xs) (any_from p xs k d (omega (arith, lt)) is)
-  where
-    either : (a c : Bool) → c ≡ true → (a || c) ≡ true
-    either true c also = refl
-    either false c also = also
+any_from p (x ∷ xs) (suc k) d lt is = or_right (p x) (list_any p xs) (any_from p xs k d (omega (arith, lt)) is)
 
 module _ (files : List File) (b : Bindings) (leaders : List (Option ℕ)) (laid : LaidOut) where
   abbrev pub member : ℕ → Member
@@ -77,7 +58,7 @@ module _ (files : List File) (b : Bindings) (leaders : List (Option ℕ)) (laid 
 
   -- its relocations lie in it, and it has as many bytes as the member
   pub file_sound : (n : ℕ) → AllSound files → n < section_total files → IsSoundFile (file_at files (place_of files n).file)
-  file_sound n all lt = all (place_of files n).file (live_place files n (place_of files n) (place_holds files n lt))
+  file_sound n all lt = all (place_of files n).file (live_place files n (place_of files n) (place_of_number files n lt))
 
   pub bytes_size : (k n : ℕ) → IsSound files b leaders laid → AllSound files → IsWritten k n → length (section_bytes files b leaders laid n) ≡ (member k).size
   bytes_size k n sound all is =

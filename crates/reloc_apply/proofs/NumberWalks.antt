@@ -3,13 +3,13 @@ use Rattle.std.proofs.Common.{◌≡◌, ℕ, zero, suc, ◌+◌, ◌-◌, ◌<�
 use Rattle.std.specs.List.{range_with_len}
 use Rattle.std.proofs.lemmas.Grind.{flat_map-append}
 use Rattle.std.proofs.lemmas.Bool.{cases_lt}
-use Rattle.std.proofs.lemmas.List.{append-nil, get_or_past, length-append, map-id}
+use Rattle.std.proofs.lemmas.List.{append-nil, get_or_past, length-append}
 use Rattle.std.proofs.lemmas.List.Concat.{get_or-flat_map}
-use Rattle.std.proofs.lemmas.List.FromFn.{get_or-map-range_with_len, length-map-range_with_len, length-range_with_len, take-map-range_with_len}
+use Rattle.std.proofs.lemmas.List.FromFn.{get_or-map-range_with_len, length-map-range_with_len, length-range_with_len}
 use Rattle.lk_base.specs.Firsts.{BeginsWith}
 use Rattle.lk_base.specs.declared.defects.Defect.{Defect}
-use Rattle.lk_base.proofs.Loops.{count_step, flat_step}
-use Rattle.lk_base.proofs.Ranges.{range_parts, range_read, two_parts}
+use Rattle.lk_base.proofs.Loops.{count_step, flat_same, flat_step}
+use Rattle.lk_base.proofs.Ranges.{range_parts, range_read, take_range, two_parts}
 use Rattle.lk_tables.specs.Binding.{Bindings}
 use Rattle.lk_tables.specs.Files.{File, section_total}
 use Rattle.lk_tables.specs.Sites.{relocs_of}
@@ -17,20 +17,12 @@ use Rattle.link_sections.specs.LaidOut.{LaidOut}
 use Rattle.link_sections.specs.Leaders.{leads}
 use Rattle.reloc_apply.specs.Relocated.{defects_at, relocation_defects, section_defects}
 
-take_range : (n m : ℕ) → m ≤ n → take m (range_with_len 0 n) ≡ range_with_len 0 m
-take_range n m le =
-    ap (take m) (sym (map-id (range_with_len 0 n))) ∙ take-map-range_with_len (λ (x : ℕ). x) 0 n m le ∙ map-id (range_with_len 0 m)
-
 same_lengths : {X Y : Type 0} (f : ℕ → List X) (g : ℕ → List Y) (ks : List ℕ) → ((k : ℕ) → length (f k) ≡ length (g k)) → length (flat_map f ks) ≡ length (flat_map g ks)
 same_lengths f g [] same = refl
 same_lengths f g (k ∷ ks) same =
     length-append (f k) (flat_map f ks)
     ∙ ap (λ n. n + length (flat_map f ks)) (same k) ∙ ap (λ n. length (g k) + n) (same_lengths f g ks same)
     ∙ sym (length-append (g k) (flat_map g ks))
-
-flat_same : {X : Type 0} (f g : ℕ → List X) (ks : List ℕ) → ((k : ℕ) → f k ≡ g k) → flat_map f ks ≡ flat_map g ks
-flat_same f g [] same = refl
-flat_same f g (k ∷ ks) same = ap (λ l. l ++ flat_map f ks) (same k) ∙ ap (λ l. g k ++ l) (flat_same f g ks same)
 
 abbrev nothing : {X : Type 0} → X → List Defect
 nothing x = []

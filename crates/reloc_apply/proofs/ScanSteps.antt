@@ -15,8 +15,8 @@ use Rattle.reloc_apply.specs.Image.{over, piece}
 use Rattle.reloc_apply.specs.Relocated.{bytes_after, contents_at, operand, put, section_bytes, staying_at, value_at}
 use Rattle.reloc_apply.specs.Sites.{IsFresh, IsMadeFrom, IsOver, Shows, bytes_by, end_by, first_bytes, offset_by, set_by, sets_all}
 use Rattle.reloc_apply.specs.Staying.{staying}
-use Rattle.reloc_apply.specs.Values.{held_in, value_of}
-use Rattle.rv_code.specs.Places.{number_of}
+use Rattle.reloc_apply.specs.Values.{value_of}
+use Rattle.rv_code.specs.Places.{number_of, held_at}
 use Rattle.reloc_apply.proofs.BytesAfter.{AllFit, after_fresh, after_last, after_length, after_next, whole_length}
 use Rattle.reloc_apply.proofs.SetPlaces.{put_same}
 use Rattle.reloc_apply.proofs.States.{Fits, at_of, operand_same, plain_few, put_after, wide_few, width_of}
@@ -278,8 +278,8 @@ module _ (view : View) (s : Source) (is : IsMadeFrom view s) where
   value_is k held v window lt size shows held_is v_is =
       let fits : place k + width k ≤ length (after k) = omega (arith, fits_at k lt, long k) in
       let stands = window_held window (after k) (place k) (width k) (wide_few (files_in view) (binding_in view) (leaders_in view) (laid_in view) s.site.section (reloc k)) size fits shows in
-      let there : ℤ = held_in (width k) (place k) (after k) in
+      let there : ℤ = held_at (width k) (place k) (after k) in
       let same = operand_same (files_in view) (binding_in view) (leaders_in view) (laid_in view) s.site.section (prior k) (reloc k) (pos held) there (λ plain. ap pos (held_is (plain_few (files_in view) (binding_in view) (leaders_in view) (laid_in view) s.site.section (reloc k) plain) ∙ ap number_of stands)) in
       ap (value_of (files_in view) (binding_in view) (leaders_in view) (laid_in view) s.site.section (reloc k)) (v_is ∙ same)
-      ∙ ap (λ (r : Reloc). value_of (files_in view) (binding_in view) (leaders_in view) (laid_in view) s.site.section r (operand (files_in view) (binding_in view) (leaders_in view) (laid_in view) s.site.section (prior k) r (held_in (width_of (files_in view) (binding_in view) (leaders_in view) (laid_in view) s.site.section r) (at_of (files_in view) (binding_in view) (leaders_in view) (laid_in view) s.site.section r) (after k)))) (sym (same_reloc k))
-      ∙ ap (λ (p : Reloc). value_of (files_in view) (binding_in view) (leaders_in view) (laid_in view) s.site.section (own k) (operand (files_in view) (binding_in view) (leaders_in view) (laid_in view) s.site.section p (own k) (held_in (width_of (files_in view) (binding_in view) (leaders_in view) (laid_in view) s.site.section (own k)) (at_of (files_in view) (binding_in view) (leaders_in view) (laid_in view) s.site.section (own k)) (after k)))) (sym (same_reloc (k - 1)))
+      ∙ ap (λ (r : Reloc). value_of (files_in view) (binding_in view) (leaders_in view) (laid_in view) s.site.section r (operand (files_in view) (binding_in view) (leaders_in view) (laid_in view) s.site.section (prior k) r (held_at (width_of (files_in view) (binding_in view) (leaders_in view) (laid_in view) s.site.section r) (at_of (files_in view) (binding_in view) (leaders_in view) (laid_in view) s.site.section r) (after k)))) (sym (same_reloc k))
+      ∙ ap (λ (p : Reloc). value_of (files_in view) (binding_in view) (leaders_in view) (laid_in view) s.site.section (own k) (operand (files_in view) (binding_in view) (leaders_in view) (laid_in view) s.site.section p (own k) (held_at (width_of (files_in view) (binding_in view) (leaders_in view) (laid_in view) s.site.section (own k)) (at_of (files_in view) (binding_in view) (leaders_in view) (laid_in view) s.site.section (own k)) (after k)))) (sym (same_reloc (k - 1)))

@@ -15,9 +15,10 @@ use Rattle.lk_tables.specs.Files.{File}
 use Rattle.link_sections.specs.Calls.{acting_kind, acting_number, is_call, kind_by_size, call_size}
 use Rattle.link_sections.specs.Cuts.{Cut}
 use Rattle.link_sections.specs.LaidOut.{LaidOut, cuts_at}
+use Rattle.rv_code.specs.Places.{held_at}
 use Rattle.reloc_apply.specs.Relocated.{filled, operand, put}
 use Rattle.reloc_apply.specs.Sites.{sets_all}
-use Rattle.reloc_apply.specs.Values.{computed, direct_value, entry_of, held_in, partner_of, place_of, sum_of, thread_of, value_of}
+use Rattle.reloc_apply.specs.Values.{computed, direct_value, entry_of, partner_of, place_of, sum_of, thread_of, value_of}
 use Rattle.reloc_apply.proofs.States.{Fits, at_of, kind_at, plain_width, put_within, width_of}
 use Rattle.reloc_apply.proofs.ValueKinds.{among_each}
 use Rattle.reloc_apply.proofs.WholeFields.{covers, patched_same}
@@ -95,9 +96,9 @@ module _ (files : List File) (b : Bindings) (leaders : List (Option ℕ)) (laid 
       let one_is = length-take-le w (drop at s) (omega (arith, length-drop at s, one)) in
       let two_is = length-take-le w (drop at t) (omega (arith, length-drop at t, two)) in
       put_within files b leaders laid n p r s q one le lt
-      ∙ ap (λ o. slice_index (filled (is_uleb r.kind) kind o x) (q - at)) (value.1 (operand files b leaders laid n p r (held_in w at s)))
+      ∙ ap (λ o. slice_index (filled (is_uleb r.kind) kind o x) (q - at)) (value.1 (operand files b leaders laid n p r (held_at w at s)))
       ∙ ap (λ c. slice_index (filled c kind (Some v) x) (q - at)) plain
       ∙ patched_same kind.field kind.width v x y (q - at) (covers_acting (cuts_at laid n) r is) few (one_is ∙ wide) (two_is ∙ wide) (omega (arith, le, lt, wide))
       ∙ sym (ap (λ c. slice_index (filled c kind (Some v) y) (q - at)) plain)
-      ∙ sym (ap (λ o. slice_index (filled (is_uleb r.kind) kind o y) (q - at)) (value.1 (operand files b leaders laid n p r (held_in w at t))))
+      ∙ sym (ap (λ o. slice_index (filled (is_uleb r.kind) kind o y) (q - at)) (value.1 (operand files b leaders laid n p r (held_at w at t))))
       ∙ sym (put_within files b leaders laid n p r t q two le lt)

@@ -2,10 +2,8 @@
 use Rattle.std.proofs.Common.{◌≡◌, ℕ, ◌+◌, ◌-◌, ◌<◌, ◌≤◌, Bool, true, false, if◌then◌else◌, List, ◌++◌, length, take, drop, get_or, slice_index, refl, ap, ◌∙◌, arith, ℤ, Option, Some, None}
 use Rattle.std.proofs.Math.Seq.{get_or-append_right}
 use Rattle.std.proofs.lemmas.Bool.{cond-false}
-use Rattle.std.proofs.lemmas.List.{get_or_append_left, get_or-take, get_or-drop, length-append, length-take, length-take-le, length-drop}
+use Rattle.std.proofs.lemmas.List.{get_or_append_left, get_or-take, get_or-drop, length-take-le, length-drop}
 use Rattle.std.proofs.lemmas.List.FromFn.{length-map-range_with_len}
-use Rattle.byteorder.specs.Numbers.{length-bytes_low_first}
-use Rattle.lk_base.specs.Formats.{Field}
 use Rattle.lk_base.specs.RelocKinds.{Kind, is_uleb}
 use Rattle.lk_base.proofs.TableLines.{width_few}
 use Rattle.lk_tables.specs.declared.objects.Reloc.{Reloc}
@@ -16,14 +14,11 @@ use Rattle.lk_tables.specs.Sites.{contents_at}
 use Rattle.lk_tables.proofs.Widths.{value_few}
 use Rattle.link_sections.specs.Calls.{acting_kind, acting_number, acting_width, width_in}
 use Rattle.link_sections.specs.LaidOut.{LaidOut, cuts_at}
-use Rattle.rv_code.specs.Places.{patched}
+use Rattle.rv_code.specs.Places.{held_at}
 use Rattle.rv_code.specs.Uleb.{uleb_filled, uleb_patched}
+use Rattle.rv_code.proofs.WholePlaces.{laid_length, patched_length}
 use Rattle.reloc_apply.specs.Relocated.{filled, operand, put, width_at}
-use Rattle.reloc_apply.specs.Values.{held_in, offset_of, sum_of, value_of}
-
-patched_length : (field : Field) (v : ℤ) (place : List ℕ) → length (patched field v place) ≡ length place
-unfolding patched
-patched_length field v place = length-bytes_low_first 0 (length place) _
+use Rattle.reloc_apply.specs.Values.{offset_of, sum_of, value_of}
 
 uleb_length : (v : ℤ) (place : List ℕ) → length (uleb_patched v place) ≡ length place
 unfolding uleb_filled
@@ -35,11 +30,6 @@ filled_length true kind (Some v) place = uleb_length v place
 filled_length false kind (Some v) place = patched_length kind.field v place
 
 -- new bytes of the same length at a place
-laid_length : (at w : ℕ) (new bytes : List ℕ) → length new ≡ length (take w (drop at bytes)) → length (take at bytes ++ (new ++ drop (at + w) bytes)) ≡ length bytes
-laid_length at w new bytes is =
-    length-append (take at bytes) (new ++ drop (at + w) bytes)
-    ∙ omega (arith, length-take at bytes, length-append new (drop (at + w) bytes), length-drop (at + w) bytes, length-take w (drop at bytes), length-drop at bytes, is)
-
 laid_before : (at w : ℕ) (new bytes : List ℕ) (q : ℕ) → at + w ≤ length bytes → length new ≡ w → q < at →
     get_or (take at bytes ++ (new ++ drop (at + w) bytes)) q 0 ≡ get_or bytes q 0
 laid_before at w new bytes q fits is lt =
@@ -112,7 +102,7 @@ module _ (files : List File) (b : Bindings) (leaders : List (Option ℕ)) (laid 
   held_length r bytes fits = length-take-le (width_of r) (drop (at_of r) bytes) (omega (arith, fits, length-drop (at_of r) bytes))
 
   new_length : (p r : Reloc) (bytes : List ℕ) → Fits bytes r →
-      length (fill p r (held_in (width_of r) (at_of r) bytes) (take (width_of r) (drop (at_of r) bytes))) ≡ width_of r
+      length (fill p r (held_at (width_of r) (at_of r) bytes) (take (width_of r) (drop (at_of r) bytes))) ≡ width_of r
   new_length p r bytes fits = filled_length (is_uleb r.kind) (kind_at r) _ (take (width_of r) (drop (at_of r) bytes)) ∙ held_length r bytes fits
 
   pub put_length : (p r : Reloc) (bytes : List ℕ) → length (put files b leaders laid n p r bytes) ≡ length bytes
@@ -128,5 +118,5 @@ module _ (files : List File) (b : Bindings) (leaders : List (Option ℕ)) (laid 
 
   pub put_within : (p r : Reloc) (bytes : List ℕ) (q : ℕ) → Fits bytes r → at_of r ≤ q → q < at_of r + width_of r →
       slice_index (put files b leaders laid n p r bytes) q
-      ≡ slice_index (fill p r (held_in (width_of r) (at_of r) bytes) (take (width_of r) (drop (at_of r) bytes))) (q - at_of r)
+      ≡ slice_index (fill p r (held_at (width_of r) (at_of r) bytes) (take (width_of r) (drop (at_of r) bytes))) (q - at_of r)
   put_within p r bytes q fits le lt = laid_within (at_of r) (width_of r) _ bytes q fits (new_length p r bytes fits) le lt

@@ -8,9 +8,9 @@ use Rattle.std.proofs.lemmas.List.FromFn.{length-map-range_with_len}
 use Rattle.std.proofs.Math.Seq.{drop-cons}
 use Rattle.link_sections.specs.Cuts.{Cut, AreApart, new_offset}
 use Rattle.link_sections.proofs.CutSums.{by_cut, no_cut}
-use Rattle.rv_code.specs.Instructions.{nop_byte}
+use Rattle.rv_code.specs.Instructions.{nop_byte, rd_of}
 use Rattle.rv_code.specs.Places.{number_of}
-use Rattle.reloc_apply.specs.Staying.{call_bytes, jal_word, kept_bytes, register_of, new_before, no_cut as none, nops, old_before, staying}
+use Rattle.reloc_apply.specs.Staying.{call_bytes, jal_word, kept_bytes, new_before, no_cut as none, nops, old_before, staying}
 
 -- each cut lies in the section
 abbrev pub AreIn : (size : ℕ) → List Cut → Type 0
@@ -21,7 +21,7 @@ unfolding call_bytes
 call_size size raw within = go (size == 4) (size == 2) refl refl
   where
     go : (a b : Bool) → (size == 4) ≡ a → (size == 2) ≡ b →
-        length (if a then to_le_bytes w32 (jal_word (register_of (number_of (take 4 (drop 4 raw))))) else (if b then to_le_bytes w16 0xa001 else take size raw)) ≡ size
+        length (if a then to_le_bytes w32 (jal_word (rd_of (number_of (take 4 (drop 4 raw))))) else (if b then to_le_bytes w16 0xa001 else take size raw)) ≡ size
     go true b is other = sym (eqb-true size 4 is)
     go false true is other = sym (eqb-true size 2 other)
     go false false is other = length-take-le size raw within

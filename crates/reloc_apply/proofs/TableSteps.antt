@@ -1,5 +1,5 @@
 -- The words of the linker's table, entry by entry, laid over a block.
-use Rattle.std.proofs.Common.{◌≡◌, inl, inr, ℕ, zero, suc, ◌+◌, ◌*◌, ◌-◌, ◌<◌, ◌≤◌, List, [], ◌∷◌, ◌++◌, length, flat_map, get_or, slice_index, refl, sym, ap, ◌∙◌, arith, subst, min, Option, pos, ◌^◌}
+use Rattle.std.proofs.Common.{◌≡◌, inl, inr, ℕ, zero, suc, ◌+◌, ◌*◌, ◌-◌, ◌<◌, ◌≤◌, List, [], ◌∷◌, ◌++◌, length, flat_map, get_or, slice_index, refl, sym, ap, ◌∙◌, arith, subst, min, Option}
 use Rattle.std.specs.Int.{to_le_bytes, w64}
 use Rattle.std.specs.List.{sum_by}
 use Rattle.std.specs.List.Sorted.{IsNonDecreasingBy}
@@ -8,7 +8,6 @@ use Rattle.std.specs.Prelude.{if◌then◌else◌}
 use Rattle.std.proofs.lemmas.List.{get_or_past, length-append}
 use Rattle.std.proofs.lemmas.List.Sorted.{IsNonDecreasingBy-from_all_adjacent}
 use Rattle.std.proofs.lemmas.List.Sums.{sum_by-cons}
-use Rattle.lk_base.specs.Arithmetic.{bits_of}
 use Rattle.lk_tables.specs.declared.bounds.Bound.{Bound}
 use Rattle.lk_tables.specs.Binding.{Bindings}
 use Rattle.lk_tables.specs.Files.{File, no_file}
@@ -184,8 +183,3 @@ module _ (files : List File) (b : Bindings) (leaders : List (Option ℕ)) (laid 
       ap (λ ps. byte_over u ps q) (entries_are at 0 laid.table (chain_is laid.table are))
       ∙ ap (λ a. byte_over u (word_pieces a (flat_map words laid.table)) q) e
       ∙ words_over at (flat_map words laid.table) u q
-
--- the bits of a number of 64 bits
-pub bits_same : (a : ℕ) → a < 2 ^ 64 → bits_of (pos a) ≡ a
-unfolding bits_of
-bits_same a lt = omega arith

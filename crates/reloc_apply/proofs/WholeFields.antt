@@ -1,37 +1,16 @@
 -- A value that sets all bits of its place: what the place held before does not matter.
-use Rattle.std.proofs.Common.{◌≡◌, ℕ, zero, suc, ◌+◌, ◌-◌, ◌*◌, ◌/◌, ◌%◌, ◌^◌, ◌<◌, ◌≤◌, ◌&&◌, ◌||◌, inl, inr, Bool, true, false, nat_le, List, [], ◌∷◌, length, get_or, slice_index, refl, sym, ap, ◌∙◌, arith, ℤ}
+use Rattle.std.proofs.Common.{◌≡◌, ℕ, zero, suc, ◌+◌, ◌-◌, ◌*◌, ◌<◌, ◌≤◌, ◌&&◌, ◌||◌, inl, inr, Bool, true, false, nat_le, List, [], ◌∷◌, length, get_or, slice_index, refl, sym, ap, ◌∙◌, arith, ℤ}
 use Rattle.std.specs.Prelude.{if◌then◌else◌}
 use Rattle.std.specs.Int.{bit_at, byte_at, bytes_low_first}
 use Rattle.std.specs.List.{list_all, list_any, range_with_len}
-use Rattle.std.proofs.Math.Nat.{div-one}
 use Rattle.std.proofs.lemmas.Bool.{and_parts, cases_lt}
-use Rattle.std.proofs.lemmas.Nat.Bits.{same_from_bits_below}
-use Rattle.byteorder.proofs.Bytes.{pow256}
 use Rattle.lk_base.specs.Arithmetic.{bits_of}
 use Rattle.lk_base.specs.Fields.{Run, field_bit}
 use Rattle.lk_base.specs.Formats.{Field}
 use Rattle.rv_code.specs.Places.{number_of, of_bits, patched, placed_bit}
-use Rattle.rv_code.proofs.BitRuns.{high_bit, low_bit}
-use Rattle.rv_code.proofs.WholePlaces.{of_bits_bit, placed_small}
+use Rattle.rv_code.proofs.WholePlaces.{byte_same, of_bits_bit, placed_small}
 
--- a byte of a number by its bits
-byte_is : (j x : ℕ) → byte_at j x ≡ x / 256 ^ j % 256
-byte_is zero x = ap (λ y. y % 256) (sym (div-one x))
-byte_is (suc j) x = refl
-
-below : (y b : ℕ) → b ≡ y % 256 → b < 2 ^ 8
-below y b is = omega (arith, is)
-
-byte_bit : (j x i : ℕ) → i < 8 → bit_at (byte_at j x) i ≡ bit_at x (8 * j + i)
-byte_bit j x i lt =
-    ap (λ y. bit_at y i) (byte_is j x ∙ ap (λ d. x / d % 256) (pow256 j))
-    ∙ low_bit (x / 2 ^ (8 * j)) 8 i lt ∙ high_bit x (8 * j) i
-
-byte_same : (j x y : ℕ) → ((i : ℕ) → i < 8 → bit_at x (8 * j + i) ≡ bit_at y (8 * j + i)) → byte_at j x ≡ byte_at j y
-byte_same j x y same =
-    same_from_bits_below 8 (byte_at j x) (byte_at j y) (below (x / 256 ^ j) (byte_at j x) (byte_is j x)) (below (y / 256 ^ j) (byte_at j y) (byte_is j y))
-    (λ i lt. byte_bit j x i lt ∙ same i lt ∙ sym (byte_bit j y i lt))
-
+-- a byte of a number's bytes
 bytes_at : (i n x j : ℕ) → j < n → get_or (bytes_low_first i n x) j 0 ≡ byte_at (i + j) x
 bytes_at i zero x j lt = absurd (omega (arith, lt))
 bytes_at i (suc n) x zero lt = let e : i ≡ i + 0 = omega arith in ap (λ k. byte_at k x) e

@@ -3,23 +3,21 @@ use Rattle.std.specs.Prelude.{ℕ, ◌+◌, ◌-◌, ◌==◌, ◌&&◌, not, na
 use Rattle.std.specs.Int.{to_le_bytes, w64}
 use Rattle.std.specs.List.{list_any, range_with_len}
 use Rattle.lk_base.specs.Arithmetic.{bits_of}
-use Rattle.lk_base.specs.Reaches.{Reach, misfit_of}
+use Rattle.lk_base.specs.Reaches.{Reach}
 use Rattle.lk_base.specs.RelocKinds.{Kind, is_lower, is_uleb}
 use Rattle.lk_base.specs.declared.abi.TheConstants.{IMAGE_BASE, SHT_NOBITS}
 use Rattle.lk_base.specs.declared.defects.Defect.{Defect}
-use Rattle.lk_base.specs.declared.defects.Misfit.{Misfit}
-use Rattle.lk_base.specs.declared.defects.Misfit.TheVariants.{Odd, Range}
-use Rattle.lk_base.specs.declared.kinds.DefectKind.{DefectKind}
 use Rattle.lk_base.specs.declared.kinds.TheConstants as kinds
 use Rattle.lk_tables.specs.declared.bounds.Bound.{Bound}
 use Rattle.lk_tables.specs.declared.bounds.Bound.TheVariants.{InSection, Number, Linker, Nobody}
 use Rattle.lk_tables.specs.declared.objects.Reloc.{Reloc}
-use Rattle.lk_tables.specs.declared.section_places.SectionPlace.{SectionPlace}
 use Rattle.lk_tables.specs.Binding.{Bindings}
 use Rattle.lk_tables.specs.Files.{File, no_reloc, section_total}
 use Rattle.lk_tables.specs.Sites as sites
 use Rattle.lk_tables.specs.Sites.{relocs_of}
 use Rattle.lk_tables.specs.Targets.{bound}
+use Rattle.lk_tables.specs.Misfits.{value_defects}
+use Rattle.lk_tables.specs.Walks.{reloc_defect}
 use Rattle.link_sections.specs.declared.got.GotEntry.{GotEntry}
 use Rattle.link_sections.specs.declared.got.GotUse.{GotUse}
 use Rattle.link_sections.specs.declared.got.GotUse.TheVariants.{Address, ThreadOffset, GeneralDynamic}
@@ -31,26 +29,11 @@ use Rattle.link_sections.specs.Calls.{acting_kind, width_in}
 use Rattle.link_sections.specs.InputSections.{input_at}
 use Rattle.link_sections.specs.LaidOut.{LaidOut, cuts_at, start_at}
 use Rattle.link_sections.specs.Leaders.{is_number, leads}
-use Rattle.rv_code.specs.Places.{patched}
+use Rattle.rv_code.specs.Places.{patched, held_at}
 use Rattle.rv_code.specs.Uleb.{uleb_patched, uleb_reach}
 use Rattle.reloc_apply.specs.Image.{Piece, piece}
 use Rattle.reloc_apply.specs.Staying.{staying}
-use Rattle.reloc_apply.specs.Values.{held_in, offset_of, partner_of, sum_of, value_of}
-
--- a defect of relocation r of a section
-abbrev pub reloc_defect : DefectKind → SectionPlace → Reloc → (other : ℕ) → Defect
-reloc_defect kind place r other =
-    record { kind = kind; file = place.file; section = place.index; place = r.offset; symbol = r.symbol; other = other }
-
-abbrev pub misfit_defects : SectionPlace → Reloc → ℤ → Option Misfit → List Defect
-misfit_defects place r v None = []
-misfit_defects place r v (Some Odd) = reloc_defect kinds.ODD place r (bits_of v) ∷ []
-misfit_defects place r v (Some Range) = reloc_defect kinds.RANGE place r (bits_of v) ∷ []
-
--- a value that its field does not take
-abbrev pub value_defects : SectionPlace → Reloc → Reach → Option ℤ → List Defect
-value_defects place r reach None = []
-value_defects place r reach (Some v) = misfit_defects place r v (misfit_of reach v)
+use Rattle.reloc_apply.specs.Values.{offset_of, partner_of, sum_of, value_of}
 
 -- which values a place takes that a kind fills: one that is a ULEB128 number as many bits as its bytes have
 abbrev pub reach_in : (uleb : Bool) → Kind → (width : ℕ) → Reach
@@ -92,7 +75,7 @@ module _ (files : List File) (b : Bindings) (leaders : List (Option ℕ)) (laid 
   -- place holds take every value
   unfoldable pub reloc_defects : (n : ℕ) → (p r : Reloc) → List Defect
   reloc_defects n p r = if is_lower r.kind && not (is_some (partner_of files b leaders laid n r))
-      then reloc_defect kinds.NO_PARTNER (sites.place_of files n) r 0 ∷ []
+      then reloc_defect kinds.NO_PARTNER (sites.place_of files n).file (sites.place_of files n).index r 0 ∷ []
       else value_defects (sites.place_of files n) r (reach_in (is_uleb r.kind) (acting_kind (cuts_at laid n) r) (width_at n r))
       (value_of files b leaders laid n r (operand n p r (pos 0)))
 
@@ -114,7 +97,7 @@ module _ (files : List File) (b : Bindings) (leaders : List (Option ℕ)) (laid 
       let at = offset_of files b leaders laid n r in
       let width = width_at n r in
       take at bytes
-      ++ (filled (is_uleb r.kind) (acting_kind (cuts_at laid n) r) (value_of files b leaders laid n r (operand n p r (held_in width at bytes))) (take width (drop at bytes))
+      ++ (filled (is_uleb r.kind) (acting_kind (cuts_at laid n) r) (value_of files b leaders laid n r (operand n p r (held_at width at bytes))) (take width (drop at bytes))
       ++ drop (at + width) bytes)
 
   -- the bytes that section n has in its file, and those of them that stay
@@ -133,7 +116,7 @@ module _ (files : List File) (b : Bindings) (leaders : List (Option ℕ)) (laid 
   unfoldable pub value_at : (n k : ℕ) → Option ℤ
   value_at n k =
       let r = reloc_at n k in
-      value_of files b leaders laid n r (operand n (reloc_at n (k - 1)) r (held_in (width_at n r) (offset_of files b leaders laid n r) (bytes_after n k)))
+      value_of files b leaders laid n r (operand n (reloc_at n (k - 1)) r (held_at (width_at n r) (offset_of files b leaders laid n r) (bytes_after n k)))
 
   -- the bytes of section n in the executable
   unfoldable pub section_bytes : (n : ℕ) → List ℕ

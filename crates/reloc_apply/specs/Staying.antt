@@ -3,7 +3,7 @@ use Rattle.std.specs.Prelude.{ℕ, ◌+◌, ◌-◌, ◌*◌, ◌/◌, ◌%◌, 
 use Rattle.std.specs.Int.{to_le_bytes, w16, w32}
 use Rattle.std.specs.List.{range_with_len}
 use Rattle.link_sections.specs.Cuts.{Cut, new_offset}
-use Rattle.rv_code.specs.Instructions.{nop_byte}
+use Rattle.rv_code.specs.Instructions.{nop_byte, rd_of}
 use Rattle.rv_code.specs.Places.{number_of}
 
 -- so many bytes of nops
@@ -12,14 +12,11 @@ nops count = map (nop_byte count) (range_with_len 0 count)
 
 -- what a call becomes: `jal` with the register of its second instruction, or `c.j`, with a displacement of 0 until its relocation is done
 -- (unprivileged manual, "RV32/64G Instruction Set Listings" and "RVC Instruction Set Listings"); of eight bytes, what it was
-abbrev pub register_of : (word : ℕ) → ℕ
-register_of word = word / 2 ^ 7 % 2 ^ 5
-
 abbrev pub jal_word : (register : ℕ) → ℕ
 jal_word register = 0x6f + register * 2 ^ 7
 
 unfoldable pub call_bytes : (size : ℕ) → (raw : List ℕ) → List ℕ
-call_bytes size raw = if size == 4 then to_le_bytes w32 (jal_word (register_of (number_of (take 4 (drop 4 raw)))))
+call_bytes size raw = if size == 4 then to_le_bytes w32 (jal_word (rd_of (number_of (take 4 (drop 4 raw)))))
     else (if size == 2 then to_le_bytes w16 0xa001 else take size raw)
 
 -- what stays of a cut: nops of an alignment, and else a jump in place of a call

@@ -1,5 +1,5 @@
 -- What a relocation puts into its place (RISC-V ELF psABI, "Relocations": S, A, P, G, V; "Thread Local Storage": the thread pointer T).
-use Rattle.std.specs.Prelude.{ℕ, ◌+◌, ◌*◌, ◌==◌, ◌&&◌, ◌||◌, not, ℤ, pos, ◌+ℤ◌, ◌-ℤ◌, Bool, true, false, Option, Some, None, is_some, unwrap_or, option_and_then, if◌then◌else◌, List, find, take, drop}
+use Rattle.std.specs.Prelude.{ℕ, ◌+◌, ◌*◌, ◌==◌, ◌&&◌, ◌||◌, not, ℤ, pos, ◌+ℤ◌, ◌-ℤ◌, Bool, true, false, Option, Some, None, is_some, unwrap_or, option_and_then, if◌then◌else◌, List, find}
 use Rattle.lk_base.specs.RelocKinds.{kind_of, has_value, is_lower, is_upper}
 use Rattle.lk_base.specs.declared.relocations.Calculation.{Calculation}
 use Rattle.lk_base.specs.declared.relocations.Calculation.TheVariants.{Address, Distance, GotDistance, ThreadOffset, Increase, Decrease}
@@ -21,7 +21,6 @@ use Rattle.link_sections.specs.GotEntries.{key_of, use_of, word_of}
 use Rattle.link_sections.specs.LaidOut.{LaidOut, cuts_at, start_at}
 use Rattle.link_sections.specs.PieceTargets.{piece_target}
 pub use Rattle.link_sections.specs.Sums.{addend_of}
-use Rattle.rv_code.specs.Places.{number_of}
 
 -- a symbol that nothing defines is at the thread pointer
 abbrev pub is_zero : Target → Bool
@@ -53,10 +52,6 @@ label_in own Unbound = None
 -- an upper part at an offset
 abbrev pub is_upper_at : ℕ → Reloc → Bool
 is_upper_at offset r = r.offset == offset && is_upper r.kind
-
--- V: what so many bytes at a place hold, as a number
-abbrev pub held_in : (width at : ℕ) → (bytes : List ℕ) → ℤ
-held_in width at bytes = pos (number_of (take width (drop at bytes)))
 
 module _ (files : List File) (b : Bindings) (leaders : List (Option ℕ)) (laid : LaidOut) where
   -- what relocation r of section n stands for: where its byte was in the input, and where it is once equal pieces are merged

@@ -8,7 +8,7 @@ ghost use Rattle.lk_base.specs.RelocKinds.{HasValue};
 ghost use Rattle.lk_tables.specs.Files.{file_at, is_section_symbol, no_reloc, section_total, symbol_at};
 ghost use Rattle.lk_tables.specs.Sites.{relocs_of};
 ghost use Rattle.link_sections.specs.Leaders.{leads};
-ghost use Rattle.link_sections.specs.Views.{binding_in, files_in, laid_in, leaders_in};
+ghost use Rattle.link_sections.specs.Views.{by_view, files_in, leaders_in};
 ghost use Rattle.reloc_apply.specs.Relocated as spec;
 ghost use Rattle.reloc_apply.specs.Sites.{HasSymbol, IsSite, reach_of, takes_every};
 
@@ -25,10 +25,10 @@ use lk_base::abi::{
     R_RISCV_SUB8, R_RISCV_SUB16, R_RISCV_SUB32, R_RISCV_SUB64, R_RISCV_TPREL_LO12_I,
     R_RISCV_TPREL_LO12_S,
 };
-use lk_base::kinds::{NO_PARTNER, ODD, RANGE};
+use lk_base::kinds::NO_PARTNER;
 use lk_base::relocations::is_uleb;
-use lk_base::{Defect, DefectKind, LinkStop, Misfit, SecNo, low_bits};
-use lk_tables::{Reloc, SectionPlace};
+use lk_base::{Defect, LinkStop, Misfit, SecNo};
+use lk_tables::{Reloc, misfit_defect, reloc_defect};
 use rv_code::{fits, fits_uleb};
 use std::alloc::Global;
 use std::ops::Range;
@@ -46,7 +46,7 @@ pub fn check_relocations<R: Threads + Sync, G: Gate>(
 ) -> Result<(), LinkStop>
     requires some { 1 ≤ workers }
     requires most { workers ≤ 64 }
-    ensures { Goes result (spec.relocation_defects (files_in view.now) (binding_in view.now) (leaders_in view.now) (laid_in view.now)) }
+    ensures { Goes result (by_view spec.relocation_defects view.now) }
 {
     let numbers = first_numbers(alloc, view.tables)?;
     let firsts = numbers.as_slice();
@@ -60,7 +60,7 @@ pub fn check_relocations<R: Threads + Sync, G: Gate>(
             requires order { piece.start ≤ piece.end }
             requires count { length firsts.now ≡ section_total (files_in view.now) + 1 }
             requires firsts { (n : ℕ) → n ≤ section_total (files_in view.now) → slice_index firsts.now n ≡ length (flat_map (relocs_of (files_in view.now)) (range_with_len 0 n)) }
-            ensures { Goes result (flat_map (λ i. slice_index_or (flat_map (λ n. map (λ k. if leads (leaders_in view.entry.now) n then spec.defects_at (files_in view.entry.now) (binding_in view.entry.now) (leaders_in view.entry.now) (laid_in view.entry.now) n k else []) (range_with_len 0 (length (relocs_of (files_in view.entry.now) n)))) (range_with_len 0 (section_total (files_in view.entry.now)))) i []) (range_with_len piece.start (piece.end - piece.start))) }
+            ensures { Goes result (flat_map (λ i. slice_index_or (flat_map (λ n. map (λ k. if leads (leaders_in view.entry.now) n then by_view spec.defects_at view.entry.now n k else []) (range_with_len 0 (length (relocs_of (files_in view.entry.now) n)))) (range_with_len 0 (section_total (files_in view.entry.now)))) i []) (range_with_len piece.start (piece.end - piece.start))) }
         { check_numbers(alloc, view, firsts, piece) },
     );
     match checked {
@@ -79,7 +79,7 @@ fn check_numbers(
     requires order { piece.start ≤ piece.end }
     requires count { length firsts.now ≡ section_total (files_in view.now) + 1 }
     requires firsts { (n : ℕ) → n ≤ section_total (files_in view.now) → slice_index firsts.now n ≡ length (flat_map (relocs_of (files_in view.now)) (range_with_len 0 n)) }
-    ensures { Goes result (flat_map (λ i. slice_index_or (flat_map (λ n. map (λ k. if leads (leaders_in view.now) n then spec.defects_at (files_in view.now) (binding_in view.now) (leaders_in view.now) (laid_in view.now) n k else []) (range_with_len 0 (length (relocs_of (files_in view.now) n)))) (range_with_len 0 (section_total (files_in view.now)))) i []) (range_with_len piece.start (piece.end - piece.start))) }
+    ensures { Goes result (flat_map (λ i. slice_index_or (flat_map (λ n. map (λ k. if leads (leaders_in view.now) n then by_view spec.defects_at view.now n k else []) (range_with_len 0 (length (relocs_of (files_in view.now) n)))) (range_with_len 0 (section_total (files_in view.now)))) i []) (range_with_len piece.start (piece.end - piece.start))) }
 {
     view.tables.prove_few();
     let from = piece.start as u64;
@@ -104,7 +104,7 @@ fn check_numbers(
 /// The first defect of a section's relocations from one on and before another, if it is its own leader.
 fn check_section(view: &View, section: SecNo, from: usize, to: usize) -> Option<Defect>
     requires { section < section_total (files_in view.now) }
-    ensures { IsFirst (flat_map (λ x. if leads (leaders_in view.now) section then spec.defects_at (files_in view.now) (binding_in view.now) (leaders_in view.now) (laid_in view.now) section x else []) (range_with_len from (min to (length (relocs_of (files_in view.now) section)) - from))) result }
+    ensures { IsFirst (flat_map (λ x. if leads (leaders_in view.now) section then by_view spec.defects_at view.now section x else []) (range_with_len from (min to (length (relocs_of (files_in view.now) section)) - from))) result }
 {
     if !leads(view.leaders, section as usize) {
         return None;
@@ -119,7 +119,7 @@ fn check_relocs(view: &View, site: Site, relocs: &[Reloc], from: usize, to: usiz
     requires site { IsSite (files_in view.now) site }
     requires symbols { All (HasSymbol (files_in view.now) site) relocs.now }
     requires to { to ≤ length relocs.now }
-    ensures { IsFirst (flat_map (λ x. spec.reloc_defects (files_in view.now) (binding_in view.now) (leaders_in view.now) (laid_in view.now) site.section (slice_index_or relocs.now (x - 1) no_reloc) (slice_index_or relocs.now x no_reloc)) (range_with_len from (to - from))) result }
+    ensures { IsFirst (flat_map (λ x. by_view spec.reloc_defects view.now site.section (slice_index_or relocs.now (x - 1) no_reloc) (slice_index_or relocs.now x no_reloc)) (range_with_len from (to - from))) result }
 {
     let plain = plain_from(view, site, relocs.len());
     for k in from..to {
@@ -150,7 +150,7 @@ pub fn check_reloc(
     requires reloc { k < length relocs.now }
     requires symbol { HasSymbol (files_in view.now) site (slice_index_or relocs.now k no_reloc) }
     requires plain { plain ≡ true → is_section_symbol (symbol_at (file_at (files_in view.now) site.place.file) (slice_index_or relocs.now k no_reloc).symbol) ≡ false }
-    ensures { IsFirst (spec.reloc_defects (files_in view.now) (binding_in view.now) (leaders_in view.now) (laid_in view.now) site.section (slice_index_or relocs.now (k - 1) no_reloc) (slice_index_or relocs.now k no_reloc)) result }
+    ensures { IsFirst (by_view spec.reloc_defects view.now site.section (slice_index_or relocs.now (k - 1) no_reloc) (slice_index_or relocs.now k no_reloc)) result }
 {
     let reloc = &relocs[k];
     if is_hint(reloc.kind) {
@@ -160,7 +160,7 @@ pub fn check_reloc(
         return None;
     }
     let Ok(value) = value_of(view, site, reloc, plain, operand(view, site, relocs, k, 0)) else {
-        return Some(reloc_defect(NO_PARTNER, site.place, reloc, 0));
+        return Some(reloc_defect(NO_PARTNER, site.place.file, site.place.index, reloc, 0));
     };
     let Some(v) = value else {
         return None;
@@ -209,29 +209,4 @@ fn fits_place(view: &View, site: Site, reloc: &Reloc, v: i128) -> Result<(), Mis
         return fits_uleb(number_width(view, site, reloc) as u32, v);
     }
     fits(acting_kind(view, site.section, reloc), v)
-}
-
-/// The defect of a value that its field does not take.
-fn misfit_defect(place: SectionPlace, reloc: &Reloc, v: i128, misfit: Misfit) -> Defect
-    ensures { spec.misfit_defects place reloc.now v (Some misfit) ≡ result ∷ [] }
-{
-    let kind = match misfit {
-        Misfit::Odd => ODD,
-        Misfit::Range => RANGE,
-    };
-    reloc_defect(kind, place, reloc, low_bits(v))
-}
-
-/// A defect of a relocation.
-fn reloc_defect(kind: DefectKind, place: SectionPlace, reloc: &Reloc, other: u64) -> Defect
-    ensures { result ≡ spec.reloc_defect kind place reloc.now other }
-{
-    Defect {
-        kind,
-        file: place.file,
-        section: place.index,
-        place: reloc.offset,
-        symbol: reloc.symbol,
-        other,
-    }
 }

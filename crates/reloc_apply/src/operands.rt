@@ -7,7 +7,7 @@ ghost use Rattle.lk_tables.specs.Files.{no_reloc};
 ghost use Rattle.lk_tables.specs.UlebLengths as lengths;
 ghost use Rattle.link_sections.specs.Calls.{acting_width};
 ghost use Rattle.link_sections.specs.LaidOut.{cuts_at};
-ghost use Rattle.link_sections.specs.Views.{binding_in, files_in, laid_in, leaders_in};
+ghost use Rattle.link_sections.specs.Views.{by_view, files_in, laid_in};
 ghost use Rattle.reloc_apply.specs.Relocated as spec;
 ghost use Rattle.reloc_apply.specs.Sites.{IsMadeFrom, IsSite, width_by};
 
@@ -25,7 +25,7 @@ use lk_tables::{Reloc, uleb_len};
 pub fn operand(view: &View, site: Site, relocs: &[Reloc], k: usize, held: u64) -> i128
     requires site { IsSite (files_in view.now) site }
     requires reloc { k < length relocs.now }
-    ensures value { result ≡ spec.operand (files_in view.now) (binding_in view.now) (leaders_in view.now) (laid_in view.now) site.section (slice_index_or relocs.now (k - 1) no_reloc) (slice_index_or relocs.now k no_reloc) (pos held) }
+    ensures value { result ≡ by_view spec.operand view.now site.section (slice_index_or relocs.now (k - 1) no_reloc) (slice_index_or relocs.now k no_reloc) (pos held) }
     ensures low { negsuc (2 ^ 63) ≤ℤ result }
     ensures high { result ≤ℤ pos (2 ^ 67) }
 {
@@ -52,7 +52,7 @@ pub fn width_in(view: &View, source: &Source, reloc: &Reloc) -> u64
 pub fn number_width(view: &View, site: Site, reloc: &Reloc) -> u64
     requires site { IsSite (files_in view.now) site }
     requires kind { is_uleb reloc.now.kind ≡ true }
-    ensures value { result ≡ spec.width_at (files_in view.now) (binding_in view.now) (leaders_in view.now) (laid_in view.now) site.section reloc.now }
+    ensures value { result ≡ by_view spec.width_at view.now site.section reloc.now }
     ensures few { result ≤ 10 }
 {
     number_len(contents(view, site), reloc.offset)

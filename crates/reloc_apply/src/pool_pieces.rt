@@ -4,7 +4,7 @@ ghost use Rattle.std.specs.Prelude.{◌≡◌, ℕ, ◌+◌, ◌-◌, ◌^◌, �
 ghost use Rattle.lk_tables.specs.TablesView.{files_of};
 ghost use Rattle.link_sections.specs.Addresses.{no_pool};
 ghost use Rattle.link_sections.specs.PoolViews.{piece_text};
-ghost use Rattle.link_sections.specs.Views.{binding_in, files_in, laid_in, leaders_in};
+ghost use Rattle.link_sections.specs.Views.{by_view, laid_in};
 ghost use Rattle.reloc_apply.specs.Image.{ShowsFrom, piece};
 ghost use Rattle.reloc_apply.specs.Relocated.{pool_pieces};
 ghost use Rattle.reloc_apply.specs.Standing.{AreStacked, no_piece};
@@ -19,7 +19,7 @@ pub fn write_pool(block: &mut [u8], from: u64, view: &View, pool: u32, at: u64)
     requires block { from + length block.old < 2 ^ 63 }
     requires number { pool < length (laid_in view.now).merging.pools }
     requires room { at + (slice_index_or (laid_in view.now).merging.pools pool no_pool).size < 2 ^ 63 }
-    ensures { ShowsFrom from block.old block.new (pool_pieces (files_in view.now) (binding_in view.now) (leaders_in view.now) (laid_in view.now) at pool) }
+    ensures { ShowsFrom from block.old block.new (by_view pool_pieces view.now at pool) }
 {
     let pieces = view.pools.pieces(pool);
     let end = from + block.len() as u64;

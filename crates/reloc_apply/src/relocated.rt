@@ -7,7 +7,7 @@ ghost use Rattle.lk_base.specs.declared.abi.TheConstants.{IMAGE_BASE};
 ghost use Rattle.lk_tables.specs.Files.{section_total};
 ghost use Rattle.link_sections.specs.declared.members.Content.TheVariants.{Section};
 ghost use Rattle.link_sections.specs.LaidOut.{start_at};
-ghost use Rattle.link_sections.specs.Views.{binding_in, files_in, laid_in, leaders_in};
+ghost use Rattle.link_sections.specs.Views.{by_view, files_in, laid_in};
 ghost use Rattle.reloc_apply.specs.Image.{ShowsFrom};
 ghost use Rattle.reloc_apply.specs.Relocated as spec;
 ghost use Rattle.reloc_apply.specs.Founds.{AreOneAfterOther, IsFound, no_member};
@@ -30,10 +30,10 @@ use lk_base::{Defect, SecNo};
 /// memory. It is sure to write where all relocations can be done.
 pub fn apply(block: &mut [u8], from: u64, view: &View) -> Result<(), Defect>
     requires { from + length block.old < 2 ^ 63 }
-    ensures goes { Passes result (spec.touching_defects (files_in view.now) (binding_in view.now) (leaders_in view.now) (laid_in view.now) from (length block.old)) }
-    ensures bytes { OnOk result (ShowsFrom from block.old block.new (spec.relocated_pieces (files_in view.now) (binding_in view.now) (leaders_in view.now) (laid_in view.now))) }
+    ensures goes { Passes result (by_view spec.touching_defects view.now from (length block.old)) }
+    ensures bytes { OnOk result (ShowsFrom from block.old block.new (by_view spec.relocated_pieces view.now)) }
     ensures kept { OnErr result (block.new ≡ block.old) }
-    ensures sure { spec.relocation_defects (files_in view.now) (binding_in view.now) (leaders_in view.now) (laid_in view.now) ≡ [] → IsOk result }
+    ensures sure { by_view spec.relocation_defects view.now ≡ [] → IsOk result }
 {
     if let Some(defect) = first_defect(view, from, block.len() as u64) {
         return Err(defect);
@@ -47,7 +47,7 @@ pub fn apply(block: &mut [u8], from: u64, view: &View) -> Result<(), Defect>
 #[tactic(auto, unfolding(crate::specs::Relocated::relocated_pieces))]
 pub fn write_block(block: &mut [u8], from: u64, view: &View)
     requires { from + length block.old < 2 ^ 63 }
-    ensures { ShowsFrom from block.old block.new (spec.relocated_pieces (files_in view.now) (binding_in view.now) (leaders_in view.now) (laid_in view.now)) }
+    ensures { ShowsFrom from block.old block.new (by_view spec.relocated_pieces view.now) }
 {
     let last = members_before(view, from + block.len() as u64);
     for k in members_past(view, from)..last {
@@ -106,7 +106,7 @@ fn begun_before(members: &[Member], address: u64) -> usize
 fn write_member(block: &mut [u8], from: u64, view: &View, k: usize)
     requires block { from + length block.old < 2 ^ 63 }
     requires member { k < length (laid_in view.now).members }
-    ensures { ShowsFrom from block.old block.new (spec.member_pieces (files_in view.now) (binding_in view.now) (leaders_in view.now) (laid_in view.now) (slice_index_or (laid_in view.now).members k no_member)) }
+    ensures { ShowsFrom from block.old block.new (by_view spec.member_pieces view.now (slice_index_or (laid_in view.now).members k no_member)) }
 {
     let member = member_at(view, k);
     let at = member.start - IMAGE_BASE;
@@ -131,9 +131,9 @@ fn member_at(view: &View, k: usize) -> Member
 fn write_section(block: &mut [u8], from: u64, view: &View, section: SecNo, at: u64)
     requires block { from + length block.old < 2 ^ 63 }
     requires number { section < section_total (files_in view.now) }
-    requires laid { spec.has_bits (files_in view.now) (binding_in view.now) (leaders_in view.now) (laid_in view.now) section ≡ true → spec.is_laid (files_in view.now) (binding_in view.now) (leaders_in view.now) (laid_in view.now) section ≡ true }
+    requires laid { by_view spec.has_bits view.now section ≡ true → by_view spec.is_laid view.now section ≡ true }
     requires place { at ≡ start_at (laid_in view.now) section - IMAGE_BASE }
-    ensures { ShowsFrom from block.old block.new (spec.content_pieces (files_in view.now) (binding_in view.now) (leaders_in view.now) (laid_in view.now) at (Section section)) }
+    ensures { ShowsFrom from block.old block.new (by_view spec.content_pieces view.now at (Section section)) }
 {
     if !has_bits(view, site_of(view.tables, section)) {
         return;
@@ -146,7 +146,7 @@ fn write_section(block: &mut [u8], from: u64, view: &View, section: SecNo, at: u
 /// The number of a member's section, if it is one with bytes in its file.
 fn section_in(view: &View, k: usize) -> Option<SecNo>
     requires { k < length (laid_in view.now).members }
-    ensures { result ≡ spec.written_in (files_in view.now) (binding_in view.now) (leaders_in view.now) (laid_in view.now) (slice_index_or (laid_in view.now).members k no_member).content }
+    ensures { result ≡ by_view spec.written_in view.now (slice_index_or (laid_in view.now).members k no_member).content }
 {
     match member_at(view, k).content {
         Content::Section(section) => with_bits(view, section),
@@ -158,7 +158,7 @@ fn section_in(view: &View, k: usize) -> Option<SecNo>
 /// The number of a section, if that has bytes in its file.
 fn with_bits(view: &View, section: SecNo) -> Option<SecNo>
     requires { section < section_total (files_in view.now) }
-    ensures { result ≡ (if spec.has_bits (files_in view.now) (binding_in view.now) (leaders_in view.now) (laid_in view.now) section then Some section else None) }
+    ensures { result ≡ (if by_view spec.has_bits view.now section then Some section else None) }
 {
     if !has_bits(view, site_of(view.tables, section)) {
         return None;
@@ -170,7 +170,7 @@ fn with_bits(view: &View, section: SecNo) -> Option<SecNo>
 #[tactic(auto, unfolding(crate::specs::Relocated::touching_defects))]
 fn first_defect(view: &View, from: u64, len: u64) -> Option<Defect>
     requires { from + len < 2 ^ 63 }
-    ensures { IsFirst (spec.touching_defects (files_in view.now) (binding_in view.now) (leaders_in view.now) (laid_in view.now) from len) result }
+    ensures { IsFirst (by_view spec.touching_defects view.now from len) result }
 {
     let last = members_before(view, from + len);
     let mut least = None;
@@ -187,8 +187,8 @@ fn first_defect(view: &View, from: u64, len: u64) -> Option<Defect>
 fn found_in(view: &View, k: usize, from: u64, len: u64) -> Option<Found>
     requires block { from + len < 2 ^ 63 }
     requires member { k < length (laid_in view.now).members }
-    ensures { IsFound (spec.section_touching (files_in view.now) (binding_in view.now) (leaders_in view.now) (laid_in view.now) from len)
-        (spec.written_in (files_in view.now) (binding_in view.now) (leaders_in view.now) (laid_in view.now) (slice_index_or (laid_in view.now).members k no_member).content) result }
+    ensures { IsFound (by_view spec.section_touching view.now from len)
+        (by_view spec.written_in view.now (slice_index_or (laid_in view.now).members k no_member).content) result }
 {
     let Some(section) = section_in(view, k) else {
         return None;

@@ -9,7 +9,7 @@ ghost use Rattle.lk_tables.specs.Sites.{relocs_of};
 ghost use Rattle.link_sections.specs.CutsView.{AreCuts, cut_views};
 ghost use Rattle.link_sections.specs.LaidOut.{cuts_at};
 ghost use Rattle.link_sections.specs.Leaders.{leads};
-ghost use Rattle.link_sections.specs.Views.{binding_in, files_in, laid_in, leaders_in};
+ghost use Rattle.link_sections.specs.Views.{by_view, files_in, laid_in, leaders_in};
 ghost use Rattle.reloc_apply.specs.Relocated.{filled, put, section_bytes, value_at};
 ghost use Rattle.reloc_apply.specs.Sites.{HasSymbolIn, IsFresh, IsIn, IsMadeFrom, IsOver, Shows, bytes_by, end_by, first_bytes, offset_by, set_by, width_by};
 ghost use Rattle.reloc_apply.specs.Sites as spec_sites;
@@ -43,8 +43,8 @@ pub fn value(view: &View, section: SecNo, reloc: usize) -> Option<i128>
     requires number { section < section_total (files_in view.now) }
     requires own { leads (leaders_in view.now) section ≡ true }
     requires reloc { reloc < length (relocs_of (files_in view.now) section) }
-    ensures value { result ≡ value_at (files_in view.now) (binding_in view.now) (leaders_in view.now) (laid_in view.now) section reloc }
-    ensures some { is_some result ≡ spec.gives_value (files_in view.now) (binding_in view.now) (leaders_in view.now) (laid_in view.now) section (slice_index_or (relocs_of (files_in view.now) section) reloc no_reloc) }
+    ensures value { result ≡ by_view value_at view.now section reloc }
+    ensures some { is_some result ≡ by_view spec.gives_value view.now section (slice_index_or (relocs_of (files_in view.now) section) reloc no_reloc) }
 {
     let own = relocs_at(view.tables, site_of(view.tables, section))[reloc];
     if !has_value(own.kind) {
@@ -57,7 +57,7 @@ pub fn value(view: &View, section: SecNo, reloc: usize) -> Option<i128>
 fn value_by(view: &View, source: &Source, reloc: usize) -> Option<i128>
     requires source { IsMadeFrom view.now source.now }
     requires reloc { reloc < length source.now.relocs.now }
-    ensures { result ≡ value_at (files_in view.now) (binding_in view.now) (leaders_in view.now) (laid_in view.now) source.now.site.section reloc }
+    ensures { result ≡ by_view value_at view.now source.now.site.section reloc }
 {
     let own = &source.relocs[reloc];
     let first = chain_start(view, source, reloc);
@@ -89,7 +89,7 @@ fn value_in(view: &View, site: Site, reloc: &Reloc, plain: bool, held: i128) -> 
     requires plain { plain ≡ true → is_section_symbol (symbol_at (file_at (files_in view.now) site.place.file) reloc.now.symbol) ≡ false }
     requires low { negsuc (2 ^ 63) ≤ℤ held }
     requires high { held ≤ℤ pos (2 ^ 67) }
-    ensures value { result ≡ spec.value_of (files_in view.now) (binding_in view.now) (leaders_in view.now) (laid_in view.now) site.section reloc.now held }
+    ensures value { result ≡ by_view spec.value_of view.now site.section reloc.now held }
     ensures kind { IfSome result (λ _. HasValue reloc.now.kind) }
 {
     match value_of(view, site, reloc, plain, held) {
@@ -103,7 +103,7 @@ pub fn relocate(block: &mut [u8], from: u64, view: &View, source: &Source)
     requires block { from + length block.old < 2 ^ 63 }
     requires source { IsMadeFrom view.now source.now }
     requires shown { IsOver from source.now.at (first_bytes view.now source.now) block.old block.old }
-    ensures { IsOver from source.now.at (section_bytes (files_in view.now) (binding_in view.now) (leaders_in view.now) (laid_in view.now) source.now.site.section) block.old block.new }
+    ensures { IsOver from source.now.at (by_view section_bytes view.now source.now.site.section) block.old block.new }
 {
     let near = first_near(view, source, from);
     let last = first_after(view, source, from + block.len() as u64);
@@ -279,7 +279,7 @@ fn step(
     requires window { length window.old ≡ 10 }
     ensures at { result ≡ offset_by view.now source.now (slice_index_or source.now.relocs.now k no_reloc) }
     ensures bytes { (state : List ℕ) → Shows state at window.old → IsFresh (first_bytes view.now source.now) state (at + 10) → length state ≡ length (first_bytes view.now source.now)
-        → Shows (put (files_in view.now) (binding_in view.now) (leaders_in view.now) (laid_in view.now) source.now.site.section (slice_index_or source.now.relocs.now (k - 1) no_reloc) (slice_index_or source.now.relocs.now k no_reloc) state) result window.new }
+        → Shows (by_view put view.now source.now.site.section (slice_index_or source.now.relocs.now (k - 1) no_reloc) (slice_index_or source.now.relocs.now k no_reloc) state) result window.new }
     ensures over { IsOver from (source.now.at + offset_by view.now source.now (slice_index_or source.now.relocs.now k no_reloc)) (take (width_by view.now source.now (slice_index_or source.now.relocs.now k no_reloc)) window.new) block.old block.new }
 {
     let reloc = &source.relocs[k];
@@ -318,7 +318,7 @@ fn put_in(
     requires width { is_uleb reloc.now.kind ≡ false → width ≡ acting_width (cuts_at (laid_in view.now) site.section) reloc.now }
     requires few { width ≤ 10 }
     requires window { length window.old ≡ 10 }
-    ensures { window.new ≡ filled (is_uleb reloc.now.kind) (spec_kind (cuts_at (laid_in view.now) site.section) reloc.now) (spec.value_of (files_in view.now) (binding_in view.now) (leaders_in view.now) (laid_in view.now) site.section reloc.now held) (take width window.old) ++ drop width window.old }
+    ensures { window.new ≡ filled (is_uleb reloc.now.kind) (spec_kind (cuts_at (laid_in view.now) site.section) reloc.now) (by_view spec.value_of view.now site.section reloc.now held) (take width window.old) ++ drop width window.old }
 {
     fill_place(
         view,
@@ -338,7 +338,7 @@ fn fill_place(view: &View, site: Site, reloc: &Reloc, plain: bool, held: i128, p
     requires low { negsuc (2 ^ 63) ≤ℤ held }
     requires high { held ≤ℤ pos (2 ^ 67) }
     requires width { is_uleb reloc.now.kind ≡ false → length place.old ≡ acting_width (cuts_at (laid_in view.now) site.section) reloc.now }
-    ensures { place.new ≡ filled (is_uleb reloc.now.kind) (spec_kind (cuts_at (laid_in view.now) site.section) reloc.now) (spec.value_of (files_in view.now) (binding_in view.now) (leaders_in view.now) (laid_in view.now) site.section reloc.now held) place.old }
+    ensures { place.new ≡ filled (is_uleb reloc.now.kind) (spec_kind (cuts_at (laid_in view.now) site.section) reloc.now) (by_view spec.value_of view.now site.section reloc.now held) place.old }
 {
     let Some(v) = value_in(view, site, reloc, plain, held) else {
         return;

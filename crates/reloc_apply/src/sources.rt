@@ -2,7 +2,7 @@
 
 ghost use Rattle.std.specs.Prelude.{◌≡◌, true};
 ghost use Rattle.lk_base.specs.declared.abi.TheConstants.{SHT_NOBITS};
-ghost use Rattle.link_sections.specs.Views.{binding_in, files_in, laid_in, leaders_in};
+ghost use Rattle.link_sections.specs.Views.{by_view, files_in};
 ghost use Rattle.reloc_apply.specs.Relocated.{contents_at, has_bits, is_laid};
 ghost use Rattle.reloc_apply.specs.Sites.{IsSite, IsSource};
 
@@ -28,8 +28,8 @@ pub struct Source<'t, 'a> {
 
 /// What a section is made from, by its number.
 pub fn source_of<'t, 'a>(view: &View<'t, 'a>, section: SecNo) -> Source<'t, 'a>
-    requires { is_laid (files_in view.now) (binding_in view.now) (leaders_in view.now) (laid_in view.now) section ≡ true }
-    ensures source { IsSource (files_in view.now) (binding_in view.now) (leaders_in view.now) (laid_in view.now) result }
+    requires { by_view is_laid view.now section ≡ true }
+    ensures source { by_view IsSource view.now result }
     ensures section { result.site.section ≡ section }
 {
     let site = site_of(view.tables, section);
@@ -45,7 +45,7 @@ pub fn source_of<'t, 'a>(view: &View<'t, 'a>, section: SecNo) -> Source<'t, 'a>
 /// The bytes of a section in its file.
 pub fn contents<'a>(view: &View<'_, 'a>, site: Site) -> &'a [u8]
     requires { IsSite (files_in view.now) site }
-    ensures { result.now ≡ contents_at (files_in view.now) (binding_in view.now) (leaders_in view.now) (laid_in view.now) site.section }
+    ensures { result.now ≡ by_view contents_at view.now site.section }
 {
     let entry = view.tables.file(site.place.file);
     let header = entry.section(site.place.index as usize);
@@ -55,7 +55,7 @@ pub fn contents<'a>(view: &View<'_, 'a>, site: Site) -> &'a [u8]
 /// Whether a section has bytes in its file.
 pub fn has_bits(view: &View, site: Site) -> bool
     requires { IsSite (files_in view.now) site }
-    ensures { result ≡ has_bits (files_in view.now) (binding_in view.now) (leaders_in view.now) (laid_in view.now) site.section }
+    ensures { result ≡ by_view has_bits view.now site.section }
 {
     input_in(view.tables, view.binding, site.place.file, site.place.index).sh_type != SHT_NOBITS
 }

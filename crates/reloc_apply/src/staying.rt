@@ -3,6 +3,7 @@
 ghost use Rattle.std.specs.Prelude.{◌≡◌, ℕ, ◌+◌, ◌-◌, ◌<◌, ◌≤◌, ◌^◌, true, All, length, slice_index, slice_index_or, take, drop, min};
 ghost use Rattle.link_sections.specs.CutsView.{AreCuts, cut_view, cut_views};
 ghost use Rattle.rv_code.specs.Places.{number_of};
+ghost use Rattle.rv_code.specs.Instructions.{rd_of};
 ghost use Rattle.reloc_apply.specs.Image.{over, piece};
 ghost use Rattle.reloc_apply.specs.Sites.{Shows};
 ghost use Rattle.reloc_apply.specs.Staying as spec;
@@ -183,7 +184,7 @@ fn fill_bytes(block: &mut [u8], from: u64, at: u64, bytes: &[u8])
 
 /// `jal` with the register of an instruction, and no displacement.
 fn jal_word(word: u64) -> u32
-    ensures { result ≡ spec.jal_word (spec.register_of word) }
+    ensures { result ≡ spec.jal_word (rd_of word) }
 {
     0x6f + (word / 128 % 32) as u32 * 128
 }

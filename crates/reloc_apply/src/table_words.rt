@@ -3,7 +3,7 @@
 ghost use Rattle.std.specs.Prelude.{◌≡◌, ℕ, ◌+◌, ◌*◌, ◌-◌, ◌^◌, ◌<◌, ◌≤◌, ◌/◌, [], ◌∷◌, length, slice_index_or};
 ghost use Rattle.std.specs.Int.{to_le_bytes, w64};
 ghost use Rattle.link_sections.specs.GotEntries.{AreNumbered, word_count};
-ghost use Rattle.link_sections.specs.Views.{binding_in, files_in, laid_in, leaders_in};
+ghost use Rattle.link_sections.specs.Views.{binding_in, by_view, files_in, laid_in};
 ghost use Rattle.lk_tables.specs.Targets.{bound};
 ghost use Rattle.link_sections.specs.Addresses as addresses;
 ghost use Rattle.reloc_apply.specs.Image.{ShowsFrom, piece};
@@ -20,7 +20,7 @@ use lk_tables::Bound;
 pub fn write_table(block: &mut [u8], from: u64, view: &View, at: u64)
     requires block { from + length block.old < 2 ^ 63 }
     requires room { at + 8 * word_count (laid_in view.now).table < 2 ^ 63 }
-    ensures { ShowsFrom from block.old block.new (piece at (table_bytes (files_in view.now) (binding_in view.now) (leaders_in view.now) (laid_in view.now)) ∷ []) }
+    ensures { ShowsFrom from block.old block.new (piece at (by_view table_bytes view.now) ∷ []) }
 {
     let entries = view.got.entries();
     let end = from + block.len() as u64;
@@ -35,7 +35,7 @@ pub fn write_table(block: &mut [u8], from: u64, view: &View, at: u64)
 fn write_entry(block: &mut [u8], from: u64, view: &View, at: u64, entry: &GotEntry)
     requires block { from + length block.old < 2 ^ 63 }
     requires room { at + 8 * (entry.now.word + 2) < 2 ^ 64 }
-    ensures { ShowsFrom from block.old block.new (word_pieces (at + 8 * entry.now.word) (words_of (files_in view.now) (binding_in view.now) (leaders_in view.now) (laid_in view.now) entry.now)) }
+    ensures { ShowsFrom from block.old block.new (word_pieces (at + 8 * entry.now.word) (by_view words_of view.now entry.now)) }
 {
     let place = at + 8 * entry.word;
     match entry.usage {
@@ -61,7 +61,7 @@ fn write_word(block: &mut [u8], from: u64, at: u64, word: u64)
 
 /// The address of an entry's symbol.
 fn address_of(view: &View, entry: &GotEntry) -> u64
-    ensures { result ≡ addresses.symbol_address (files_in view.now) (binding_in view.now) (leaders_in view.now) (laid_in view.now) entry.now.file entry.now.symbol }
+    ensures { result ≡ by_view addresses.symbol_address view.now entry.now.file entry.now.symbol }
 {
     if view.tables.file_count() <= entry.file as usize {
         return 0;
@@ -71,7 +71,7 @@ fn address_of(view: &View, entry: &GotEntry) -> u64
 
 /// The offset of an entry's symbol from the thread pointer and so many bytes more; 0 of a symbol that nothing defines.
 fn offset_in(view: &View, entry: &GotEntry, more: u64) -> u64
-    ensures { result ≡ offset_word (bound (files_in view.now) (binding_in view.now) entry.now.file entry.now.symbol) (addresses.symbol_address (files_in view.now) (binding_in view.now) (leaders_in view.now) (laid_in view.now) entry.now.file entry.now.symbol) ((laid_in view.now).bounds.tls_start + more) }
+    ensures { result ≡ offset_word (bound (files_in view.now) (binding_in view.now) entry.now.file entry.now.symbol) (by_view addresses.symbol_address view.now entry.now.file entry.now.symbol) ((laid_in view.now).bounds.tls_start + more) }
 {
     offset_of(
         view.binding.bound(view.tables, entry.file, entry.symbol),

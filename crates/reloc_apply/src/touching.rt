@@ -3,7 +3,7 @@
 ghost use Rattle.std.specs.Prelude.{◌≡◌, ◌+◌, ◌^◌, ◌<◌, flat_map, length};
 ghost use Rattle.std.specs.List.{range_with_len};
 ghost use Rattle.lk_base.specs.Firsts.{IsFirst};
-ghost use Rattle.link_sections.specs.Views.{binding_in, files_in, laid_in, leaders_in};
+ghost use Rattle.link_sections.specs.Views.{by_view};
 ghost use Rattle.reloc_apply.specs.Relocated as spec;
 ghost use Rattle.reloc_apply.specs.Sites.{IsMadeFrom, touching_at};
 
@@ -49,7 +49,7 @@ fn check_touching(view: &View, source: &Source, k: usize, from: u64, len: u64) -
 fn touches(view: &View, source: &Source, reloc: &Reloc, from: u64, len: u64) -> bool
     requires block { from + len < 2 ^ 63 }
     requires source { IsMadeFrom view.now source.now }
-    ensures { result ≡ spec.touches (files_in view.now) (binding_in view.now) (leaders_in view.now) (laid_in view.now) from len source.now.site.section reloc.now }
+    ensures { result ≡ by_view spec.touches view.now from len source.now.site.section reloc.now }
 {
     let at = source
         .at

@@ -7,7 +7,7 @@ ghost use Rattle.lk_base.specs.declared.abi.TheConstants.{R_RISCV_RELAX};
 ghost use Rattle.lk_tables.specs.Files.{file_at, is_section_symbol, symbol_at};
 ghost use Rattle.lk_tables.specs.Sites.{relocs_of};
 ghost use Rattle.link_sections.specs.Addresses as addresses;
-ghost use Rattle.link_sections.specs.Views.{binding_in, files_in, laid_in, leaders_in};
+ghost use Rattle.link_sections.specs.Views.{by_view, files_in};
 ghost use Rattle.reloc_apply.specs.Sites.{HasSymbol, IsSite};
 ghost use Rattle.reloc_apply.specs.Values as spec;
 
@@ -20,7 +20,7 @@ use link_sections::{
 use lk_base::SecNo;
 use lk_base::abi::R_RISCV_RELAX;
 use lk_base::relocations::{Calculation, is_lower, kind_of};
-use lk_tables::{Reloc, is_section_symbol, spot_in};
+use lk_tables::{Reloc, is_section_symbol, relocs_before, spot_in};
 
 /// The upper part that a lower part belongs to is not there.
 #[derive(Clone, Copy, Debug)]
@@ -40,10 +40,10 @@ pub fn value_of(
     requires plain { plain ≡ true → is_section_symbol (symbol_at (file_at (files_in view.now) site.place.file) reloc.now.symbol) ≡ false }
     requires low { negsuc (2 ^ 63) ≤ℤ held }
     requires high { held ≤ℤ pos (2 ^ 67) }
-    ensures value { IfOk result (λ v. v ≡ spec.value_of (files_in view.now) (binding_in view.now) (leaders_in view.now) (laid_in view.now) site.section reloc.now held) }
+    ensures value { IfOk result (λ v. v ≡ by_view spec.value_of view.now site.section reloc.now held) }
     ensures kind { IfOk result (λ v. IfSome v (λ x. HasValue reloc.now.kind)) }
-    ensures partner { MatchResult result (λ _. (is_lower reloc.now.kind && not (is_some (spec.partner_of (files_in view.now) (binding_in view.now) (leaders_in view.now) (laid_in view.now) site.section reloc.now))) ≡ false)
-        (λ _. (is_lower reloc.now.kind && not (is_some (spec.partner_of (files_in view.now) (binding_in view.now) (leaders_in view.now) (laid_in view.now) site.section reloc.now))) ≡ true) }
+    ensures partner { MatchResult result (λ _. (is_lower reloc.now.kind && not (is_some (by_view spec.partner_of view.now site.section reloc.now))) ≡ false)
+        (λ _. (is_lower reloc.now.kind && not (is_some (by_view spec.partner_of view.now site.section reloc.now))) ≡ true) }
 {
     if !is_lower(reloc.kind) {
         return Ok(direct_value(view, site, reloc, plain, held));
@@ -62,7 +62,7 @@ fn direct_value(view: &View, site: Site, reloc: &Reloc, plain: bool, held: i128)
     requires plain { plain ≡ true → is_section_symbol (symbol_at (file_at (files_in view.now) site.place.file) reloc.now.symbol) ≡ false }
     requires low { negsuc (2 ^ 63) ≤ℤ held }
     requires high { held ≤ℤ pos (2 ^ 67) }
-    ensures value { result ≡ spec.direct_value (files_in view.now) (binding_in view.now) (leaders_in view.now) (laid_in view.now) site.section reloc.now held }
+    ensures value { result ≡ by_view spec.direct_value view.now site.section reloc.now held }
     ensures kind { IfSome result (λ _. HasValue reloc.now.kind) }
 {
     match kind_of(reloc.kind).calculation {
@@ -114,7 +114,7 @@ fn decreased(held: i128, sum: i128) -> i128
 pub fn sum_of(view: &View, site: Site, reloc: &Reloc, plain: bool) -> i128
     requires site { IsSite (files_in view.now) site }
     requires plain { plain ≡ true → is_section_symbol (symbol_at (file_at (files_in view.now) site.place.file) reloc.now.symbol) ≡ false }
-    ensures value { result ≡ spec.sum_of (files_in view.now) (binding_in view.now) (leaders_in view.now) (laid_in view.now) site.section reloc.now }
+    ensures value { result ≡ by_view spec.sum_of view.now site.section reloc.now }
     ensures low { negsuc (2 ^ 63) ≤ℤ result }
     ensures high { result ≤ℤ pos (2 ^ 67) }
 {
@@ -138,7 +138,7 @@ pub fn sum_of(view: &View, site: Site, reloc: &Reloc, plain: bool) -> i128
 fn plain_sum(view: &View, site: Site, reloc: &Reloc) -> i128
     requires site { IsSite (files_in view.now) site }
     requires plain { is_section_symbol (symbol_at (file_at (files_in view.now) site.place.file) reloc.now.symbol) ≡ false }
-    ensures value { result ≡ spec.sum_of (files_in view.now) (binding_in view.now) (leaders_in view.now) (laid_in view.now) site.section reloc.now }
+    ensures value { result ≡ by_view spec.sum_of view.now site.section reloc.now }
     ensures low { negsuc (2 ^ 63) ≤ℤ result }
     ensures high { result ≤ℤ pos (2 ^ 67) }
 {
@@ -149,7 +149,7 @@ fn plain_sum(view: &View, site: Site, reloc: &Reloc) -> i128
 fn zero_sum(view: &View, site: Site, reloc: &Reloc) -> i128
     requires site { IsSite (files_in view.now) site }
     requires zero { reloc.now.addend ≡ pos 0 }
-    ensures value { result ≡ spec.sum_of (files_in view.now) (binding_in view.now) (leaders_in view.now) (laid_in view.now) site.section reloc.now }
+    ensures value { result ≡ by_view spec.sum_of view.now site.section reloc.now }
     ensures low { negsuc (2 ^ 63) ≤ℤ result }
     ensures high { result ≤ℤ pos (2 ^ 67) }
 {
@@ -160,7 +160,7 @@ fn zero_sum(view: &View, site: Site, reloc: &Reloc) -> i128
 #[tactic(auto, unfolding(crate::specs::Values::target_in, link_sections::specs::LaidOut::with_contents, link_sections::specs::PoolViews::pools_view))]
 fn target_of(view: &View, site: Site, reloc: &Reloc) -> Target
     requires { IsSite (files_in view.now) site }
-    ensures { result ≡ spec.target_in (files_in view.now) (binding_in view.now) (leaders_in view.now) (laid_in view.now) site.section reloc.now }
+    ensures { result ≡ by_view spec.target_in view.now site.section reloc.now }
 {
     view.pools
         .piece_target(spot_in(view.tables, view.binding, site.place.file, reloc))
@@ -169,8 +169,8 @@ fn target_of(view: &View, site: Site, reloc: &Reloc) -> Target
 /// S + A by what a relocation stands for.
 fn target_sum(view: &View, site: Site, reloc: &Reloc, target: Target) -> i128
     requires site { IsSite (files_in view.now) site }
-    requires target { target ≡ spec.target_in (files_in view.now) (binding_in view.now) (leaders_in view.now) (laid_in view.now) site.section reloc.now }
-    ensures value { result ≡ pos (addresses.target_address (files_in view.now) (binding_in view.now) (leaders_in view.now) (laid_in view.now) target) +ℤ spec.addend_of target reloc.now }
+    requires target { target ≡ by_view spec.target_in view.now site.section reloc.now }
+    ensures value { result ≡ pos (by_view addresses.target_address view.now target) +ℤ spec.addend_of target reloc.now }
     ensures low { negsuc (2 ^ 63) ≤ℤ result }
     ensures high { result ≤ℤ pos (2 ^ 67) }
 {
@@ -199,7 +199,7 @@ fn target_sum(view: &View, site: Site, reloc: &Reloc, target: Target) -> i128
 #[tactic(auto, unfolding(crate::specs::Values::thread_of))]
 fn thread_of(view: &View, site: Site, reloc: &Reloc) -> i128
     requires { IsSite (files_in view.now) site }
-    ensures { result ≡ spec.thread_of (files_in view.now) (binding_in view.now) (leaders_in view.now) (laid_in view.now) site.section reloc.now }
+    ensures { result ≡ by_view spec.thread_of view.now site.section reloc.now }
 {
     let target = target_of(view, site, reloc);
     if is_zero(target) {
@@ -220,7 +220,7 @@ fn is_zero(target: Target) -> bool
 fn entry_of(view: &View, site: Site, reloc: &Reloc) -> i128
     requires site { IsSite (files_in view.now) site }
     requires symbol { HasSymbol (files_in view.now) site reloc.now }
-    ensures value { result ≡ spec.entry_of (files_in view.now) (binding_in view.now) (leaders_in view.now) (laid_in view.now) site.section reloc.now }
+    ensures value { result ≡ by_view spec.entry_of view.now site.section reloc.now }
     ensures low { negsuc (2 ^ 63) ≤ℤ result }
     ensures high { result ≤ℤ pos (2 ^ 68) }
 {
@@ -232,7 +232,7 @@ fn entry_of(view: &View, site: Site, reloc: &Reloc) -> i128
 fn word_at(view: &View, site: Site, reloc: &Reloc) -> u64
     requires site { IsSite (files_in view.now) site }
     requires symbol { HasSymbol (files_in view.now) site reloc.now }
-    ensures { result ≡ spec.word_at (files_in view.now) (binding_in view.now) (leaders_in view.now) (laid_in view.now) site.section reloc.now }
+    ensures { result ≡ by_view spec.word_at view.now site.section reloc.now }
 {
     let Some(usage) = use_of(reloc.kind) else {
         return 0;
@@ -247,7 +247,7 @@ fn word_at(view: &View, site: Site, reloc: &Reloc) -> u64
 /// P: the address of a relocation's place.
 #[tactic(auto, unfolding(link_sections::specs::LaidOut::with_contents))]
 fn place_of(view: &View, section: SecNo, reloc: &Reloc) -> i128
-    ensures value { result ≡ spec.place_of (files_in view.now) (binding_in view.now) (leaders_in view.now) (laid_in view.now) section reloc.now }
+    ensures value { result ≡ by_view spec.place_of view.now section reloc.now }
     ensures low { pos 0 ≤ℤ result }
     ensures high { result ≤ℤ pos (2 ^ 65) }
 {
@@ -257,7 +257,7 @@ fn place_of(view: &View, section: SecNo, reloc: &Reloc) -> i128
 /// The offset of a relocation's place in its section, once the bytes that do not stay are gone.
 #[tactic(auto, unfolding(link_sections::specs::LaidOut::with_contents))]
 pub fn offset_of(view: &View, section: SecNo, reloc: &Reloc) -> u64
-    ensures value { result ≡ spec.offset_of (files_in view.now) (binding_in view.now) (leaders_in view.now) (laid_in view.now) section reloc.now }
+    ensures value { result ≡ by_view spec.offset_of view.now section reloc.now }
     ensures most { result ≤ reloc.now.offset }
 {
     offset_in(view.layout, section, reloc.offset)
@@ -268,7 +268,7 @@ pub fn offset_of(view: &View, section: SecNo, reloc: &Reloc) -> u64
 fn partner_of(view: &View, site: Site, reloc: &Reloc) -> Option<Reloc>
     requires { IsSite (files_in view.now) site }
     ensures symbol { IfSome result (HasSymbol (files_in view.now) site) }
-    ensures value { result ≡ spec.partner_of (files_in view.now) (binding_in view.now) (leaders_in view.now) (laid_in view.now) site.section reloc.now }
+    ensures value { result ≡ by_view spec.partner_of view.now site.section reloc.now }
 {
     let target = spot_in(view.tables, view.binding, site.place.file, reloc);
     let Some(offset) = label_in(site.section, target) else {
@@ -322,7 +322,7 @@ fn find_at(relocs: &[Reloc], offset: u64) -> Option<Reloc>
     requires { IsNonDecreasingBy (λ (r : Reloc). r.offset) relocs.now }
     ensures { result ≡ find (λ r. r.offset == offset) relocs.now }
 {
-    let n = count_before(relocs, offset);
+    let n = relocs_before(relocs, offset);
     let Some(reloc) = relocs.get(n) else {
         return None;
     };
@@ -330,14 +330,4 @@ fn find_at(relocs: &[Reloc], offset: u64) -> Option<Reloc>
         return None;
     }
     Some(*reloc)
-}
-
-/// How many relocations come before an offset, of relocations in order of offset.
-fn count_before(relocs: &[Reloc], offset: u64) -> usize
-    requires { IsNonDecreasingBy (λ (r : Reloc). r.offset) relocs.now }
-    ensures bound { result ≤ length relocs.now }
-    ensures before { (k : ℕ) (d : Reloc) → k < result → (slice_index_or relocs.now k d).offset < offset }
-    ensures next { (d : Reloc) → result < length relocs.now → offset ≤ (slice_index_or relocs.now result d).offset }
-{
-    relocs.partition_point(|reloc| reloc.offset < offset)
 }

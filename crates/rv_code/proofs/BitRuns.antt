@@ -1,5 +1,5 @@
 -- A run of bits put into a word of 64 bits, by arithmetic.
-use Rattle.std.proofs.Common.{◌≡◌, ℕ, ◌+◌, ◌-◌, ◌*◌, ◌/◌, ◌%◌, ◌^◌, ◌<◌, ◌≤◌, List, [], ◌∷◌, nat_le, ◌&&◌, arith, inl, inr, sym, ◌∙◌, ap, refl}
+use Rattle.std.proofs.Common.{◌≡◌, ℕ, ◌+◌, ◌-◌, ◌*◌, ◌/◌, ◌%◌, ◌^◌, ◌<◌, ◌≤◌, [], ◌∷◌, nat_le, ◌&&◌, arith, inl, inr, sym, ◌∙◌, ap, refl}
 use Rattle.std.specs.Prelude.{if◌then◌else◌}
 use Rattle.std.specs.Int.{bit_at}
 use Rattle.std.proofs.lemmas.Nat.{pow-add, pow_pos, shr-shr, one_shl, mul-add-lt, mod_below, shr_below, shl_whole, shr_split}
@@ -7,7 +7,7 @@ use Rattle.std.proofs.lemmas.Nat.Bits.{bit_at_cat_low, bit_at_cat_high}
 use Rattle.std.proofs.Math.Nat.{mul_comm, pow-le-pow_right}
 use Rattle.std.proofs.lemmas.Bool.{cases_lt}
 use Rattle.std.proofs.lemmas.Bool.Decides.{nat_tests}
-use Rattle.lk_base.specs.Fields.{Run, run, field_bit}
+use Rattle.lk_base.specs.Fields.{run, field_bit}
 
 -- the word, with bits `high` down to `low` from the value
 abbrev pub put_of : (high low from value word : ℕ) → ℕ
@@ -119,11 +119,3 @@ put_bits high low from value word k ordered =
             ∙ sym (over low high k (bit_at value (from + (k - low))) (bit_at word k) (omega arith))
       ]
     ]
-
--- one more run
-pub put_more : (r : Run) (rs : List Run) (old word word' value : ℕ)
-    → ((k : ℕ) → bit_at word k ≡ field_bit rs old value k)
-    → ((k : ℕ) → bit_at word' k ≡ field_bit (r ∷ []) word value k)
-    → (k : ℕ) → bit_at word' k ≡ field_bit (r ∷ rs) old value k
-put_more r rs old word word' value before put k =
-    put k ∙ ap (λ b. if nat_le r.low k && nat_le k r.high then bit_at value (r.from + (k - r.low)) else b) (before k)

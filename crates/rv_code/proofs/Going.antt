@@ -113,7 +113,7 @@ backward_far a u l x ge lt is upper lower =
       | inr large ↦ sum_of u l (pos u -ℤ pos (2 ^ 32)) (pos l -ℤ pos 4096) (negsuc a) (high_signed 32 u (omega arith)) (high_signed 12 l large) (omega (arith, ints))
     ]
 
-plain_bits_pos : (a : ℕ) → a < 2 ^ 64 → bits_of (pos a) ≡ a
+pub plain_bits_pos : (a : ℕ) → a < 2 ^ 64 → bits_of (pos a) ≡ a
 unfolding bits_of
 plain_bits_pos a lt = omega arith
 

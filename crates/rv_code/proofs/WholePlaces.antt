@@ -1,11 +1,12 @@
 -- The two lists of a field together, and the bytes of a place as one number.
-use Rattle.std.proofs.Common.{append-nil, ◌≡◌, ℕ, zero, suc, ◌+◌, ◌-◌, ◌*◌, ◌/◌, ◌%◌, ◌^◌, ◌<◌, List, [], ◌∷◌, ◌++◌, Bool, true, false, nat_le, ◌&&◌, length, arith, inl, inr, sym, ◌∙◌, ap, refl, ℤ, pos, negsuc, ◌+ℤ◌}
+use Rattle.std.proofs.Common.{append-nil, ◌≡◌, ℕ, zero, suc, ◌+◌, ◌-◌, ◌*◌, ◌/◌, ◌%◌, ◌^◌, ◌<◌, List, [], ◌∷◌, ◌++◌, Bool, true, false, nat_le, ◌&&◌, length, arith, inl, inr, sym, ◌∙◌, ap, refl, ℤ, pos, negsuc, ◌+ℤ◌, take, drop}
 use Rattle.std.specs.Prelude.{if◌then◌else◌, unsigned_abs}
-use Rattle.std.specs.Int.{bit_at}
+use Rattle.std.specs.Int.{bit_at, byte_at}
 use Rattle.std.proofs.lemmas.Nat.Bits.{bit_at_cat_low, bit_at_cat_high, bit_at_lowest, bit_at-lt, same_from_bits_below}
 use Rattle.std.proofs.Math.Nat.{mod-eq_of_lt, div-one}
 use Rattle.std.proofs.lemmas.Bool.{cases_lt}
 use Rattle.std.proofs.lemmas.Int.{int_rem_euclid_is, ints}
+use Rattle.std.proofs.lemmas.List.{length-append, length-drop, length-take}
 use Rattle.byteorder.specs.Endian.{little_number, little_bytes}
 use Rattle.byteorder.specs.Numbers.{little_from-bytes, length-bytes_low_first}
 use Rattle.byteorder.proofs.Bytes.{pow256}
@@ -13,7 +14,7 @@ use Rattle.lk_base.specs.Fields.{Run, field_bit}
 use Rattle.lk_base.specs.Formats.{Field}
 use Rattle.rv_code.specs.Places.{of_bits, placed_bit, number_of, patched, HoldsValue}
 use Rattle.lk_base.specs.Arithmetic.{bits_of}
-use Rattle.rv_code.proofs.BitRuns.{cat_below, low_bit}
+use Rattle.rv_code.proofs.BitRuns.{cat_below, high_bit, low_bit}
 
 -- the runs of the value first, those of the value + 0x800 over them
 pub placed_is : (rounded plain : List Run) (old word word' : ℕ) (v : ℤ) (k : ℕ)
@@ -139,3 +140,31 @@ held_by field field' v old new start word same read is bits =
     holds_value field' v old new word is
     (λ k. bits k ∙ ap (λ (n : ℕ). placed_bit field.rounded field.plain n v k) read
     ∙ ap (λ (f : Field). placed_bit f.rounded f.plain (number_of old) v k) same)
+
+-- a byte of a number by its bits
+byte_is : (j x : ℕ) → byte_at j x ≡ x / 256 ^ j % 256
+byte_is zero x = ap (λ y. y % 256) (sym (div-one x))
+byte_is (suc j) x = refl
+
+below : (y b : ℕ) → b ≡ y % 256 → b < 2 ^ 8
+below y b is = omega (arith, is)
+
+byte_bit : (j x i : ℕ) → i < 8 → bit_at (byte_at j x) i ≡ bit_at x (8 * j + i)
+byte_bit j x i lt =
+    ap (λ y. bit_at y i) (byte_is j x ∙ ap (λ d. x / d % 256) (pow256 j))
+    ∙ low_bit (x / 2 ^ (8 * j)) 8 i lt ∙ high_bit x (8 * j) i
+
+pub byte_same : (j x y : ℕ) → ((i : ℕ) → i < 8 → bit_at x (8 * j + i) ≡ bit_at y (8 * j + i)) → byte_at j x ≡ byte_at j y
+byte_same j x y same =
+    same_from_bits_below 8 (byte_at j x) (byte_at j y) (below (x / 256 ^ j) (byte_at j x) (byte_is j x)) (below (y / 256 ^ j) (byte_at j y) (byte_is j y))
+    (λ i lt. byte_bit j x i lt ∙ same i lt ∙ sym (byte_bit j y i lt))
+
+-- a place keeps its length, and so do the bytes around it
+pub patched_length : (field : Field) (v : ℤ) (place : List ℕ) → length (patched field v place) ≡ length place
+unfolding patched
+patched_length field v place = length-bytes_low_first 0 (length place) _
+
+pub laid_length : (at w : ℕ) (new bytes : List ℕ) → length new ≡ length (take w (drop at bytes)) → length (take at bytes ++ (new ++ drop (at + w) bytes)) ≡ length bytes
+laid_length at w new bytes is =
+    length-append (take at bytes) (new ++ drop (at + w) bytes)
+    ∙ omega (arith, length-take at bytes, length-append new (drop (at + w) bytes), length-drop (at + w) bytes, length-take w (drop at bytes), length-drop at bytes, is)

@@ -1,6 +1,6 @@
 -- A value in a place. The bytes of a place are one number, the lowest first (unprivileged manual, "Base
 -- Instruction-Length Encoding": parcels are little-endian), so bit k of the place is bit k of that number.
-use Rattle.std.specs.Prelude.{◌≡◌, ℕ, zero, suc, ◌+◌, ◌-◌, ◌*◌, ◌/◌, ◌%◌, ◌^◌, ◌<◌, ◌≤◌, ◌⊎◌, ◌&&◌, if◌then◌else◌, nat_le, ℤ, pos, ◌+ℤ◌, List, [], ◌∷◌, length}
+use Rattle.std.specs.Prelude.{◌≡◌, ℕ, zero, suc, ◌+◌, ◌-◌, ◌*◌, ◌/◌, ◌%◌, ◌^◌, ◌<◌, ◌≤◌, ◌⊎◌, ◌&&◌, if◌then◌else◌, nat_le, ℤ, pos, ◌+ℤ◌, List, [], ◌∷◌, length, take, drop}
 use Rattle.std.specs.Int.{bit_at}
 use Rattle.byteorder.specs.Endian.{little_number, little_bytes}
 use Rattle.lk_base.specs.Arithmetic.{bits_of}
@@ -18,6 +18,10 @@ placed_bit (r ∷ rs) plain old v k =
 -- the place as a number
 abbrev pub number_of : List ℕ → ℕ
 number_of place = little_number (length place) place
+
+-- V: what so many bytes at an offset hold, as a number
+abbrev pub held_at : (width at : ℕ) → (bytes : List ℕ) → ℤ
+held_at width at bytes = pos (number_of (take width (drop at bytes)))
 
 -- the place `new` is `old` with the value in its field; each bit that no run has is as it was
 pub record HoldsValue (field : Field) (old : List ℕ) (v : ℤ) (new : List ℕ) : Type 0 where

@@ -7,8 +7,8 @@ use mathlib.Core.Option.{none, some}
 use lib.ListN.{get_elem?}
 use Rattle.atomic_table.specs.Table.{State, step, keeps, opening, Allows, Splits, Joins}
 use Rattle.sec_gc.specs.declared.rule.View.{View}
-use Rattle.lk_tables.specs.Reach.{ends_at}
-use Rattle.sec_gc.specs.Marks.{IsWithin, MayMark, seen_at, times, won_at}
+use Rattle.lk_tables.specs.Reach.{ends_at, IsReached}
+use Rattle.sec_gc.specs.Marks.{MayMark, seen_at, times, won_at}
 use Rattle.sec_gc.specs.Rule.{is_live, share_of, wins_of, Seated, Fits, Kept, TellsSwap, TellsLook, IsSeated, founder, view_after_swap, view_after_look, view_after_split, view_split, view_joined, view_spent}
 use Rattle.sec_gc.proofs.Searching.{ends_within}
 use Rattle.sec_gc.proofs.Wins.{times_append, won_else, won_here}
@@ -83,7 +83,7 @@ module _ (roots : List ℕ) (ends : List (List ℕ)) where
       let w : View = view_after_swap v section x in
       let low = r.bits section in
       let f = r.each id v at live in
-      let in_reach : IsWithin roots ends section = ⊎_elim
+      let in_reach : IsReached roots ends section = ⊎_elim
       (λ (root : Contains v.roots section). λ set closed. closed.rooted section (subst (λ l. Contains l section) f.one_roots root))
       (λ (led : (from : ℕ) × Contains v.seen from × Contains (ends_at v.ends from) section). λ set closed.
       closed.followed led.0 section (r.inside led.0 (f.marked led.0 led.1) set closed) (subst (λ e. Contains (ends_at e led.0) section) f.one_ends led.2))
@@ -102,7 +102,7 @@ module _ (roots : List ℕ) (ends : List (List ℕ)) where
         record {
           wide = length-set s.words section 1 ∙ r.wide;
           bits = λ g. set_marks s.words section g (λ n. n ≤ 1) here (λ _. omega arith) (λ _. r.bits g);
-          inside = λ g. set_marks s.words section g (λ n. n ≡ 1 → IsWithin roots ends g) here (λ same _. subst (IsWithin roots ends) (sym same) in_reach) (λ _. r.inside g);
+          inside = λ g. set_marks s.words section g (λ n. n ≡ 1 → IsReached roots ends g) here (λ same _. subst (IsReached roots ends) (sym same) in_reach) (λ _. r.inside g);
           each = each_step is_live (Fits roots ends s.words) (Fits roots ends (set s.words section 1)) s.views id w (λ u. fits_marked s.words section u here) (λ _. fits_swapped s.words section x v here f) r.each;
           wins = wins;
           shares = whole_step is_live share_of s.views id v w at live live refl r.shares;
@@ -112,7 +112,7 @@ module _ (roots : List ℕ) (ends : List (List ℕ)) where
           slots = refl;
           bit = low;
           once = λ none. omega (arith, most, all, none);
-          within = subst (λ e. IsWithin v.roots e section) (sym f.one_ends) (subst (λ l. IsWithin l ends section) (sym f.one_roots) in_reach);
+          within = subst (λ e. IsReached v.roots e section) (sym f.one_ends) (subst (λ l. IsReached l ends section) (sym f.one_roots) in_reach);
         },
       )
 
@@ -140,7 +140,7 @@ module _ (roots : List ℕ) (ends : List (List ℕ)) where
           slots = refl;
           bit = r.bits section;
           known = λ has. f.marked section has;
-          within = λ is. subst (λ e. IsWithin v.roots e section) (sym f.one_ends) (subst (λ l. IsWithin l ends section) (sym f.one_roots) (r.inside section is));
+          within = λ is. subst (λ e. IsReached v.roots e section) (sym f.one_ends) (subst (λ l. IsReached l ends section) (sym f.one_roots) (r.inside section is));
         },
       )
 

@@ -1,28 +1,17 @@
 -- What is reached in rounds, and what marks are that say it.
-use Rattle.std.proofs.Common.{◌≡◌, ℕ, zero, suc, ◌<◌, ◌≤◌, ◌==◌, ◌&&◌, Bool, true, false, List, [], length, get_or, Contains, refl, sym, ◌∙◌, subst, ⊎_elim, arith}
+use Rattle.std.proofs.Common.{◌≡◌, ℕ, zero, suc, ◌<◌, ◌≤◌, ◌&&◌, Bool, true, false, List, [], length, Contains, refl, sym, ◌∙◌, subst, ⊎_elim, arith}
 use Rattle.std.specs.List.{list_any, range_with_len}
 use Rattle.std.proofs.Math.Nat.{eq-or-lt_of_le}
-use Rattle.std.proofs.lemmas.Bool.{and_from, and_parts, cases_lt, eq-eqb, eqb-true, or_cases, or_left, or_right}
+use Rattle.std.proofs.lemmas.Bool.{and_from, and_parts, cases_lt, or_cases, or_left, or_right}
 use Rattle.std.proofs.lemmas.List.{get_or_past}
 use Rattle.std.proofs.lemmas.List.Folds.{Any-from_list_any, list_any_at}
 use Rattle.std.proofs.lemmas.List.FromFn.{fill_by_all, length-range_with_len}
+use Rattle.std.specs.Cmp.{both_ways}
 use Rattle.lk_base.specs.RelocKinds.{is_among}
+use Rattle.lk_base.proofs.Membership.{among_has, among_tells}
 use Rattle.lk_tables.specs.Reach.{mark, ends_at, IsClosed, IsReach}
 use Rattle.sec_gc.specs.Kept.{reached, reached_in}
 use Rattle.lk_base.proofs.Ranges.{range_read}
-
--- a number of a list
-among_there : (list : List ℕ) (f : ℕ) → Contains list f → is_among list f ≡ true
-among_there list f has =
-    let k : ℕ = has.0 in
-    list_any_at (λ g. g == f) list k f has.1 (eq-eqb (get_or list k f) f has.2)
-
-among_is : (list : List ℕ) (f : ℕ) → is_among list f ≡ true → Contains list f
-among_is list f is =
-    let any = Any-from_list_any (λ g. g == f) list is in
-    let g : ℕ = any.1 in
-    let P : ℕ → Type 0 = Contains list in
-    subst P (eqb-true g f any.4) (any.0, any.2, any.3)
 
 -- a place that has ends is one of the list
 leader_within : (ends : List (List ℕ)) (e g : ℕ) → Contains (ends_at ends e) g → e < length ends
@@ -38,7 +27,7 @@ leader_within ends e g has = ⊎_elim
 module _ (roots : List ℕ) (ends : List (List ℕ)) where
   pub root_reached : (f : ℕ) → Contains roots f → reached_in roots ends 0 f ≡ true
   unfolding reached_in
-  root_reached f has = among_there roots f has
+  root_reached f has = among_has roots f has
 
   -- one round more
   one_more : (n f : ℕ) → reached_in roots ends n f ≡ true → reached_in roots ends (suc n) f ≡ true
@@ -61,12 +50,12 @@ module _ (roots : List ℕ) (ends : List (List ℕ)) where
       let P : ℕ → Type 0 = λ k. test k ≡ true in
       or_right (reached_in roots ends n f) (list_any test r)
       (list_any_at test r e 0 (omega (arith, length-range_with_len 0 (length ends)))
-      (subst P (sym (range_read (length ends) e 0 lt)) (and_from (reached_in roots ends n e) (is_among (ends_at ends e) f) is (among_there (ends_at ends e) f has))))
+      (subst P (sym (range_read (length ends) e 0 lt)) (and_from (reached_in roots ends n e) (is_among (ends_at ends e) f) is (among_has (ends_at ends e) f has))))
 
   -- no round leaves a closed set
   pub reached_inside : (s : ℕ → Bool) → IsClosed roots ends s → (n f : ℕ) → reached_in roots ends n f ≡ true → s f ≡ true
   unfolding reached_in
-  reached_inside s closed zero f is = closed.rooted f (among_is roots f is)
+  reached_inside s closed zero f is = closed.rooted f (among_tells roots f is)
   reached_inside s closed (suc n) f is =
       let test : ℕ → Bool = λ e. reached_in roots ends n e && is_among (ends_at ends e) f in
       let r = range_with_len 0 (length ends) in
@@ -76,13 +65,8 @@ module _ (roots : List ℕ) (ends : List (List ℕ)) where
       let any = Any-from_list_any test r some in
       let e : ℕ = any.1 in
       let both = and_parts (reached_in roots ends n e) (is_among (ends_at ends e) f) any.4 in
-      closed.followed e f (reached_inside s closed n e both.0) (among_is (ends_at ends e) f both.1))
+      closed.followed e f (reached_inside s closed n e both.0) (among_tells (ends_at ends e) f both.1))
       (or_cases (reached_in roots ends n f) (list_any test r) is)
-
-same_tests : (b c : Bool) → (b ≡ true → c ≡ true) → (c ≡ true → b ≡ true) → b ≡ c
-same_tests true c there back = sym (there refl)
-same_tests false true there back = back refl
-same_tests false false there back = refl
 
 -- closed marks of which each is reached in some rounds, no more of these than there are places, are the list
 pub marks_are : (roots : List ℕ) (ends : List (List ℕ)) (seen : List Bool) → length seen ≡ length ends → IsClosed roots ends (mark seen) →
@@ -90,11 +74,11 @@ pub marks_are : (roots : List ℕ) (ends : List (List ℕ)) (seen : List Bool) �
 unfolding reached
 marks_are roots ends seen wide closed found =
     fill_by_all (reached_in roots ends (length ends)) seen (length ends) false wide
-    (λ k lt. same_tests (mark seen k) (reached_in roots ends (length ends) k) (found k) (reached_inside roots ends (mark seen) closed (length ends) k))
+    (λ k lt. both_ways (mark seen k) (reached_in roots ends (length ends) k) (found k) (reached_inside roots ends (mark seen) closed (length ends) k))
 
 -- there is one list of marks that is what is reached
 pub reach_is_one : (roots : List ℕ) (ends : List (List ℕ)) (a b : List Bool) → IsReach roots ends a → IsReach roots ends b → a ≡ b
 reach_is_one roots ends a b x y =
     fill_by_all (mark b) a (length ends) false x.wide
-    (λ k lt. same_tests (mark a k) (mark b k) (x.least (mark b) y.closed k) (y.least (mark a) x.closed k))
+    (λ k lt. both_ways (mark a k) (mark b k) (x.least (mark b) y.closed k) (y.least (mark a) x.closed k))
     ∙ sym (fill_by_all (mark b) b (length ends) false y.wide (λ k lt. refl))

@@ -10,11 +10,8 @@ use Rattle.lk_tables.proofs.BoundHas.{each_flat, one_if}
 use Rattle.lk_tables.proofs.BoundWithin.{entry_within}
 use Rattle.lk_tables.proofs.FirstNumbers.{section_within}
 use Rattle.asked_names.specs.AskedNames.{named_sections, section_bound}
-use Rattle.asked_names.proofs.NameBounds.{bound_is_section, named_within}
+use Rattle.asked_names.proofs.NameBounds.{bound_is_section, named_within, IsSection}
 use Rattle.sec_gc.specs.Roots.{is_root, root_at, roots, roots_in}
-
-abbrev IsSection : List File → ℕ → Type 0
-IsSection files r = r < section_total files
 
 pub roots_within : (files : List File) (b : Bindings) (undefined : List (List ℕ)) → IsBindingOf files b → AreFew files →
     All (λ r. r < section_total files) (roots files b undefined)

@@ -4,12 +4,11 @@ use Rattle.std.proofs.lemmas.List.{get_or_append_left, get_or_default, get_or_pa
 use Rattle.std.proofs.lemmas.List.Elements.{All-contains, All-push, All-weaker, Contains-append_left, Contains-append_right, Contains-push}
 use Rattle.std.proofs.lemmas.Bool.{both_ways, cases_eq, cases_lt}
 use Rattle.std.specs.declared.ops.Range.{Range}
-use Rattle.lk_tables.specs.Reach.{mark, ends_at, IsReach}
+use Rattle.lk_tables.specs.Reach.{mark, ends_at, IsReach, IsReached, unmarked}
 use Rattle.sec_gc.specs.declared.closing.Done.{Done}
 use Rattle.sec_gc.specs.Closing.{AreFound, AreOn, HasEnds, HaveEnds, HaveSeen, KeepsSeen, Rests}
-use Rattle.sec_gc.specs.Marks.{MarksView, SeatView, SitsAt, IsWithin, after_look, after_split, after_swap, joined, section_at, seen_at, word_of}
+use Rattle.sec_gc.specs.Marks.{MarksView, SeatView, SitsAt, after_look, after_split, joined, section_at, seen_at, word_of}
 use Rattle.sec_gc.specs.Workers.{AreDone, HasMore}
-use Rattle.sec_gc.specs.Visits.{unmarked}
 use Rattle.work_split.specs.Pieces.{Tiles}
 use Rattle.work_split.specs.Tasks.{IsAt}
 use Rattle.work_split.proofs.Tiling.{tiles_cover}
@@ -17,12 +16,6 @@ use Rattle.work_split.proofs.Tiling.{tiles_cover}
 -- what a seat has seen it keeps, whatever it does
 pub keeps_more : (a b c : List ℕ) → KeepsSeen a b → KeepsSeen b c → KeepsSeen a c
 keeps_more a b c one two f has = two f (one f has)
-
-pub keeps_swapped : (s s' : SeatView) (section found : ℕ) → s' ≡ after_swap s section found → KeepsSeen s.seen s'.seen
-keeps_swapped s s' section found is = subst (λ (x : SeatView). KeepsSeen s.seen x.seen) (sym is) (λ f has. Contains-append_left s.seen (section ∷ []) f has)
-
-pub known_swapped : (s s' : SeatView) (section found : ℕ) → s' ≡ after_swap s section found → Contains s'.seen section
-known_swapped s s' section found is = subst (λ (x : SeatView). Contains x.seen section) (sym is) (Contains-push s.seen section)
 
 pub keeps_looked : (s s' : SeatView) (section found : ℕ) → s' ≡ after_look s section found → KeepsSeen s.seen s'.seen
 keeps_looked s s' section found is = subst (λ (x : SeatView). KeepsSeen s.seen x.seen) (sym is) (λ f has. Contains-append_left s.seen (seen_at section found) f has)
@@ -86,7 +79,7 @@ marked_inside on f n wide is = ⊎_elim
 
 -- what a look at the first sections gave
 pub record Looked (m : MarksView) (before seen : List ℕ) (on : List Bool) : Type 0 where
-  pub within : (f : ℕ) → mark on f ≡ true → IsWithin m.roots m.ends f × Contains seen f
+  pub within : (f : ℕ) → mark on f ≡ true → IsReached m.roots m.ends f × Contains seen f
   pub have : HaveSeen before on
 
 no_mark : (f : ℕ) → mark [] f ≡ true → ⊥
@@ -99,12 +92,12 @@ pub found_looked : (m : MarksView) (before seen : List ℕ) (on : List Bool) →
 found_looked m before seen on long l = record { wide = long; within = λ f is. (l.within f is).0; known = λ f is. (l.within f is).1 }
 
 pub looked_more : (m : MarksView) (before : List ℕ) (s s' : SeatView) (on new : List Bool) (section : ℕ) (b : Bool) → section ≡ length on → new ≡ on ++ b ∷ [] → s' ≡ after_look s section (word_of b)
-    → (Contains s.seen section → b ≡ true) → (b ≡ true → IsWithin m.roots m.ends section) → KeepsSeen before s.seen → Looked m before s.seen on → Looked m before s'.seen new
+    → (Contains s.seen section → b ≡ true) → (b ≡ true → IsReached m.roots m.ends section) → KeepsSeen before s.seen → Looked m before s.seen on → Looked m before s'.seen new
 looked_more m before s s' on new section b at is step known within keeps looked =
     let next : Looked m before s'.seen (on ++ b ∷ []) = record {
-      within = λ f. push_mark on b f (λ x. x ≡ true → IsWithin m.roots m.ends f × Contains s'.seen f)
+      within = λ f. push_mark on b f (λ x. x ≡ true → IsReached m.roots m.ends f × Contains s'.seen f)
           (λ _ lit. let old = looked.within f lit in (old.0, keeps_looked s s' section (word_of b) step f old.1))
-          (λ here lit. let same : section ≡ f = at ∙ sym here in subst (λ g. IsWithin m.roots m.ends g × Contains s'.seen g) same (within lit, known_looked s s' section b step lit))
+          (λ here lit. let same : section ≡ f = at ∙ sym here in subst (λ g. IsReached m.roots m.ends g × Contains s'.seen g) same (within lit, known_looked s s' section b step lit))
           (λ _ lit. absurd cc);
       have = λ f has lt. push_mark on b f (λ x. x ≡ true)
           (λ less. looked.have f has less)

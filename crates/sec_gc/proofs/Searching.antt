@@ -1,28 +1,14 @@
 -- What a search by a queue comes to.
-use Rattle.std.proofs.Common.{◌≡◌, ◌≢◌, ℕ, zero, suc, ◌+◌, ◌<◌, ◌≤◌, Bool, true, false, List, [], ◌∷◌, ◌++◌, length, get_or, set, replicate, All, Contains, refl, sym, ap, ◌∙◌, subst, ⊎_elim, arith}
+use Rattle.std.proofs.Common.{◌≡◌, ◌≢◌, ℕ, suc, ◌+◌, ◌<◌, ◌≤◌, Bool, true, false, List, [], ◌∷◌, ◌++◌, length, get_or, replicate, All, Contains, sym, ap, ◌∙◌, subst, ⊎_elim, arith}
 use Rattle.std.proofs.lemmas.List.{length-set, length_push, length-replicate, get_or-replicate, get_or-set_other, get_or_append_left, get_or_default, get_or_past, get_or_push}
 use Rattle.std.proofs.lemmas.List.Elements.{All-contains, All-from_get_or, Contains-append_left, Contains-get_or, Contains-push}
 use Rattle.std.proofs.lemmas.Bool.{both_ways, cases_eq, cases_lt}
 use Rattle.lk_tables.specs.Reach.{mark, ends_at, IsClosed, IsReach}
+use Rattle.lk_tables.proofs.Marking.{none_marked, one_marked}
 use Rattle.sec_gc.specs.Kept.{reached, reached_in}
-use Rattle.sec_gc.specs.Visits.{Progress, progress, visited, all_visited, unmarked, Searched, Tied}
+use Rattle.sec_gc.specs.Visits.{Progress, progress, visited, all_visited, Searched, Tied}
 use Rattle.sec_gc.proofs.Reaching.{marks_are, more_rounds, next_reached, reached_inside, root_reached}
 use Rattle.sec_gc.proofs.Visiting.{all_keep, all_marked, grown_all, grown_same, one_visit}
-
--- one more mark is one less without
-one_marked : (seen : List Bool) (f : ℕ) → f < length seen → mark seen f ≡ false → unmarked (set seen f true) + 1 ≡ unmarked seen
-one_marked [] f lt is = absurd (omega arith)
-one_marked (false ∷ seen) zero lt is = let e : unmarked (set (false ∷ seen) 0 true) ≡ unmarked seen = refl in let d : unmarked (false ∷ seen) ≡ 1 + unmarked seen = refl in omega arith
-one_marked (true ∷ seen) zero lt is = absurd cc
-one_marked (false ∷ seen) (suc f) lt is =
-    let rest = one_marked seen f (omega arith) is in
-    let e : unmarked (set (false ∷ seen) (suc f) true) ≡ 1 + unmarked (set seen f true) = refl in
-    let d : unmarked (false ∷ seen) ≡ 1 + unmarked seen = refl in omega arith
-one_marked (true ∷ seen) (suc f) lt is = one_marked seen f (omega arith) is
-
-none_marked : (n : ℕ) → unmarked (replicate n false) ≡ n
-none_marked zero = refl
-none_marked (suc n) = let rest = none_marked n in let e : unmarked (replicate (suc n) false) ≡ 1 + unmarked (replicate n false) = refl in omega arith
 
 -- each end is a place of the list
 pub ends_within : (ends : List (List ℕ)) → All (All (λ g. g < length ends)) ends → (f : ℕ) → All (λ g. g < length ends) (ends_at ends f)

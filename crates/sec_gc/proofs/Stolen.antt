@@ -1,17 +1,12 @@
 -- What workers that steal give back.
-use Rattle.std.proofs.Common.{◌≡◌, ℕ, zero, suc, ◌<◌, List, [], ◌∷◌, length, get_or, All, refl, arith}
+use Rattle.std.proofs.Common.{◌≡◌, ℕ, ◌<◌, List, length, get_or, All, arith}
 use Rattle.std.proofs.lemmas.List.{get_or_default}
 use Rattle.std.specs.declared.ops.Range.{Range}
 use Rattle.sec_gc.specs.declared.closing.Done.{Done}
 use Rattle.sec_gc.specs.declared.stealing.Share.{Share}
 use Rattle.sec_gc.specs.Marks.{MarksView, SitsAt}
 use Rattle.work_split.specs.Tasks.{IsAt}
-
--- what stands at a place of a list
-at_place : {X : Type 0} (xs : List X) (w : ℕ) → w < length xs → (x : X) × IsAt xs w x
-at_place [] w lt = absurd (omega (arith, lt))
-at_place (x ∷ xs) zero lt = (x, refl)
-at_place (x ∷ xs) (suc w) lt = at_place xs w (omega (arith, lt))
+use Rattle.work_split.proofs.Tiling.{at_place}
 
 -- each of their seats sits at the marks
 pub seated_from : (m : MarksView) (cuts : List (Range ℕ)) (shares : List Share) (done : List Done) → length cuts ≡ length shares → length done ≡ length cuts

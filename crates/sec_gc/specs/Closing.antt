@@ -1,7 +1,7 @@
 -- Rounds that close marks: what a look at all sections gives, and what is left once the ends of all that is marked were looked up.
 use Rattle.std.specs.Prelude.{◌≡◌, ℕ, ◌<◌, ◌≤◌, Bool, true, false, List, length, Contains}
-use Rattle.lk_tables.specs.Reach.{mark, ends_at}
-use Rattle.sec_gc.specs.Marks.{MarksView, IsWithin, section_at}
+use Rattle.lk_tables.specs.Reach.{mark, ends_at, IsReached}
+use Rattle.sec_gc.specs.Marks.{MarksView, section_at}
 
 -- what was seen stays seen
 abbrev pub KeepsSeen : List ℕ → List ℕ → Type 0
@@ -10,7 +10,7 @@ KeepsSeen seen more = (f : ℕ) → Contains seen f → Contains more f
 -- marks as a seat found them, one for each section: what is marked is reached, and the seat has seen it
 pub record AreFound (m : MarksView) (seen : List ℕ) (on : List Bool) : Type 0 where
   pub wide : length on ≡ length m.ends
-  pub within : (f : ℕ) → mark on f ≡ true → IsWithin m.roots m.ends f
+  pub within : (f : ℕ) → mark on f ≡ true → IsReached m.roots m.ends f
   pub known : (f : ℕ) → mark on f ≡ true → Contains seen f
 
 -- what was seen before is among them

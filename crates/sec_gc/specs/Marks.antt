@@ -1,7 +1,7 @@
 -- Marks of sections and a seat at them as callers see them, what each call does to a seat, and what closed marks are.
 use Rattle.std.specs.Prelude.{◌≡◌, ℕ, zero, suc, ◌+◌, ◌≤◌, ◌==◌, ◌⊎◌, Bool, true, false, List, [], ◌∷◌, ◌++◌, length, slice_index_or, Contains}
 use Rattle.atomic_table.specs.Seated.{TableId}
-use Rattle.lk_tables.specs.Reach.{mark, ends_at, IsClosed}
+use Rattle.lk_tables.specs.Reach.{mark, ends_at, IsReached}
 use Rattle.sec_gc.specs.declared.rule.OwnStep.{OwnStep}
 use Rattle.sec_gc.specs.declared.rule.OwnStep.TheVariants.{Looked, SplitOff, Swapped}
 use Rattle.seat_views.specs.Shares.{half_of, halved}
@@ -28,10 +28,6 @@ pub record SitsAt (m : MarksView) (s : SeatView) : Type 0 where
   pub table : s.table ≡ m.table
   pub roots : s.roots ≡ m.roots
   pub ends : s.ends ≡ m.ends
-
--- the section is in each set that has the roots and the ends of its sections: it is reached
-abbrev pub IsWithin : (roots : List ℕ) → (ends : List (List ℕ)) → (f : ℕ) → Type 0
-IsWithin roots ends f = (s : ℕ → Bool) → IsClosed roots ends s → s f ≡ true
 
 -- a seat may mark a section that is a root, or to which one leads that it has seen marked
 abbrev pub MayMark : (roots : List ℕ) → (ends : List (List ℕ)) → (seen : List ℕ) → (section : ℕ) → Type 0
@@ -89,7 +85,7 @@ joined s other = record s { seen = s.seen ++ other.seen; won = s.won ++ other.wo
 pub record IsClosing (m : MarksView) (s : SeatView) (marks : List Bool) : Type 0 where
   pub count : length marks ≡ length m.ends
   -- what is marked is reached
-  pub within : (f : ℕ) → mark marks f ≡ true → IsWithin m.roots m.ends f
+  pub within : (f : ℕ) → mark marks f ≡ true → IsReached m.roots m.ends f
   -- what the seat has seen marked is marked
   pub seen : (f : ℕ) → Contains s.seen f → mark marks f ≡ true
   -- what it has won is marked, and won once

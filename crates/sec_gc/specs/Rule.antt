@@ -1,11 +1,12 @@
 -- The rule that every step on marks keeps, and what a step tells its seat. What a seat knows is its view.
 use Rattle.std.specs.Prelude.{◌≡◌, ℕ, ◌<◌, ◌≤◌, Bool, true, false, List, [], ◌∷◌, ◌++◌, length, max, slice_index, All, Contains}
+use Rattle.lk_tables.specs.Reach.{IsReached}
 use Rattle.atomic_table.specs.Table.{State, Me, Step}
 use Rattle.atomic_table.specs.Seated.{TableId}
 use Rattle.atomic_table.specs.declared.shared.Seat.{Seat}
 use Rattle.sec_gc.specs.declared.rule.OwnStep.TheVariants.{Looked, SplitOff, Swapped}
 use Rattle.sec_gc.specs.declared.rule.View.{View}
-use Rattle.sec_gc.specs.Marks.{IsWithin, SeatView, seen_at, times, won_at}
+use Rattle.sec_gc.specs.Marks.{SeatView, seen_at, times, won_at}
 use Rattle.seat_views.specs.Shares.{AreWhole, half_of, halved}
 use Rattle.seat_views.specs.Views.{EachView, total_of}
 
@@ -63,7 +64,7 @@ pub record Fits (roots : List ℕ) (ends : List (List ℕ)) (words : List ℕ) (
 pub record Kept (roots : List ℕ) (ends : List (List ℕ)) (s : State (Unit {0}) View) : Type 0 where
   pub wide : length s.words ≡ max (length ends) 1
   pub bits : (f : ℕ) → slice_index s.words f ≤ 1
-  pub inside : (f : ℕ) → slice_index s.words f ≡ 1 → IsWithin roots ends f
+  pub inside : (f : ℕ) → slice_index s.words f ≡ 1 → IsReached roots ends f
   pub each : EachView is_live (Fits roots ends s.words) s.views
   pub wins : (f : ℕ) → total_of is_live (wins_of f) s.views ≡ slice_index s.words f
   pub shares : AreWhole is_live share_of s.views
@@ -74,7 +75,7 @@ pub record TellsSwap (st : Step (Unit {0})) (m : Seated) (found : ℕ) (m' : Sea
   pub slots : m'.1 ≡ m.1
   pub bit : found ≤ 1
   pub once : found ≡ 0 → times st.word m.0.won ≡ 0
-  pub within : IsWithin m.0.roots m.0.ends st.word
+  pub within : IsReached m.0.roots m.0.ends st.word
 
 -- a look changes no word
 pub record TellsLook (st : Step (Unit {0})) (m : Seated) (found : ℕ) (m' : Seated) : Type 0 where
@@ -82,7 +83,7 @@ pub record TellsLook (st : Step (Unit {0})) (m : Seated) (found : ℕ) (m' : Sea
   pub slots : m'.1 ≡ m.1
   pub bit : found ≤ 1
   pub known : Contains m.0.seen st.word → found ≡ 1
-  pub within : found ≡ 1 → IsWithin m.0.roots m.0.ends st.word
+  pub within : found ≡ 1 → IsReached m.0.roots m.0.ends st.word
 
 -- a seat that callers have: it was not joined into another, and holds no slot
 pub record IsSeated (m : Seated) : Type 0 where

@@ -1,6 +1,6 @@
 -- A search by a queue: the marks, and the numbers that were marked, in order.
-use Rattle.std.specs.Prelude.{◌≡◌, ℕ, ◌+◌, ◌<◌, ◌≤◌, Bool, true, false, if◌then◌else◌, List, [], ◌∷◌, ◌++◌, length, slice_index, slice_set, Contains}
-use Rattle.lk_tables.specs.Reach.{mark, ends_at}
+use Rattle.std.specs.Prelude.{◌≡◌, ℕ, ◌+◌, ◌<◌, ◌≤◌, Bool, true, if◌then◌else◌, List, [], ◌∷◌, ◌++◌, length, slice_index, slice_set, Contains}
+use Rattle.lk_tables.specs.Reach.{mark, ends_at, unmarked}
 use Rattle.sec_gc.specs.Kept.{reached_in}
 
 pub record Progress : Type 0 where
@@ -17,12 +17,6 @@ visited p f = if mark p.seen f then p else progress (slice_set p.seen f true) (p
 abbrev pub all_visited : Progress → List ℕ → Progress
 all_visited p [] = p
 all_visited p (f ∷ fs) = all_visited (visited p f) fs
-
--- how many places have no mark
-abbrev pub unmarked : List Bool → ℕ
-unmarked [] = 0
-unmarked (true ∷ seen) = unmarked seen
-unmarked (false ∷ seen) = 1 + unmarked seen
 
 module _ (roots : List ℕ) (ends : List (List ℕ)) where
   -- the queue has each place that is marked, once, and place k of it is reached in k rounds

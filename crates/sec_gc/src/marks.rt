@@ -3,8 +3,8 @@
 ghost use Rattle.std.specs.Prelude.{◌≡◌, ◌<◌, ◌≤◌, ◌==◌, true, not, [], All, Contains, length, map, take, vec_capacity, IfErr, IfOk};
 ghost use Rattle.std.specs.Slots.{slots_items, slots_len, IsFull};
 ghost use Rattle.link_sections.specs.Edges.{ends_of};
-ghost use Rattle.lk_tables.specs.Reach.{ends_at};
-ghost use Rattle.sec_gc.specs.Marks.{SitsAt, IsClosing, IsWithin, MayMark, first_seat, section_at, times, word_of};
+ghost use Rattle.lk_tables.specs.Reach.{ends_at, IsReached};
+ghost use Rattle.sec_gc.specs.Marks.{SitsAt, IsClosing, MayMark, first_seat, section_at, times, word_of};
 ghost use Rattle.sec_gc.specs.Marks.{after_look, after_split, after_swap, joined, newcomer};
 
 use crate::rule::{Key, Looking, Marking, Sharing, Swapping, View};
@@ -88,7 +88,7 @@ impl<'a> Marks<'a> {
         requires place { k < length roots.now }
         ensures step { seat.new ≡ after_swap seat.old (section_at roots.now k) (word_of (not result)) }
         ensures once { result ≡ true → times (section_at roots.now k) seat.old.won ≡ 0 }
-        ensures within { IsWithin self.now.roots self.now.ends (section_at roots.now k) }
+        ensures within { IsReached self.now.roots self.now.ends (section_at roots.now k) }
     {
         self.set(seat, roots[k]) == 0
     }
@@ -102,7 +102,7 @@ impl<'a> Marks<'a> {
         requires place { k < length (ends_at (ends_of edges.now) from) }
         ensures step { seat.new ≡ after_swap seat.old (section_at (ends_at (ends_of edges.now) from) k) (word_of (not result)) }
         ensures once { result ≡ true → times (section_at (ends_at (ends_of edges.now) from) k) seat.old.won ≡ 0 }
-        ensures within { IsWithin self.now.roots self.now.ends (section_at (ends_at (ends_of edges.now) from) k) }
+        ensures within { IsReached self.now.roots self.now.ends (section_at (ends_at (ends_of edges.now) from) k) }
     {
         self.set(seat, edges.ends(from)[k]) == 0
     }
@@ -113,7 +113,7 @@ impl<'a> Marks<'a> {
         requires section { section < length self.now.ends }
         ensures step { seat.new ≡ after_look seat.old section (word_of result) }
         ensures seen { Contains seat.old.seen section → result ≡ true }
-        ensures within { result ≡ true → IsWithin self.now.roots self.now.ends section }
+        ensures within { result ≡ true → IsReached self.now.roots self.now.ends section }
     {
         self.word(seat, section) == 1
     }
@@ -125,7 +125,7 @@ impl<'a> Marks<'a> {
         ensures step { seat.new ≡ after_swap seat.old section result }
         ensures bit { result ≤ 1 }
         ensures once { result ≡ 0 → times section seat.old.won ≡ 0 }
-        ensures within { IsWithin seat.old.roots seat.old.ends section }
+        ensures within { IsReached seat.old.roots seat.old.ends section }
     {
         let shared = &self.table.shared;
         shared.swap::<Swapping>(&mut seat.seat, section as usize, 1)
@@ -138,7 +138,7 @@ impl<'a> Marks<'a> {
         ensures step { seat.new ≡ after_look seat.old section result }
         ensures bit { result ≤ 1 }
         ensures seen { Contains seat.old.seen section → result ≡ 1 }
-        ensures within { result ≡ 1 → IsWithin seat.old.roots seat.old.ends section }
+        ensures within { result ≡ 1 → IsReached seat.old.roots seat.old.ends section }
     {
         let shared = &self.table.shared;
         shared.load::<Looking>(&mut seat.seat, section as usize)

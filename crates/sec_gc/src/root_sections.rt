@@ -15,7 +15,7 @@ use asked_names::sections_of_names;
 use link_sections::{InputSection, input_in, may_stay};
 use lk_base::abi::{SHF_GNU_RETAIN, SHT_FINI_ARRAY, SHT_INIT_ARRAY, SHT_NOTE, SHT_PREINIT_ARRAY};
 use lk_base::{FileNo, SecNo};
-use lk_tables::{Binding, Bound, Tables, section_count};
+use lk_tables::{Binding, Bound, Tables, is_init_or_fini, section_count};
 use std::alloc::{AllocError, Global};
 
 /// The numbers of the sections that garbage collection keeps whatever refers to them: first the entry's, if it stands in a section; then those in
@@ -87,7 +87,7 @@ fn is_root_input(section: &InputSection) -> bool
     ensures { result ≡ spec.is_root_input (input_view section.now) }
 {
     let retained = section.flags & SHF_GNU_RETAIN != 0;
-    is_root_type(section.sh_type) || is_root_name(section.name) || retained
+    is_root_type(section.sh_type) || is_init_or_fini(section.name) || retained
 }
 
 /// Whether sections of a type hold functions to call, or notes.
@@ -98,11 +98,4 @@ fn is_root_type(sh_type: u32) -> bool
         || sh_type == SHT_FINI_ARRAY
         || sh_type == SHT_PREINIT_ARRAY
         || sh_type == SHT_NOTE
-}
-
-/// Whether sections of a name hold functions to call.
-fn is_root_name(name: &[u8]) -> bool
-    ensures { result ≡ spec.is_root_name name.now }
-{
-    name == b".init".as_slice() || name == b".fini".as_slice()
 }

@@ -1,8 +1,8 @@
 -- A set of sections that is closed by the rules is one that has, with each section, the ends of its list.
-use Rattle.std.proofs.Common.{◌≡◌, ◌≢◌, ℕ, zero, suc, ◌+◌, ◌-◌, ◌<◌, ◌≤◌, ◌==◌, ◌&&◌, ℤ, Bool, true, false, not, List, [], ◌∷◌, ◌++◌, length, map, flat_map, get_or, All, Contains, bit_and, refl, sym, ap, ◌∙◌, subst, arith, inl, inr}
+use Rattle.std.proofs.Common.{◌≡◌, ◌≢◌, ℕ, ◌-◌, ◌<◌, ◌≤◌, ◌==◌, ◌&&◌, ℤ, Bool, true, not, List, [], ◌∷◌, ◌++◌, length, map, flat_map, get_or, All, Contains, bit_and, refl, sym, ap, ◌∙◌, subst, arith, inl, inr}
 use Rattle.std.specs.Prelude.{◌↔◌, filter, nat_lt, slice_index_or}
 use Rattle.std.specs.List.{range_with_len}
-use Rattle.std.proofs.lemmas.Bool.{and_parts, cases_Bool, cases_lt, cond-true, cond-false, eq-eqb, eqb-true, ltb-true, lt-ltb, ne_eqb}
+use Rattle.std.proofs.lemmas.Bool.{and_parts, cases_Bool, cases_lt, cond-true, cond-false, eq-eqb, eqb-true, ltb-true, lt-ltb, ne_eqb, and_from}
 use Rattle.std.specs.Str.{bytes_eq}
 use Rattle.std.proofs.lemmas.Slice.Eq.{bytes_eq-Decides}
 use Rattle.std.proofs.lemmas.List.{get_or_past}
@@ -10,6 +10,7 @@ use Rattle.std.proofs.lemmas.List.Elements.{All-nil, All-cons, All-head, All-tai
 use Rattle.link_sections.specs.InputSections.{input_at, input_of, is_own, may_stay, may_stay_at}
 use Rattle.lk_base.specs.RelocKinds.{names_a_symbol}
 use Rattle.lk_base.specs.declared.abi.TheConstants.{SHF_LINK_ORDER}
+use Rattle.lk_base.proofs.Membership.{in_range}
 use Rattle.lk_tables.specs.declared.bounds.Spot.{Spot}
 use Rattle.lk_tables.specs.declared.bounds.Spot.TheVariants as targets
 use Rattle.lk_tables.specs.declared.heads.Section.{Section}
@@ -26,16 +27,15 @@ use Rattle.lk_tables.specs.Targets.{spot_of}
 use Rattle.lk_tables.proofs.BoundHas.{each_flat, each_if, one_if}
 use Rattle.lk_tables.proofs.ByNumber.{length_by_section, read_by_section}
 use Rattle.lk_tables.proofs.FirstNumbers.{section_more, section_within}
-use Rattle.lk_tables.proofs.LiveFiles.{counted}
-use Rattle.lk_tables.proofs.Owners.{IsOwner, place_is, place_of_number}
+use Rattle.lk_tables.proofs.LiveFiles.{counted, live_from}
+use Rattle.lk_tables.proofs.Owners.{IsOwner, owner_below, place_is, place_of_number}
 use Rattle.sec_graph.specs.declared.pairs.Pair.{Pair}
 use Rattle.sec_graph.specs.Graph.{chain, edges, ends_in, frame_ends_in, is_linked, joined_in, link_at, links_in, member_at, pair, pairs_from, record_target, ring, ring_in, section_in, target_in, targets_in}
 use Rattle.sec_graph.specs.FrameRelocs.{frame_relocs}
 use Rattle.sec_graph.specs.Kept.{HasEnds, IsClosedByRules, IsInTable, MayStay}
 use Rattle.sec_graph.specs.Taken.{section_of}
 use Rattle.sec_graph.proofs.FrameEnds.{alone_all, frames_from, frames_to}
-use Rattle.sec_graph.proofs.ListParts.{all_if, all_left, all_right, each_of, each_passed, head_if, map_all, one_passed, part_of, range_has}
-use Rattle.sec_graph.proofs.Within.{live_from}
+use Rattle.sec_graph.proofs.ListParts.{all_if, all_left, all_right, each_of, each_passed, head_if, map_all, one_passed, part_of}
 
 -- a member of a set, and a pair that leads from a section into it
 abbrev pub In : (ℕ → Bool) → ℕ → Type 0
@@ -136,15 +136,6 @@ lists_at files b f k lt less = read_by_section files (ends_in files b) f k [] lt
 pub lists_past : (files : List File) (b : Bindings) (n : ℕ) → section_total files ≤ n → slice_index_or (edges files b) n [] ≡ []
 unfolding edges
 lists_past files b n le = get_or_past (by_section files (ends_in files b)) n [] (omega (arith, le, length_by_section files (ends_in files b)))
-
-pub owned : (files : List File) (n h : ℕ) → h ≤ length files → n < first_section files h → (f : ℕ) × IsOwner files n f
-owned files n zero le lt = absurd (omega (arith, lt))
-owned files n (suc h) le lt = elim (cases_lt n (first_section files h)) [
-  | inl below ↦ owned files n h (omega (arith, le)) below
-  | inr from ↦
-      let one : h + 1 ≡ suc h = omega arith in
-      (h, record { file = omega (arith, le); from = from; below = omega (arith, lt, ap (first_section files) one) })
-]
 
 -- the rules say it of each section's list
 section_all : (files : List File) (b : Bindings) (P : ℕ → Type 0) (t : Spot) → ((section offset : ℕ) (rest : ℤ) → t ≡ targets.Section section offset rest → P section) →
@@ -267,7 +258,7 @@ has_ends files b s rules n is =
     let P : List ℕ → Type 0 = λ ends. All (In s) ends in
     elim (cases_lt n (section_total files)) [
       | inl below ↦
-          let own = owned files n (length files) (omega arith) below in
+          let own = owner_below files n (length files) (omega arith) below in
           let f : ℕ = own.0 in
           let owner : IsOwner files n f = own.1 in
           let k : ℕ = n - first_section files f in
@@ -278,10 +269,6 @@ has_ends files b s rules n is =
           subst P (sym lists) (ends_closed files b s f k rules owner.file less (ap s number ∙ is))
       | inr past ↦ subst P (sym (lists_past files b n past)) (All-nil (In s))
     ]
-
-both_true : (a c : Bool) → a ≡ true → c ≡ true → (a && c) ≡ true
-both_true true c one other = other
-both_true false c one other = one
 
 -- and the lists say what the rules do
 ends_are : (files : List File) (b : Bindings) (s : ℕ → Bool) (f k : ℕ) → AllEnds (edges files b) s → MayStay files b f k → s (section_no files f k) ≡ true →
@@ -357,8 +344,8 @@ bound_follows files b s has f k g j r n stays is among names same bounds other c
     let below : x < section_total files = omega (arith, other.index, section_within files g other.file) in
     let may : may_stay_at files b x ≡ true = ap (λ (p : SectionPlace). may_stay files b p.file p.index) place ∙ other.stays in
     let name : (input_at files b x).name ≡ text = ap (λ (p : SectionPlace). (input_of files b p.file p.index).name) place ∙ called in
-    one_passed (In s) (is_named files b text) all x own (range_has (section_total files) x below)
-    (both_true (may_stay_at files b x) (bytes_eq (input_at files b x).name text) may ((bytes_eq-Decides (input_at files b x).name text).1 name))
+    one_passed (In s) (is_named files b text) all x own (in_range (section_total files) x below)
+    (and_from (may_stay_at files b x) (bytes_eq (input_at files b x).name text) may ((bytes_eq-Decides (input_at files b x).name text).1 name))
 
 test_nonzero : (d : ℕ) → d ≢ 0 → not (d == 0) ≡ true
 test_nonzero d other = ap (λ b. not b) (ne_eqb d 0 other)
@@ -378,10 +365,10 @@ link_follows files b s has f k j stays among is also flagged link other =
           absurd (flagged (ap (λ (x : Section). bit_and x.flags SHF_LINK_ORDER) none))
     ] in
     let in_table : nat_lt section.link (length (file_at files f).head.sections) ≡ true = lt-ltb section.link (length (file_at files f).head.sections) (omega (arith, among, link)) in
-    let tests = both_true _ _ (both_true _ _ (test_nonzero (bit_and section.flags SHF_LINK_ORDER) flagged)
-    (both_true _ _ (test_nonzero section.link (λ none. other (sym link ∙ none))) in_table)) also.stays in
+    let tests = and_from _ _ (and_from _ _ (test_nonzero (bit_and section.flags SHF_LINK_ORDER) flagged)
+    (and_from _ _ (test_nonzero section.link (λ none. other (sym link ∙ none))) in_table)) also.stays in
     head_if P (is_linked (file_at files f) section && may_stay files b f j) (pair (section_no files f section.link) (section_no files f j)) tests
-    (part_of P (link_at files b f) (range_with_len 0 (length (file_at files f).head.sections)) j all (range_has (length (file_at files f).head.sections) j own))
+    (part_of P (link_at files b f) (range_with_len 0 (length (file_at files f).head.sections)) j all (in_range (length (file_at files f).head.sections) j own))
     (ap (section_no files f) link)
 
 group_follows : (files : List File) (b : Bindings) (s : ℕ → Bool) → AllEnds (edges files b) s → (f i j : ℕ) (group : GroupView) →
@@ -403,7 +390,7 @@ group_follows files b s has f i j group of i_in j_in i_stays i_own j_stays j_own
     let keeps : All (Keeps s) (ring members) = λ n d lt here. out (get_or (ring members) n d).from (both n d lt).0 here n d lt refl in
     let R : ℕ → Type 0 = λ n. s n ≡ true → All (In s) members in
     let test : (m : ℕ) → IsInTable files f m → may_stay files b f m ≡ true → (is_own files b f m && may_stay files b f m) ≡ true = λ m own stays.
-    both_true _ _ (lt-ltb m (length (file_at files f).head.sections) own) stays in
+    and_from _ _ (lt-ltb m (length (file_at files f).head.sections) own) stays in
     let all : All (In s) members = head_if R (is_own files b f i && may_stay files b f i) (section_no files f i) (test i i_own i_stays.stays)
     (part_of R (member_at files b f) group.members i (ring_all s members keeps) i_in) is in
     head_if (In s) (is_own files b f j && may_stay files b f j) (section_no files f j) (test j j_own j_stays.stays)

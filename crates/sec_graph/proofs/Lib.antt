@@ -5,6 +5,7 @@ pub mod FoundRecords
 pub mod FrameEnds
 pub mod FramePushes
 pub mod Joining
+pub mod Listing
 pub mod ListParts
 pub mod NamedLists
 pub mod Needing

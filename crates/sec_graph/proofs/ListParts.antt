@@ -3,7 +3,6 @@ use Rattle.std.proofs.Common.{◌≡◌, ℕ, zero, suc, ◌+◌, ◌<◌, Bool,
 use Rattle.std.specs.Prelude.{filter, if◌then◌else◌}
 use Rattle.std.specs.List.{range_with_len}
 use Rattle.std.proofs.lemmas.List.Elements.{All-nil, All-cons, All-head, All-tail, All-append, All-contains, All-contains_itself, All-weaker}
-use Rattle.std.proofs.lemmas.List.FromFn.{get_or-range_with_len, length-range_with_len}
 
 pub all_left : {X : Type 0} (P : X → Type 0) (xs ys : List X) → All P (xs ++ ys) → All P xs
 all_left P [] ys all = All-nil P
@@ -41,9 +40,6 @@ head_if P false x is all = let no : ⊥ = cc in absurd no
 pub all_if : {X : Type 0} (P : X → Type 0) (d : Bool) (xs : List X) → d ≡ true → All P (if d then xs else []) → All P xs
 all_if P true xs is all = all
 all_if P false xs is all = let no : ⊥ = cc in absurd no
-
-pub range_has : (n j : ℕ) → j < n → Contains (range_with_len 0 n) j
-range_has n j lt = (j, omega (arith, lt, length-range_with_len 0 n), let at = get_or-range_with_len 0 n j j lt in omega (arith, at))
 
 -- of the elements of a range that pass, and of one of these
 pub each_passed : (P : ℕ → Type 0) (p : ℕ → Bool) (from n : ℕ) → ((k : ℕ) → k < from + n → p k ≡ true → P k) → All P (filter p (range_with_len from n))

@@ -5,15 +5,8 @@ use Rattle.std.proofs.lemmas.Bool.{cases_eq, eq-eqb, ne_eqb}
 use Rattle.std.proofs.lemmas.List.{at_drop_more, get_or-replicate, get_or-set_other, get_or-set_same, length-replicate, length-set}
 use Rattle.std.proofs.lemmas.List.FromFn.{fill_by_all}
 use Rattle.lk_base.proofs.Loops.{rest_end, rest_step}
-use Rattle.sec_graph.specs.Taken.{with_marked}
-
-marked_append : (marks : List Bool) (ns ms : List ℕ) → with_marked marks (ns ++ ms) ≡ with_marked (with_marked marks ns) ms
-marked_append marks [] ms = refl
-marked_append marks (n ∷ ns) ms = marked_append (set marks n true) ns ms
-
-pub length_marked : (marks : List Bool) (ns : List ℕ) → length (with_marked marks ns) ≡ length marks
-length_marked marks [] = refl
-length_marked marks (n ∷ ns) = length_marked (set marks n true) ns ∙ length-set marks n true
+use Rattle.lk_tables.specs.Reach.{with_marked}
+use Rattle.lk_tables.proofs.Marking.{length_marked, marked_append}
 
 or_true : (b : Bool) → (b || true) ≡ true
 or_true true = refl

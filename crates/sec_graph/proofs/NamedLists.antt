@@ -4,7 +4,6 @@ use Rattle.std.specs.Prelude.{◌-ℤ◌, pos, not, filter, find, if◌then◌el
 use Rattle.std.specs.List.{range_with_len}
 use Rattle.std.specs.Borrow.{Bor}
 use Rattle.std.specs.Map.{lookup}
-use Rattle.std.specs.Option.{option_map_or}
 use Rattle.std.specs.Str.{bytes_eq}
 use Rattle.std.proofs.lemmas.Bool.{cases_Bool, cases_lt, cond-true, cond-false, eq-eqb, eqb-true, leb-true}
 use Rattle.std.proofs.lemmas.Slice.Eq.{bytes_eq-Decides}
@@ -13,6 +12,7 @@ use Rattle.std.proofs.lemmas.List.Elements.{All-nil, filter-append}
 use Rattle.indexmap.specs.IndexMap.{IndexMap}
 use Rattle.lk_base.specs.RelocKinds.{goes_by_got}
 use Rattle.lk_base.specs.declared.abi.TheConstants.{STB_LOCAL, STB_WEAK}
+use Rattle.lk_base.proofs.Membership.{in_range}
 use Rattle.lk_tables.specs.declared.bounds.Bound.{Bound}
 use Rattle.lk_tables.specs.declared.bounds.Bound.TheVariants.{InSection, Number, Linker, Nobody}
 use Rattle.lk_tables.specs.declared.bounds.Spot.{Spot}
@@ -26,14 +26,15 @@ use Rattle.lk_tables.specs.BoundNames.{IsBindingOf}
 use Rattle.lk_tables.specs.Binding.{Bindings, is_discarded}
 use Rattle.lk_tables.specs.Files.{AreFew, File, file_at, is_frame_at, is_section_symbol, no_symbol, section_no, section_total, symbol_at, symbol_no, writes}
 use Rattle.lk_tables.specs.InputSections.{input_at, may_stay_at}
-use Rattle.lk_tables.specs.LinkerSymbols.{all_named, bound_section, fixed_count, frame_start_no, is_bound_no, is_named, linker_no}
+use Rattle.lk_tables.specs.LinkerSymbols.{bound_section, fixed_count, frame_start_no, is_bound_no, is_named, linker_no}
 use Rattle.lk_tables.specs.Targets.{bound, bound_by, clamped, commons_at, defined_by, definition, offset_in, rank_at, room_of, size_of, spot_by, unwritten}
 use Rattle.lk_tables.proofs.BoundHas.{OfDefinitions, bound_has, each_flat, each_if, either, one_if}
 use Rattle.lk_tables.proofs.LinkerNumbers.{IfNumber, linker_few}
+use Rattle.link_sections.proofs.OwnLeaders.{same_number}
 use Rattle.sec_graph.specs.declared.pairs.Pair.{Pair}
 use Rattle.sec_graph.specs.Graph.{pair, pairs_from}
 use Rattle.sec_graph.specs.NamedSections.{AreNoted, IsKnown, asked, asked_at, asked_by, asked_in, named_at, noted, pair_if}
-use Rattle.sec_graph.proofs.ListParts.{all_if, head_if, part_of, range_has}
+use Rattle.sec_graph.proofs.ListParts.{all_if, head_if, part_of}
 
 -- equal names, by the test
 same_name : (a c : List ℕ) → bytes_eq a c ≡ true → a ≡ c
@@ -117,10 +118,10 @@ pub asked_known : (files : List File) (b : Bindings) (P : ℕ → Type 0) (f i n
 unfolding asked_in asked_at
 asked_known files b P f i n all lt live is named = elim (cases_lt i (length (file_at files f).head.symbols)) [
   | inl below ↦
-      let of_file = part_of P (asked_in files b) (range_with_len 0 (length files)) f all (range_has (length files) f lt) in
+      let of_file = part_of P (asked_in files b) (range_with_len 0 (length files)) f all (in_range (length files) f lt) in
       let symbols = length (file_at files f).head.symbols in
       let of_live = all_if P (file_at files f).live (flat_map (asked_at files b f) (range_with_len 0 symbols)) live of_file in
-      let of_one = part_of P (asked_at files b f) (range_with_len 0 symbols) i of_live (range_has symbols i below) in
+      let of_one = part_of P (asked_at files b f) (range_with_len 0 symbols) i of_live (in_range symbols i below) in
       let Q : Bound → Type 0 = λ found. All P (asked_by found) in
       head_if P (is_bound_no n) (bound_section n) named (subst Q is of_one)
   | inr past ↦ absurd (no_linker n (sym (past_number files b f i past) ∙ is))
@@ -156,13 +157,6 @@ linker_bound Nobody file s r n is = absurd (none (s.binding == STB_WEAK) is)
 abbrev lent : List ℕ → Bor (List ℕ)
 lent text = record { ref_ptr = (0, 0); now = text }
 
-some_same : (n m : ℕ) → Some n ≡ Some m → n ≡ m
-some_same n m e = ap value e
-  where
-    value : Option ℕ → ℕ
-    value (Some x) = x
-    value None = 0
-
 some_if : (d : Bool) (n : ℕ) (o : Option ℕ) → is_some o ≡ true → is_some (cond d (Some n) o) ≡ true
 some_if true n o is = refl
 some_if false n o is = is
@@ -191,7 +185,7 @@ module _ (files : List File) (b : Bindings) {S : Type 0} where
   noted_more old new name section held updated own = λ text n is. elim (cases_Bool (bytes_eq name text)) [
     | inl same ↦
         let e = sym (updated (lent text) ∙ cond-true (bytes_eq name text) (Some section) (noted old text) same) ∙ is in
-        ap (λ k. (input_at files b k).name) (sym (some_same section n e)) ∙ own ∙ same_name name text same
+        ap (λ k. (input_at files b k).name) (sym (same_number section n e)) ∙ own ∙ same_name name text same
     | inr other ↦ held text n (sym (updated (lent text) ∙ cond-false (bytes_eq name text) (Some section) (noted old text) other) ∙ is)
   ]
 
@@ -234,7 +228,7 @@ module _ (files : List File) (b : Bindings) {S : Type 0} where
         | inr apart ↦ elim (cases_Bool (bytes_eq (input_at files b section).name name)) [
           | inl same ↦
               let e : Some m ≡ Some n = sym found ∙ ap (noted names) (same_name (input_at files b section).name name same) ∙ is in
-              let yes : (m == n) ≡ true = eq-eqb m n (some_same m n e) in
+              let yes : (m == n) ≡ true = eq-eqb m n (same_number m n e) in
               let no : ⊥ = cc in
               absurd no
           | inr other ↦
@@ -262,14 +256,3 @@ module _ (files : List File) (b : Bindings) {S : Type 0} where
   pub none_named : (names : IndexMap (Bor (List ℕ)) ℕ S) (ns : List ℕ) → names.entries ≡ [] → flat_map (named_at files b names) ns ≡ []
   none_named names [] none = refl
   none_named names (n ∷ ns) none = ap (λ l. l ++ flat_map (named_at files b names) ns) (none_at names n none) ∙ none_named names ns none
-
-  -- the ends of what is asked for
-  pub ends_known : (names : IndexMap (Bor (List ℕ)) ℕ S) (pairs : List Pair) (n : ℕ) →
-      ((name : List ℕ) (m : ℕ) → noted names name ≡ Some m → map (λ (p : Pair). p.to) (pairs_from m pairs) ≡ all_named files b name) →
-      IsKnown files b names n → map (λ (p : Pair). p.to) (option_map_or (λ m. pairs_from m pairs) (noted names (input_at files b n).name) []) ≡ all_named files b (input_at files b n).name
-  ends_known names pairs n lists known = by (noted names (input_at files b n).name) refl known.1
-    where
-      by : (o : Option ℕ) → noted names (input_at files b n).name ≡ o → is_some o ≡ true →
-          map (λ (p : Pair). p.to) (option_map_or (λ m. pairs_from m pairs) o []) ≡ all_named files b (input_at files b n).name
-      by None is some = let no : ⊥ = cc in absurd no
-      by (Some m) is some = lists (input_at files b n).name m is

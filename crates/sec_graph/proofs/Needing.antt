@@ -3,13 +3,14 @@ use Rattle.std.proofs.Common.{◌≡◌, ℕ, zero, suc, ◌+◌, ◌-◌, ◌<�
 use Rattle.std.specs.Prelude.{filter, find, if◌then◌else◌, nat_le, nat_lt}
 use Rattle.std.specs.List.{list_any, position_or_len, range_with_len}
 use Rattle.std.specs.Ordering.{int_eq}
-use Rattle.std.proofs.lemmas.Bool.{and_from, and_parts, cases_Bool, cases_lt, cond-false, cond-true, eq-eqb, eqb-true, leb-true, ltb-true}
+use Rattle.std.proofs.lemmas.Bool.{and_from, and_parts, cases_Bool, cases_lt, cond-false, cond-true, eq-eqb, eqb-true, false_from_ne_true, leb-true, ltb-true, or_left, or_right}
 use Rattle.std.proofs.lemmas.Bool.Decides.{Decides-int_eq}
 use Rattle.std.specs.List.Sorted.{IsNonDecreasingBy}
 use Rattle.std.proofs.lemmas.List.{get_or-map, get_or_past, length-map}
 use Rattle.std.proofs.lemmas.List.Elements.{All-nil, All-cons, All-append, All-contains, All-contains_itself, All-drop, All-take, All-weaker}
 use Rattle.std.proofs.lemmas.List.Folds.{list_any-append, list_any_at}
 use Rattle.std.proofs.lemmas.List.FromFn.{get_or-map-range_with_len, get_or-range_with_len, length-map-range_with_len, length-range_with_len}
+use Rattle.std.specs.Cmp.{both_ways}
 use Rattle.indexmap.proofs.CallerLemmas.{Contains-list_any}
 use Rattle.lk_tables.specs.declared.objects.Reloc.{Reloc}
 use Rattle.lk_tables.specs.declared.records.FrameNo.{FrameNo}
@@ -24,6 +25,7 @@ use Rattle.lk_tables.specs.Sites.{place_of}
 use Rattle.lk_tables.specs.Targets.{is_gone}
 use Rattle.lk_tables.specs.Walks.{over_file, over_live}
 use Rattle.lk_tables.proofs.BoundHas.{each_flat, each_if, one_if}
+use Rattle.lk_tables.proofs.FrameLists.{number_is}
 use Rattle.sec_graph.specs.FrameRelocs as frame_spec
 use Rattle.sec_graph.specs.FrameRelocs.{cie_no, frame_relocs, has_reloc, list_in, others, same_reloc}
 use Rattle.sec_graph.specs.Needs.{IsCountUpto, is_used, needs, record_in, uses}
@@ -45,16 +47,6 @@ any_place p (x ∷ xs) d is = elim (cases_Bool (p x)) [
       let low = later.below in
       record { at = suc later.at; below = omega (arith, low); passes = later.passes }
 ]
-
--- two tests that hold together
-pub same_truth : (a b : Bool) → (a ≡ true → b ≡ true) → (b ≡ true → a ≡ true) → a ≡ b
-same_truth true b to back = sym (to refl)
-same_truth false true to back = back refl
-same_truth false false to back = refl
-
-pub never : (a : Bool) → (a ≡ true → ⊥) → a ≡ false
-never true is = absurd (is refl)
-never false is = refl
 
 -- equal relocations
 same_told : (r q : Reloc) → same_reloc r q ≡ true → r ≡ q
@@ -269,18 +261,6 @@ some_is : (o : Option ℕ) → is_some o ≡ true → o ≡ Some (unwrap_or o 0)
 some_is None is = let no : ⊥ = cc in absurd no
 some_is (Some k) is = refl
 
-number_is : (o : Option ℕ) (k : ℕ) → is_number o k ≡ true → o ≡ Some k
-number_is None k is = let no : ⊥ = cc in absurd no
-number_is (Some m) k is = ap Some (eqb-true m k is)
-
-or_left : (a b : Bool) → a ≡ true → (a || b) ≡ true
-or_left true b is = refl
-or_left false b is = let no : ⊥ = cc in absurd no
-
-or_right : (a b : Bool) → b ≡ true → (a || b) ≡ true
-or_right true b is = refl
-or_right false b is = is
-
 or_false : (a b : Bool) → a ≡ false → (a || b) ≡ true → b ≡ true
 or_false true b off is = let no : ⊥ = cc in absurd no
 or_false false b off is = is
@@ -423,7 +403,7 @@ module _ (files : List File) (b : Bindings) (kept : List Bool) (l : RecordList) 
       has_reloc (needed_relocs files b kept n) r ≡ false
   needed_none n count is stays upto none =
       needed_is n is (ap (is_gone b) (own_section n is) ∙ stays)
-      ∙ never (list_any gives all_numbers)
+      ∙ false_from_ne_true (list_any gives all_numbers)
       (λ passing. let some = (of_numbers count (listed_apart n is) (own_list n is) upto passing).some in omega (arith, none, some))
 
   pub needed_at : (n count : ℕ) → list_in lists n ≡ Some l → is_gone b n ≡ false → IsCountUpto l.records r.offset count → 0 < count →
@@ -432,7 +412,7 @@ module _ (files : List File) (b : Bindings) (kept : List Bool) (l : RecordList) 
       let mine = own_list n is in
       let bound = upto.bound in
       needed_is n is (ap (is_gone b) (own_section n is) ∙ stays)
-      ∙ same_truth (list_any gives all_numbers) (needs files b kept file l.records (count - 1) r)
+      ∙ both_ways (list_any gives all_numbers) (needs files b kept file l.records (count - 1) r)
       (λ passing. (of_numbers count (listed_apart n is) mine upto passing).passing)
       (λ passing.
       let given = told (count - 1) mine (omega (arith, some, bound)) passing in

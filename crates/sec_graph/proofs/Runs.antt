@@ -1,12 +1,12 @@
 -- The elements with one number, of a list in order of that: they stand between two places.
-use Rattle.std.proofs.Common.{◌≡◌, ℕ, ◌+◌, ◌-◌, ◌<◌, ◌≤◌, ◌==◌, Bool, true, false, not, ◌&&◌, List, [], ◌∷◌, ◌++◌, length, take, drop, get_or, All, refl, sym, ap, ◌∙◌, arith, inl, inr}
+use Rattle.std.proofs.Common.{◌≡◌, ℕ, ◌+◌, ◌-◌, ◌<◌, ◌≤◌, ◌==◌, Bool, true, false, List, [], ◌∷◌, ◌++◌, length, take, drop, get_or, All, refl, sym, ap, ◌∙◌, arith, inl, inr}
 use Rattle.std.specs.Prelude.{filter}
-use Rattle.std.specs.Ordering.{nat_cmp, is_lt}
+use Rattle.std.specs.Ordering.{nat_cmp}
 use Rattle.std.specs.List.Sorted.{IsStableByKey}
 use Rattle.std.proofs.lemmas.Bool.{cases_lt, cond-true, cond-false, eq-eqb, ne_eqb}
-use Rattle.std.proofs.lemmas.Bool.Decides.{nat_tests}
 use Rattle.std.proofs.lemmas.List.{append-nil, get_or-drop, get_or-take, length-drop, length-take, take-append-drop}
 use Rattle.std.proofs.lemmas.List.Elements.{All-head, All-tail, filter-append, filter_agree}
+use Rattle.lk_base.proofs.StableOrder.{tie_is}
 use Rattle.sec_graph.specs.declared.pairs.Pair.{Pair}
 use Rattle.sec_graph.specs.Graph.{pairs_from}
 
@@ -70,9 +70,6 @@ between_is n xs number from to is order =
     ∙ filter-append p own upper ∙ ap (λ l. l ++ filter p upper) all_own ∙ ap (λ l. own ++ l) none_above ∙ append-nil own)
 
 -- a stable sort leaves those with one number as they stand
-tie_is : (a c : ℕ) → (not (is_lt (nat_cmp a c)) && not (is_lt (nat_cmp c a))) ≡ (c == a)
-tie_is a c = grind (arith, nat_tests)
-
 pub stable_same : (old new : List Pair) → IsStableByKey (λ (p : Pair). p.from) nat_cmp old new → (section : ℕ) →
     pairs_from section new ≡ pairs_from section old
 stable_same old new stable section =

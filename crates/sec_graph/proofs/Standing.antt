@@ -1,7 +1,7 @@
 -- What symbols and names stand for: by a symbol's own definition, and where the symbol to which a name is bound prevails.
 use Rattle.std.proofs.Common.{◌≡◌, ℕ, ◌≤◌, ◌==◌, ◌&&◌, Bool, true, false, not, List, length, refl, sym, ap, ◌∙◌, subst, arith, inl, inr}
 use Rattle.std.specs.Prelude.{if◌then◌else◌}
-use Rattle.std.proofs.lemmas.Bool.{and_from, and_parts, cases_Bool, cases_lt, cond-false, cond-true, eq-eqb, eqb-true, not-false, not-true, not_from_false, not_from_true}
+use Rattle.std.proofs.lemmas.Bool.{and_from, and_parts, and_right, cases_Bool, cases_lt, cond-false, cond-true, eq-eqb, eqb-true, not-false, not-true, not_from_false, not_from_true}
 use Rattle.std.proofs.lemmas.List.{get_or_past}
 use Rattle.lk_base.specs.declared.abi.TheConstants.{STB_LOCAL, STB_WEAK}
 use Rattle.lk_tables.specs.declared.bounds.Bound.{Bound}
@@ -28,10 +28,6 @@ unbound_is (Linker n) s = refl
 and_true : (x y : Bool) → y ≡ true → (x && y) ≡ x
 and_true true y is = is
 and_true false y is = refl
-
-and_false : (x y : Bool) → y ≡ false → (x && y) ≡ false
-and_false true y is = is
-and_false false y is = refl
 
 -- what is defined in a section stands for nothing if that was discarded
 nobody_if : (gone written start : Bool) (section offset value : ℕ) →
@@ -129,7 +125,7 @@ module _ (files : List File) (b : Bindings) where
   -- whether a symbol is undefined and has to be defined
   pub weak_stands : (f i : ℕ) → ((symbol_in f i).binding == STB_WEAK) ≡ true → is_undefined files b f i ≡ false
   unfolding is_undefined
-  weak_stands f i weak = unbound_is (bound files b f i) (symbol_in f i) ∙ and_false _ _ (not_from_true _ weak)
+  weak_stands f i weak = unbound_is (bound files b f i) (symbol_in f i) ∙ and_right _ _ (not_from_true _ weak)
 
   strong_is : (f i : ℕ) → ((symbol_in f i).binding == STB_WEAK) ≡ false → is_undefined files b f i ≡ is_nobody (bound files b f i)
   unfolding is_undefined

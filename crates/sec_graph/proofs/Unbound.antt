@@ -1,5 +1,5 @@
 -- A file without an undefined symbol has no relocation that names one.
-use Rattle.std.proofs.Common.{◌≡◌, ℕ, ◌<◌, ◌≤◌, ◌==◌, ◌&&◌, Bool, true, false, List, [], ◌∷◌, ◌++◌, length, flat_map, refl, ap, ◌∙◌, inl, inr}
+use Rattle.std.proofs.Common.{◌≡◌, ℕ, ◌<◌, ◌≤◌, ◌==◌, ◌&&◌, Bool, true, false, List, [], ◌∷◌, length, flat_map, refl, ap, ◌∙◌, inl, inr}
 use Rattle.std.specs.Prelude.{if◌then◌else◌}
 use Rattle.std.specs.List.{range_with_len}
 use Rattle.std.proofs.lemmas.Bool.{cases_lt, cond-true, eq-eqb}
@@ -7,6 +7,7 @@ use Rattle.std.proofs.lemmas.List.{get_or_past}
 use Rattle.lk_base.specs.RelocKinds.{names_a_symbol}
 use Rattle.lk_base.specs.declared.abi.TheConstants.{STB_LOCAL}
 use Rattle.lk_base.specs.declared.defects.Defect.{Defect}
+use Rattle.lk_base.proofs.NoneGiven.{either_none, flat_none}
 use Rattle.lk_tables.specs.declared.bounds.Bound.{Bound}
 use Rattle.lk_tables.specs.declared.heads.Place.TheVariants.{Undef}
 use Rattle.lk_tables.specs.declared.heads.Symbol.{Symbol}
@@ -16,14 +17,6 @@ use Rattle.lk_tables.specs.Files.{File, file_at, no_symbol, relocs_at, symbol_at
 use Rattle.lk_tables.specs.Targets.{bound, defined_by, definition, is_unbound, is_undefined}
 use Rattle.lk_tables.specs.Walks.{over_file, over_section}
 use Rattle.sec_graph.specs.Undefined.{is_needed, undefined_at}
-
-none_given : {X Y : Type 0} (give : X → List Y) (xs : List X) → ((x : X) → give x ≡ []) → flat_map give xs ≡ []
-none_given give [] none = refl
-none_given give (x ∷ xs) none = ap (λ l. l ++ flat_map give xs) (none x) ∙ none_given give xs none
-
-either_none : {X : Type 0} (b : Bool) (xs : List X) → xs ≡ [] → (if b then xs else []) ≡ []
-either_none true xs none = none
-either_none false xs none = refl
 
 no_defect : (a b c : Bool) (d : Defect) → c ≡ false → (if a && (b && c) then d ∷ [] else []) ≡ []
 no_defect true true c d none = ap (λ e. if e then d ∷ [] else []) none
@@ -42,8 +35,8 @@ unfolding over_file
 none_in files b kept f none =
     let test = undefined_at files b kept in
     either_none (file_at files f).live (flat_map (over_section files test f) (range_with_len 0 (length (file_at files f).head.sections)))
-    (none_given (over_section files test f) (range_with_len 0 (length (file_at files f).head.sections))
-    (λ k. none_given (test f k) (relocs_at (file_at files f) k) (λ r. none_at files b kept f k r (none r.symbol))))
+    (flat_none (over_section files test f) (range_with_len 0 (length (file_at files f).head.sections))
+    (λ k. flat_none (test f k) (relocs_at (file_at files f) k) (λ r. none_at files b kept f k r (none r.symbol))))
 
 -- a symbol past the end of its table is not undefined
 past_by : (files : List File) (b : Bindings) (f i : ℕ) (s : Symbol) (other : Bound) → s ≡ no_symbol →

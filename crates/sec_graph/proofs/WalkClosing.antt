@@ -13,15 +13,15 @@ use Rattle.lk_tables.specs.Objects.{GroupView}
 use Rattle.lk_tables.proofs.BoundHas.{each_flat}
 use Rattle.lk_tables.proofs.ByNumber.{length_by_section, read_by_section, section_rows, section_rows_all}
 use Rattle.lk_tables.proofs.FirstNumbers.{section_more}
-use Rattle.lk_tables.proofs.LiveFiles.{counted}
-use Rattle.lk_tables.proofs.Owners.{IsOwner}
+use Rattle.lk_tables.proofs.LiveFiles.{counted, live_from}
+use Rattle.lk_tables.proofs.Owners.{IsOwner, owner_below}
 use Rattle.sec_graph.specs.declared.pairs.Pair.{Pair}
 use Rattle.sec_graph.specs.Graph.{edges, ends_in, member_at, pair, pairs_from}
 use Rattle.sec_graph.specs.Kept.{HasEnds, IsClosedByRules, IsInTable, MayStay}
 use Rattle.sec_graph.specs.WalkEdges.{mates_in, square, square_in, walk_edges, walk_ends}
-use Rattle.sec_graph.proofs.Closing.{Both, In, Leads, Member, closed_is, leads_from, lists_at, lists_past, members_are, owned, same_index}
+use Rattle.sec_graph.proofs.Closing.{Both, In, Leads, Member, closed_is, leads_from, lists_at, lists_past, members_are, same_index}
 use Rattle.sec_graph.proofs.ListParts.{all_left, each_of}
-use Rattle.sec_graph.proofs.Within.{EndsBelow, ends_below, live_from, map_each, members_below}
+use Rattle.sec_graph.proofs.Within.{EndsBelow, ends_below, map_each, members_below}
 
 -- what holds of the sections of two lists holds of both ends of each pair
 all_both : (P : ℕ → Type 0) (m : ℕ) (to : List ℕ) → P m → All P to → All (Both P) (map (pair m) to)
@@ -91,7 +91,7 @@ record IsSpot (files : List File) (n : ℕ) : Type 0 where
 
 spot_of : (files : List File) (n : ℕ) → n < section_total files → IsSpot files n
 spot_of files n lt =
-    let own = owned files n (length files) (omega arith) lt in
+    let own = owner_below files n (length files) (omega arith) lt in
     let f : ℕ = own.0 in
     let owner : IsOwner files n f = own.1 in
     let from = owner.from in

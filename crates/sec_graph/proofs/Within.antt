@@ -1,6 +1,6 @@
 -- The ends of all sections are section numbers.
-use Rattle.std.proofs.Common.{◌≡◌, ℕ, zero, suc, ◌+◌, ◌<◌, ◌==◌, ◌&&◌, Bool, true, false, not, List, [], ◌∷◌, ◌++◌, length, map, flat_map, All, Contains, refl, arith}
-use Rattle.std.specs.Prelude.{filter, if◌then◌else◌}
+use Rattle.std.proofs.Common.{◌≡◌, ℕ, zero, suc, ◌+◌, ◌<◌, ◌==◌, ◌&&◌, true, not, List, [], ◌∷◌, ◌++◌, length, map, flat_map, All, Contains, arith}
+use Rattle.std.specs.Prelude.{filter}
 use Rattle.std.specs.List.{range_with_len}
 use Rattle.std.proofs.lemmas.Bool.{and_parts, ltb-true}
 use Rattle.std.proofs.lemmas.List.Elements.{All-nil, All-cons, All-head, All-tail, All-append, All-contains, All-contains_itself, All-filter, All-map, All-weaker}
@@ -15,7 +15,7 @@ use Rattle.lk_tables.specs.declared.objects.Reloc.{Reloc}
 use Rattle.lk_tables.specs.declared.records.FrameNo.{FrameNo}
 use Rattle.lk_tables.specs.BoundNames.{IsBindingOf}
 use Rattle.lk_tables.specs.Binding.{Bindings}
-use Rattle.lk_tables.specs.Files.{AreFew, File, by_section, commons_before, file_at, is_section_symbol, relocs_at, section_at, section_count, section_no, section_total, symbol_at}
+use Rattle.lk_tables.specs.Files.{AreFew, File, by_section, file_at, is_section_symbol, relocs_at, section_at, section_count, section_no, section_total, symbol_at}
 use Rattle.lk_tables.specs.Frames.{all_lists, frames_at}
 use Rattle.lk_tables.specs.LinkerSymbols.{all_named, bound_section, bound_sections, is_bound_no, is_named}
 use Rattle.lk_tables.specs.Objects.{GroupView}
@@ -24,7 +24,7 @@ use Rattle.lk_tables.specs.Targets.{bound, spot_by, spot_of}
 use Rattle.lk_tables.proofs.BoundWithin.{IsWithin, bound_within}
 use Rattle.lk_tables.proofs.BoundHas.{each_flat, each_if, either, one_if}
 use Rattle.lk_tables.proofs.FirstNumbers.{section_within}
-use Rattle.lk_tables.proofs.LiveFiles.{counted}
+use Rattle.lk_tables.proofs.LiveFiles.{counted, live_from}
 use Rattle.lk_tables.proofs.Owners.{place_of_number}
 use Rattle.sec_graph.specs.declared.pairs.Pair.{Pair}
 use Rattle.sec_graph.specs.Graph.{chain, edges, ends_in, frame_ends_in, is_linked, joined_in, link_at, links_in, member_at, pair, pairs_from, record_target, ring, ring_in, section_in, target_in, targets_in}
@@ -113,14 +113,6 @@ rings_below files b f (g ∷ gs) lt live =
     All-append (EndsBelow (section_total files)) (ring_in files b f g) (flat_map (ring_in files b f) gs)
     (ring_below (section_total files) (flat_map (member_at files b f) g.members) (members_below files b f g.members lt live))
     (rings_below files b f gs lt live)
-
--- a file with a section number takes part
-pub live_from : (file : File) (k : ℕ) → k < section_count file → file.live ≡ true
-live_from file k lt = by_live file.live lt
-  where
-    by_live : (d : Bool) → k < (if d then length file.head.sections + commons_before file (length file.head.symbols) else 0) → d ≡ true
-    by_live true less = refl
-    by_live false less = absurd (omega (arith, less))
 
 frames_below : (files : List File) (b : Bindings) (f k : ℕ) → IsBindingOf files b → AreFew files → All (λ n. n < section_total files) (frame_ends_in files b f k)
 frames_below files b f k is few =

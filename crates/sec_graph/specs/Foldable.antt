@@ -1,8 +1,7 @@
 -- Which sections may be folded, and what decides with which others (System V gABI, "Sections": what a section's header says of it).
-use Rattle.std.specs.Prelude.{ℕ, ◌+◌, ◌-◌, ℤ, pos, ◌&&◌, ◌||◌, ◌==◌, not, bit_and, Bool, false, slice_index_or, Option, Some, None, if◌then◌else◌, List, [], ◌∷◌, ◌++◌, length, map, flat_map, take, drop, codes, slice_index}
+use Rattle.std.specs.Prelude.{ℕ, ◌+◌, ◌-◌, ℤ, pos, ◌&&◌, ◌||◌, ◌==◌, not, bit_and, Bool, false, slice_index_or, Option, Some, None, if◌then◌else◌, List, [], ◌∷◌, ◌++◌, length, map, flat_map, take, drop, slice_index}
 use Rattle.std.specs.List.{filter, range_with_len}
 use Rattle.std.specs.Option.{option_map_or}
-use Rattle.std.specs.Str.{bytes_eq}
 use Rattle.lk_base.specs.RelocKinds.{names_a_symbol}
 use Rattle.lk_base.specs.declared.abi.TheConstants.{SHF_ALLOC, SHF_EXECINSTR, SHF_GNU_RETAIN, SHF_LINK_ORDER, SHF_MERGE, SHF_TLS, SHF_WRITE, SHT_PROGBITS}
 use Rattle.lk_tables.specs.declared.bounds.Spot.{Spot}
@@ -13,7 +12,7 @@ use Rattle.lk_tables.specs.Binding.{Bindings}
 use Rattle.lk_tables.specs.Files.{File, file_at, is_section_symbol, relocs_at, section_total, symbol_at}
 use Rattle.lk_tables.specs.Frames.{all_lists, frames_at}
 use Rattle.lk_tables.specs.LinkerSymbols.{is_c_identifier}
-use Rattle.lk_tables.specs.OutputNames.{output_name}
+use Rattle.lk_tables.specs.OutputNames.{output_name, is_init_or_fini}
 use Rattle.lk_tables.specs.Records.{RecordView, first_of}
 use Rattle.lk_tables.specs.Sites.{place_of}
 use Rattle.lk_tables.specs.Targets.{spot_of}
@@ -26,10 +25,6 @@ use Rattle.link_sections.specs.MergeSections.{contents}
 use Rattle.link_sections.specs.PieceTargets.{piece_target}
 use Rattle.link_sections.specs.PoolViews.{Merged}
 use Rattle.sec_graph.specs.FrameRelocs.{cie_no, others, record_by}
-
--- functions to call at the start and at the end are made of sections of these names
-abbrev pub is_init_or_fini : List ℕ → Bool
-is_init_or_fini name = bytes_eq name (codes ".init") || bytes_eq name (codes ".fini")
 
 -- the linker gives its name no meaning
 abbrev pub is_foldable_name : List ℕ → Bool

@@ -1,6 +1,6 @@
 -- Sections whose address is taken: a kept section refers to them by more than a branch, a jump or a call (RISC-V ELF psABI, "Relocations"). The lower
 -- part of a PC-relative address names the place of its upper part, and so no address of its own.
-use Rattle.std.specs.Prelude.{ℕ, ◌&&◌, ◌==◌, not, Bool, true, if◌then◌else◌, List, [], ◌∷◌, map, slice_set}
+use Rattle.std.specs.Prelude.{ℕ, ◌&&◌, ◌==◌, not, Bool, if◌then◌else◌, List, [], ◌∷◌, map}
 use Rattle.std.specs.List.{list_any, range_with_len}
 use Rattle.lk_base.specs.RelocKinds.{is_among, names_a_symbol}
 use Rattle.lk_base.specs.declared.abi.TheConstants.{R_RISCV_BRANCH, R_RISCV_CALL, R_RISCV_CALL_PLT, R_RISCV_JAL, R_RISCV_PCREL_LO12_I, R_RISCV_PCREL_LO12_S, R_RISCV_RVC_BRANCH, R_RISCV_RVC_JUMP}
@@ -43,8 +43,3 @@ module _ (files : List File) (b : Bindings) where
   -- by section number, whether its address is taken
   unfoldable pub address_taken : (kept : List Bool) → List Bool
   address_taken kept = map (λ n. list_any (λ taken. taken == n) (taken_sections kept)) (range_with_len 0 (section_total files))
-
--- marks, and the places of a list marked too
-abbrev pub with_marked : List Bool → List ℕ → List Bool
-with_marked marks [] = marks
-with_marked marks (n ∷ ns) = with_marked (slice_set marks n true) ns

@@ -15,8 +15,7 @@ ghost use Rattle.sec_graph.specs.FrameRelocs.{AreFramesOf};
 use crate::fold_frames::{fold_frames, push_frame_relocs};
 use crate::foldable_names::is_foldable_input;
 use crate::frame_relocs::fdes_of;
-use crate::kept::is_kept;
-use link_sections::{FoldItem, FoldReloc, Pools, Target, input_in, input_section};
+use link_sections::{FoldItem, FoldReloc, Pools, Target, input_in, input_section, is_kept};
 use lk_base::relocations::names_a_symbol;
 use lk_base::{FileNo, SecNo};
 use lk_tables::{

@@ -10,7 +10,7 @@ use lk_base::abi::{
     SHF_ALLOC, SHF_EXECINSTR, SHF_GNU_RETAIN, SHF_LINK_ORDER, SHF_MERGE, SHF_TLS, SHF_WRITE,
     SHT_PROGBITS,
 };
-use lk_tables::is_c_identifier;
+use lk_tables::{is_c_identifier, is_init_or_fini};
 
 /// The flags of sections that are more than their bytes.
 const BARRING: u64 = SHF_WRITE + SHF_MERGE + SHF_TLS + SHF_GNU_RETAIN + SHF_LINK_ORDER;
@@ -38,11 +38,4 @@ fn is_foldable_name(name: &[u8]) -> bool
     ensures { result ≡ spec.is_foldable_name name.now }
 {
     !is_init_or_fini(name) && !is_c_identifier(name)
-}
-
-/// Whether sections of a name are put together to functions to call.
-fn is_init_or_fini(name: &[u8]) -> bool
-    ensures { result ≡ spec.is_init_or_fini name.now }
-{
-    name == b".init".as_slice() || name == b".fini".as_slice()
 }

@@ -12,7 +12,7 @@
 //! `undefined_symbols` finds what a kept section refers to though nothing defines it; `needed_frames` says which unwind records count as well,
 //! and `prevailing` what names stand for without a look into other files.
 //! `fold_lists` lists which sections may be folded, and of all or of some of them what their relocations refer to, `fold_frames` the unwind
-//! records of each, and `taken` finds the sections whose address is taken.
+//! records of each, `taken` finds the sections whose address is taken, and `uppers` lists the upper parts of each section.
 #![tactic(auto)]
 
 mod ends;
@@ -22,17 +22,18 @@ mod foldable_names;
 mod frame_ends;
 mod frame_relocs;
 mod graph;
-mod kept;
 mod named_sections;
 mod needed_frames;
 mod pairs;
 mod prevailing;
 mod taken;
 mod undefined_symbols;
+mod uppers;
 mod walks;
 
 pub use fold_lists::{contents_of, foldable, items, items_at};
 pub use graph::edges;
 pub use taken::{address_taken, mark_sections};
 pub use undefined_symbols::undefined;
+pub use uppers::find_uppers;
 pub use walks::walk_edges;

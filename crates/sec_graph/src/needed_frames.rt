@@ -12,7 +12,7 @@ ghost use Rattle.sec_graph.specs.Needs as steps;
 ghost use Rattle.sec_graph.specs.Undefined as spec;
 
 use crate::frame_relocs::{first_of, has_other, has_reloc, list_of};
-use crate::kept::is_kept;
+use link_sections::is_kept;
 use lk_base::FileNo;
 use lk_tables::{Binding, Frames, Record, Reloc, Spot, Tables, spot_in};
 

@@ -4,9 +4,10 @@ ghost use Rattle.std.specs.Prelude.{◌≡◌, ◌<◌, ◌∷◌, [], flat_map,
 ghost use Rattle.lk_tables.specs.BindingView.{binding_view};
 ghost use Rattle.lk_tables.specs.TablesView.{files_of};
 ghost use Rattle.lk_tables.specs.Walks.{over_file, over_section};
+ghost use Rattle.lk_tables.specs.Reach.{with_marked};
 ghost use Rattle.sec_graph.specs.Taken as spec;
 
-use crate::kept::is_kept;
+use link_sections::is_kept;
 use lk_base::abi::{
     R_RISCV_BRANCH, R_RISCV_CALL, R_RISCV_CALL_PLT, R_RISCV_JAL, R_RISCV_PCREL_LO12_I,
     R_RISCV_PCREL_LO12_S, R_RISCV_RVC_BRANCH, R_RISCV_RVC_JUMP,
@@ -46,7 +47,7 @@ fn take_in_file(
     file: FileNo,
 )
     requires { file < length (files_of tables.now) }
-    ensures { taken.new.items ≡ spec.with_marked taken.old.items (over_file (files_of tables.now) (over_section (files_of tables.now) (spec.taken_at (files_of tables.now) (binding_view binding.now) kept.now)) file) }
+    ensures { taken.new.items ≡ with_marked taken.old.items (over_file (files_of tables.now) (over_section (files_of tables.now) (spec.taken_at (files_of tables.now) (binding_view binding.now) kept.now)) file) }
 {
     tables.prove_few();
     if !tables.file(file).is_live() {
@@ -67,7 +68,7 @@ fn take_in_section(
     index: u32,
 )
     requires { file < length (files_of tables.now) }
-    ensures { taken.new.items ≡ spec.with_marked taken.old.items (over_section (files_of tables.now) (spec.taken_at (files_of tables.now) (binding_view binding.now) kept.now) file index) }
+    ensures { taken.new.items ≡ with_marked taken.old.items (over_section (files_of tables.now) (spec.taken_at (files_of tables.now) (binding_view binding.now) kept.now) file index) }
 {
     if !is_kept(kept, tables.section_no(file as usize, index as usize)) {
         return;
@@ -84,7 +85,7 @@ fn take_by_relocs(
     relocs: &[Reloc],
 )
     requires { file < length (files_of tables.now) }
-    ensures { taken.new.items ≡ spec.with_marked taken.old.items (flat_map (spec.taken_by (files_of tables.now) (binding_view binding.now) file) relocs.now) }
+    ensures { taken.new.items ≡ with_marked taken.old.items (flat_map (spec.taken_by (files_of tables.now) (binding_view binding.now) file) relocs.now) }
 {
     for reloc in relocs {
         mark_if(taken, taken_by(tables, binding, file, reloc));
@@ -132,7 +133,7 @@ fn only_goes(kind: u32) -> bool
 
 /// Marks sections, by their numbers; there is nothing to mark past the end.
 pub fn mark_sections(marks: &mut Vec<bool>, sections: &[SecNo])
-    ensures { marks.new.items ≡ spec.with_marked marks.old.items sections.now }
+    ensures { marks.new.items ≡ with_marked marks.old.items sections.now }
 {
     for n in 0..sections.len() {
         mark(marks, sections[n]);
@@ -141,7 +142,7 @@ pub fn mark_sections(marks: &mut Vec<bool>, sections: &[SecNo])
 
 /// Marks a section, if there is one.
 fn mark_if(taken: &mut Vec<bool>, section: Option<SecNo>)
-    ensures { taken.new.items ≡ spec.with_marked taken.old.items (option_to_list section) }
+    ensures { taken.new.items ≡ with_marked taken.old.items (option_to_list section) }
 {
     if let Some(section) = section {
         mark(taken, section);
@@ -150,7 +151,7 @@ fn mark_if(taken: &mut Vec<bool>, section: Option<SecNo>)
 
 /// Marks a section; there is nothing to mark past the end.
 fn mark(taken: &mut Vec<bool>, section: SecNo)
-    ensures { taken.new.items ≡ spec.with_marked taken.old.items (section ∷ []) }
+    ensures { taken.new.items ≡ with_marked taken.old.items (section ∷ []) }
 {
     if (section as usize) < taken.len() {
         taken[section as usize] = true;

@@ -13,9 +13,9 @@ ghost use Rattle.sec_graph.specs.FrameRelocs.{AreFramesOf};
 ghost use Rattle.sec_graph.specs.Prevailing.{PrevailingStand, is_nobody};
 ghost use Rattle.sec_graph.specs.Undefined as spec;
 
-use crate::kept::is_kept;
 use crate::needed_frames::is_needed;
 use crate::prevailing::{is_discarded, is_prevailing, prevailing_stand};
+use link_sections::is_kept;
 use lk_base::abi::STB_WEAK;
 use lk_base::kinds::UNDEFINED;
 use lk_base::relocations::names_a_symbol;

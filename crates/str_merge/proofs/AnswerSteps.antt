@@ -3,7 +3,7 @@ use Rattle.std.proofs.Common.{◌≡◌, ℕ, zero, suc, ◌+◌, ◌<◌, ◌�
 use Rattle.std.specs.Prelude.{All}
 use Rattle.std.proofs.Math.Seq.{drop-cons}
 use Rattle.std.proofs.lemmas.Bool.{cases_Bool, eqb-true, eqb-false}
-use Rattle.std.proofs.lemmas.List.{get_or-append-add, get_or-map, get_or_append_left, get_or-set_same, get_or-set_other, length-append, length-map, length-set}
+use Rattle.std.proofs.lemmas.List.{get_or-append-add, get_or-map, get_or_append_left, get_or-set_same, get_or-set_other, length-append, length-map, length-set, drop_all}
 use Rattle.std.proofs.lemmas.List.Elements.{All-append, All-cons, All-weaker}
 use Rattle.lk_tables.specs.Files.{File}
 use Rattle.lk_tables.specs.TablesView.{files_of}
@@ -18,7 +18,6 @@ use Rattle.str_merge.specs.Filling.{AddsParts, AreAnswered, IsAnswered, no_merge
 use Rattle.str_merge.specs.Parts.{parts_by}
 use Rattle.str_merge.specs.Pooling.{own_parts}
 use Rattle.str_merge.specs.Works.{members_at, nth_site}
-use Rattle.str_merge.proofs.ListSteps.{drop_past}
 use Rattle.str_merge.proofs.PoolFacts.{members_own, members_within}
 
 -- pieces with their numbers in the pool
@@ -181,4 +180,4 @@ answers_next answers members pool row n whole lt held =
 
 pub answers_all : (answers : List HeldMerged) (members : List ℕ) (pool row n : ℕ) (whole : List HeldMerged) → length members ≤ n →
     with_answers answers (drop n members) pool row ≡ whole → answers ≡ whole
-answers_all answers members pool row n whole le held = ap (λ l. with_answers answers l pool row) (sym (drop_past members n le)) ∙ held
+answers_all answers members pool row n whole le held = ap (λ l. with_answers answers l pool row) (sym (drop_all n members le)) ∙ held

@@ -1,6 +1,7 @@
 -- Strings of bytes: a zero ends each, and the places of zeros are found by a search.
-use Rattle.std.proofs.Common.{◌≡◌, ℕ, zero, suc, ◌+◌, ◌-◌, ◌*◌, ◌<◌, ◌≤◌, Bool, true, false, ◌==◌, ◌&&◌, List, [], ◌∷◌, ◌++◌, length, get_or, take, drop, refl, sym, ap, ◌∙◌, subst, arith, append_assoc, inl, inr}
+use Rattle.std.proofs.Common.{◌≡◌, ℕ, zero, suc, ◌+◌, ◌-◌, ◌*◌, ◌<◌, ◌≤◌, true, false, ◌==◌, List, [], ◌∷◌, ◌++◌, length, get_or, take, drop, refl, sym, ap, ◌∙◌, subst, arith, append_assoc, inl, inr}
 use Rattle.std.specs.Prelude.{⊤}
+use Rattle.std.proofs.Math.Bool.{and-true}
 use Rattle.std.proofs.Math.Seq.{drop-cons}
 use Rattle.std.proofs.lemmas.Bool.{cases_Bool, cond-true, cond-false}
 use Rattle.std.proofs.lemmas.List.{append-nil}
@@ -18,12 +19,8 @@ abbrev pub Rise : (start end : ℕ) → List ℕ → Type 0
 Rise start end [] = ⊤
 Rise start end (p ∷ ps) = (start ≤ p) × (p < end) × Rise (p + 1) end ps
 
-and_on : (b : Bool) → (b && true) ≡ b
-and_on true = refl
-and_on false = refl
-
 one_byte : (b : ℕ) → is_zero_char (b ∷ []) ≡ (b == 0)
-one_byte b = and_on (b == 0)
+one_byte b = and-true (b == 0)
 
 byte_at : (bytes : List ℕ) (i : ℕ) → i < length bytes → element_of 1 bytes i ≡ get_or bytes i 0 ∷ []
 byte_at bytes i lt =
@@ -104,11 +101,6 @@ pub cut_none : (bytes ends : List ℕ) → ends ≡ places (is_byte 0) bytes →
 cut_none bytes ends is =
     let P : List ℕ → Type 0 = λ l. AreCutTo bytes 0 l [] in
     subst P (sym is) (record { rising = zeros_rise bytes 0 0 (length bytes - 0) (omega arith) (omega arith); strings = sym (all_strings bytes) })
-
-pub cut_within : (bytes : List ℕ) (start p : ℕ) (ends rest : List ℕ) (texts : List (List ℕ)) → AreCutTo bytes start ends texts → ends ≡ p ∷ rest → (start ≤ p) × (p < length bytes)
-cut_within bytes start p ends rest texts held is =
-    let r = subst (Rise start (length bytes)) is held.rising in
-    (r.0, r.1)
 
 pub cut_more : (bytes : List ℕ) (start p : ℕ) (ends rest : List ℕ) (old new : List (List ℕ)) → AreCutTo bytes start ends old → ends ≡ p ∷ rest →
     new ≡ old ++ begun bytes start (p + 1) ∷ [] → AreCutTo bytes (p + 1) rest new

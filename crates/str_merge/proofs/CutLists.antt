@@ -17,13 +17,10 @@ use Rattle.str_merge.specs.Sites.{IsIn, cut_views, pieces_of, site_view, site_vi
 use Rattle.str_merge.specs.Small.{IsNear}
 use Rattle.str_merge.proofs.ListSteps.{by_index}
 
-each_count : {X : Type 0} (Is : ℕ → X → Type 0) (a b : ℕ) (xs : List X) → EachFrom Is a b xs → a + length xs ≡ b
-each_count Is a b xs held = each_rises Is a b xs held
-
 each_is : {X Y : Type 0} (view : X → Y) (give : ℕ → Y) (a b : ℕ) (xs : List X) → EachFrom (λ i x. view x ≡ give i) a b xs → map view xs ≡ map give (range_with_len a (b - a))
 each_is view give a b [] same = let none : b - a ≡ 0 = omega (arith, same) in ap (λ n. map give (range_with_len a n)) (sym none)
 each_is view give a b (x ∷ xs) held =
-    let rise = each_count (λ i x. view x ≡ give i) (a + 1) b xs held.1 in
+    let rise = each_rises (λ i x. view x ≡ give i) (a + 1) b xs held.1 in
     let more : b - a ≡ suc (b - (a + 1)) = omega arith in
     ap (λ y. y ∷ map view xs) held.0 ∙ ap (λ l. give a ∷ l) (each_is view give (a + 1) b xs held.1) ∙ ap (λ n. map give (range_with_len a n)) (sym more)
 

@@ -1,19 +1,19 @@
 -- The pieces of a section, from where they end.
-use Rattle.std.proofs.Common.{◌≡◌, ℕ, zero, suc, ◌+◌, ◌-◌, ◌*◌, ◌/◌, ◌<◌, ◌≤◌, Bool, true, false, List, [], ◌∷◌, ◌++◌, length, map, get_or, take, drop, min, refl, sym, ap, ◌∙◌, arith, append_assoc, inl, inr}
+use Rattle.std.proofs.Common.{◌≡◌, ℕ, zero, suc, ◌+◌, ◌-◌, ◌*◌, ◌/◌, ◌<◌, ◌≤◌, Bool, true, false, List, [], ◌∷◌, ◌++◌, length, map, get_or, take, drop, refl, sym, ap, ◌∙◌, arith, append_assoc, inl, inr}
 use Rattle.std.specs.Prelude.{flat_map, if◌then◌else◌}
 use Rattle.std.specs.List.{range_with_len}
 use Rattle.std.proofs.Math.Nat.{div-mul-le_self, div-zero, mul-le-mul_right}
 use Rattle.std.proofs.Math.ListN.{get_or-map as get_or-map_default}
-use Rattle.std.proofs.Math.Seq.{drop-cons, take-add, take-nil}
-use Rattle.std.proofs.lemmas.Bool.{cases_Bool, cases_lt}
-use Rattle.std.proofs.lemmas.List.{append-nil, drop-drop, get_or_append_left, get_or_push, length-append, length-drop, length-map, take_all}
+use Rattle.std.proofs.Math.Seq.{drop-cons, take-add}
+use Rattle.std.proofs.lemmas.Bool.{cases_Bool}
+use Rattle.std.proofs.lemmas.List.{append-nil, drop-drop, drop_all, get_or_append_left, get_or_push, length-append, length-map}
 use Rattle.std.proofs.lemmas.List.FromFn.{fill_by_all, get_or-map-range_with_len, length-map-range_with_len, map-range_with_len_more}
 use Rattle.std.proofs.lemmas.Simd.{map-map}
 use Rattle.link_sections.specs.MergeSections.{elements, is_zero_char, strings_from}
+use Rattle.intern_race.specs.Texts.{cut_texts}
 use Rattle.str_merge.specs.declared.cuts.Cut.{Cut}
 use Rattle.str_merge.specs.Cutting.{no_defects}
-use Rattle.str_merge.specs.Sites.{CutPiece, cut_text, cut_texts, no_piece, piece_of, pieces_of, start_of, texts_of}
-use Rattle.str_merge.proofs.ListSteps.{drop_past}
+use Rattle.str_merge.specs.Sites.{CutPiece, cut_text, no_piece, piece_of, pieces_of, start_of, texts_of}
 
 -- an element is whole
 pub element_end : (n size i : ℕ) → i < n / size → i * size + size ≤ n
@@ -39,7 +39,7 @@ elements_rest size i bytes lt =
 pub elements_end : (size i : ℕ) (bytes : List ℕ) → length bytes / size ≤ i → drop i (elements size bytes) ≡ []
 unfolding elements
 elements_end size i bytes le =
-    drop_past (map (element_of size bytes) (range_with_len 0 (length bytes / size))) i (omega (arith, length-map-range_with_len (element_of size bytes) 0 (length bytes / size)))
+    drop_all i (map (element_of size bytes) (range_with_len 0 (length bytes / size))) (omega (arith, length-map-range_with_len (element_of size bytes) 0 (length bytes / size)))
 
 pub no_elements : (bytes : List ℕ) → elements 0 bytes ≡ []
 unfolding elements
@@ -145,6 +145,7 @@ text_new bytes ends e =
     ∙ ap (λ m. take (m - start) (drop start bytes)) (get_or_push ends e 0 n refl)
 
 texts_push : (bytes ends : List ℕ) (e : ℕ) → cut_texts bytes (ends ++ e ∷ []) ≡ cut_texts bytes ends ++ begun bytes (last_of ends) e ∷ []
+unfolding cut_texts
 texts_push bytes ends e =
     let n = length ends in
     let new = cut_text bytes (ends ++ e ∷ []) in
@@ -196,7 +197,7 @@ unfolding pieces_of
 piece_read c k d lt = get_or-map-range_with_len (piece_of c) 0 (length c.ends.items) k k d lt (omega arith)
 
 pub pieces_texts : (c : Cut) → texts_of (pieces_of c) ≡ cut_texts c.bytes.now c.ends.items
-unfolding pieces_of
+unfolding cut_texts pieces_of
 pieces_texts c = map-map (λ (p : CutPiece). p.text) (piece_of c) (range_with_len 0 (length c.ends.items))
 
 pub text_read : (c : Cut) (k : ℕ) → k < length c.ends.items → get_or (texts_of (pieces_of c)) k [] ≡ cut_text c.bytes.now c.ends.items k
@@ -204,33 +205,3 @@ text_read c k lt = get_or-map_default (λ (p : CutPiece). p.text) (pieces_of c) 
 
 pub texts_count : (c : Cut) → length (texts_of (pieces_of c)) ≡ length c.ends.items
 texts_count c = length-map (pieces_of c) (λ (p : CutPiece). p.text) ∙ pieces_count c
-
--- where a piece begins
-pub start_after : (ends : List ℕ) (k : ℕ) → 0 < k → get_or ends (k - 1) 0 ≡ start_of ends k
-start_after ends zero some = absurd (omega (arith, some))
-start_after ends (suc k) some = let one : suc k - 1 ≡ k = omega arith in ap (λ j. get_or ends j 0) one
-
--- bytes between two places, of which none is past the end
-clip_past : (bytes : List ℕ) (start end to : ℕ) → to ≡ min end (length bytes) → to < start → take (end - start) (drop start bytes) ≡ []
-clip_past bytes start end to last past = elim (cases_lt (length bytes) end) [
-  | inl beyond ↦ ap (take (end - start)) (drop_past bytes start (omega (arith, past, beyond, last))) ∙ take-nil (end - start)
-  | inr within ↦ let none : end - start ≡ 0 = omega (arith, past, within, last) in ap (λ n. take n (drop start bytes)) none
-]
-
-clip_low : (bytes : List ℕ) (start end to : ℕ) → to ≡ min end (length bytes) → start ≤ to → take (to - start) (drop start bytes) ≡ take (end - start) (drop start bytes)
-clip_low bytes start end to last low = elim (cases_lt (length bytes) end) [
-  | inl beyond ↦
-      take_all (to - start) (drop start bytes) (omega (arith, beyond, last, length-drop start bytes))
-      ∙ sym (take_all (end - start) (drop start bytes) (omega (arith, beyond, length-drop start bytes)))
-  | inr within ↦ let whole : to ≡ end = omega (arith, within, last) in ap (λ n. take (n - start) (drop start bytes)) whole
-]
-
-pub clipped : (bytes : List ℕ) (start end from to : ℕ) → to ≡ min end (length bytes) → from ≡ min start to → take (to - from) (drop from bytes) ≡ take (end - start) (drop start bytes)
-clipped bytes start end from to last first = elim (cases_lt to start) [
-  | inl past ↦
-      let none : to - from ≡ 0 = omega (arith, past, first) in
-      ap (λ n. take n (drop from bytes)) none ∙ sym (clip_past bytes start end to last past)
-  | inr low ↦
-      let here : from ≡ start = omega (arith, low, first) in
-      ap (λ k. take (to - k) (drop k bytes)) here ∙ clip_low bytes start end to last low
-]

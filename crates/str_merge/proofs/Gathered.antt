@@ -3,15 +3,14 @@ use Rattle.std.proofs.Common.{◌≡◌, ℕ, suc, ◌+◌, ◌-◌, ◌<◌, �
 use Rattle.std.specs.Prelude.{All}
 use Rattle.std.proofs.Math.Seq.{drop-append_seam, drop-cons}
 use Rattle.std.proofs.lemmas.Bool.{cases_lt}
-use Rattle.std.proofs.lemmas.List.{drop-drop, get_or-drop, get_or_append_left, get_or_default, get_or_past, append-nil, length-append, length-drop, map-append, take_all, take_more}
+use Rattle.std.proofs.lemmas.List.{drop-drop, get_or-drop, get_or_append_left, get_or_default, get_or_past, append-nil, length-append, length-drop, map-append, take_all, take_more, drop_all}
 use Rattle.std.proofs.lemmas.Grind.{flat_map-append}
-use Rattle.intern_race.specs.Texts.{cut_texts as lent_cut}
+use Rattle.intern_race.specs.Texts.{cut_texts}
 use Rattle.str_merge.specs.declared.gathering.Place.{Place}
 use Rattle.str_merge.specs.Gathering.{IsFound, IsPlace}
 use Rattle.str_merge.specs.declared.cuts.Cut.{Cut}
-use Rattle.str_merge.specs.Sites.{CutPiece, cut_texts, gathered, piece_lists, pieces_of, texts_of}
+use Rattle.str_merge.specs.Sites.{CutPiece, gathered, piece_lists, pieces_of, texts_of}
 use Rattle.str_merge.proofs.CutTexts.{pieces_texts}
-use Rattle.str_merge.proofs.ListSteps.{drop_past}
 
 -- the list at a place, and those after it
 gathered_at : {X : Type 0} (lists : List (List X)) (places : List ℕ) (n : ℕ) → n < length places →
@@ -31,7 +30,7 @@ counted_next lists places n total old new own lt held is more =
 
 pub counted_all : {X : Type 0} (lists : List (List X)) (places : List ℕ) (n total count : ℕ) → length places ≤ n → count + length (gathered lists (drop n places)) ≡ total → count ≡ total
 counted_all lists places n total count le held =
-    let none = ap (λ l. length (gathered lists l)) (drop_past places n le) in omega (arith, held, none)
+    let none = ap (λ l. length (gathered lists l)) (drop_all n places le) in omega (arith, held, none)
 
 -- a place, one list on
 pub place_next : {X : Type 0} (lists : List (List X)) (places : List ℕ) (n before next : ℕ) (own : List X) → n < length places →
@@ -48,7 +47,7 @@ place_next lists places n before next own lt held is more =
 pub not_past : {X : Type 0} (lists : List (List X)) (places : List ℕ) (n before i : ℕ) → length places ≤ n → IsPlace lists places (record { section = n; before = before }) → before ≤ i →
     i < length (gathered lists places) → ⊥
 not_past lists places n before i le at low lt =
-    let none : drop before (gathered lists places) ≡ [] = at ∙ ap (gathered lists) (drop_past places n le) in
+    let none : drop before (gathered lists places) ≡ [] = at ∙ ap (gathered lists) (drop_all n places le) in
     omega (arith, low, lt, ap length none, length-drop before (gathered lists places))
 
 -- the element that is found
@@ -72,8 +71,7 @@ at_any P xs d all own i = elim (cases_lt i (length xs)) [
 
 -- the texts of the pieces of sections, one section more, and of all
 pub texts_next : (cuts : List Cut) (places : List ℕ) (n : ℕ) (cut : Cut) (old new : List (List ℕ)) → n < length places → pieces_of cut ≡ get_or (piece_lists cuts) (get_or places n 0) [] →
-    new ≡ old ++ lent_cut cut.bytes.now cut.ends.items → old ≡ texts_of (gathered (piece_lists cuts) (take n places)) → new ≡ texts_of (gathered (piece_lists cuts) (take (n + 1) places))
-unfolding lent_cut
+    new ≡ old ++ cut_texts cut.bytes.now cut.ends.items → old ≡ texts_of (gathered (piece_lists cuts) (take n places)) → new ≡ texts_of (gathered (piece_lists cuts) (take (n + 1) places))
 texts_next cuts places n cut old new lt read push before =
     let lists = piece_lists cuts in
     let here = get_or lists (get_or places n 0) [] in

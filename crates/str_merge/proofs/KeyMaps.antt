@@ -1,20 +1,15 @@
 -- A map from keys to the indexes of their first elements in a list.
-use Rattle.std.proofs.Common.{◌≡◌, ℕ, ◌+◌, ◌<◌, ◌≤◌, ◌&&◌, Bool, true, false, cond, Option, Some, None, List, [], ◌∷◌, length, get_or, refl, sym, ap, ◌∙◌, arith, inl, inr, eqb, ltb}
+use Rattle.std.proofs.Common.{◌≡◌, ℕ, ◌+◌, ◌<◌, ◌≤◌, ◌&&◌, Bool, true, cond, Option, Some, None, List, [], ◌∷◌, length, get_or, refl, sym, ap, ◌∙◌, arith, inl, inr, eqb, ltb}
 use Rattle.std.specs.Prelude.{if◌then◌else◌, unwrap_or}
 use Rattle.std.specs.List.{position_or_len}
 use Rattle.std.specs.Map.{lookup}
 use Rattle.std.specs.Str.{bytes_eq}
-use Rattle.std.proofs.lemmas.Bool.{cases_Bool, cases_lt, eqb-true, eq-eqb, lt-ltb, le-ltb, false≢true}
+use Rattle.std.proofs.lemmas.Bool.{cases_Bool, cases_lt, eqb-true, eq-eqb, lt-ltb, le-ltb, false≢true, and_parts}
 use Rattle.std.proofs.lemmas.Slice.Eq.{bytes_eq-Decides}
 use Rattle.std.proofs.lemmas.List.Sums.{fails_before_first, passes_at_first}
 use Rattle.link_sections.specs.MergeSections.{PoolKey, same_key}
 use Rattle.str_merge.specs.Keys.{HeldKey, eq_keys, key_view}
 use Rattle.str_merge.proofs.Ranking.{IsSame, first_alike}
-
-both : (a b : Bool) → (a && b) ≡ true → (a ≡ true) × (b ≡ true)
-both true true e = (refl, refl)
-both true false e = cc
-both false b e = cc
 
 all_true : (a b c d : Bool) → a ≡ true → b ≡ true → c ≡ true → d ≡ true → (((a && b) && c) && d) ≡ true
 all_true a b c d p q r s = ap (λ x. ((x && b) && c) && d) p ∙ ap (λ x. (x && c) && d) q ∙ ap (λ x. x && d) r ∙ s
@@ -23,9 +18,9 @@ all_true a b c d p q r s = ap (λ x. ((x && b) && c) && d) p ∙ ap (λ x. (x &&
 pub same_key_equal : (a b : PoolKey) → same_key a b ≡ true → a ≡ b
 unfolding same_key
 same_key_equal a b e =
-    let r = both ((bytes_eq a.name b.name && eqb a.flags b.flags) && eqb a.entsize b.entsize) (eqb a.align b.align) e in
-    let q = both (bytes_eq a.name b.name && eqb a.flags b.flags) (eqb a.entsize b.entsize) r.0 in
-    let p = both (bytes_eq a.name b.name) (eqb a.flags b.flags) q.0 in
+    let r = and_parts ((bytes_eq a.name b.name && eqb a.flags b.flags) && eqb a.entsize b.entsize) (eqb a.align b.align) e in
+    let q = and_parts (bytes_eq a.name b.name && eqb a.flags b.flags) (eqb a.entsize b.entsize) r.0 in
+    let p = and_parts (bytes_eq a.name b.name) (eqb a.flags b.flags) q.0 in
     let name : a.name ≡ b.name = (bytes_eq-Decides a.name b.name).0 p.0 in
     let flags : a.flags ≡ b.flags = eqb-true a.flags b.flags p.1 in
     let entsize : a.entsize ≡ b.entsize = eqb-true a.entsize b.entsize q.1 in

@@ -1,9 +1,9 @@
 -- Lists by index, and loops that add to a list.
-use Rattle.std.proofs.Common.{◌≡◌, ℕ, ◌+◌, ◌<◌, ◌≤◌, List, [], ◌∷◌, ◌++◌, length, map, get_or, drop, refl, sym, ap, ◌∙◌, arith, append_assoc}
+use Rattle.std.proofs.Common.{◌≡◌, ℕ, ◌+◌, ◌<◌, List, [], ◌∷◌, ◌++◌, length, map, get_or, refl, sym, ap, ◌∙◌, arith, append_assoc}
 use Rattle.std.specs.Prelude.{flat_map}
 use Rattle.std.specs.List.{range_with_len}
-use Rattle.std.proofs.lemmas.List.{length-map, get_or-map, length-drop, map-append, nil_from_length}
-use Rattle.std.proofs.lemmas.List.FromFn.{fill_by_all, map-range_with_len_more}
+use Rattle.std.proofs.lemmas.List.{length-map, get_or-map, map-append}
+use Rattle.std.proofs.lemmas.List.FromFn.{fill_by_all}
 use Rattle.lk_base.proofs.Loops.{map_step, flat_step}
 
 pub by_index : {X Y : Type 0} (f : X → Y) (xs : List X) (d : X) (n : ℕ) → n ≡ length xs → map (λ i. f (get_or xs i d)) (range_with_len 0 n) ≡ map f xs
@@ -19,20 +19,9 @@ view_step view give i old new x held is own =
 flat_more : {Z : Type 0} (give : ℕ → List Z) (i : ℕ) → flat_map give (range_with_len 0 i) ++ give i ≡ flat_map give (range_with_len 0 (i + 1))
 flat_more give i = flat_step give i (flat_map give (range_with_len 0 i)) (flat_map give (range_with_len 0 i) ++ give i) refl refl
 
-pub drop_past : {X : Type 0} (xs : List X) (n : ℕ) → length xs ≤ n → drop n xs ≡ []
-drop_past xs n le = nil_from_length (drop n xs) (omega (arith, length-drop n xs))
-
 -- some elements more, seen through a view, after a prefix
 pub rows_step : {X Z : Type 0} (view : X → Z) (give : ℕ → List Z) (i : ℕ) (prefix : List Z) (old new : List X) →
     map view old ≡ prefix ++ flat_map give (range_with_len 0 i) → map view new ≡ map view old ++ give i → map view new ≡ prefix ++ flat_map give (range_with_len 0 (i + 1))
 rows_step view give i prefix old new held is =
     is ∙ ap (λ l. l ++ give i) held ∙ append_assoc prefix (flat_map give (range_with_len 0 i)) (give i)
     ∙ ap (λ l. prefix ++ l) (flat_more give i)
-
--- one element more, after a prefix
-pub row_step : {X : Type 0} (give : ℕ → X) (n : ℕ) (prefix old new : List X) (x : X) → old ≡ prefix ++ map give (range_with_len 0 n) → new ≡ old ++ x ∷ [] →
-    x ≡ give n → new ≡ prefix ++ map give (range_with_len 0 (n + 1))
-row_step give n prefix old new x held is own =
-    is ∙ ap (λ l. l ++ x ∷ []) held ∙ ap (λ y. (prefix ++ map give (range_with_len 0 n)) ++ y ∷ []) own
-    ∙ append_assoc prefix (map give (range_with_len 0 n)) (give n ∷ [])
-    ∙ ap (λ l. prefix ++ l) (sym (map-range_with_len_more give 0 n n (omega arith)))

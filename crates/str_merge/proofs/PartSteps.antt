@@ -2,10 +2,9 @@
 use Rattle.std.proofs.Common.{◌≡◌, ℕ, suc, ◌+◌, ◌-◌, ◌<◌, ◌≤◌, List, [], ◌∷◌, ◌++◌, length, map, get_or, take, drop, refl, sym, ap, ◌∙◌, arith, append_assoc}
 use Rattle.std.specs.Prelude.{flat_map}
 use Rattle.std.proofs.Math.Seq.{drop-append_seam, drop-cons, take-append_seam}
-use Rattle.std.proofs.lemmas.List.{append-nil, drop-drop, length-map, map-append}
+use Rattle.std.proofs.lemmas.List.{append-nil, drop-drop, drop_all, length-map, map-append}
 use Rattle.link_sections.specs.declared.pieces.Part.{Part}
 use Rattle.str_merge.specs.Parts.{lists_at, part_lists, parts_by}
-use Rattle.str_merge.proofs.ListSteps.{drop_past}
 
 lists_from : {X : Type 0} (lists : List (List X)) (places : List ℕ) (n : ℕ) → n < length places →
     lists_at lists (drop n places) ≡ get_or lists (get_or places n 0) [] ∷ lists_at lists (drop (n + 1) places)
@@ -36,7 +35,7 @@ lists_next lists places n at end own ranks old new whole row lt is to held added
 pub lists_all : (lists : List (List (List ℕ))) (places : List ℕ) (n : ℕ) (ranks : List ℕ) (rows whole : List (List Part)) → length places ≤ n →
     rows ++ part_lists (lists_at lists (drop n places)) ranks ≡ whole → rows ≡ whole
 lists_all lists places n ranks rows whole le held =
-    sym (append-nil rows) ∙ ap (λ l. rows ++ part_lists (lists_at lists l) ranks) (sym (drop_past places n le)) ∙ held
+    sym (append-nil rows) ∙ ap (λ l. rows ++ part_lists (lists_at lists l) ranks) (sym (drop_all n places le)) ∙ held
 
 -- the parts of each section, if the numbers of its pieces are known
 pub lists_known : (pieces : ℕ → List (List ℕ)) (known : List ℕ → ℕ) (members : List ℕ) →

@@ -4,7 +4,7 @@ use Rattle.std.specs.Prelude.{flat_map, if◌then◌else◌}
 use Rattle.std.specs.List.{range_with_len}
 use Rattle.std.proofs.Math.Nat.{div-add-mod'}
 use Rattle.std.proofs.Math.Seq.{take-add}
-use Rattle.std.proofs.lemmas.Bool.{eqb-true, eqb-false}
+use Rattle.std.proofs.lemmas.Bool.{eqb-true, eqb-false, and_parts}
 use Rattle.std.proofs.lemmas.List.{append-nil, length-drop, take_all}
 use Rattle.std.proofs.lemmas.List.FromFn.{get_or-map-range_with_len, length-map-range_with_len}
 use Rattle.lk_base.specs.declared.abi.TheConstants.{SHF_MERGE, SHF_WRITE, SHT_PROGBITS}
@@ -75,11 +75,6 @@ last_element size n bytes long =
     let at : n * size ≡ length bytes - size = omega (arith, long) in
     take_all size (drop (n * size) bytes) (omega (arith, long, length-drop (n * size) bytes)) ∙ ap (λ k. drop k bytes) at
 
-both : (a b : Bool) → (a && b) ≡ true → (a ≡ true) × (b ≡ true)
-both true true e = (refl, refl)
-both true false e = cc
-both false b e = cc
-
 not_false : (b : Bool) → not b ≡ true → b ≡ false
 not_false true e = cc
 not_false false e = refl
@@ -99,8 +94,8 @@ last_length len size (suc n) is some =
 whole_elements : (size : ℕ) (bytes : List ℕ) → is_whole size bytes ≡ true → (length bytes % size ≡ 0) × (0 < length bytes / size)
 unfolding is_whole
 whole_elements size bytes e =
-    let p = both (not (length bytes == 0)) (not (size == 0) && length bytes % size == 0) e in
-    let q = both (not (size == 0)) (length bytes % size == 0) p.1 in
+    let p = and_parts (not (length bytes == 0)) (not (size == 0) && length bytes % size == 0) e in
+    let q = and_parts (not (size == 0)) (length bytes % size == 0) p.1 in
     let even : length bytes % size ≡ 0 = eqb-true (length bytes % size) 0 q.1 in
     let some = eqb-false (length bytes) 0 (not_false (length bytes == 0) p.0) in
     let whole = div-add-mod' (length bytes) size in
@@ -118,7 +113,7 @@ elements_end_zero size bytes whole ended =
     let less : n ≡ suc (n - 1) = omega arith in
     let split = div-add-mod' (length bytes) size in
     let long : length bytes ≡ (n - 1) * size + size = last_length (length bytes) size n (omega (arith, split, even)) some in
-    let zero_last = (both (size == 1 || (size == 2 || size == 4)) (is_zero_char (drop (length bytes - size) bytes)) ended).1 in
+    let zero_last = (and_parts (size == 1 || (size == 2 || size == 4)) (is_zero_char (drop (length bytes - size) bytes)) ended).1 in
     ends_last [] list (n - 1) (count ∙ less)
     (ap is_zero_char (get_or-map-range_with_len (element_of size bytes) 0 n (n - 1) (n - 1) [] (omega arith) (omega arith) ∙ last_element size (n - 1) bytes long) ∙ zero_last)
 
@@ -132,7 +127,7 @@ section_together false size bytes whole ended = elements_together size bytes (wh
 some_bytes : (size : ℕ) (bytes : List ℕ) → is_whole size bytes ≡ true → 0 < length bytes
 unfolding is_whole
 some_bytes size bytes e =
-    let p = both (not (length bytes == 0)) (not (size == 0) && length bytes % size == 0) e in
+    let p = and_parts (not (length bytes == 0)) (not (size == 0) && length bytes % size == 0) e in
     let some = eqb-false (length bytes) 0 (not_false (length bytes == 0) p.0) in
     omega (arith, some)
 
@@ -143,9 +138,9 @@ some_contents file k merges =
     let bytes = contents file k in
     let ended = not (has_strings file k) || is_ended s.entsize bytes in
     let whole = is_whole s.entsize bytes in
-    let last = both whole ended (both (length (relocs_at file k) == 0) (whole && ended) (both (bit_and s.flags SHF_WRITE == 0) (length (relocs_at file k) == 0 && (whole && ended))
-    (both (s.sh_type == SHT_PROGBITS) (bit_and s.flags SHF_WRITE == 0 && (length (relocs_at file k) == 0 && (whole && ended)))
-    (both (not (bit_and s.flags SHF_MERGE == 0)) (s.sh_type == SHT_PROGBITS && (bit_and s.flags SHF_WRITE == 0 && (length (relocs_at file k) == 0 && (whole && ended)))) merges).1).1).1).1 in
+    let last = and_parts whole ended (and_parts (length (relocs_at file k) == 0) (whole && ended) (and_parts (bit_and s.flags SHF_WRITE == 0) (length (relocs_at file k) == 0 && (whole && ended))
+    (and_parts (s.sh_type == SHT_PROGBITS) (bit_and s.flags SHF_WRITE == 0 && (length (relocs_at file k) == 0 && (whole && ended)))
+    (and_parts (not (bit_and s.flags SHF_MERGE == 0)) (s.sh_type == SHT_PROGBITS && (bit_and s.flags SHF_WRITE == 0 && (length (relocs_at file k) == 0 && (whole && ended)))) merges).1).1).1).1 in
     some_bytes s.entsize bytes last.0
 
 pub pieces_together : (file : File) (k : ℕ) → is_mergeable file k ≡ true → together (pieces_in file k) ≡ contents file k
@@ -155,7 +150,7 @@ pieces_together file k merges =
     let bytes = contents file k in
     let ended = not (has_strings file k) || is_ended s.entsize bytes in
     let whole = is_whole s.entsize bytes in
-    let last = both whole ended (both (length (relocs_at file k) == 0) (whole && ended) (both (bit_and s.flags SHF_WRITE == 0) (length (relocs_at file k) == 0 && (whole && ended))
-    (both (s.sh_type == SHT_PROGBITS) (bit_and s.flags SHF_WRITE == 0 && (length (relocs_at file k) == 0 && (whole && ended)))
-    (both (not (bit_and s.flags SHF_MERGE == 0)) (s.sh_type == SHT_PROGBITS && (bit_and s.flags SHF_WRITE == 0 && (length (relocs_at file k) == 0 && (whole && ended)))) merges).1).1).1).1 in
+    let last = and_parts whole ended (and_parts (length (relocs_at file k) == 0) (whole && ended) (and_parts (bit_and s.flags SHF_WRITE == 0) (length (relocs_at file k) == 0 && (whole && ended))
+    (and_parts (s.sh_type == SHT_PROGBITS) (bit_and s.flags SHF_WRITE == 0 && (length (relocs_at file k) == 0 && (whole && ended)))
+    (and_parts (not (bit_and s.flags SHF_MERGE == 0)) (s.sh_type == SHT_PROGBITS && (bit_and s.flags SHF_WRITE == 0 && (length (relocs_at file k) == 0 && (whole && ended)))) merges).1).1).1).1 in
     section_together (has_strings file k) s.entsize bytes last.0 last.1

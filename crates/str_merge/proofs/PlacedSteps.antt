@@ -2,7 +2,7 @@
 use Rattle.std.proofs.Common.{◌≡◌, ℕ, suc, ◌+◌, ◌<◌, ◌≤◌, List, [], ◌∷◌, ◌++◌, length, map, get_or, take, drop, refl, sym, ap, ◌∙◌, subst, arith, append_assoc, inl, inr}
 use Rattle.std.proofs.Math.Seq.{drop-cons}
 use Rattle.std.proofs.lemmas.Bool.{cases_lt}
-use Rattle.std.proofs.lemmas.List.{map-append, append-nil, get_or_append_left, get_or_push, length-append, take_all, take_more}
+use Rattle.std.proofs.lemmas.List.{map-append, append-nil, get_or_append_left, get_or_push, length-append, take_all, take_more, drop_all}
 use Rattle.std.proofs.lemmas.List.Elements.{All-append, All-cons, All-nil}
 use Rattle.lk_base.specs.Arithmetic.{up}
 use Rattle.lk_base.proofs.Multiples.{up_least}
@@ -18,7 +18,6 @@ use Rattle.str_merge.specs.Orders.{owns}
 use Rattle.str_merge.specs.Parts.{parts_by}
 use Rattle.str_merge.specs.Placing.{AddsPieces, IsPlaced, chosen}
 use Rattle.str_merge.specs.Sites.{CutPiece, texts_of}
-use Rattle.str_merge.proofs.ListSteps.{drop_past}
 
 -- one piece more, after the end of the others
 pile_next : (old new : List Piece) (p : Piece) (end next : ℕ) → ((pool : Pool) → pool.size ≡ end → IsPile pool old) → new ≡ old ++ p ∷ [] → end ≤ p.position →
@@ -144,5 +143,5 @@ part_next texts numbers n start next old new p lt less held is own to =
 
 pub parts_all : (texts : List (List ℕ)) (numbers : List ℕ) (n start : ℕ) (parts : List Part) → n ≡ length texts → ArePartsUpTo texts numbers n start parts → parts ≡ parts_by 0 texts numbers
 parts_all texts numbers n start parts e held =
-    let none : drop n texts ≡ [] = drop_past texts n (omega arith) in
+    let none : drop n texts ≡ [] = drop_all n texts (omega arith) in
     sym (append-nil parts) ∙ ap (λ l. parts ++ parts_by start l (drop n numbers)) (sym none) ∙ held.parts_are

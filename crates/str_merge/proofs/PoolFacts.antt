@@ -6,11 +6,11 @@ use Rattle.std.specs.Str.{bytes_eq}
 use Rattle.std.proofs.Math.ListN.{get_or-map as get_or-map_default}
 use Rattle.std.proofs.Math.Seq.{take-nil}
 use Rattle.std.proofs.lemmas.Bool.{cases_lt, eqb-true}
-use Rattle.std.proofs.lemmas.List.{drop-drop, drop-take, get_or-map, length-drop, length-take, map-append, take_all, take_min, take-take}
+use Rattle.std.proofs.lemmas.List.{drop-drop, drop-take, get_or-map, length-drop, length-take, map-append, take_all, take_min, take-take, drop_all, map-id}
 use Rattle.std.proofs.lemmas.List.Elements.{All-append, All-cons, All-filter, All-nil, filter_passes}
-use Rattle.std.proofs.lemmas.List.FromFn.{length-range_with_len, get_or-range_with_len}
 use Rattle.std.proofs.lemmas.Simd.{map-map}
 use Rattle.std.proofs.lemmas.Slice.Eq.{bytes_eq-Decides}
+use Rattle.lk_base.proofs.Ranges.{each_below}
 use Rattle.lk_tables.specs.Files.{File, file_at}
 use Rattle.lk_tables.specs.Names.{text_of}
 use Rattle.link_sections.specs.declared.pieces.Piece.{Piece}
@@ -24,7 +24,7 @@ use Rattle.str_merge.specs.Sites.{CutPiece, IsIn, cut_text, cut_views, gathered,
 use Rattle.str_merge.specs.Small.{IsNear}
 use Rattle.str_merge.specs.Works.{members_at, nth_site}
 use Rattle.str_merge.proofs.Gathered.{at_any}
-use Rattle.str_merge.proofs.ListSteps.{by_index, drop_past}
+use Rattle.str_merge.proofs.ListSteps.{by_index}
 use Rattle.str_merge.proofs.Ranking.{IsSame}
 
 -- equal bytes
@@ -65,15 +65,12 @@ flat_map_on : {X Y : Type 0} (f g : X → List Y) (xs : List X) → All (λ x. f
 flat_map_on f g [] all = refl
 flat_map_on f g (x ∷ xs) all = ap (λ l. l ++ flat_map f xs) (all 0 x (omega arith)) ∙ ap (λ l. g x ++ l) (flat_map_on f g xs (λ i d lt. all (suc i) d (omega arith)))
 
-below : (n : ℕ) → All (λ k. k < n) (range_with_len 0 n)
-below n = λ i d lt. let at = get_or-range_with_len 0 n i d (omega (arith, length-range_with_len 0 n)) in omega (arith, length-range_with_len 0 n)
-
 module _ (files : List File) (kept : List Bool) where
   pub members_within : (pool : ℕ) → All (λ i. i < length (sites files kept)) (members_at files kept pool)
   unfolding members_at
   members_within pool =
       let n = length (sites files kept) in
-      All-filter (λ i. pool_number files kept (nth_site files kept i) == pool) (λ i. i < n) (range_with_len 0 n) (below n)
+      All-filter (λ i. pool_number files kept (nth_site files kept i) == pool) (λ i. i < n) (range_with_len 0 n) (each_below n)
 
   pub members_own : (pool : ℕ) → All (λ i. pool_number files kept (nth_site files kept i) ≡ pool) (members_at files kept pool)
   unfolding members_at
@@ -91,17 +88,13 @@ module _ (files : List File) (kept : List Bool) where
       let own : Site → Bool = λ s. pool_number files kept s == pool in
       let nth : ℕ → Site = nth_site files kept in
       let places = filter (λ i. own (nth i)) (range_with_len 0 n) in
-      let low : All (λ i. i < n) places = All-filter (λ i. own (nth i)) (λ i. i < n) (range_with_len 0 n) (below n) in
-      let whole : all ≡ map nth (range_with_len 0 n) = sym (by_index (λ (s : Site). s) all no_site n refl ∙ map_itself all) in
+      let low : All (λ i. i < n) places = All-filter (λ i. own (nth i)) (λ i. i < n) (range_with_len 0 n) (each_below n) in
+      let whole : all ≡ map nth (range_with_len 0 n) = sym (by_index (λ (s : Site). s) all no_site n refl ∙ map-id all) in
       ap (λ l. gathered l places) is
       ∙ flat_map_on (λ i. get_or (map (site_pieces files) all) i []) (λ i. site_pieces files (nth i)) places
       (λ i d lt. get_or-map (site_pieces files) all (get_or places i d) no_site [] (low i d lt))
       ∙ sym (flat_map_is (site_pieces files) nth places)
       ∙ ap (flat_map (site_pieces files)) (sym (filter_map_is own nth (range_with_len 0 n)) ∙ ap (filter own) (sym whole))
-    where
-      map_itself : (xs : List Site) → map (λ s. s) xs ≡ xs
-      map_itself [] = refl
-      map_itself (x ∷ xs) = ap (λ l. x ∷ l) (map_itself xs)
 
   pub member_texts : (pool : ℕ) → flat_map (λ i. site_pieces files (nth_site files kept i)) (members_at files kept pool) ≡ flat_map (site_pieces files) (pool_members files kept pool)
   member_texts pool =
@@ -131,7 +124,7 @@ part_read bytes from len start n =
     let at : drop (from + start) bytes ≡ there = sym (drop-drop start from bytes) in
     elim (cases_lt len start) [
       | inl past ↦
-          let none : drop start (take len rest) ≡ [] = drop_past (take len rest) start (omega (arith, past, length-take len rest)) in
+          let none : drop start (take len rest) ≡ [] = drop_all start (take len rest) (omega (arith, past, length-take len rest)) in
           let empty : own ≡ [] = ap (take n) none ∙ take-nil n in
           ap (λ l. take (length l) (drop (from + start) bytes)) empty ∙ sym empty
       | inr low ↦

@@ -1,12 +1,14 @@
 -- The pools of the sections that are merged, by the numbers of their keys.
-use Rattle.std.proofs.Common.{◌≡◌, ℕ, zero, suc, ◌+◌, ◌<◌, ◌^◌, ◌==◌, Bool, not, cond, Option, Some, None, List, [], ◌∷◌, ◌++◌, length, map, get_or, refl, sym, ap, ◌∙◌, subst, arith, inl, inr}
-use Rattle.std.specs.Prelude.{All, flat_map, if◌then◌else◌, option_map, slice_get}
+use Rattle.std.proofs.Common.{◌≡◌, ℕ, zero, suc, ◌+◌, ◌<◌, ◌^◌, ◌==◌, Bool, not, cond, Option, Some, None, List, [], ◌∷◌, length, map, get_or, refl, sym, ap, ◌∙◌, subst, arith, inl, inr}
+use Rattle.std.specs.Prelude.{All, if◌then◌else◌, option_map, slice_get}
 use Rattle.std.specs.List.{filter, range_with_len, position_or_len}
 use Rattle.std.specs.List.Sorted.{IsStrictlyIncreasing}
 use Rattle.std.specs.Global.{Vec}
 use Rattle.std.proofs.lemmas.Bool.{cases_Bool}
-use Rattle.std.proofs.lemmas.List.{get_or-map, length-map, map-append}
+use Rattle.std.proofs.lemmas.List.{get_or-map, length-map, map-id}
 use Rattle.std.proofs.lemmas.Simd.{map-map}
+use Rattle.lk_base.proofs.Loops.{flat_same, map_flat}
+use Rattle.lk_base.proofs.Ranges.{filter_same}
 use Rattle.lk_tables.specs.Files.{File, first_section, by_section, file_at, section_count}
 use Rattle.lk_tables.specs.TablesView.{files_of}
 use Rattle.lk_tables.proofs.ByNumber.{by_section_same}
@@ -30,7 +32,7 @@ use Rattle.str_merge.specs.Spreading.{answer_in, sites_upto, spread}
 use Rattle.str_merge.specs.Works.{IsWork, members_at, nth_site}
 use Rattle.str_merge.proofs.KeyMaps.{eq_keys_is, same_by}
 use Rattle.str_merge.proofs.ListSteps.{by_index}
-use Rattle.str_merge.proofs.Ranking.{IsSame, distinct_is, filter_same, first_alike, firsts_within, numbers, numbers_first, rank_is, rank_within, ranks_are}
+use Rattle.str_merge.proofs.Ranking.{IsSame, distinct_is, first_alike, firsts_within, numbers, numbers_first, rank_is, rank_within, ranks_are}
 use Rattle.str_merge.proofs.RankSteps.{owns_few}
 use Rattle.str_merge.proofs.SiteRows.{filtered_rise, increasing, sites_rise, site_found, Rise}
 use Rattle.str_merge.proofs.WorkFacts.{count_sites}
@@ -120,10 +122,6 @@ module _ (files : List File) (kept : List Bool) where
       (λ i low less. ap (λ n. n == p) (ap (λ l. get_or l i 0) (sym site_ranks) ∙ get_or-map (pool_number files kept) all i no_site 0 (omega arith)))
 
   -- the first sections of pools stand in order
-  map_itself : (xs : List Site) → map (λ s. s) xs ≡ xs
-  map_itself [] = refl
-  map_itself (x ∷ xs) = ap (λ l. x ∷ l) (map_itself xs)
-
   pub pools_rise : IsStrictlyIncreasing (map (λ (s : Site). s.section) (pool_sites files kept))
   unfolding pool_sites distinct
   pools_rise =
@@ -131,7 +129,7 @@ module _ (files : List File) (kept : List Bool) where
       let nth = nth_site files kept in
       let low = first_section files 0 in
       let high = first_section files (0 + length files) in
-      let whole : all ≡ map nth (range_with_len 0 (length all)) = sym (by_index (λ (s : Site). s) all no_site (length all) refl ∙ map_itself all) in
+      let whole : all ≡ map nth (range_with_len 0 (length all)) = sym (by_index (λ (s : Site). s) all no_site (length all) refl ∙ map-id all) in
       let P : List Site → Type 0 = Rise low high in
       increasing low high (map nth (filter (λ i. first_same (same_pool files) no_site all (nth i) == i) (range_with_len 0 (length all))))
       (filtered_rise nth (λ i. first_same (same_pool files) no_site all (nth i) == i) low high (length all) (subst P whole (sites_rise files kept)))
@@ -163,20 +161,11 @@ filled_rises w filled is held =
     let P : List ℕ → Type 0 = IsStrictlyIncreasing in
     subst P (sym sections) (pools_rise files kept)
 
--- what is merged by section number
-map_flat : {X Y : Type 0} (g : X → Y) (row : ℕ → List X) (ks : List ℕ) → map g (flat_map row ks) ≡ flat_map (λ k. map g (row k)) ks
-map_flat g row [] = refl
-map_flat g row (k ∷ ks) = map-append g (row k) (flat_map row ks) ∙ ap (λ l. map g (row k) ++ l) (map_flat g row ks)
-
-flat_by : {X : Type 0} (f g : ℕ → List X) (ks : List ℕ) → ((k : ℕ) → f k ≡ g k) → flat_map f ks ≡ flat_map g ks
-flat_by f g [] each = refl
-flat_by f g (k ∷ ks) each = ap (λ l. l ++ flat_map f ks) (each k) ∙ ap (λ l. g k ++ l) (flat_by f g ks each)
-
 map_by_section : {X Y : Type 0} (g : X → Y) (files : List File) (give : ℕ → ℕ → X) → map g (by_section files give) ≡ by_section files (λ f k. g (give f k))
 unfolding by_section
 map_by_section g files give =
     map_flat g (λ f. map (give f) (range_with_len 0 (section_count (file_at files f)))) (range_with_len 0 (length files))
-    ∙ flat_by (λ f. map g (map (give f) (range_with_len 0 (section_count (file_at files f))))) (λ f. map (λ k. g (give f k)) (range_with_len 0 (section_count (file_at files f)))) (range_with_len 0 (length files))
+    ∙ flat_same (λ f. map g (map (give f) (range_with_len 0 (section_count (file_at files f))))) (λ f. map (λ k. g (give f k)) (range_with_len 0 (section_count (file_at files f)))) (range_with_len 0 (length files))
     (λ f. map-map g (give f) (range_with_len 0 (section_count (file_at files f))))
 
 got : {X : Type 0} (xs : List X) (i : ℕ) (d : X) → i < length xs → slice_get xs i ≡ Some (get_or xs i d)

@@ -4,7 +4,7 @@ use Rattle.std.specs.Prelude.{flat_map, if◌then◌else◌, nat_lt}
 use Rattle.std.specs.List.{filter, range_with_len, sum_by}
 use Rattle.std.specs.Str.{bytes_eq}
 use Rattle.std.proofs.lemmas.Bool.{cases_eq, cases_lt, eq-eqb, le-ltb, lt-ltb, ne_eqb}
-use Rattle.std.proofs.lemmas.List.{length-map}
+use Rattle.std.proofs.lemmas.List.{length-map, map-id}
 use Rattle.std.proofs.lemmas.List.Sums.{sum_by-cons}
 use Rattle.lk_base.specs.Arithmetic.{up}
 use Rattle.lk_base.proofs.Multiples.{up_below}
@@ -39,14 +39,10 @@ some_sum w e t (k ∷ ks) =
     let own : sum_by w (map e (k ∷ ks)) ≡ w (e k) + sum_by w (map e ks) = sum_by-cons w (e k) (map e ks) in
     omega (arith, le, own)
 
-map_itself : {X : Type 0} (xs : List X) → map (λ x. x) xs ≡ xs
-map_itself [] = refl
-map_itself (x ∷ xs) = ap (λ l. x ∷ l) (map_itself xs)
-
 distinct_sum : {X : Type 0} (w : X → ℕ) (same : X → X → Bool) (d : X) (xs : List X) → sum_by w (distinct same d xs) ≤ sum_by w xs
 unfolding distinct
 distinct_sum w same d xs =
-    let all = ap (sum_by w) (by_index (λ x. x) xs d (length xs) refl ∙ map_itself xs) in
+    let all = ap (sum_by w) (by_index (λ x. x) xs d (length xs) refl ∙ map-id xs) in
     let some = some_sum w (element same d xs) (is_first same d xs) (range_with_len 0 (length xs)) in
     omega (arith, all, some)
 
@@ -134,7 +130,7 @@ module _ (files : List File) (kept : List Bool) where
       let n = length all in
       let nth = nth_site files kept in
       let own : Site → Bool = λ s. pool_number files kept s == p in
-      let whole : map nth (range_with_len 0 n) ≡ all = by_index (λ (s : Site). s) all no_site n refl ∙ map_itself all in
+      let whole : map nth (range_with_len 0 n) ≡ all = by_index (λ (s : Site). s) all no_site n refl ∙ map-id all in
       sym (length-map (filter (λ i. own (nth i)) (range_with_len 0 n)) nth)
       ∙ ap length (sym (filter_map_is own nth (range_with_len 0 n)) ∙ ap (filter own) whole)
 

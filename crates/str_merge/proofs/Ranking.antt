@@ -1,14 +1,15 @@
 -- The distinct elements of a list, from the index of the first equal one of each.
-use Rattle.std.proofs.Common.{◌≡◌, ℕ, zero, suc, ◌+◌, ◌-◌, ◌<◌, ◌≤◌, ◌^◌, ◌==◌, Bool, true, false, cond, not, List, [], ◌∷◌, ◌++◌, length, map, get_or, refl, sym, ap, ◌∙◌, subst, arith, inl, inr}
+use Rattle.std.proofs.Common.{◌≡◌, ℕ, ◌+◌, ◌-◌, ◌<◌, ◌≤◌, ◌^◌, ◌==◌, Bool, true, false, cond, not, List, [], ◌∷◌, ◌++◌, length, map, get_or, refl, sym, ap, ◌∙◌, subst, arith, inl, inr}
 use Rattle.std.specs.Prelude.{All}
 use Rattle.std.specs.List.{filter, range_with_len, position_or_len}
 use Rattle.std.proofs.Math.Seq.{drop-append_seam, get_or-append_seam}
 use Rattle.std.proofs.lemmas.Bool.{cases_lt, eq-eqb, false≢true}
 use Rattle.std.proofs.lemmas.List.{length-map, length-append, get_or-map, get_or_append_left, map-append}
 use Rattle.std.proofs.lemmas.List.Elements.{filter-append, All-drop, All-filter}
-use Rattle.std.proofs.lemmas.List.FromFn.{fill_by_all, length-range_with_len, get_or-range_with_len}
+use Rattle.std.proofs.lemmas.List.FromFn.{fill_by_all}
 use Rattle.std.proofs.lemmas.List.Sums.{fails_before_first, passes_at_first, position_or_len_is}
 use Rattle.lk_base.proofs.Loops.{range_at}
+use Rattle.lk_base.proofs.Ranges.{each_below, filter_same, range_parts}
 use Rattle.link_sections.specs.Distinct.{distinct, element, first_same, is_first}
 use Rattle.str_merge.specs.Orders.{IsFirstOf, firsts, is_own, owns, rank, ranks}
 
@@ -21,22 +22,6 @@ pub first_alike : {X : Type 0} (p q : X → Bool) (xs : List X) → ((x : X) →
 first_alike p q [] each = refl
 first_alike p q (x ∷ xs) each =
     ap (λ b. cond (not b) (1 + position_or_len p xs) 0) (each x) ∙ ap (λ n. cond (not (q x)) (1 + n) 0) (first_alike p q xs each)
-
-pub filter_same : (p q : ℕ → Bool) (a n : ℕ) → ((k : ℕ) → a ≤ k → k < a + n → p k ≡ q k) → filter p (range_with_len a n) ≡ filter q (range_with_len a n)
-filter_same p q a zero each = refl
-filter_same p q a (suc n) each =
-    ap (λ b. cond b (a ∷ filter p (range_with_len (a + 1) n)) (filter p (range_with_len (a + 1) n))) (each a (omega arith) (omega arith))
-    ∙ ap (λ l. cond (q a) (a ∷ l) l) (filter_same p q (a + 1) n (λ k low high. each k (omega arith) (omega arith)))
-
-range_parts : (a m b : ℕ) → range_with_len a (m + b) ≡ range_with_len a m ++ range_with_len (a + m) b
-range_parts a zero b =
-    let e : a ≡ a + 0 = omega arith in
-    let n : 0 + b ≡ b = omega arith in
-    ap (range_with_len a) n ∙ ap (λ k. range_with_len k b) e
-range_parts a (suc m) b =
-    let e : (a + 1) + m ≡ a + suc m = omega arith in
-    let n : suc m + b ≡ suc (m + b) = omega arith in
-    ap (range_with_len a) n ∙ ap (λ l. a ∷ l) (range_parts (a + 1) m b ∙ ap (λ k. range_with_len (a + 1) m ++ range_with_len k b) e)
 
 pub range_split : (j n : ℕ) → j < n → range_with_len 0 n ≡ range_with_len 0 j ++ (j ∷ range_with_len (j + 1) (n - (j + 1)))
 range_split j n lt =
@@ -53,13 +38,10 @@ position_after {X} p xs y ys fails passes =
     (λ k lt. ap p (get_or_append_left xs (y ∷ ys) y k lt) ∙ fails k lt)
     (λ lt. ap p (get_or-append_seam xs y ys y) ∙ passes)
 
-below : (n : ℕ) → All (λ k. k < n) (range_with_len 0 n)
-below n = λ i d lt. let at = get_or-range_with_len 0 n i d (omega (arith, length-range_with_len 0 n)) in omega (arith, length-range_with_len 0 n)
-
 -- first elements are among all
 pub owns_below : (ns : List ℕ) (n : ℕ) → All (λ i. i < n) (owns ns n)
 unfolding owns
-owns_below ns n = All-filter (is_own ns) (λ i. i < n) (range_with_len 0 n) (below n)
+owns_below ns n = All-filter (is_own ns) (λ i. i < n) (range_with_len 0 n) (each_below n)
 
 pub firsts_below : (ns : List ℕ) → All (λ i. i < length ns) (firsts ns)
 unfolding firsts
@@ -158,7 +140,7 @@ module _ {X : Type 0} (same : X → X → Bool) (d : X) (xs : List X) (is : IsSa
       let low = first_before i lt in
       let rest = filter own (range_with_len (j + 1) (length xs - (j + 1))) in
       let before = filter own (range_with_len 0 j) in
-      let low_all : All (λ k. k < j) before = All-filter own (λ k. k < j) (range_with_len 0 j) (below j) in
+      let low_all : All (λ k. k < j) before = All-filter own (λ k. k < j) (range_with_len 0 j) (each_below j) in
       ap (λ l. position_or_len (λ z. same z y) (map at l)) (split_at i lt)
       ∙ ap (position_or_len (λ z. same z y)) (map-append at before (j ∷ rest))
       ∙ position_after (λ z. same z y) (map at before) (at j) (map at rest)

@@ -7,9 +7,9 @@ use Rattle.std.proofs.Math.Seq.{get_or-append_seam}
 use Rattle.std.proofs.lemmas.Bool.{cases_Bool}
 use Rattle.std.proofs.lemmas.Grind.{flat_map-append}
 use Rattle.std.proofs.lemmas.List.{get_or-append-add, get_or_append_left, length-append, length-map}
-use Rattle.std.proofs.lemmas.List.Elements.{All-append}
 use Rattle.lk_tables.specs.Files.{File, file_at, first_section, section_count, section_total}
 use Rattle.lk_tables.proofs.FirstNumbers.{section_more}
+use Rattle.name_numbers.proofs.Walks.{all_range}
 use Rattle.link_sections.specs.Merging.{Site, is_merge, no_site, site, site_at, sites, sites_in}
 use Rattle.str_merge.specs.Spreading.{sites_before, sites_upto}
 use Rattle.str_merge.proofs.Ranking.{range_split}
@@ -60,10 +60,6 @@ site_found files kept f k less lt is =
 abbrev pub Rise : (low high : ℕ) → List Site → Type 0
 Rise low high [] = low ≤ high
 Rise low high (s ∷ ss) = (low ≤ s.section) × Rise (s.section + 1) high ss
-
-rise_bounds : (low high : ℕ) (ss : List Site) → Rise low high ss → low ≤ high
-rise_bounds low high [] le = le
-rise_bounds low high (s ∷ ss) held = let more = rise_bounds (s.section + 1) high ss held.1 in let le = held.0 in omega (arith, more, le)
 
 rise_from : (lower low high : ℕ) (ss : List Site) → lower ≤ low → Rise low high ss → Rise lower high ss
 rise_from lower low high [] le held = omega arith
@@ -165,11 +161,6 @@ increasing low high (s ∷ ss) held = next s ss (low_sections (s.section + 1) hi
         subst P one (later k (omega arith))
 
 -- each of them is of a file that is there
-all_rows : {X : Type 0} (P : X → Type 0) (row : ℕ → List X) (a n : ℕ) → ((k : ℕ) → a ≤ k → k < a + n → All P (row k)) → All P (flat_map row (range_with_len a n))
-all_rows P row a zero each = λ i d lt. absurd (omega arith)
-all_rows P row a (suc n) each =
-    All-append P (row a) (flat_map row (range_with_len (a + 1) n)) (each a (omega arith) (omega arith)) (all_rows P row (a + 1) n (λ k low high. each k (omega arith) (omega arith)))
-
 file_of_site : (files : List File) (kept : List Bool) (f k : ℕ) → All (λ (s : Site). s.file ≡ f) (site_at files kept f k)
 unfolding site_at
 file_of_site files kept f k = by_case (is_merge files kept f k)
@@ -185,6 +176,6 @@ file_of_site files kept f k = by_case (is_merge files kept f k)
 pub sites_of_files : (files : List File) (kept : List Bool) → All (λ (s : Site). s.file < length files) (sites files kept)
 unfolding sites sites_in
 sites_of_files files kept =
-    all_rows (λ (s : Site). s.file < length files) (sites_in files kept) 0 (length files)
-    (λ f low high. all_rows (λ (s : Site). s.file < length files) (site_at files kept f) 0 (section_count (file_at files f))
+    all_range (λ (s : Site). s.file < length files) (sites_in files kept) 0 (length files)
+    (λ f low high. all_range (λ (s : Site). s.file < length files) (site_at files kept f) 0 (section_count (file_at files f))
     (λ k from to i d lt. let own = file_of_site files kept f k i d lt in omega (arith, own)))

@@ -1,17 +1,18 @@
 -- What the limits of a link say of the sections that are merged.
-use Rattle.std.proofs.Common.{◌≡◌, ℕ, zero, suc, ◌+◌, ◌*◌, ◌<◌, ◌≤◌, ◌^◌, ◌&&◌, Bool, true, false, List, [], ◌∷◌, ◌++◌, length, map, take, drop, sum, refl, sym, ap, ◌∙◌, arith, inl, inr}
+use Rattle.std.proofs.Common.{◌≡◌, ℕ, zero, suc, ◌+◌, ◌*◌, ◌<◌, ◌≤◌, ◌^◌, ◌&&◌, Bool, true, false, List, [], ◌∷◌, ◌++◌, length, map, take, drop, sum, refl, sym, ap, ◌∙◌, arith}
 use Rattle.std.specs.Prelude.{All, flat_map, if◌then◌else◌}
 use Rattle.std.specs.List.{range_with_len, sum_by}
-use Rattle.std.proofs.lemmas.Bool.{and_parts, cases_Bool, ltb-true}
+use Rattle.std.proofs.lemmas.Bool.{and_parts, ltb-true}
 use Rattle.std.proofs.lemmas.List.{length-append, length-drop, length-take}
 use Rattle.std.proofs.lemmas.List.Elements.{All-head, All-tail}
 use Rattle.std.proofs.lemmas.List.Sums.{sum_by-append, sum_by-cons}
 use Rattle.lk_base.specs.declared.abi.TheConstants.{ALIGN_MAX, FILE_MAX}
 use Rattle.lk_tables.specs.declared.tables.Tables.{Tables}
-use Rattle.lk_tables.specs.Files.{File, by_section, commons_before, file_at, section_at, section_count, section_no, section_total, writes}
+use Rattle.lk_tables.specs.Files.{File, by_section, file_at, section_at, section_count, section_no, section_total, writes}
 use Rattle.lk_tables.specs.Inside.{IsLinked}
 use Rattle.lk_tables.specs.TablesView.{files_of}
 use Rattle.lk_tables.proofs.BoundHas.{each_flat, one_if}
+use Rattle.lk_tables.proofs.LiveFiles.{live_from}
 use Rattle.lk_tables.proofs.Owners.{written_within}
 use Rattle.lk_tables.proofs.SoundFiles.{inside_body, sound_file}
 use Rattle.link_sections.specs.Leaders.{is_kept}
@@ -94,14 +95,6 @@ mergeable : (files : List File) (kept : List Bool) (f k : ℕ) → is_merge file
 unfolding is_merge
 mergeable files kept f k is = (and_parts (is_kept kept (section_no files f k)) (is_mergeable (file_at files f) k) is).1
 
-live_of : (file : File) (k : ℕ) → k < section_count file → file.live ≡ true
-live_of file k lt = elim (cases_Bool file.live) [
-  | inl live ↦ live
-  | inr none ↦
-      let no : section_count file ≡ 0 = ap (λ b. if b then length file.head.sections + commons_before file (length file.head.symbols) else 0) none in
-      absurd (omega (arith, lt, no))
-]
-
 counted : (files : List File) (kept : List Bool) (f k : ℕ) → is_merge files kept f k ≡ true → writes (file_at files f) k ≡ true → length (pieces_in (file_at files f) k) ≤ pieces_at files f k
 unfolding pieces_at
 counted files kept f k is written =
@@ -119,7 +112,7 @@ unfolding contents
 short_site tables kept f k lt is =
     let file : File = file_at (files_of tables) f in
     let s = section_at file k in
-    let short : length file.bytes ≤ FILE_MAX = (sound_file tables f (live_of file k lt)).short in
+    let short : length file.bytes ≤ FILE_MAX = (sound_file tables f (live_from file k lt)).short in
     let some : 0 < length (take s.size (drop s.offset file.bytes)) = some_contents file k (mergeable (files_of tables) kept f k is) in
     let taken = length-take s.size (drop s.offset file.bytes) in
     let left = length-drop s.offset file.bytes in
@@ -133,7 +126,7 @@ aligned_site tables kept f k lt written =
     let both = and_parts _ _ written in
     let low : 0 < k = ltb-true 0 k both.0 in
     let linked : IsLinked (length file.head.sections) (section_at file k) =
-    (inside_body file (sound_file tables f (live_of file k lt))).linked k _ (written_within file k written) low both.1 in
+    (inside_body file (sound_file tables f (live_from file k lt))).linked k _ (written_within file k written) low both.1 in
     let most : (section_at file k).align ≤ ALIGN_MAX = linked.align.most in
     omega (arith, most)
 

@@ -16,10 +16,6 @@ site_view s = record { section = s.section; file = s.file; index = s.index }
 abbrev pub site_views : List HeldSite → List Site
 site_views sites = map site_view sites
 
--- the pieces of bytes that are cut at these ends
-abbrev pub cut_texts : (bytes ends : List ℕ) → List (List ℕ)
-cut_texts bytes ends = map (cut_text bytes ends) (range_with_len 0 (length ends))
-
 -- a piece of a section: its bytes, and where they stand in its file
 pub record CutPiece : Type 0 where
   pub text : List ℕ

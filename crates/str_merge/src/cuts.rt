@@ -6,9 +6,10 @@ ghost use Rattle.lk_tables.specs.Names as names;
 ghost use Rattle.lk_tables.specs.Sections.{contents_of};
 ghost use Rattle.link_sections.specs.MergeSections as spec;
 ghost use Rattle.link_sections.specs.Merging.{site_pieces};
+ghost use Rattle.intern_race.specs.Texts.{cut_texts};
 ghost use Rattle.work_split.specs.Shares.{IsShare};
 ghost use Rattle.str_merge.specs.Cutting.{IsCutAt, no_defects};
-ghost use Rattle.str_merge.specs.Sites.{IsIn, cut_texts, cut_views, pieces_of, site_view, site_views, texts_of};
+ghost use Rattle.str_merge.specs.Sites.{IsIn, cut_views, pieces_of, site_view, site_views, texts_of};
 ghost use Rattle.str_merge.specs.Small.{IsNear, IsShort};
 
 use crate::sections::is_zero_char;

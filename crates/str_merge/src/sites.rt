@@ -3,11 +3,11 @@
 ghost use Rattle.std.specs.Prelude.{◌≡◌, ◌<◌, ◌++◌, length, IfOk, OnOk};
 ghost use Rattle.lk_tables.specs.Files.{file_at, section_count};
 ghost use Rattle.lk_tables.specs.TablesView.{files_of};
-ghost use Rattle.link_sections.specs.Leaders as leaders;
 ghost use Rattle.link_sections.specs.Merging as spec;
 ghost use Rattle.str_merge.specs.Sites.{site_views};
 
 use crate::sections::is_mergeable;
+use link_sections::is_kept;
 use lk_base::{FileNo, SecNo};
 use lk_tables::{Tables, section_count};
 use std::alloc::{AllocError, Global};
@@ -87,14 +87,4 @@ pub fn is_merge(tables: &Tables, kept: &[bool], file: FileNo, index: u32) -> boo
 {
     is_kept(kept, tables.section_no(file as usize, index as usize))
         && is_mergeable(tables.file(file), index as usize)
-}
-
-/// Whether a section is kept, by its number.
-fn is_kept(kept: &[bool], section: usize) -> bool
-    ensures { result ≡ leaders.is_kept kept.now section }
-{
-    match kept.get(section) {
-        Some(kept) => *kept,
-        None => false,
-    }
 }

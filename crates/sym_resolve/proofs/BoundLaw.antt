@@ -8,10 +8,9 @@ use Rattle.lk_tables.specs.Files.{File, file_at, symbol_at, symbol_name, symbol_
 use Rattle.lk_tables.specs.LinkerSymbols.{linker_no}
 use Rattle.lk_tables.specs.Ranks.{no_rank, rank_of}
 use Rattle.lk_tables.specs.Targets.{rank_at}
-use Rattle.lk_tables.proofs.BoundHas.{class_few, offered_is, rank_is}
+use Rattle.lk_tables.proofs.BoundHas.{class_few, offered_is, one_if, rank_is}
 use Rattle.lk_tables.proofs.FirstNumbers.{first_within}
 use Rattle.name_numbers.proofs.LeastClaims.{least_most}
-use Rattle.name_numbers.proofs.Walks.{all_if}
 use Rattle.sym_resolve.specs.Law.{EachIsBound, IsBound, IsOffered}
 use Rattle.sym_resolve.proofs.Ends.{least_below, least_offered, offer}
 use Rattle.sym_resolve.proofs.Walks.{all_symbols, live_within}
@@ -45,7 +44,7 @@ offers_below : (files : List File) (gone : List Bool) → length files < 2 ^ 24 
 unfolding offers offers_in offer_at
 offers_below files gone many few =
     all_symbols (λ (o : Offer). o.rank < no_rank) files (offer_at files gone)
-    (λ f i live lt. all_if (λ (o : Offer). o.rank < no_rank) _ _ (λ is.
+    (λ f i live lt. one_if (λ (o : Offer). o.rank < no_rank) _ _ (λ is.
     let within = live_within files f live in
     let s = symbol_at (file_at files f) i in
     offer_below (class_of s) f i (class_few s) (omega arith) (omega (arith, first_within files f within))))

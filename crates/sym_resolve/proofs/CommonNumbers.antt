@@ -7,6 +7,7 @@ use Rattle.std.proofs.lemmas.List.Sums.{count_by_more_no, count_by_more_yes}
 use Rattle.lk_tables.specs.declared.heads.Symbol.{Symbol}
 use Rattle.lk_tables.specs.Symbols.{is_common}
 use Rattle.lk_tables.specs.Files.{File, common_no, commons_before, file_at, first_section, no_symbol, section_count, section_total, symbol_at}
+use Rattle.lk_tables.proofs.BoundWithin.{common_below as before_most}
 use Rattle.lk_tables.proofs.FirstNumbers.{section_within}
 use Rattle.sym_resolve.specs.Symbols.{common_count, in_file}
 use Rattle.sym_resolve.proofs.Walks.{none_range}
@@ -34,12 +35,6 @@ pub before_rises : (file : File) (i j : ℕ) → i ≤ j → j ≤ length file.h
 before_rises file i j le within =
     let e : i + (j - i) ≡ j = omega arith in
     omega (arith, count_rises file i (j - i) (omega arith), ap (commons_before file) e)
-
-pub before_most : (file : File) (i : ℕ) → i < length file.head.symbols → is_common (symbol_at file i).place ≡ true → commons_before file i < commons_before file (length file.head.symbols)
-before_most file i lt is =
-    let n : ℕ = length file.head.symbols - (i + 1) in
-    let e : i + 1 + n ≡ length file.head.symbols = omega arith in
-    omega (arith, one_more file i lt is, count_rises file (i + 1) n (omega arith), ap (commons_before file) e)
 
 no_symbol_common : (file : File) (i : ℕ) → commons_before file (length file.head.symbols) ≡ 0 → i < length file.head.symbols → is_common (symbol_at file i).place ≡ false
 no_symbol_common file i none lt = ⊎_elim

@@ -8,8 +8,8 @@ use Rattle.lk_tables.specs.declared.heads.Symbol.{Symbol}
 use Rattle.lk_tables.specs.Symbols.{is_common}
 use Rattle.lk_tables.specs.Files.{File, file_at, symbol_at, symbol_name}
 use Rattle.lk_tables.specs.Binding.{Demand, demand_at, demands_in, demands, greatest_size, greatest_align}
+use Rattle.lk_tables.proofs.BoundHas.{one_if}
 use Rattle.sym_resolve.specs.Law.{IsCommonIn, IsMostAsked, size_asked, align_asked}
-use Rattle.name_numbers.proofs.Walks.{all_if}
 use Rattle.sym_resolve.proofs.Walks.{all_symbols, in_symbols}
 
 abbrev pub demand : (name : List ℕ) (size align : ℕ) → Demand
@@ -102,7 +102,7 @@ module _ (files : List File) (asked : Symbol → ℕ) (of : Demand → ℕ) (sta
   unfolding demands demands_in demand_at
   each_asked =
       all_symbols (IsAsked files asked of) files (demand_at files)
-      (λ f i live lt. all_if (IsAsked files asked of) _ _
+      (λ f i live lt. one_if (IsAsked files asked of) _ _
       (λ is. record { file = f; symbol = i; common = record { live = live; within = lt; common = is }; named = refl; asks = agree (symbol_name (file_at files f) i) (symbol_at (file_at files f) i) }))
 
   none_above : (name : List ℕ) (f i : ℕ) → IsCommonIn files f i → symbol_name (file_at files f) i ≡ name → asked (symbol_at (file_at files f) i) ≤ most_of of start name (demands files)

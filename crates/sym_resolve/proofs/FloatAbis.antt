@@ -1,5 +1,5 @@
 -- The float ABIs of the files from one on, with the first that was met.
-use Rattle.std.proofs.Common.{◌≡◌, ℕ, suc, ◌+◌, ◌-◌, ◌<◌, ◌≤◌, ◌==◌, true, false, Option, Some, None, List, [], ◌∷◌, ◌++◌, length, refl, sym, ap, ◌∙◌, arith, bit_and}
+use Rattle.std.proofs.Common.{◌≡◌, ℕ, suc, ◌+◌, ◌-◌, ◌<◌, ◌==◌, true, false, Option, Some, None, List, [], ◌∷◌, ◌++◌, length, refl, sym, ap, ◌∙◌, arith, bit_and}
 use Rattle.std.specs.Prelude.{flat_map}
 use Rattle.std.specs.List.{range_with_len}
 use Rattle.std.proofs.lemmas.Bool.{eq-eqb, cond-true, cond-false}
@@ -44,9 +44,6 @@ dead_next files first f all lt dead before = ap (clashes_after first) (sym (abis
 pub first_next : (files : List File) (f own : ℕ) (all : List Defect) → f < length files → (file_at files f).live ≡ true → own ≡ bit_and (file_at files f).head.flags EF_RISCV_FLOAT_ABI → clashes_after None (abis_from files f) ≡ all → clashes_after (Some own) (abis_from files (f + 1)) ≡ all
 first_next files f own all lt live is before = ap (clashes_after None) (sym (abis_own files f own lt live is)) ∙ before
 
-clash_at : (abi f own : ℕ) (rest : List FloatAbi) → flat_map (clash_of abi) (abi_of f own ∷ rest) ≡ clash_of abi (abi_of f own) ++ flat_map (clash_of abi) rest
-clash_at abi f own rest = refl
-
 same_none : (abi f own : ℕ) → own ≡ abi → clash_of abi (abi_of f own) ≡ []
 same_none abi f own same = cond-true (own == abi) [] _ (eq-eqb own abi same)
 
@@ -65,8 +62,3 @@ clash_first files f own abi all d lt live is one before = (
 none_after : (first : Option ℕ) → clashes_after first [] ≡ []
 none_after None = refl
 none_after (Some abi) = refl
-
-pub no_clashes : (files : List File) (first : Option ℕ) (f : ℕ) (all : List Defect) → length files ≤ f → clashes_after first (abis_from files f) ≡ all → all ≡ []
-no_clashes files first f all le before =
-    let e : length files - f ≡ 0 = omega arith in
-    sym before ∙ ap (λ n. clashes_after first (flat_map (float_abi_at files) (range_with_len f n))) e ∙ none_after first

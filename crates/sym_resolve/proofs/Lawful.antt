@@ -20,20 +20,20 @@ use Rattle.lk_tables.specs.BoundNames.{bindings, with_linker}
 use Rattle.lk_tables.specs.BindingView.{binding_view}
 use Rattle.lk_tables.specs.NameNumbers.{name_number}
 use Rattle.lk_tables.specs.Ranks.{no_rank, rank_of}
+use Rattle.lk_tables.proofs.BoundHas.{one_if}
 use Rattle.lk_tables.proofs.FirstNumbers.{first_within}
 use Rattle.sym_resolve.specs.Asks.{room_at, rooms_asked, common_by, common_from}
 use Rattle.sym_resolve.specs.Claims.{rank_by}
 use Rattle.sym_resolve.specs.Law.{IsCommonIn, IsBoundCommon, IsOffered, HasItsRoom, IsLawful}
 use Rattle.sym_resolve.specs.Symbols.{in_file}
-use Rattle.name_numbers.proofs.Walks.{all_if}
 use Rattle.sym_resolve.proofs.Walks.{all_in_file, in_own_file, live_within}
 use Rattle.name_numbers.proofs.Runs.{in_map}
-use Rattle.sym_resolve.proofs.Meaning.{common_of}
 use Rattle.name_numbers.proofs.LeastClaims.{least_most}
 use Rattle.sym_resolve.proofs.BoundLaw.{IsLeast, bound_law, each_bound, least_from, least_law, offered_from}
 use Rattle.sym_resolve.proofs.Ends.{offer}
 use Rattle.sym_resolve.proofs.CommonNumbers.{before_rises}
 use Rattle.sym_resolve.proofs.CommonRoom.{size_is_most, align_is_most}
+use Rattle.sym_resolve.proofs.Claiming.{bound_common}
 
 -- one rank is bound, if it is not none
 one_rank : (all : List Offer) (name : List ℕ) (a b : ℕ) → a < no_rank → b ≤ no_rank → IsLeast all name a → IsLeast all name b → a ≡ b
@@ -102,7 +102,7 @@ commons_rise files row commons is =
     subst P (sym is) (each_row Rises (in_file files (common_by files row)) 0 (length files) (λ f.
     nondecreasing (in_file files (common_by files row) f)
     (rise_in_file files f (λ i. is_common (symbol_at (file_at files f) i).place && rank_by files row f i == rank_of 1 f i)
-    (λ i. common_of f i (common_no files f i) (room_at rooms (name_number files f i)).size (room_at rooms (name_number files f i)).align) (λ i. refl))))
+    (λ i. bound_common f i (common_no files f i) (room_at rooms (name_number files f i)).size (room_at rooms (name_number files f i)).align) (λ i. refl))))
 
 -- entries whose symbols rise are in order of their sections, too: COMMON symbols are numbered in order of symbols
 in_order_of_sections : (files : List File) (f : ℕ) (cs : List BoundCommon) → IsStrictlyIncreasing (map (λ c. c.symbol) cs) →
@@ -130,16 +130,16 @@ commons_numbered files row commons is =
     let P : List (List BoundCommon) → Type 0 = All Rises in
     let rooms = rooms_asked files in
     let test = λ (f i : ℕ). is_common (symbol_at (file_at files f) i).place && rank_by files row f i == rank_of 1 f i in
-    let entry = λ (f i : ℕ). common_of f i (common_no files f i) (room_at rooms (name_number files f i)).size (room_at rooms (name_number files f i)).align in
+    let entry = λ (f i : ℕ). bound_common f i (common_no files f i) (room_at rooms (name_number files f i)).size (room_at rooms (name_number files f i)).align in
     subst P (sym is) (each_row Rises (in_file files (common_by files row)) 0 (length files) (λ f.
     let Own : BoundCommon → Type 0 = λ c. (c.section ≡ common_no files f c.symbol) × (c.symbol < length (file_at files f).head.symbols) in
     in_order_of_sections files f (in_file files (common_by files row) f)
     (rise_in_file files f (test f) (entry f) (λ i. refl))
-    (all_in_file Own files (common_by files row) f (λ i live lt. all_if Own (test f i) (entry f i) (λ _. (refl, lt))))))
+    (all_in_file Own files (common_by files row) f (λ i live lt. one_if Own (test f i) (entry f i) (λ _. (refl, lt))))))
 
 module _ (files : List File) (gone : List Bool) where
   abbrev entry_of : (f i : ℕ) → BoundCommon
-  entry_of f i = common_of f i (common_no files f i) (greatest_size (symbol_name (file_at files f) i) (demands files)) (greatest_align (symbol_name (file_at files f) i) (demands files))
+  entry_of f i = bound_common f i (common_no files f i) (greatest_size (symbol_name (file_at files f) i) (demands files)) (greatest_align (symbol_name (file_at files f) i) (demands files))
 
   abbrev is_entry : (f i : ℕ) → Bool
   is_entry f i = is_common (symbol_at (file_at files f) i).place && rank_bound files gone f i == rank_of 1 f i
@@ -187,7 +187,7 @@ module _ (files : List File) (gone : List Bool) where
 
     rooms : (f : ℕ) → All (HasItsRoom files gone f) (in_file files (bound_common_at files gone) f)
     unfolding bound_common_at
-    rooms f = all_in_file (HasItsRoom files gone f) files (bound_common_at files gone) f (λ i live lt. all_if (HasItsRoom files gone f) (is_entry f i) (entry_of f i) (entry_room f i live lt))
+    rooms f = all_in_file (HasItsRoom files gone f) files (bound_common_at files gone) f (λ i live lt. one_if (HasItsRoom files gone f) (is_entry f i) (entry_of f i) (entry_room f i live lt))
 
     bound_there : (f i : ℕ) → IsBoundCommon files gone f i → Contains (in_file files (bound_common_at files gone) f) (entry_of f i)
     unfolding bound_common_at bound_rank rank_bound

@@ -15,16 +15,18 @@ use Rattle.lk_tables.specs.Files.{File, by_symbol, common_no, file_at, is_visibl
 use Rattle.lk_tables.specs.Binding.{Offer, Demand, Bindings, is_offer, is_discarded, class_of, offer_at, offers_in, offers, demand_at, demands_in, demands, greatest_size, greatest_align, bound_rank, rank_bound, live_rank, bound_common_at, bound_commons_in, offered_bindings}
 use Rattle.lk_tables.specs.NameNumbers.{is_named, name_number}
 use Rattle.lk_tables.specs.Ranks.{no_rank, rank_of}
+use Rattle.lk_tables.proofs.BoundHas.{one_if}
 use Rattle.lk_tables.proofs.ByNumber.{by_symbol_same}
 use Rattle.sym_resolve.specs.declared.rooms.Room.{Room}
 use Rattle.sym_resolve.specs.Asks.{ask, no_room, room_at, ask_at, asks, after_asks, rooms_asked, common_by, common_from}
 use Rattle.sym_resolve.specs.Claims.{claim_at, claims, rank_at, rank_by}
 use Rattle.sym_resolve.specs.Symbols.{in_file}
-use Rattle.name_numbers.proofs.Walks.{all_if, same_map}
+use Rattle.name_numbers.proofs.Walks.{same_map}
 use Rattle.sym_resolve.proofs.Walks.{Splits, through_symbols, same_symbols, same_in_file, all_symbols, live_within}
 use Rattle.name_numbers.proofs.LeastClaims.{Tells, claims_fit, least_claimed}
 use Rattle.name_numbers.proofs.NameWords.{IsName, word_of, word_named, word_below, words_apart, is_name_of_symbol}
 use Rattle.sym_resolve.proofs.GreatestAsks.{HasRoom, after_greatest}
+use Rattle.sym_resolve.proofs.Claiming.{bound_common}
 
 pub maps_split : {X Y : Type 0} (f : X → Y) → Splits (map f)
 maps_split f = record { none = refl; both = λ xs ys. map-append f xs ys }
@@ -59,9 +61,6 @@ then_same : {X : Type 0} (b : Bool) (z x y : X) → (b ≡ true → x ≡ y) →
 then_same true z x y same = same refl
 then_same false z x y same = refl
 
-abbrev pub common_of : (file symbol section size align : ℕ) → BoundCommon
-common_of file symbol section size align = record { file = file; symbol = symbol; section = section; size = size; align = align }
-
 abbrev pub made_of : List Bool → List ℕ → ℕ → List (List BoundCommon) → Bindings
 made_of gone ranks entry commons = record { discarded = gone; ranks = ranks; entry = entry; commons = commons }
 
@@ -78,7 +77,7 @@ module _ (files : List File) where
   unfolding demands demands_in demand_at
   demands_named =
       all_symbols (λ (d : Demand). IsName files d.name) files (demand_at files)
-      (λ f i live lt. all_if (λ (d : Demand). IsName files d.name) _ _ (λ is. is_name_of_symbol files f i (live_within files f live) lt (common_named (symbol_at (file_at files f) i) is)))
+      (λ f i live lt. one_if (λ (d : Demand). IsName files d.name) _ _ (λ is. is_name_of_symbol files f i (live_within files f live) lt (common_named (symbol_at (file_at files f) i) is)))
 
   -- the rooms have the greatest that is asked for each name
   room_greatest : (text : List ℕ) → IsName files text → HasRoom (rooms_asked files) (word_of files text) (greatest_size text (demands files)) (greatest_align text (demands files))
@@ -128,7 +127,7 @@ module _ (files : List File) (gone : List Bool) where
   unfolding offers offers_in offer_at
   offers_named =
       all_symbols (λ (o : Offer). IsName files o.name) files (offer_at files gone)
-      (λ f i live lt. all_if (λ (o : Offer). IsName files o.name) _ _ (λ is. is_name_of_symbol files f i (live_within files f live) lt (offer_named files gone f (symbol_at (file_at files f) i) is)))
+      (λ f i live lt. one_if (λ (o : Offer). IsName files o.name) _ _ (λ is. is_name_of_symbol files f i (live_within files f live) lt (offer_named files gone f (symbol_at (file_at files f) i) is)))
 
   -- each claim's word is one of the row's
   pub claims_in_row : AllInRow (symbol_total files) (claims files gone)
@@ -168,8 +167,8 @@ module _ (files : List File) (gone : List Bool) where
         let rooms = rooms_asked files in
         let word = name_number files f i in
         let no = common_no files f i in
-        let mine = common_of f i no (room_at rooms word).size (room_at rooms word).align in
-        let theirs = common_of f i no (greatest_size name (demands files)) (greatest_align name (demands files)) in
+        let mine = bound_common f i no (room_at rooms word).size (room_at rooms word).align in
+        let theirs = bound_common f i no (greatest_size name (demands files)) (greatest_align name (demands files)) in
         ap (λ k. if is_common s.place && k == rank_of 1 f i then mine ∷ [] else []) (rank_there f i live lt)
         ∙ then_same (is_common s.place && rank_bound files gone f i == rank_of 1 f i) [] (mine ∷ []) (theirs ∷ [])
         (λ both.
@@ -177,9 +176,9 @@ module _ (files : List File) (gone : List Bool) where
         let counts = common_named s parts.0 in
         let own : room_at rooms word ≡ room_at rooms (word_of files name) = ap (room_at rooms) (word_named files f i counts) in
         let has = room_greatest files name (is_name_of_symbol files f i (live_within files f live) lt counts) in
-        ap (λ (r : Room). common_of f i no r.size r.align ∷ []) own
-        ∙ ap (λ k. common_of f i no k (room_at rooms (word_of files name)).align ∷ []) has.size_is
-        ∙ ap (λ k. common_of f i no (greatest_size name (demands files)) k ∷ []) has.align_is)
+        ap (λ (r : Room). bound_common f i no r.size r.align ∷ []) own
+        ∙ ap (λ k. bound_common f i no k (room_at rooms (word_of files name)).align ∷ []) has.size_is
+        ∙ ap (λ k. bound_common f i no (greatest_size name (demands files)) k ∷ []) has.align_is)
 
     commons_same : (f : ℕ) → in_file files (common_by files row) f ≡ bound_commons_in files gone f
     unfolding bound_commons_in

@@ -9,11 +9,12 @@ use Rattle.claim_core.specs.Events.{event}
 use Rattle.lk_tables.specs.Files.{File, file_at, no_file, symbol_at, symbol_name, symbol_total}
 use Rattle.lk_tables.specs.Binding.{Offer, class_of, offer_at, offers_in, offers, least_rank, bound_rank}
 use Rattle.lk_tables.specs.Names.{text_of}
-use Rattle.lk_tables.specs.Ranks.{no_rank, rank_of, file_of, symbol_of_rank}
+use Rattle.lk_tables.specs.Ranks.{no_rank, rank_of, symbol_of_rank}
+use Rattle.lk_tables.proofs.BoundHas.{one_if}
 use Rattle.lk_tables.proofs.FirstNumbers.{first_within}
+use Rattle.lk_tables.proofs.RankParts.{file_back}
 use Rattle.sym_resolve.specs.Claims.{claims}
 use Rattle.sym_resolve.specs.NamedOffers.{offered_name, lesser_named, least_named}
-use Rattle.name_numbers.proofs.Walks.{all_if}
 use Rattle.sym_resolve.proofs.Walks.{all_symbols, live_within}
 use Rattle.name_numbers.proofs.NameWords.{word_of}
 use Rattle.sym_resolve.proofs.Meaning.{claims_are}
@@ -24,9 +25,6 @@ pub past_name : (files : List File) (f i : ℕ) → length files ≤ f → symbo
 unfolding text_of
 past_name files f i past = ap (λ (x : File). symbol_name x i) (get_or_past files f no_file past)
 
-rank_file : (k f i : ℕ) → f < 2 ^ 24 → i < 2 ^ 31 → file_of (rank_of k f i) ≡ f
-rank_file k f i many few = omega arith
-
 rank_symbol : (k f i : ℕ) → i < 2 ^ 31 → symbol_of_rank (rank_of k f i) ≡ i
 rank_symbol k f i few = omega arith
 
@@ -35,11 +33,11 @@ say_names : (files : List File) (gone : List Bool) → length files < 2 ^ 24 →
 unfolding offers offers_in offer_at
 say_names files gone many few =
     all_symbols (λ (o : Offer). offered_name files o.rank ≡ o.name) files (offer_at files gone)
-    (λ f i live lt. all_if (λ (o : Offer). offered_name files o.rank ≡ o.name) _ _ (λ is.
+    (λ f i live lt. one_if (λ (o : Offer). offered_name files o.rank ≡ o.name) _ _ (λ is.
     let within = live_within files f live in
     let sum = first_within files f within in
     let k = class_of (symbol_at (file_at files f) i) in
-    ap (λ g. symbol_name (file_at files g) (symbol_of_rank (rank_of k f i))) (rank_file k f i (omega arith) (omega arith))
+    ap (λ g. symbol_name (file_at files g) (symbol_of_rank (rank_of k f i))) (file_back k f i (omega arith) (omega arith))
     ∙ ap (symbol_name (file_at files f)) (rank_symbol k f i (omega arith))))
 
 lesser_is : (files : List File) (name : List ℕ) (best rank : ℕ) (b : Bool) → bytes_eq (offered_name files rank) name ≡ b → lesser_named files name best rank ≡ (if b then min best rank else best)

@@ -3,10 +3,11 @@ use Rattle.std.proofs.Common.{◌≡◌, ℕ, zero, suc, ◌+◌, ◌<◌, ◌�
 use Rattle.std.specs.Prelude.{flat_map}
 use Rattle.std.specs.List.{range_with_len}
 use Rattle.std.proofs.lemmas.List.{get_or_past}
-use Rattle.std.proofs.lemmas.List.Elements.{All-nil}
 use Rattle.std.proofs.lemmas.Bool.{cases_lt, cond-true}
+use Rattle.lk_base.proofs.Ranges.{same_range}
 use Rattle.lk_tables.specs.Files.{File, file_at, no_file}
-use Rattle.name_numbers.proofs.Walks.{all_range, in_range, same_range}
+use Rattle.lk_tables.proofs.BoundHas.{each_if}
+use Rattle.name_numbers.proofs.Walks.{all_range, in_range}
 use Rattle.sym_resolve.specs.Symbols.{in_file, over_symbols}
 
 -- what goes through lists piece by piece
@@ -53,13 +54,9 @@ pub same_symbols : {X : Type 0} (files : List File) (g k : ℕ → ℕ → List 
 same_symbols files g k each =
     same_range (in_file files g) (in_file files k) 0 (length files) (λ f low high. same_in_file files g k f (each f))
 
-if_all : {X : Type 0} (P : X → Type 0) (b : Bool) (xs : List X) → (b ≡ true → All P xs) → All P (if b then xs else [])
-if_all P true xs all = all refl
-if_all P false xs all = All-nil P
-
 pub all_in_file : {X : Type 0} (P : X → Type 0) (files : List File) (g : ℕ → ℕ → List X) (f : ℕ) → ((i : ℕ) → (file_at files f).live ≡ true → i < length (file_at files f).head.symbols → All P (g f i)) → All P (in_file files g f)
 all_in_file P files g f each =
-    if_all P (file_at files f).live _ (λ live. all_range P (g f) 0 (length (file_at files f).head.symbols) (λ i low high. each i live (omega arith)))
+    each_if P (file_at files f).live _ (λ live. all_range P (g f) 0 (length (file_at files f).head.symbols) (λ i low high. each i live (omega arith)))
 
 pub all_symbols : {X : Type 0} (P : X → Type 0) (files : List File) (g : ℕ → ℕ → List X) → ((f i : ℕ) → (file_at files f).live ≡ true → i < length (file_at files f).head.symbols → All P (g f i)) → All P (over_symbols files g)
 all_symbols P files g each =

@@ -11,6 +11,7 @@ use Rattle.lk_tables.specs.InputSections.{input_at}
 use Rattle.lk_tables.specs.LinkerSymbols.{bound_if, bound_section, edge_of, fixed_count, is_bound_no, is_stop_no}
 use Rattle.link_sections.specs.Addresses.{bound_address, edge_address, end_or, first_place, last_place, linker_address, start_or}
 use Rattle.link_sections.specs.LaidOut.{LaidOut}
+use Rattle.link_sections.proofs.OwnLeaders.{chosen}
 use Rattle.symbol_addresses.specs.declared.places.Extent.{Extent}
 use Rattle.symbol_addresses.specs.Extents.{fixed_addresses}
 use Rattle.symbol_addresses.specs.Noted.{AreExtents}
@@ -19,10 +20,6 @@ use Rattle.symbol_addresses.proofs.NotedSteps.{start_is, end_is}
 unbound_is : (d : Bool) (n : ℕ) → (if d then Some n else None) ≡ None → d ≡ false
 unbound_is true n is = cc
 unbound_is false n is = refl
-
-bound_is : (d : Bool) (n m : ℕ) → (if d then Some n else None) ≡ Some m → (d ≡ true) × (n ≡ m)
-bound_is true n m is = (refl, cc)
-bound_is false n m is = cc
 
 module _ (files : List File) (b : Bindings) (leaders : List (Option ℕ)) (laid : LaidOut) where
   -- of one that is no section's
@@ -45,7 +42,7 @@ module _ (files : List File) (b : Bindings) (leaders : List (Option ℕ)) (laid 
       end_or IMAGE_BASE (last_place laid (input_at files b section).name) ≡ linker_address files b leaders laid number
   unfolding linker_address bound_address
   stop_at number section is stop =
-      let both = bound_is (is_bound_no number) (bound_section number) section is in
+      let both = chosen (is_bound_no number) (bound_section number) section is in
       let first = start_or IMAGE_BASE (first_place laid (input_at files b (bound_section number)).name) in
       let last = end_or IMAGE_BASE (last_place laid (input_at files b (bound_section number)).name) in
       ap (λ n. end_or IMAGE_BASE (last_place laid (input_at files b n).name)) (sym both.1)
@@ -56,7 +53,7 @@ module _ (files : List File) (b : Bindings) (leaders : List (Option ℕ)) (laid 
       start_or IMAGE_BASE (first_place laid (input_at files b section).name) ≡ linker_address files b leaders laid number
   unfolding linker_address bound_address
   start_at number section is start =
-      let both = bound_is (is_bound_no number) (bound_section number) section is in
+      let both = chosen (is_bound_no number) (bound_section number) section is in
       let first = start_or IMAGE_BASE (first_place laid (input_at files b (bound_section number)).name) in
       let last = end_or IMAGE_BASE (last_place laid (input_at files b (bound_section number)).name) in
       ap (λ n. start_or IMAGE_BASE (first_place laid (input_at files b n).name)) (sym both.1)

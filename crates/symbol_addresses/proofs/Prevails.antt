@@ -1,5 +1,5 @@
 -- The symbol that a name is bound to prevails: its own name is bound to it.
-use Rattle.std.proofs.Common.{◌≡◌, ◌≢◌, ℕ, ◌+◌, ◌*◌, ◌<◌, ◌≤◌, ◌^◌, ◌==◌, ◌&&◌, Bool, true, false, List, [], ◌∷◌, length, flat_map, min, not, refl, sym, ap, ◌∙◌, ◌⊎◌, subst, arith, inl, inr, Some, None}
+use Rattle.std.proofs.Common.{◌≡◌, ◌≢◌, ℕ, ◌<◌, ◌≤◌, ◌^◌, ◌==◌, ◌&&◌, Bool, true, false, List, [], ◌∷◌, length, flat_map, min, not, refl, sym, ap, ◌∙◌, ◌⊎◌, subst, arith, inl, inr, Some, None}
 use Rattle.std.specs.Prelude.{Option, if◌then◌else◌}
 use Rattle.std.specs.List.{All, range_with_len}
 use Rattle.std.specs.Str.{bytes_eq}
@@ -9,13 +9,14 @@ use Rattle.std.proofs.lemmas.Slice.Eq.{bytes_eq-Decides}
 use Rattle.lk_base.specs.declared.abi.TheConstants.{STB_LOCAL}
 use Rattle.lk_tables.specs.Binding.{Bindings, Offer, bound_rank, class_of, is_discarded, is_offer, least_rank, live_rank, offer_at, offered_bindings, offers, offers_in, rank_bound}
 use Rattle.lk_tables.specs.BoundNames.{IsBindingOf, bindings, linked_rank, or_linker, rank_of_linker}
-use Rattle.lk_tables.specs.Files.{AreFew, File, file_at, is_visible, section_total, symbol_at, symbol_name, symbol_no}
-use Rattle.lk_tables.specs.LinkerSymbols.{fixed_count, linker_no}
+use Rattle.lk_tables.specs.Files.{AreFew, File, file_at, is_visible, symbol_at, symbol_name, symbol_no}
+use Rattle.lk_tables.specs.LinkerSymbols.{linker_no}
 use Rattle.lk_tables.specs.Ranks.{class_of_rank, file_of, is_linker_rank, linker_class, linker_rank, no_rank, rank_of, symbol_of_rank}
 use Rattle.lk_tables.specs.Targets.{rank_at}
-use Rattle.lk_tables.proofs.BoundHas.{class_few, each_flat, each_if, offered_is, one_if, rank_is}
+use Rattle.lk_tables.proofs.BoundHas.{class_few, each_flat, each_if, few_numbers, offered_is, one_if, rank_is}
 use Rattle.lk_tables.proofs.FirstNumbers.{first_within}
 use Rattle.lk_tables.proofs.LinkerNumbers.{IfNumber, linker_few}
+use Rattle.lk_tables.proofs.RankParts.{file_is, symbol_is}
 
 -- symbol i of file f is there, in a file that takes part, and other files see it
 pub record IsSeen (files : List File) (f i : ℕ) : Type 0 where
@@ -32,12 +33,6 @@ record HasName (files : List File) (name : List ℕ) (f i : ℕ) : Type 0 where
 -- so of what a rank names
 abbrev RankHasName : List File → List ℕ → ℕ → Type 0
 RankHasName files name rank = HasName files name (file_of rank) (symbol_of_rank rank)
-
-file_is : (class f i : ℕ) → class ≤ 2 → f < 2 ^ 24 → i < 2 ^ 32 → file_of (rank_of class f i) ≡ f
-file_is class f i few file symbol = omega arith
-
-symbol_is : (class f i : ℕ) → i < 2 ^ 32 → symbol_of_rank (rank_of class f i) ≡ i
-symbol_is class f i symbol = omega arith
 
 rank_named : (files : List File) (name : List ℕ) (class f i : ℕ) → class ≤ 2 → f < 2 ^ 24 → i < 2 ^ 32 → HasName files name f i →
     RankHasName files name (rank_of class f i)
@@ -106,10 +101,6 @@ offered_by : (none : Bool) (x : ℕ) (o : Option ℕ) → IfNumber (λ n. n < 2 
 offered_by false x o few some other = refl
 offered_by true x None few some other = absurd (some refl)
 offered_by true x (Some n) few some other = absurd (true≢false (sym (eq-eqb (class_of_rank (linker_rank n)) linker_class (linker_class_is n few)) ∙ other))
-
-few_numbers : (files : List File) (o : Option ℕ) → AreFew files → IfNumber (λ n. n < fixed_count + 2 * section_total files) o → IfNumber (λ n. n < 2 ^ 31) o
-few_numbers files None few below = tt
-few_numbers files (Some n) few below = omega (arith, below, few.section_count_is)
 
 -- a symbol that is bound to one of a file: both are seen, and the names of both are bound to the second
 pub record IsResolved (files : List File) (b : Bindings) (f i : ℕ) : Type 0 where

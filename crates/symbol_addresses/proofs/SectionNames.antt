@@ -1,5 +1,5 @@
 -- The name of a number past the last section.
-use Rattle.std.proofs.Common.{◌≡◌, ℕ, ◌+◌, ◌≤◌, Bool, true, false, cond, Option, Some, None, List, [], ◌∷◌, length, refl, sym, ap, ◌∙◌, arith, codes}
+use Rattle.std.proofs.Common.{◌≡◌, ℕ, ◌+◌, ◌≤◌, Bool, true, false, cond, Option, Some, List, [], ◌∷◌, length, refl, sym, ap, ◌∙◌, arith, codes}
 use Rattle.std.specs.Prelude.{◌==◌, ◌||◌, find, is_some}
 use Rattle.std.specs.List.{list_any}
 use Rattle.std.proofs.lemmas.Bool.{cond-false, le-ltb}
@@ -9,7 +9,7 @@ use Rattle.lk_tables.specs.Binding.{Bindings}
 use Rattle.lk_tables.specs.Files.{File, file_at, section_total}
 use Rattle.lk_tables.specs.InputSections.{InputSection, common_in, common_of, input_at, input_of, is_own, room_input, section_input}
 use Rattle.lk_tables.specs.Targets.{commons_at}
-use Rattle.link_sections.proofs.PastSections.{place_past}
+use Rattle.link_sections.proofs.PastSections.{name_none, name_some, place_past}
 
 pub input_past : (files : List File) (b : Bindings) (section : ℕ) → section_total files ≤ section → input_of files b 0 section ≡ input_at files b section
 input_past files b section past = ap (λ (p : SectionPlace). input_of files b p.file p.index) (sym (place_past files section past))
@@ -30,14 +30,6 @@ any_found p (c ∷ cs) = one_of (p c) c (list_any p cs) (find p cs) (any_found p
     one_of : (b : Bool) (c : BoundCommon) (d : Bool) (o : Option BoundCommon) → d ≡ is_some o → (b || d) ≡ is_some (cond b (Some c) o)
     one_of true c d o is = refl
     one_of false c d o is = is
-
-name_some : (o : Option BoundCommon) → is_some o ≡ true → codes "COMMON" ≡ (room_input o).name
-name_some None is = cc
-name_some (Some c) is = refl
-
-name_none : (o : Option BoundCommon) → is_some o ≡ false → [] ≡ (room_input o).name
-name_none None is = refl
-name_none (Some c) is = cc
 
 pub room_named : (files : List File) (b : Bindings) (section : ℕ) → section_total files ≤ section → length files ≡ 0 →
     list_any (λ (c : BoundCommon). c.section == section) (commons_at b.commons 0) ≡ true → codes "COMMON" ≡ (input_at files b section).name

@@ -13,7 +13,6 @@ ghost use Rattle.link_sections.specs.PoolViews.{pools_view};
 ghost use Rattle.link_sections.specs.Sound.{IsSound};
 ghost use Rattle.link_sections.specs.Links.{link_files};
 ghost use Rattle.symbol_addresses.specs.Prevailing.{own_address, own_addresses, own_at};
-ghost use Rattle.work_split.specs.Pieces.{Tiles};
 ghost use Rattle.work_split.specs.Runs.{IsRun};
 
 use crate::edges::find_fixed;
@@ -27,7 +26,7 @@ use lk_tables::{Binding, Tables};
 use std::alloc::{AllocError, Global};
 use std::ops::Range;
 use std::thread::Threads;
-use work_split::{Gate, over_shares, pieces};
+use work_split::{Gate, over_shares, pieces_of_least};
 
 /// Fewer symbols are not worth a thread.
 const LEAST: usize = 4096;
@@ -90,7 +89,7 @@ fn find_own<R: Threads + Sync, G: Gate>(
     requires most { workers ≤ 64 }
     ensures { IfOk result (λ found. found.items ≡ own_addresses sources.now.link) }
 {
-    let pieces = pieces_of(alloc, sources.link.tables.symbol_count(), workers)?;
+    let pieces = pieces_of_least(alloc, sources.link.tables.symbol_count(), LEAST, workers)?;
     let found = over_shares(
         rt,
         alloc,
@@ -105,18 +104,6 @@ fn find_own<R: Threads + Sync, G: Gate>(
         Ok(list) => Ok(list),
         Err(_) => Err(AllocError),
     }
-}
-
-/// The numbers of so many symbols cut into pieces of about the same length: one for each worker, or fewer where pieces would be shorter
-/// than [`LEAST`].
-fn pieces_of(alloc: Global, symbols: usize, workers: u32) -> Result<Vec<Range<usize>>, AllocError>
-    requires some { 1 ≤ workers }
-    requires most { workers ≤ 64 }
-    ensures tiles { IfOk result (λ pieces. Tiles 0 symbols pieces.items) }
-    ensures most { IfOk result (λ pieces. length pieces.items ≤ 64) }
-{
-    let wanted = (symbols / LEAST).min(workers as usize).max(1);
-    pieces(alloc, symbols, wanted as u32)
 }
 
 /// The addresses of the symbols of a run of numbers. The walk begins at the file of the first number, and goes on file by file, so no

@@ -21,7 +21,7 @@ pub fn edge_address(link: &LaidLink, edge: Edge) -> u64
         Edge::ImageStart => IMAGE_BASE,
         Edge::CodeEnd => link.layout.bounds.rx_end,
         Edge::BitsEnd => link.layout.bounds.bits_end,
-        Edge::ZerosEnd => link.layout.bounds.nobits_end,
+        Edge::NobitsEnd => link.layout.bounds.nobits_end,
         Edge::Table => link.layout.got,
         Edge::GlobalPointer => global_pointer(link),
         Edge::PreinitStart => array_in(link, b".preinit_array").start,

@@ -6,6 +6,7 @@ use Rattle.std.specs.List.{AllByRecursion}
 use Rattle.std.specs.List.Sorted.{IsSortedBy, IsStableBy, ties}
 use Rattle.std.proofs.lemmas.Bool.{cond-true, cond-false, cases_Bool}
 use Rattle.std.proofs.lemmas.List.Sorted.{sorted_far}
+use Rattle.lk_base.proofs.StableOrder.{all_from}
 
 abbrev pub insert : {X : Type 0} → (lt : X → X → Bool) → X → List X → List X
 insert lt x [] = x ∷ []
@@ -23,10 +24,6 @@ Rises lt (x ∷ xs) = AllByRecursion (λ y. lt y x ≡ false) xs × Rises lt xs
 differ : {A : Type 0} (b : Bool) → b ≡ true → b ≡ false → A
 differ true is is_not = cc
 differ false is is_not = cc
-
-all_from : {X : Type 0} (P : X → Type 0) (xs : List X) → ((k : ℕ) (d : X) → k < length xs → P (get_or xs k d)) → AllByRecursion P xs
-all_from P [] h = tt
-all_from P (x ∷ xs) h = (h 0 x (omega arith), all_from P xs (λ k d lt. h (suc k) d (omega arith)))
 
 rises_from : {X : Type 0} (lt : X → X → Bool) (xs : List X) → ((i j : ℕ) (d : X) → i ≤ j → j < length xs → lt (get_or xs j d) (get_or xs i d) ≡ false) → Rises lt xs
 rises_from lt [] far = tt

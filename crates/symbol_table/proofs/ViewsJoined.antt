@@ -1,9 +1,10 @@
 -- What the workers list for the pieces of a run of numbers is, joined and shown as plain records, what one would list for all of them.
-use Rattle.std.proofs.Common.{◌≡◌, ℕ, ◌-◌, ◌≤◌, inl, inr, Result, Ok, Err, List, [], ◌∷◌, ◌++◌, map, refl, sym, ap, ◌∙◌, subst, arith}
+use Rattle.std.proofs.Common.{◌≡◌, ℕ, ◌-◌, ◌≤◌, inl, inr, Result, Ok, Err, List, [], ◌∷◌, ◌++◌, map, sym, ap, ◌∙◌, subst, arith}
 use Rattle.std.specs.Prelude.{IfOk, flat_map}
 use Rattle.std.specs.List.{range_with_len}
 use Rattle.std.specs.Global.{Vec}
 use Rattle.std.specs.declared.ops.Range.{Range}
+use Rattle.std.proofs.lemmas.List.{map-append}
 use Rattle.lk_base.specs.declared.defects.LinkStop.{LinkStop}
 use Rattle.work_split.specs.Pieces.{Tiles}
 use Rattle.work_split.specs.Shares.{AreGivenBy, IsJoined, IsJoinedFrom, joined, with_prefix}
@@ -12,10 +13,6 @@ use Rattle.lk_base.proofs.Ranges.{two_parts}
 
 abbrev run : {Y : Type 0} → (ℕ → List Y) → (start end : ℕ) → List Y
 run give start end = flat_map give (range_with_len start (end - start))
-
-map_append : {X Y : Type 0} (v : X → Y) (xs ys : List X) → map v (xs ++ ys) ≡ map v xs ++ map v ys
-map_append v [] ys = refl
-map_append v (x ∷ xs) ys = ap (λ l. v x ∷ l) (map_append v xs ys)
 
 module _ {X Y : Type 0} (v : X → Y) (give : ℕ → List Y) where
   -- a joined list, before what later shares have
@@ -26,7 +23,7 @@ module _ {X Y : Type 0} (v : X → Y) (give : ℕ → List Y) where
   whole_after : (a m b : ℕ) (front : List X) (o : Result (List X) LinkStop) → a ≤ m → m ≤ b → map v front ≡ run give a m → IsWhole m b o → IsWhole a b (with_prefix front o)
   unfolding IsWhole
   whole_after a m b front (Ok rest) low high is also =
-      map_append v front rest ∙ ap (λ l. l ++ map v rest) is ∙ ap (λ l. run give a m ++ l) also ∙ sym (two_parts give a m b low high)
+      map-append v front rest ∙ ap (λ l. l ++ map v rest) is ∙ ap (λ l. run give a m ++ l) also ∙ sym (two_parts give a m b low high)
   whole_after a m b front (Err stop) low high is also = tt
 
   abbrev pub AreShown : Range ℕ → Result (Vec X) LinkStop → Type 0

@@ -3,19 +3,10 @@ use Rattle.std.specs.Prelude.{◌≡◌, ℕ, ◌==◌, ◌&&◌, Bool, Option, 
 use Rattle.std.specs.Borrow.{Bor}
 use Rattle.std.specs.HashMap.{HashMap, get_by}
 use Rattle.std.specs.Str.{bytes_eq}
-use Rattle.lk_tables.specs.declared.classes.Class.{Class}
-use Rattle.lk_tables.specs.declared.classes.Class.TheVariants.{R, Rx, TlsBits, TlsNobits, RwBits, RwNobits}
+use Rattle.lk_tables.specs.Classes.{class_no}
 use Rattle.link_sections.specs.LaidOut.{OutputSection}
 use Rattle.symbol_table.specs.declared.outputs.Outputs.{Outputs}
 use Rattle.symbol_table.specs.Outputs.{first_passing}
-
-abbrev pub class_no : Class → ℕ
-class_no R = 0
-class_no Rx = 1
-class_no TlsBits = 2
-class_no TlsNobits = 3
-class_no RwBits = 4
-class_no RwNobits = 5
 
 abbrev pub HeldKey : Type 0
 HeldKey = Bor (List ℕ) × ℕ
@@ -29,7 +20,7 @@ abbrev pub output_numbers : Outputs → (name : List ℕ) → (class : ℕ) → 
 output_numbers outputs = noted outputs.known
 
 abbrev pub has : (name : List ℕ) → (class : ℕ) → OutputSection → Bool
-has name class o = bytes_eq o.name name && class_no o.class == class
+has name class o = class_no o.class == class && bytes_eq name o.name
 
 -- of each name and class the number of the first such output section, where the first of all has this number
 abbrev pub AreNoted : (number : ℕ) → List OutputSection → (List ℕ → ℕ → Option ℕ) → Type 0

@@ -1,6 +1,5 @@
 -- Entries that hold their names by reference, as plain records.
-use Rattle.std.specs.Prelude.{ℕ, Option, option_map, List, [], map}
-use Rattle.std.specs.Borrow.{Bor}
+use Rattle.std.specs.Prelude.{Option, option_map, List, [], map}
 use Rattle.std.specs.List.{cons_option}
 use Rattle.symbol_table.specs.declared.symbols.TableSymbol.{TableSymbol as HeldSymbol}
 use Rattle.symbol_table.specs.SymbolTable.{TableSymbol}
@@ -21,7 +20,3 @@ symbol_views list = map symbol_view list
 -- an entry that may be there
 abbrev pub views_if : Option HeldSymbol → List TableSymbol
 views_if entry = cons_option (option_map symbol_view entry) []
-
--- a lent name that may be there
-abbrev pub text_if : Option (Bor (List ℕ)) → Option (List ℕ)
-text_if text = option_map (λ t. t.now) text

@@ -4,7 +4,6 @@ ghost use Rattle.std.specs.Prelude.{◌≡◌, ◌⊎◌, ℕ, ◌-◌, ◌<◌,
 ghost use Rattle.lk_tables.specs.Files.{file_at, symbol_at};
 ghost use Rattle.lk_tables.specs.declared.bounds.Bound.TheVariants.{InSection, Linker};
 ghost use Rattle.link_sections.specs.InputViews.{input_view};
-ghost use Rattle.link_sections.specs.Leaders as leaders;
 ghost use Rattle.link_sections.specs.Views.{binding_in, files_in, laid_in, leaders_in};
 ghost use Rattle.symbol_table.specs.Noted.{AreNoted, output_numbers};
 ghost use Rattle.symbol_table.specs.Outputs.{place_in};
@@ -15,7 +14,7 @@ ghost use Rattle.symbol_table.specs.SymbolViews.{symbol_view, views_if};
 
 use crate::outputs::Outputs;
 use crate::symbols::{TablePlace, TableSymbol};
-use link_sections::{InputSection, View, input_in, leader_of, offset_in, symbol_address};
+use link_sections::{InputSection, View, input_in, is_kept, leader_of, offset_in, symbol_address};
 use lk_base::abi::{STB_GLOBAL, STB_WEAK, STT_COMMON, STT_NOTYPE, STT_OBJECT, STT_TLS};
 use lk_base::{FileNo, SecNo, SymNo, low_bits};
 use lk_tables::{
@@ -74,7 +73,7 @@ fn in_section<'t, 'a>(
     if !is_taken(view, file, symbol) {
         return None;
     }
-    if !is_kept(view.kept, section) {
+    if !is_kept(view.kept, section as usize) {
         return None;
     }
     Some(kept_symbol(view, outputs, seen, file, symbol, section, offset))
@@ -194,16 +193,6 @@ fn is_taken(view: &View, file: FileNo, symbol: SymNo) -> bool
     let number = view.tables.symbol_no(file as usize, symbol as usize);
     let rank = rank_of(class_of(&own), file as usize, symbol as usize);
     is_offer(&own) && view.binding.rank_at(number) == rank
-}
-
-/// Whether a section is kept.
-fn is_kept(kept: &[bool], section: SecNo) -> bool
-    ensures { result ≡ leaders.is_kept kept.now section }
-{
-    match kept.get(section as usize) {
-        Some(kept) => *kept,
-        None => false,
-    }
 }
 
 /// The section of a number, which is one of the file, or the room of a COMMON symbol of it.

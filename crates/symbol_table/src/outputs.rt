@@ -3,9 +3,9 @@
 ghost use Rattle.std.specs.Prelude.{◌≡◌, ◌==◌, ◌<◌, ◌^◌, ℕ, List, length, map, IfOk, OnOk, Some, if◌then◌else◌};
 ghost use Rattle.link_sections.specs.InputViews.{input_view};
 ghost use Rattle.link_sections.specs.LaidOut.{layout_view, output_view};
-ghost use Rattle.lk_tables.specs.Classes.{is_in};
+ghost use Rattle.lk_tables.specs.Classes.{is_in, class_no as spec_no};
 ghost use Rattle.lk_tables.specs.declared.classes.Class.{Class as AnyClass};
-ghost use Rattle.symbol_table.specs.Noted.{AreNoted, class_no as spec_no, has, noted, output_numbers};
+ghost use Rattle.symbol_table.specs.Noted.{AreNoted, has, noted, output_numbers};
 ghost use Rattle.symbol_table.specs.Outputs.{place_in, place_or};
 
 use crate::symbols::TablePlace;

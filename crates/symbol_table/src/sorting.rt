@@ -2,11 +2,12 @@
 
 ghost use Rattle.std.specs.Prelude.{◌≡◌, ◌++◌, length, IfOk, None, OnOk};
 ghost use Rattle.std.specs.List.Sorted.{IsSorted, IsStable};
+ghost use Rattle.lk_tables.specs.LinkerSymbols.{text_if};
 ghost use Rattle.symbol_table.specs.NameOrder.{by_name};
 ghost use Rattle.symbol_table.specs.NamedViews.{name_cmp, named_views};
 ghost use Rattle.symbol_table.specs.Repeats.{firsts_after, one_unless, repeats};
 ghost use Rattle.symbol_table.specs.SymbolTable.{TableSymbol as Shown};
-ghost use Rattle.symbol_table.specs.SymbolViews.{symbol_view, symbol_views, text_if};
+ghost use Rattle.symbol_table.specs.SymbolViews.{symbol_view, symbol_views};
 
 use crate::named::Named;
 use crate::symbols::TableSymbol;

@@ -7,14 +7,17 @@ macro_rules! table {
     };
 }
 
+/// A pass and all that it is given, on as few lines as that takes.
+macro_rules! pass {
+    ($pass:ident; $($given:expr),+) => {
+        $pass($($given),+)
+    };
+}
+
 /// A link by blocks: its objects; how many bytes its sections have in the file, and the first and the end of the lengths of blocks; the executable.
 macro_rules! example {
     ($objects:expr; $written:expr, $from:expr, $to:expr; $image:expr) => {
-        Example {
-            objects: $objects,
-            lengths: Lengths { written: $written, from: $from, to: $to },
-            image: $image,
-        }
+        Example { objects: $objects, lengths: Lengths { written: $written, from: $from, to: $to }, image: $image }
     };
 }
 

@@ -18,6 +18,9 @@ mod wrong_groups;
 use link_examples::{Files, Store, Stores, shared_files};
 use std::alloc::{AllocError, Global};
 
+/// Whether something holds, unless memory ran out.
+type Holds = Result<bool, AllocError>;
+
 /// The stores that the examples here name.
 struct OwnStores;
 

@@ -24,3 +24,22 @@ mod generated;
 mod known_names;
 mod objects;
 mod tables;
+mod text_table;
+
+use std::alloc::{AllocError, Global};
+
+/// The parts of a file, one after the other.
+fn joined(alloc: Global, parts: &[&[u8]]) -> Result<Vec<u8>, AllocError> {
+    let mut bytes = Vec::new(alloc);
+    for part in parts {
+        bytes.extend_from_slice(*part)?;
+    }
+    Ok(bytes)
+}
+
+/// Puts a byte at a place, where the file has it.
+fn put(bytes: &mut [u8], at: usize, byte: u8) {
+    if let Some(place) = bytes.get_mut(at) {
+        *place = byte;
+    }
+}

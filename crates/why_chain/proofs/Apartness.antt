@@ -4,9 +4,10 @@ use Rattle.std.specs.List.Sorted.{IsStrictlyIncreasing}
 use Rattle.std.proofs.lemmas.Bool.{and_parts, not-true, or_parts, true≢false}
 use Rattle.std.proofs.lemmas.Option.{same_Some}
 use Rattle.link_sections.specs.FoldItems.{FoldItem, sections_of}
+use Rattle.link_sections.proofs.SameTargets.{target_Decides}
 use Rattle.icf_part.specs.Folding.{ArePaired, IsCongruence, item_at, key_of, Pair as ItemPair, pair as item_pair}
 use Rattle.icf_part.specs.Leaders.{same_target}
-use Rattle.icf_part.proofs.Deciding.{key_Decides, target_Decides}
+use Rattle.icf_part.proofs.Deciding.{key_Decides}
 use Rattle.why_chain.specs.declared.chains.ApartEnd.{ApartEnd}
 use Rattle.why_chain.specs.declared.chains.ApartEnd.TheVariants as ends
 use Rattle.why_chain.specs.declared.pairs.Pair.{Pair}

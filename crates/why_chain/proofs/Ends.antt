@@ -1,12 +1,11 @@
 -- The first end of a pair, and where a relocation leads, as code finds them.
-use Rattle.std.proofs.Common.{◌≡◌, ℕ, ◌+◌, ◌-◌, ◌<◌, ◌≤◌, eqb, not, cond, Bool, true, false, Option, Some, None, List, [], ◌∷◌, ◌++◌, length, take, get_or, find, option_map, ap, ◌∙◌, subst, arith}
+use Rattle.std.proofs.Common.{◌≡◌, ℕ, ◌+◌, ◌-◌, ◌<◌, ◌≤◌, eqb, not, cond, Bool, true, false, Option, Some, None, List, [], ◌∷◌, ◌++◌, length, take, option_map, ap, ◌∙◌, subst, arith}
 use Rattle.std.specs.List.{list_any, range_with_len}
 use Rattle.std.specs.Prelude.{IfNone, OnSome}
 use Rattle.std.proofs.lemmas.Bool.{cond-false, cond-true}
 use Rattle.std.proofs.lemmas.List.{length-take, take-append-le}
-use Rattle.std.proofs.lemmas.List.FromFn.{get_or-range_with_len, length-range_with_len}
 use Rattle.lk_base.proofs.Loops.{range_at}
-use Rattle.lk_tables.proofs.Finding.{find_nothing, first_number}
+use Rattle.lk_tables.proofs.Finding.{first_number, no_number}
 use Rattle.link_sections.specs.FoldItems.{FoldItem}
 use Rattle.icf_part.specs.Leaders.{same_target}
 use Rattle.why_chain.specs.declared.chains.ApartEnd.TheVariants as ends
@@ -14,13 +13,6 @@ use Rattle.why_chain.specs.declared.pairs.Met.{Met}
 use Rattle.why_chain.specs.declared.pairs.Pair.{Pair}
 use Rattle.why_chain.specs.Aparts.{are_alike, can_match, first_end, first_target, next_pair, no_match, reloc_count, target_of}
 use Rattle.why_chain.specs.Meetings.{code_of, codes_of, met_all, met_by, met_one, new_pair}
-
-no_number : (p : ℕ → Bool) (n : ℕ) → ((k : ℕ) → k < n → p k ≡ false) → find p (range_with_len 0 n) ≡ None
-no_number p n fails = find_nothing p (range_with_len 0 n) 0 (λ i less.
-    let inside : i < n = omega (arith, less, length-range_with_len 0 n) in
-    let read = get_or-range_with_len 0 n i 0 inside in
-    let here : get_or (range_with_len 0 n) i 0 ≡ i = omega arith in
-    ap p here ∙ fails i inside)
 
 module _ (items : List FoldItem) (q : Pair) where
   pub target_first : (k : ℕ) → k < reloc_count items q → ((j : ℕ) → j < k → can_match items q j ≡ true) → can_match items q k ≡ false → first_target items q ≡ Some (ends.Target k)

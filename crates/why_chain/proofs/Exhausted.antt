@@ -3,12 +3,14 @@ use Rattle.std.proofs.Common.{◌≡◌, ℕ, ◌<◌, ◌≤◌, true, false, O
 use Rattle.std.specs.List.Sorted.{IsStrictlyIncreasing}
 use Rattle.std.proofs.lemmas.Bool.{cases_Bool, false_from_ne_true, not-false, or_cases, true≢false}
 use Rattle.std.proofs.lemmas.List.{get_or_default}
+use Rattle.lk_base.proofs.Membership.{from_map, in_map}
 use Rattle.link_sections.specs.declared.targets.Target.TheVariants.{Section}
 use Rattle.link_sections.specs.FoldItems.{FoldItem, sections_of}
+use Rattle.link_sections.proofs.SameTargets.{target_Decides}
 use Rattle.icf_part.specs.Folding.{AreFolded, Fits, IsCongruence, Matches, StandsFor, classes, item_at, key_of, Pair as ItemPair, pair as item_pair}
 use Rattle.icf_part.specs.Leaders.{same_target}
-use Rattle.icf_part.proofs.Deciding.{key_Decides, target_Decides}
-use Rattle.icf_part.proofs.Paired.{classes_have, from_map, in_map}
+use Rattle.icf_part.proofs.Deciding.{key_Decides}
+use Rattle.icf_part.proofs.Paired.{classes_have}
 use Rattle.why_chain.specs.declared.pairs.Met.{Met}
 use Rattle.why_chain.specs.declared.pairs.Pair.{Pair}
 use Rattle.why_chain.specs.Aparts.{Chain, all_chains, apart_chain, can_match, is_apart, next_pair, target_of, two_items}

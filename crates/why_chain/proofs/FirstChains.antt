@@ -10,10 +10,10 @@ use Rattle.std.proofs.lemmas.List.Folds.{find-append}
 use Rattle.std.proofs.lemmas.List.FromFn.{get_or-range_with_len, length-range_with_len}
 use Rattle.std.proofs.lemmas.Option.{none-some, option_and_then_some, same_Some}
 use Rattle.link_sections.specs.FoldItems.{FoldItem, sections_of}
+use Rattle.link_sections.proofs.SameTargets.{target_Decides}
 use Rattle.lk_tables.proofs.Finding.{find_nothing, first_number}
 use Rattle.icf_part.specs.Folding.{item_at}
 use Rattle.icf_part.specs.Leaders.{same_target}
-use Rattle.icf_part.proofs.Deciding.{target_Decides}
 use Rattle.why_chain.specs.declared.chains.ApartEnd.{ApartEnd}
 use Rattle.why_chain.specs.declared.chains.ApartEnd.TheVariants as ends
 use Rattle.why_chain.specs.declared.pairs.Pair.{Pair}

@@ -5,9 +5,10 @@ use Rattle.std.specs.Option.{option_or}
 use Rattle.std.proofs.lemmas.Bool.{cases_lt, false_from_ne_true}
 use Rattle.std.proofs.lemmas.List.Elements.{All-head, All-tail, Contains-get_or}
 use Rattle.std.proofs.lemmas.List.Folds.{find-append}
+use Rattle.lk_base.proofs.Membership.{from_flat, from_map, head_or_tail}
 use Rattle.lk_tables.proofs.Finding.{find_nothing}
-use Rattle.icf_part.proofs.Paired.{from_flat, from_map, head_or_tail}
 use Rattle.why_chain.specs.ShortLists.{ComesBefore, NotAfter, lists_of, short_lists}
+use Rattle.why_chain.proofs.Orders.{comes_or_same}
 
 -- the first of lists that stand one after the other, by number
 pub find_range : {X : Type 0} (p : X → Bool) (g : ℕ → List X) (from len k : ℕ) (x : X) → from ≤ k → k < from + len →
@@ -96,11 +97,6 @@ first_list P bound (k ∷ ks) within passes least =
     (first_list (λ rest. P (k ∷ rest)) bound ks (All-tail (λ j. j < bound) k ks within) passes (rest_least P k ks least)))
 
 -- of all short ones
-of_length : (list other : List ℕ) → NotAfter list other → length other ≡ length list → (other ≡ list) ⊎ ComesBefore list other
-of_length list other (inl same) wide = inl (sym same)
-of_length list other (inr (inl less)) wide = absurd (omega arith)
-of_length list other (inr (inr p)) wide = inr p.1
-
 no_shorter : (list other : List ℕ) → NotAfter list other → length other < length list → ⊥
 no_shorter list other (inl same) less = omega (arith, ap length same)
 no_shorter list other (inr (inl more)) less = omega arith
@@ -115,4 +111,4 @@ first_short P bound count list within short passes least =
     let other = get_or (lists_of bound j) i [] in
     let wide : length other ≡ j = list_wide bound j i under in
     false_from_ne_true (P other) (λ e. no_shorter list other (least other e) (omega arith))))
-    (first_list P bound list within passes (λ other e wide. of_length list other (least other e) wide))
+    (first_list P bound list within passes (λ other e wide. comes_or_same list other (least other e) wide))

@@ -1,48 +1,18 @@
 -- Marks that are set one after the other, and the list of what was marked.
-use Rattle.std.proofs.Common.{◌≡◌, ◌≢◌, ◌⊎◌, ℕ, zero, suc, ◌+◌, ◌<◌, ◌≤◌, ◌==◌, Bool, true, false, List, [], ◌∷◌, ◌++◌, length, get_or, set, All, Contains, IsPermutation, IsSorted, nat_cmp, refl, sym, ◌∙◌, subst, inl, inr, ⊎_elim, eqb, arith}
+use Rattle.std.proofs.Common.{All, Bool, Contains, IsPermutation, IsSorted, List, [], arith, eqb, false, get_or, inl, inr, length, nat_cmp, refl, set, subst, sym, true, ℕ, ⊎_elim, ◌++◌, ◌+◌, ◌<◌, ◌==◌, ◌∙◌, ◌∷◌, ◌≡◌, ◌≢◌, ◌≤◌, ◌⊎◌}
 use Rattle.std.specs.Cmp.{nat_eq_equiv}
 use Rattle.std.specs.List.{IsDistinct, list_any}
-use Rattle.std.proofs.lemmas.Bool.{both_ways, cases_Bool, cases_eq, cases_lt, cond-false, cond-true, eqb-true, false_from_ne_true, or_cases}
-use Rattle.std.proofs.lemmas.List.{get_or-set_other, get_or-set_same, get_or_past, length-set, length_push}
+use Rattle.std.proofs.lemmas.Bool.{both_ways, cases_Bool, cases_eq, cond-false, cond-true, false_from_ne_true}
+use Rattle.std.proofs.lemmas.List.{get_or-set_same, length-set, length_push}
 use Rattle.std.proofs.lemmas.List.Elements.{All-head, All-tail, Contains-append_left, Contains-push, Contains-push_cases}
 use Rattle.std.proofs.lemmas.List.Kept.{AllPairs-from_increasing}
 use Rattle.std.proofs.lemmas.List.Sorted.{IsNonDecreasingBy-from_sort}
 use Rattle.std.proofs.lemmas.Map.Keys.{IsDistinct-IsPermutation, IsDistinct-push, IsStrictlyIncreasing-from_distinct}
-use Rattle.lk_tables.specs.Reach.{mark}
-use Rattle.icf_part.proofs.Paired.{head_or_tail, in_tail}
+use Rattle.lk_base.proofs.Membership.{head_or_tail, in_tail}
+use Rattle.lk_tables.specs.Reach.{mark, unmarked}
+use Rattle.lk_tables.proofs.Marking.{one_marked, set_marked, set_marks}
 use Rattle.why_chain.specs.Visits.{Gathered, all_gathered, gathered, one_gathered}
-
--- how many places have no mark
-abbrev pub unmarked : List Bool → ℕ
-unmarked [] = 0
-unmarked (true ∷ seen) = unmarked seen
-unmarked (false ∷ seen) = 1 + unmarked seen
-
-one_marked : (seen : List Bool) (f : ℕ) → f < length seen → mark seen f ≡ false → unmarked (set seen f true) + 1 ≡ unmarked seen
-one_marked [] f lt is = absurd (omega arith)
-one_marked (false ∷ seen) zero lt is = let e : unmarked (set (false ∷ seen) 0 true) ≡ unmarked seen = refl in let d : unmarked (false ∷ seen) ≡ 1 + unmarked seen = refl in omega arith
-one_marked (true ∷ seen) zero lt is = absurd cc
-one_marked (false ∷ seen) (suc f) lt is =
-    let rest = one_marked seen f (omega arith) is in
-    let e : unmarked (set (false ∷ seen) (suc f) true) ≡ 1 + unmarked (set seen f true) = refl in
-    let d : unmarked (false ∷ seen) ≡ 1 + unmarked seen = refl in omega arith
-one_marked (true ∷ seen) (suc f) lt is = one_marked seen f (omega arith) is
-
--- what is marked is no place past the end
-pub mark_inside : (seen : List Bool) (f : ℕ) → mark seen f ≡ true → f < length seen
-mark_inside seen f is = ⊎_elim
-    (λ (lt : f < length seen). lt)
-    (λ (le : length seen ≤ f). absurd (both_ways (mark seen f) (get_or_past seen f false le) is))
-    (cases_lt f (length seen))
-
-set_marks : (seen : List Bool) (f g : ℕ) → mark seen g ≡ true → f < length seen → mark (set seen f true) g ≡ true
-set_marks seen f g is lt = ⊎_elim
-    (λ (same : f ≡ g). subst (λ k. mark (set seen f true) k ≡ true) same (get_or-set_same seen f true false lt))
-    (λ other. get_or-set_other seen f g true false (λ e. other (sym e)) ∙ is)
-    (cases_eq f g)
-
-set_marked : (seen : List Bool) (f g : ℕ) → mark (set seen f true) g ≡ true → (g ≢ f) → mark seen g ≡ true
-set_marked seen f g is other = sym (get_or-set_other seen f g true false other) ∙ is
+use Rattle.why_chain.proofs.Meets.{any_has}
 
 -- a number is marked already, or is marked now
 one_case : (P : Gathered → Type 0) (g : Gathered) (f : ℕ) → (mark g.seen f ≡ true → P g) → (mark g.seen f ≡ false → P (gathered (set g.seen f true) (g.row ++ f ∷ []))) → P (one_gathered g f)
@@ -62,13 +32,6 @@ pub record IsGathered (ends : List ℕ) (seen : List Bool) (g : Gathered) : Type
   pub distinct : IsDistinct eqb g.row
 
 -- a number that is not in a list
-any_has : (xs : List ℕ) (x : ℕ) → list_any (eqb x) xs ≡ true → Contains xs x
-any_has [] x e = absurd cc
-any_has (y ∷ xs) x e = ⊎_elim
-    (λ (here : (x == y) ≡ true). (0, omega arith, sym (eqb-true x y here)))
-    (λ (later : list_any (eqb x) xs ≡ true). in_tail y x xs (any_has xs x later))
-    (or_cases (x == y) (list_any (eqb x) xs) e)
-
 gather_one : (ends : List ℕ) (seen : List Bool) (g : Gathered) (f : ℕ) → IsGathered ends seen g → f < length seen → Contains ends f → IsGathered ends seen (one_gathered g f)
 gather_one ends seen g f h lt has =
     let wide = h.wide in

@@ -5,13 +5,15 @@ use Rattle.std.proofs.lemmas.List.{get_or-append_right, get_or-replicate, get_or
 use Rattle.std.proofs.lemmas.List.Elements.{Contains-append_cases, Contains-append_left, Contains-append_right}
 use Rattle.std.proofs.lemmas.List.Sorted.{Contains-permutation, IsPermutation-sym, length_permutation}
 use Rattle.lk_base.specs.RelocKinds.{is_among}
-use Rattle.lk_tables.specs.Reach.{IsClosed, ends_at, mark}
+use Rattle.lk_base.proofs.Membership.{among_has, among_tells}
+use Rattle.lk_tables.specs.Reach.{IsClosed, IsReached, ends_at, mark, unmarked}
+use Rattle.lk_tables.proofs.Marking.{mark_inside, none_marked}
 use Rattle.why_chain.specs.ShortLists.{NotAfter, short_lists}
 use Rattle.why_chain.specs.Visits.{AreWords, Gathered, all_gathered, gathered, with_start}
-use Rattle.why_chain.specs.Walks.{IsLeastWalk, IsReached, is_walk, live_chain}
-use Rattle.why_chain.proofs.Among.{among_has, among_tells, stands, stands_at}
+use Rattle.why_chain.specs.Walks.{IsLeastWalk, is_walk, live_chain}
+use Rattle.why_chain.proofs.Among.{stands, stands_at}
 use Rattle.why_chain.proofs.Firsts.{find_none, first_short}
-use Rattle.why_chain.proofs.Gathering.{IsGathered, all_are_gathered, all_are_marked, mark_inside, unmarked}
+use Rattle.why_chain.proofs.Gathering.{IsGathered, all_are_gathered, all_are_marked}
 use Rattle.why_chain.proofs.Orders.{comes_or_same, no_longer}
 use Rattle.why_chain.proofs.Searching.{IsSearch, after, least_here, none_here, search_more, search_starts}
 use Rattle.why_chain.proofs.Walking.{AreSections, end_low, from_start, numbers_low, own_row, rows_low, start_row, step_tells, step_there, step_to, to_start, walk_reaches}
@@ -33,10 +35,6 @@ pub record IsLiveAt (roots : List ℕ) (ends : List (List ℕ)) (target : ℕ) (
   pub marked : (f : ℕ) → Contains sections f → (f ≡ length ends) ⊎ (mark seen f ≡ true)
   pub missed : (i : ℕ) → i < place → at sections i ≡ target → ⊥
 
-all_unmarked : (n : ℕ) → unmarked (replicate n false) ≡ n
-all_unmarked zero = refl
-all_unmarked (suc n) = let rest = all_unmarked n in let e : unmarked (replicate (suc n) false) ≡ 1 + unmarked (replicate n false) = refl in omega arith
-
 no_mark : (n f : ℕ) → mark (replicate n false) f ≡ true → ⊥
 no_mark zero f is = true≢false (sym is)
 no_mark (suc n) zero is = true≢false (sym is)
@@ -51,7 +49,7 @@ live_starts roots ends target = record {
   search = search_starts (step_to (with_start roots ends)) (length ends) (at (length ends ∷ [])) (at (0 ∷ [])) (at (length ends ∷ [])) refl;
   wide = refl;
   sized = length-replicate (length ends) false;
-  counted = omega (arith, all_unmarked (length ends));
+  counted = omega (arith, none_marked (length ends));
   queued = λ f is. absurd (no_mark (length ends) f is);
   marked = λ f has. inl (one_only (length ends) f has);
   missed = λ i less is. absurd (omega arith);

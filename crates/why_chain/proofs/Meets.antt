@@ -8,7 +8,7 @@ use Rattle.std.proofs.lemmas.Map.Keys.{IsDistinct-push}
 use Rattle.std.proofs.lemmas.Map.Steps.{length-le_from_distinct_below}
 use Rattle.std.proofs.lemmas.Nat.{mul-add-lt}
 use Rattle.std.proofs.lemmas.Option.{none-some, same_Some}
-use Rattle.icf_part.proofs.Paired.{in_tail}
+use Rattle.lk_base.proofs.Membership.{in_tail}
 use Rattle.why_chain.specs.declared.pairs.Met.{Met}
 use Rattle.why_chain.specs.declared.pairs.Pair.{Pair}
 use Rattle.why_chain.specs.Aparts.{two_items}
@@ -49,7 +49,7 @@ code_tells n p q low high e = elim (cases_order p.one q.one) [
 pub code_low : (n : ℕ) (p : Pair) → AreItemsBelow n p → code_of n p < n * n
 code_low n p low = mul-add-lt p.one n p.two n low.0 low.1
 
-any_has : (xs : List ℕ) (x : ℕ) → list_any (eqb x) xs ≡ true → Contains xs x
+pub any_has : (xs : List ℕ) (x : ℕ) → list_any (eqb x) xs ≡ true → Contains xs x
 any_has [] x e = absurd cc
 any_has (y ∷ xs) x e = ⊎_elim
     (λ (here : (x == y) ≡ true). (0, omega arith, sym (eqb-true x y here)))

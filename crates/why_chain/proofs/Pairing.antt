@@ -9,10 +9,11 @@ use Rattle.link_sections.specs.declared.fold_items.FoldReloc.{FoldReloc}
 use Rattle.link_sections.specs.declared.targets.Target.{Target}
 use Rattle.link_sections.specs.declared.targets.Target.TheVariants.{Section}
 use Rattle.link_sections.specs.FoldItems.{FoldItem, section_of, sections_of}
+use Rattle.link_sections.proofs.SameTargets.{target_Decides}
 use Rattle.icf_part.specs.Folding.{item_at, key_of, no_item, no_reloc, target_at}
 use Rattle.icf_part.specs.Leaders.{same_target}
 use Rattle.icf_part.specs.Signatures.{place_of}
-use Rattle.icf_part.proofs.Deciding.{key_Decides, target_Decides}
+use Rattle.icf_part.proofs.Deciding.{key_Decides}
 use Rattle.icf_part.proofs.SectionPlaces.{place_tells, placed}
 use Rattle.why_chain.specs.declared.chains.ApartEnd.{ApartEnd}
 use Rattle.why_chain.specs.declared.chains.ApartEnd.TheVariants as ends

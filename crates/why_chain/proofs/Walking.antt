@@ -1,14 +1,14 @@
 -- Walks as lists that lead from the start: the number past the last section, which leads to the roots.
-use Rattle.std.proofs.Common.{◌≡◌, ℕ, ◌<◌, ◌&&◌, Bool, true, Option, Some, None, List, [], ◌∷◌, ◌++◌, length, get_or, drop, if◌then◌else◌, option_and_then, All, Contains, refl, sym, ap, ◌∙◌, subst, inl, inr, arith}
+use Rattle.std.proofs.Common.{◌≡◌, ℕ, ◌<◌, Bool, true, Option, Some, None, List, [], ◌∷◌, ◌++◌, length, get_or, if◌then◌else◌, option_and_then, All, Contains, refl, sym, ap, ◌∙◌, subst, inl, inr, arith}
 use Rattle.std.proofs.lemmas.Bool.{and_from, and_parts, cases_lt, cond-true, eq-eqb, eqb-true, true≢false}
 use Rattle.std.proofs.lemmas.List.{get_or_append_left, get_or_at, get_or_default, get_or_past, length-append}
 use Rattle.std.proofs.lemmas.List.Elements.{All-contains, All-cons, All-nil}
 use Rattle.std.proofs.lemmas.Option.{cond_some, option_and_then_some, same_Some}
 use Rattle.lk_base.specs.RelocKinds.{is_among}
-use Rattle.lk_tables.specs.Reach.{IsClosed, ends_at}
+use Rattle.lk_base.proofs.Membership.{among_tells}
+use Rattle.lk_tables.specs.Reach.{IsClosed, IsReached, ends_at}
 use Rattle.why_chain.specs.Visits.{with_start}
-use Rattle.why_chain.specs.Walks.{IsReached, is_walk, leads_to}
-use Rattle.why_chain.proofs.Among.{among_tells}
+use Rattle.why_chain.specs.Walks.{is_walk, leads_to}
 use Rattle.why_chain.proofs.Searching.{after}
 
 -- one step: to an end
@@ -120,9 +120,3 @@ module _ (roots : List ℕ) (ends : List (List ℕ)) where
   walk_reaches target (f ∷ w) e = λ set closed.
       let parts = and_parts (is_among roots f) (leads_to ends target f w) e in
       leads_reach target f w set closed (closed.rooted f (among_tells roots f parts.0)) parts.1
-
--- a list with a first number, by its parts
-pub walk_parts : (roots : List ℕ) (ends : List (List ℕ)) (target : ℕ) (w : List ℕ) → 0 < length w →
-    is_walk roots ends target w ≡ (is_among roots (get_or w 0 0) && leads_to ends target (get_or w 0 0) (drop 1 w))
-walk_parts roots ends target [] some = absurd (omega arith)
-walk_parts roots ends target (f ∷ w) some = refl

@@ -1,7 +1,7 @@
 -- Why a section is kept: a walk along edges from a root to it.
 use Rattle.std.specs.Prelude.{◌≡◌, ◌⊎◌, ℕ, ◌+◌, ◌≤◌, ◌==◌, ◌&&◌, Bool, true, false, Option, find, List, [], ◌∷◌, length}
 use Rattle.lk_base.specs.RelocKinds.{is_among}
-use Rattle.lk_tables.specs.Reach.{IsClosed, ends_at}
+use Rattle.lk_tables.specs.Reach.{ends_at}
 use Rattle.why_chain.specs.declared.chains.LiveChain.{LiveChain}
 use Rattle.why_chain.specs.ShortLists.{ComesBefore, short_lists}
 
@@ -28,7 +28,3 @@ pub record IsLeastWalk (roots : List ℕ) (ends : List (List ℕ)) (target : ℕ
   pub walk : is_walk roots ends target list ≡ true
   pub shortest : (other : List ℕ) → is_walk roots ends target other ≡ true → length list ≤ length other
   pub least : (other : List ℕ) → is_walk roots ends target other ≡ true → length other ≡ length list → (other ≡ list) ⊎ ComesBefore list other
-
--- a section is in each set that holds the roots and, with a section, its ends
-abbrev pub IsReached : (roots : List ℕ) → (ends : List (List ℕ)) → (section : ℕ) → Type 0
-IsReached roots ends section = (s : ℕ → Bool) → IsClosed roots ends s → s section ≡ true

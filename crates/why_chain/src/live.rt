@@ -2,7 +2,8 @@
 
 ghost use Rattle.std.specs.Prelude.{◌≡◌, ◌<◌, ◌↔◌, true, All, length, is_some, option_map, IfOk, IfSome};
 ghost use Rattle.link_sections.specs.Edges.{ends_of};
-ghost use Rattle.why_chain.specs.Walks.{IsLeastWalk, IsReached, live_chain, sections_in};
+ghost use Rattle.lk_tables.specs.Reach.{IsReached};
+ghost use Rattle.why_chain.specs.Walks.{IsLeastWalk, live_chain, sections_in};
 
 use crate::chains::LiveChain;
 use crate::paths::walk_to;

@@ -123,17 +123,6 @@ given_are f Is Gives a b (p ∷ ps) (r ∷ rs) gives tiles given =
     let some = tiles.1 in
     (p.end, omega arith, subst P tiles.0 (gives p r given.0), given_are f Is Gives p.end b ps rs gives tiles.2 given.1)
 
--- the answers of `over_pieces`, if each task gives the share of its piece
-pub answers_are : {X E : Type 0} (f : ℕ → List Defect) (Is : ℕ → X → Type 0) (n : ℕ) (ps : List (Range ℕ)) (given : List (Unit {0})) (r : Result (Vec (Result (Vec X) LinkStop)) E) →
-    Tiles 0 n ps → length ps ≡ length given →
-    IfOk r (λ answers. length answers.items ≡ length ps) →
-    IfOk r (λ answers. (w : ℕ) (p : Range ℕ) (x : Unit {0}) (y : Result (Vec X) LinkStop) → w < length ps → IsAt ps w p → IsAt given w x → IsAt answers.items w y → Range ℕ × IsShare f Is p.start p.end y) →
-    IfOk r (λ answers. AreShares f Is 0 n answers.items)
-answers_are f Is n ps given (Err e) tiles many count each = tt
-answers_are {X} {E} f Is n ps given (Ok answers) tiles many count each =
-    let Gives : Range ℕ → Result (Vec X) LinkStop → Type 0 = λ p share. IsShare f Is p.start p.end share in
-    given_are f Is Gives 0 n ps answers.items (λ p share gives. gives) tiles (answers_from {E = E} Gives ps given (Ok answers) many count each)
-
 -- a loop that joins: one more share; a share that has stopped
 before : {X : Type 0} → Result (List X) LinkStop → List X → Result (List X) LinkStop
 before (Ok xs) ys = Ok (xs ++ ys)

@@ -34,18 +34,6 @@ tiles_within start end (q ∷ ps) (suc w) p tiles here at =
     let more = tiles.1 in
     record { start_in = omega (arith, rest.start_in); some = rest.some; end_in = rest.end_in }
 
--- a piece of a lesser number ends before
-pub tiles_apart : (start end : ℕ) (ps : List (Range ℕ)) (v w : ℕ) (p q : Range ℕ)
-    → Tiles start end ps → v < w → w < length ps → IsAt ps v p → IsAt ps w q → p.end ≤ q.start
-tiles_apart start end [] v w p q tiles less here at_p at_q = absurd (omega (arith, here))
-tiles_apart start end (r ∷ ps) v zero p q tiles less here at_p at_q = absurd (omega (arith, less))
-tiles_apart start end (r ∷ ps) zero (suc w) p q tiles less here at_p at_q =
-    let rest : IsWithin r.end end q = tiles_within r.end end ps w q tiles.2 (omega arith) at_q in
-    let Before : Range ℕ → Type 0 = λ x. x.end ≤ q.start in
-    subst Before (sym at_p) rest.start_in
-tiles_apart start end (r ∷ ps) (suc v) (suc w) p q tiles less here at_p at_q =
-    tiles_apart r.end end ps v w p q tiles.2 (omega arith) (omega arith) at_p at_q
-
 -- the piece that has the place i
 pub record Holds (ps : List (Range ℕ)) (i : ℕ) : Type 0 where
   pub worker : ℕ
@@ -67,3 +55,9 @@ tiles_cover start end (p ∷ ps) i tiles from below =
           let rest : Holds ps i = tiles_cover p.end end ps i tiles.2 past below in
           record { worker = suc rest.worker; piece = rest.piece; within = omega (arith, rest.within); at = rest.at; from = rest.from; below = rest.below }
     ]
+
+-- an element that stands at a place
+pub at_place : {X : Type 0} (xs : List X) (w : ℕ) → w < length xs → (x : X) × IsAt xs w x
+at_place [] w lt = absurd (omega (arith, lt))
+at_place (x ∷ xs) zero lt = (x, refl)
+at_place (x ∷ xs) (suc w) lt = at_place xs w (omega (arith, lt))

@@ -1,6 +1,6 @@
 //! Where work is cut into pieces.
 
-ghost use Rattle.std.specs.Prelude.{◌≡◌, ◌≤◌, ◌/◌, All, min, length, IfOk};
+ghost use Rattle.std.specs.Prelude.{◌≡◌, ◌<◌, ◌≤◌, ◌/◌, All, min, length, IfOk};
 ghost use Rattle.work_split.specs.Pieces.{HasSize, Tiles};
 
 use std::alloc::{AllocError, Global};
@@ -24,4 +24,22 @@ pub fn pieces(alloc: Global, len: usize, workers: u32) -> Result<Vec<Range<usize
         start = end;
     }
     Ok(pieces)
+}
+
+/// So many places cut into pieces of about the same length: one for each worker, or fewer where pieces would be shorter than `least`. The
+/// only error is out of memory.
+pub fn pieces_of_least(
+    alloc: Global,
+    len: usize,
+    least: usize,
+    workers: u32,
+) -> Result<Vec<Range<usize>>, AllocError>
+    requires least { 0 < least }
+    requires some { 1 ≤ workers }
+    requires most { workers ≤ 64 }
+    ensures tiles { IfOk result (λ pieces. Tiles 0 len pieces.items) }
+    ensures most { IfOk result (λ pieces. length pieces.items ≤ 64) }
+{
+    let wanted = (len / least).min(workers as usize).max(1);
+    pieces(alloc, len, wanted as u32)
 }

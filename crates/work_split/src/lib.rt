@@ -15,7 +15,7 @@ mod shares;
 mod tasks;
 mod weights;
 
-pub use cuts::pieces;
+pub use cuts::{pieces, pieces_of_least};
 pub use gates::{Gate, OpenGate};
 pub use shares::{join, nothing_else, over_shares};
 pub use tasks::over_pieces;

@@ -34,18 +34,11 @@ const ROWS: [Row; 7] = [
     Row(b".sdata", Class::RwNobits, 0x20140, 0x20180),
 ];
 
-macro_rules! bounds {
-    ($($field:ident: $value:expr);+ $(;)?) => {
-        Bounds { $($field: $value),+ }
-    };
-}
-
-const BOUNDS: Bounds = bounds!(
-    has_rx: true; has_rw: true; has_tls: false; has_tls_bits: false; has_frames: false; headers: 4; headers_end: 0x10120; frame_header: 0x10000;
-    frame_header_end: 0x10000; frames: 0x10000; frames_end: 0x10000; r_end: 0x10210; rx_start: 0x11000; rx_end: 0x11040; rw_start: 0x20000;
-    tls_start: 0; tls_bits_end: 0x20000; tls_end: 0x20000; tls_align: 1; bits_end: 0x20140; nobits_end: 0x20180; file_end: 0x20140;
-    image_end: 0x20180;
-);
+const BOUNDS: Bounds = record!(Bounds;
+    has_rx: true, has_rw: true, has_tls: false, has_tls_bits: false, has_frames: false, headers: 4, headers_end: 0x10120, frame_header: 0x10000,
+    frame_header_end: 0x10000, frames: 0x10000, frames_end: 0x10000, r_end: 0x10210, rx_start: 0x11000, rx_end: 0x11040, rw_start: 0x20000,
+    tls_start: 0, tls_bits_end: 0x20000, tls_end: 0x20000, tls_align: 1, bits_end: 0x20140, nobits_end: 0x20180, file_end: 0x20140,
+    image_end: 0x20180);
 
 /// Adds an output section.
 fn push_row(places: &mut Vec<OutputPlace<'static>>, row: &Row) -> Result<(), AllocError>
@@ -53,12 +46,7 @@ fn push_row(places: &mut Vec<OutputPlace<'static>>, row: &Row) -> Result<(), All
     ensures new { OnOk result (All (λ (p : Place). p.start + 2 ^ 31 < 2 ^ 64) (map place_view places.new.items)) }
 {
     let start = row.2 as u64;
-    places.push(OutputPlace {
-        name: row.0,
-        class: row.1,
-        start,
-        end: row.3 as u64,
-    })?;
+    places.push(record!(OutputPlace; name: row.0, class: row.1, start: start, end: row.3 as u64))?;
     Ok(())
 }
 
@@ -78,17 +66,10 @@ fn places_of(alloc: Global) -> Result<Vec<OutputPlace<'static>>, AllocError>
 fn made_layout(alloc: Global) -> Result<Layout<'static>, AllocError>
     ensures { IfOk result (λ layout. (b : Bindings) → IsSound [] b [] (with_contents (layout_view layout) no_pools [])) }
 {
-    Ok(Layout {
-        outputs: Vec::new(alloc),
-        members: Vec::new(alloc),
-        nobits_members: Vec::new(alloc),
-        places: places_of(alloc)?,
-        starts: Vec::new(alloc),
-        pools: Vec::new(alloc),
-        got: 0x20080,
-        sizes: Sizes::of(Rows::empty(alloc)?),
-        bounds: BOUNDS,
-    })
+    Ok(
+        record!(Layout; outputs: Vec::new(alloc), members: Vec::new(alloc), nobits_members: Vec::new(alloc), places: places_of(alloc)?,
+        starts: Vec::new(alloc), pools: Vec::new(alloc), got: 0x20080, sizes: Sizes::of(Rows::empty(alloc)?), bounds: BOUNDS),
+    )
 }
 
 /// The tables of a link without files.
@@ -115,18 +96,8 @@ fn count_found<R: Threads + Sync>(rt: &R, alloc: Global, workers: u32) -> Result
     let pools = Pools::none(alloc);
     let got = Got::empty(alloc);
     let layout = made_layout(alloc)?;
-    let found = find_addresses(
-        rt,
-        alloc,
-        &tables,
-        &binding,
-        &pools,
-        &[],
-        &got,
-        &layout,
-        workers,
-        &OpenGate,
-    )?;
+    let found =
+        pass!(find_addresses; rt, alloc, &tables, &binding, &pools, &[], &got, &layout, workers, &OpenGate)?;
     Ok(found.symbols.len())
 }
 

@@ -315,11 +315,8 @@ fn example_agrees<R: Threads + Sync>(
     example: &Example,
 ) -> Result<bool, LinkStop> {
     let inputs = inputs_of(alloc, example.objects)?;
-    let asked = Asked {
-        options: record!(Options, PLAIN.options => icf: true),
-        lengths: Some(example.lengths),
-        ..PLAIN
-    };
+    let asked =
+        record!(Asked, PLAIN => options: record!(Options, PLAIN.options => icf: true), lengths: Some(example.lengths));
     let made = run_passes(rt, alloc, &inputs, &asked)?;
     let expected = is_expected(alloc, example.image, &made.written.exe)?;
     Ok(expected && made.written.agrees)

@@ -145,11 +145,7 @@ fn calls_at_the_ends_of_their_reach(rt: HostRuntime) -> Result<(), Fail> {
 #[test]
 fn a_tail_call_is_shortened(rt: HostRuntime) -> Result<(), Fail> {
     for (flags, least) in [(1, 2), (0, 4)] {
-        let code = Code {
-            calls: &[Call { at: 0, target: 8 }],
-            way: TAIL,
-            len: 8,
-        };
+        let code = record!(Code; calls: &[call!(0 => 8)], way: TAIL, len: 8);
         let found = sizes(&rt, rt.alloc(), flags, &code)?;
         assert!(rt; found.as_slice() == [least].as_slice());
     }
@@ -203,13 +199,7 @@ fn call_of(turn: u64, with_room: u64) -> Call {
     let pair = turn / 2;
     if turn % 2 == 0 {
         let k = 149u64.saturating_sub(pair);
-        return Call {
-            at: k.wrapping_mul(8).wrapping_add(1_800),
-            target: k
-                .wrapping_mul(12)
-                .wrapping_add(1_050_386)
-                .wrapping_sub(room),
-        };
+        return record!(Call; at: k.wrapping_mul(8).wrapping_add(1_800), target: k.wrapping_mul(12).wrapping_add(1_050_386).wrapping_sub(room));
     }
     record!(Call; at: pair.wrapping_mul(8).wrapping_add(1_049_176), target: pair.wrapping_mul(12).wrapping_add(room))
 }

@@ -201,7 +201,7 @@ fn star(alloc: Global) -> Result<Edges, AllocError>
     for section in 1..SECTIONS {
         push_row(
             &mut rows,
-            &[0, 0, 0, 0, 0, 0, 0, 0, 0, 0, 0, 0, 0, 0, 0, 0],
+            table![0; 0; 0; 0; 0; 0; 0; 0; 0; 0; 0; 0; 0; 0; 0; 0],
             SECTIONS,
         )?;
     }

@@ -96,11 +96,7 @@ fn limits_of(outputs: u64, image: u64) -> Limits
     ensures { IsWithinStandard result }
 {
     let standard = Limits::standard();
-    Limits {
-        outputs: outputs.min(standard.outputs),
-        image: image.min(standard.image),
-        ..standard
-    }
+    record!(Limits, standard => outputs: outputs.min(standard.outputs), image: image.min(standard.image))
 }
 
 /// How many output sections a link of these sections has, within limits.

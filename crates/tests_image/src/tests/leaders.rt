@@ -4,6 +4,7 @@ ghost use Rattle.std.specs.Prelude.{◌≡◌, ◌+◌, ◌<◌, ◌≤◌, ◌^
 ghost use Rattle.std.specs.List.{range_with_len};
 ghost use Rattle.link_sections.specs.FoldItems.{item_views, sections_of};
 
+use elf_bytes::record;
 use icf_part::{Steps, fold};
 use link_sections::{FoldItem, FoldReloc, Target};
 use lk_base::SecNo;
@@ -27,29 +28,15 @@ fn add<'a>(
     ensures numbered { OnOk result (sections_of (item_views items.new.items) ≡ range_with_len 0 (length items.new.items)) }
 {
     let mut relocs = Vec::new(alloc);
-    relocs.push(FoldReloc {
-        offset: 0,
-        kind: 19,
-        addend: 0,
-        is_section_symbol: false,
-        target: Some(Target::Section {
-            section: target,
-            offset: 0,
-            rest: 0,
-        }),
-    })?;
+    relocs.push(
+        record!(FoldReloc; offset: 0, kind: 19, addend: 0, is_section_symbol: false,
+        target: Some(Target::Section { section: target, offset: 0, rest: 0 })),
+    )?;
     let section = items.len() as u32;
-    items.push(FoldItem {
-        section,
-        bytes,
-        flags: 6,
-        sh_type: 1,
-        align: 2,
-        output: b".text",
-        own: 1,
-        frames: Vec::new(alloc),
-        relocs,
-    })?;
+    items.push(
+        record!(FoldItem; section: section, bytes: bytes, flags: 6, sh_type: 1, align: 2, output: b".text", own: 1,
+        frames: Vec::new(alloc), relocs: relocs),
+    )?;
     Ok(())
 }
 

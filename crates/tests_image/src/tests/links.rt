@@ -38,7 +38,8 @@ use lk_base::{Limits, LinkStop, SecNo};
 use lk_tables::{Binding, FramePlan, Frames, NameNumbers, Tables};
 use map_file::map_text;
 use name_numbers::number_names;
-use reloc_apply::{find_uppers, value};
+use reloc_apply::value;
+use sec_graph::find_uppers;
 use std::alloc::{AllocError, Global};
 use std::thread::Threads;
 use str_merge::{merge, piece_count};
@@ -57,12 +58,8 @@ pub struct Asked<'a> {
 }
 
 /// Calls are shortened.
-pub const PLAIN: Asked = Asked {
-    entry: "_start",
-    options: record!(Options; gc: false, icf: false, relax: true, strip: false, map: false, generated: None),
-    lengths: None,
-    slices: &[],
-};
+pub const PLAIN: Asked = record!(Asked; entry: "_start", lengths: None, slices: &[],
+    options: record!(Options; gc: false, icf: false, relax: true, strip: false, map: false, generated: None));
 
 /// What the passes after the layout give.
 #[derive(Drop)]
@@ -200,25 +197,13 @@ fn answers_of<R: Threads + Sync>(
     requires uses { HasAllUses (files_of tables.now) leaders.now (entries_of got.now) }
     requires sound { IsSound (files_of tables.now) (binding_view binding.now) leaders.now (with_contents (layout_view layout.now) (pools_view (files_of tables.now) pools.now) (entries_of got.now)) }
 {
-    let addresses = find_addresses(
-        rt, alloc, tables, binding, pools, leaders, got, layout, 2, &OpenGate,
-    )?;
+    let addresses =
+        pass!(find_addresses; rt, alloc, tables, binding, pools, leaders, got, layout, 2, &OpenGate)?;
     let uppers = find_uppers(alloc, tables)?;
     let names = names_of(alloc, tables.file_count())?;
-    let view = View {
-        tables,
-        binding,
-        kept,
-        pools,
-        leaders,
-        got,
-        layout,
-        addresses: &addresses,
-        uppers: &uppers,
-        numbers,
-        names: names.as_slice(),
-        strip: asked.options.strip,
-    };
+    let view =
+        record!(View; tables: tables, binding: binding, kept: kept, pools: pools, leaders: leaders, got: got, layout: layout,
+        addresses: &addresses, uppers: &uppers, numbers: numbers, names: names.as_slice(), strip: asked.options.strip);
     let frames = write_frames(rt, alloc, &view, plan, 2, &OpenGate)?;
     let prepared = prepared_for(rt, alloc, &view, asked)?;
     let exe = whole_of(rt, alloc, &view, &frames, &prepared)?;
@@ -228,16 +213,10 @@ fn answers_of<R: Threads + Sync>(
     let by_one = values_by(rt, alloc, &view, 1)?;
     let by_two = values_by(rt, alloc, &view, 2)?;
     let relocated = values_of(alloc, &view)?;
-    Ok(Written {
-        addresses,
-        exe,
-        tables: prepared.tables,
-        map,
-        by_one,
-        by_two,
-        relocated,
-        agrees: by_lengths && by_slices,
-    })
+    Ok(
+        record!(Written; addresses: addresses, exe: exe, tables: prepared.tables, map: map, by_one: by_one, by_two: by_two,
+        relocated: relocated, agrees: by_lengths && by_slices),
+    )
 }
 
 /// What the passes after the names are bound give.
@@ -264,68 +243,20 @@ fn kept_made<'a, R: Threads + Sync>(
         return Err(LinkStop::Memory);
     }
     let pools = merge(rt, alloc, tables, kept, 2, &OpenGate)?;
-    let leaders = find_leaders(
-        rt,
-        alloc,
-        tables,
-        binding,
-        frames,
-        kept,
-        &[],
-        &pools,
-        options,
-        2,
-        &OpenGate,
-    )?;
-    let plan = find_plan(
-        rt,
-        alloc,
-        tables,
-        binding,
-        frames,
-        kept,
-        &[],
-        &pools,
-        leaders.as_slice(),
-        options,
-        2,
-        &OpenGate,
-    )?;
+    let leaders =
+        pass!(find_leaders; rt, alloc, tables, binding, frames, kept, &[], &pools, options, 2, &OpenGate)?;
+    let plan =
+        pass!(find_plan; rt, alloc, tables, binding, frames, kept, &[], &pools, leaders.as_slice(), options, 2, &OpenGate)?;
     let uppers = find_uppers(alloc, tables)?;
     let got = entries(alloc, tables, &numbers, &uppers, leaders.as_slice())?;
-    let layout = match lay_out(
-        rt,
-        alloc,
-        limits,
-        tables,
-        binding,
-        kept,
-        &[],
-        &pools,
-        leaders.as_slice(),
-        &plan,
-        &got,
-        options,
-        2,
-        &OpenGate,
-    ) {
+    let layout = match pass!(lay_out;
+        rt, alloc, limits, tables, binding, kept, &[], &pools, leaders.as_slice(), &plan, &got, options, 2, &OpenGate)
+    {
         Ok(layout) => layout,
         Err(stop) => return Err(stop),
     };
-    let written = answers_of(
-        rt,
-        alloc,
-        tables,
-        binding,
-        kept,
-        &pools,
-        leaders.as_slice(),
-        &plan,
-        &got,
-        &layout,
-        &numbers,
-        asked,
-    )?;
+    let written =
+        pass!(answers_of; rt, alloc, tables, binding, kept, &pools, leaders.as_slice(), &plan, &got, &layout, &numbers, asked)?;
     Ok(record!(Made; pools: pools, layout: layout, written: written))
 }
 
@@ -340,44 +271,18 @@ pub fn run_within<'a, R: Threads + Sync>(
     requires { IsWithinStandard limits.now }
 {
     let sources = find_sources(alloc, limits, inputs)?;
-    let (tables, records) = match read_files(
-        rt,
-        alloc,
-        limits,
-        sources.as_slice(),
-        &[],
-        2,
-        &OpenGate,
-    ) {
-        Ok(both) => both,
-        Err(stop) => return Err(stop),
-    };
+    let (tables, records) =
+        match pass!(read_files; rt, alloc, limits, sources.as_slice(), &[], 2, &OpenGate) {
+            Ok(both) => both,
+            Err(stop) => return Err(stop),
+        };
     let binding = match bind_names(rt, alloc, &tables, asked.entry, 2, &OpenGate) {
         Ok(binding) => binding,
         Err(stop) => return Err(stop),
     };
     let frames = find_frames(rt, alloc, &tables, &binding, records, 2, &OpenGate)?;
-    let kept = find_kept(
-        rt,
-        alloc,
-        &tables,
-        &binding,
-        &frames,
-        false,
-        &[],
-        2,
-        &OpenGate,
-    )?;
-    kept_made(
-        rt,
-        alloc,
-        limits,
-        &tables,
-        &binding,
-        &frames,
-        kept.as_slice(),
-        asked,
-    )
+    let kept = pass!(find_kept; rt, alloc, &tables, &binding, &frames, false, &[], 2, &OpenGate)?;
+    pass!(kept_made; rt, alloc, limits, &tables, &binding, &frames, kept.as_slice(), asked)
 }
 
 /// What the passes of a link give.

@@ -1,5 +1,6 @@
 //! An object and an archive that are cut at each length, and an object of which a byte is altered.
 
+use super::Holds;
 use link_driver::OpenGate;
 use link_examples::{Files, SOUND, words_of};
 use link_gen::objects;
@@ -71,12 +72,7 @@ enum Answer<'a> {
 }
 
 /// Whether it ended so.
-fn is_answer(
-    alloc: Global,
-    left: &Left,
-    answer: &Answer,
-    length: usize,
-) -> Result<bool, AllocError> {
+fn is_answer(alloc: Global, left: &Left, answer: &Answer, length: usize) -> Holds {
     match answer {
         Answer::Linked => Ok(is_linked(left)),
         Answer::Line(line) => Ok(is_refused(left, *line)),
@@ -114,12 +110,7 @@ const CUTS: &[Cut] = &[
 ];
 
 /// Whether a file that is cut to this length ends as it should.
-fn is_cut_to<R: Threads + Sync>(
-    rt: &R,
-    alloc: Global,
-    cut: &Cut,
-    length: usize,
-) -> Result<bool, AllocError> {
+fn is_cut_to<R: Threads + Sync>(rt: &R, alloc: Global, cut: &Cut, length: usize) -> Holds {
     for workers in WORKERS {
         let mut bytes = bytes_of(alloc, cut.name)?;
         bytes.truncate(length);
@@ -189,11 +180,7 @@ fn altered_bytes(alloc: Global, altered: &Altered) -> Result<Vec<u8>, AllocError
 }
 
 /// Whether a link of the altered object ends as it should.
-fn is_altered<R: Threads + Sync>(
-    rt: &R,
-    alloc: Global,
-    altered: &Altered,
-) -> Result<bool, AllocError> {
+fn is_altered<R: Threads + Sync>(rt: &R, alloc: Global, altered: &Altered) -> Holds {
     for workers in WORKERS {
         let bytes = altered_bytes(alloc, altered)?;
         let left = link_alone(rt, alloc, "gen0.o", bytes, workers)?;

@@ -1,7 +1,7 @@
 //! An executable is added to its file block by block: one of three blocks by three appends, whatever the number of workers.
 
-use super::OwnStores;
 use super::generated::{FOUR_THOUSAND, executable};
+use super::{Holds, OwnStores};
 use elf_bytes::record;
 use link_driver::OpenGate;
 use link_examples::{Outside, SOUND, Store, call};
@@ -47,11 +47,7 @@ fn is_cut(left: &Left, bytes: &[u8]) -> bool {
 }
 
 /// Whether so many workers write what one does, and its first block where the second fails.
-fn are_added<R: Threads + Sync>(
-    rt: &R,
-    alloc: Global,
-    workers: &[&str],
-) -> Result<bool, AllocError> {
+fn are_added<R: Threads + Sync>(rt: &R, alloc: Global, workers: &[&str]) -> Holds {
     let one = link_over(rt, alloc, &["--threads", "1"], &AT_ONCE)?;
     let whole = link_over(rt, alloc, workers, &AT_ONCE)?;
     let cut = link_over(rt, alloc, workers, &BROKEN)?;

@@ -67,11 +67,7 @@ fn far_image<'x>(contents: &'x [(usize, &'x [u8])]) -> Image<'x> {
 /// Room for the executable.
 const WIDE: Outside = record!(Outside, SOUND => most: 65536, room: 2_000_000);
 
-fn link_far<R: Threads + Sync>(
-    rt: &R,
-    alloc: Global,
-    workers: &[&str],
-) -> Result<Left, AllocError> {
+fn linked<R: Threads + Sync>(rt: &R, alloc: Global, workers: &[&str]) -> Result<Left, AllocError> {
     let words = words_of(alloc, &["rvld", "-s", "far.o"], workers)?;
     let mut files: Files = Vec::new(alloc);
     files.push(("far.o".to_string(alloc)?, far(alloc)?))?;
@@ -85,7 +81,7 @@ fn each_of_two_calls_lets_the_other_be_short(rt: HostRuntime) -> Result<(), Fail
     let contents = [(0x1000usize, code.as_slice())];
     let whole = image_of(alloc, &far_image(&contents))?;
     for workers in WORKERS {
-        let left = link_far(&rt, alloc, workers)?;
+        let left = linked(&rt, alloc, workers)?;
         assert!(rt; is_linked(&left));
         assert!(rt; left.depot.bytes("a.out") == Some(whole.as_slice()));
     }

@@ -1,22 +1,16 @@
 //! What a failed call of the store of files, or of a stream, leaves.
 
-use super::OwnStores;
 use super::generated::{TWO_ALONE, TWO_EXPLAINED, TWO_MAPPED};
+use super::{Holds, OwnStores};
 use elf_bytes::{image_of, record};
 use link_driver::OpenGate;
 use link_examples::lines::FIRST_LINES;
 use link_examples::{FIRST_LINK, Link, Outside, SOUND, Stream, WORKERS, call, link, text_of};
 use link_runs::{Left, each_by_any, run_with};
 use lk_depot::{FileKind, MemDepot};
-use std::alloc::{AllocError, Global};
+use std::alloc::Global;
 use std::test::Fail;
 use std::thread::Threads;
-
-macro_rules! outside {
-    ($base:expr => $($field:ident: $value:expr),+) => {
-        Outside { $($field: $value,)+ ..$base }
-    };
-}
 
 /// A command over an outside that fails: what it would leave, the status, what is reported as an error, how many calls of the depot there are,
 /// how many bytes of the executable and of the map are there if these were begun, and how many of what is said.
@@ -32,47 +26,39 @@ struct Fault<'a> {
     said: usize,
 }
 
-macro_rules! fault {
-    (; $($field:ident: $value:expr),+) => {
-        Fault { $($field: $value),+ }
-    };
-    ($base:expr => $($field:ident: $value:expr),+) => {
-        Fault { $($field: $value,)+ ..$base }
-    };
-}
-
 /// An executable of five appends.
 const UNREAD: Fault =
-    fault!(; link: FIRST_LINK, outside: outside!(SOUND => fails: &[0]), status: 3, told: "rvld: cannot read a.o\n",
+    record!(Fault; link: FIRST_LINK, outside: record!(Outside, SOUND => fails: &[0]), status: 3, told: "rvld: cannot read a.o\n",
     calls: 1, executable: None, map: None, said: 0);
 
 const FILES: &[Fault] = &[
     UNREAD,
-    fault!(UNREAD => outside: outside!(SOUND => fails: &[1]), told: "rvld: cannot write a.out\n", calls: 2),
-    fault!(UNREAD => outside: outside!(SOUND => fails: &[2]), told: "rvld: cannot write a.out\n", calls: 3, executable: Some(0)),
-    fault!(UNREAD => outside: outside!(SOUND => fails: &[4]), told: "rvld: cannot write a.out\n", calls: 5, executable: Some(2000)),
-    fault!(UNREAD => outside: outside!(SOUND => fails: &[6]), told: "rvld: cannot write a.out\n", calls: 7, executable: Some(4000)),
-    fault!(UNREAD => outside: outside!(SOUND => fails: &[], room: 4319), told: "rvld: cannot write a.out\n", calls: 8, executable: Some(4319)),
+    record!(Fault, UNREAD => outside: record!(Outside, SOUND => fails: &[1]), told: "rvld: cannot write a.out\n", calls: 2),
+    record!(Fault, UNREAD => outside: record!(Outside, SOUND => fails: &[2]), told: "rvld: cannot write a.out\n", calls: 3, executable: Some(0)),
+    record!(Fault, UNREAD => outside: record!(Outside, SOUND => fails: &[4]), told: "rvld: cannot write a.out\n", calls: 5, executable: Some(2000)),
+    record!(Fault, UNREAD => outside: record!(Outside, SOUND => fails: &[6]), told: "rvld: cannot write a.out\n", calls: 7, executable: Some(4000)),
+    record!(Fault, UNREAD => outside: record!(Outside, SOUND => fails: &[], room: 4319), told: "rvld: cannot write a.out\n", calls: 8, executable: Some(4319)),
 ];
 
 /// Each file is written by one append.
-const AT_ONCE: Outside = outside!(SOUND => most: 65536);
+const AT_ONCE: Outside = record!(Outside, SOUND => most: 65536);
 
 const FIRST_MAPPED: Link = link!("-s", "--Map", "m", "a.o"; lines: FIRST_LINES);
 
 /// An executable of 4,320 bytes, and a map of 191.
 const UNREAD_FOR_MAP: Fault =
-    fault!(UNREAD => link: FIRST_MAPPED, outside: outside!(AT_ONCE => fails: &[0]));
+    record!(Fault, UNREAD => link: FIRST_MAPPED, outside: record!(Outside, AT_ONCE => fails: &[0]));
 
 const WITH_MAP: &[Fault] = &[
     UNREAD_FOR_MAP,
-    fault!(UNREAD_FOR_MAP => link: link!(FIRST_MAPPED => words: &["rvld", "-s", "--Map", "m", "z.o"]), outside: AT_ONCE, told: "rvld: cannot read z.o\n"),
-    fault!(UNREAD_FOR_MAP => outside: outside!(AT_ONCE => fails: &[1]), told: "rvld: cannot write a.out\n", calls: 2),
-    fault!(UNREAD_FOR_MAP => outside: outside!(AT_ONCE => fails: &[2]), told: "rvld: cannot write a.out\n", calls: 3, executable: Some(0)),
-    fault!(UNREAD_FOR_MAP => outside: outside!(AT_ONCE => fails: &[3]), told: "rvld: cannot write m\n", calls: 4, executable: Some(4320)),
-    fault!(UNREAD_FOR_MAP => outside: outside!(AT_ONCE => fails: &[4]), told: "rvld: cannot write m\n", calls: 5, executable: Some(4320), map: Some(0)),
-    fault!(UNREAD_FOR_MAP => outside: outside!(SOUND => fails: &[4]), told: "rvld: cannot write a.out\n", calls: 5, executable: Some(2000)),
-    fault!(UNREAD_FOR_MAP => outside: outside!(SOUND => fails: &[48], most: 100), told: "rvld: cannot write m\n", calls: 49, executable: Some(4320),
+    record!(Fault, UNREAD_FOR_MAP => link: link!(FIRST_MAPPED => words: &["rvld", "-s", "--Map", "m", "z.o"]), outside: AT_ONCE,
+        told: "rvld: cannot read z.o\n"),
+    record!(Fault, UNREAD_FOR_MAP => outside: record!(Outside, AT_ONCE => fails: &[1]), told: "rvld: cannot write a.out\n", calls: 2),
+    record!(Fault, UNREAD_FOR_MAP => outside: record!(Outside, AT_ONCE => fails: &[2]), told: "rvld: cannot write a.out\n", calls: 3, executable: Some(0)),
+    record!(Fault, UNREAD_FOR_MAP => outside: record!(Outside, AT_ONCE => fails: &[3]), told: "rvld: cannot write m\n", calls: 4, executable: Some(4320)),
+    record!(Fault, UNREAD_FOR_MAP => outside: record!(Outside, AT_ONCE => fails: &[4]), told: "rvld: cannot write m\n", calls: 5, executable: Some(4320), map: Some(0)),
+    record!(Fault, UNREAD_FOR_MAP => outside: record!(Outside, SOUND => fails: &[4]), told: "rvld: cannot write a.out\n", calls: 5, executable: Some(2000)),
+    record!(Fault, UNREAD_FOR_MAP => outside: record!(Outside, SOUND => fails: &[48], most: 100), told: "rvld: cannot write m\n", calls: 49, executable: Some(4320),
         map: Some(100)),
 ];
 
@@ -81,36 +67,36 @@ const BROKEN: Stream = record!(Stream; fails: &[0], room: 1000);
 
 /// An executable of 8,928 bytes, a begin and nine appends, and a report of 57.
 const UNREPORTED: Fault =
-    fault!(UNREAD => link: TWO_ALONE, outside: outside!(SOUND => say: BROKEN), told: "rvld: cannot report\n", calls: 10, executable: Some(8928));
+    record!(Fault, UNREAD => link: TWO_ALONE, outside: record!(Outside, SOUND => say: BROKEN), told: "rvld: cannot report\n", calls: 10, executable: Some(8928));
 
 const REPORTS: &[Fault] = &[
     UNREPORTED,
-    fault!(UNREPORTED => outside: outside!(SOUND => say: Stream { fails: &[], room: 10 }), said: 10),
-    fault!(UNREPORTED => outside: outside!(SOUND => say: Stream { fails: &[], room: 56 }, err: BROKEN), told: "", said: 56),
-    fault!(UNREPORTED => link: TWO_MAPPED, calls: 12, executable: Some(8560), map: Some(864)),
-    fault!(UNREPORTED => link: TWO_MAPPED, outside: outside!(SOUND => fails: &[11], say: BROKEN), told: "rvld: cannot write m\n", calls: 12,
+    record!(Fault, UNREPORTED => outside: record!(Outside, SOUND => say: Stream { fails: &[], room: 10 }), said: 10),
+    record!(Fault, UNREPORTED => outside: record!(Outside, SOUND => say: Stream { fails: &[], room: 56 }, err: BROKEN), told: "", said: 56),
+    record!(Fault, UNREPORTED => link: TWO_MAPPED, calls: 12, executable: Some(8560), map: Some(864)),
+    record!(Fault, UNREPORTED => link: TWO_MAPPED, outside: record!(Outside, SOUND => fails: &[11], say: BROKEN), told: "rvld: cannot write m\n", calls: 12,
         executable: Some(8560),
         map: Some(0)),
 ];
 
 /// What is asked why is said after the report.
 const EXPLAINED: &[Fault] = &[
-    fault!(UNREPORTED => link: TWO_EXPLAINED, outside: outside!(SOUND => say: Stream { fails: &[], room: 60 }), said: 60),
+    record!(Fault, UNREPORTED => link: TWO_EXPLAINED, outside: record!(Outside, SOUND => say: Stream { fails: &[], room: 60 }), said: 60),
 ];
 
 /// No words but the program's name.
 const UNTOLD: Fault =
-    fault!(UNREAD => link: link!(), outside: outside!(SOUND => err: BROKEN), status: 2, told: "", calls: 0);
+    record!(Fault, UNREAD => link: link!(), outside: record!(Outside, SOUND => err: BROKEN), status: 2, told: "", calls: 0);
 
 const LINES: &[Fault] = &[
     UNTOLD,
-    fault!(UNTOLD => outside: outside!(SOUND => err: Stream { fails: &[], room: 4 }), told: "rvld"),
-    fault!(UNTOLD => link: link!("--Map", "m", "z.o"), status: 3, calls: 1),
-    fault!(UNTOLD => link: link!("--Map", "m", "-e", "g", "a.o"), status: 1, calls: 1),
-    fault!(UNTOLD => link: link!("--Map", "m", "-e", "g", "a.o"), outside: outside!(SOUND => err: Stream { fails: &[], room: 30 }), status: 1,
+    record!(Fault, UNTOLD => outside: record!(Outside, SOUND => err: Stream { fails: &[], room: 4 }), told: "rvld"),
+    record!(Fault, UNTOLD => link: link!("--Map", "m", "z.o"), status: 3, calls: 1),
+    record!(Fault, UNTOLD => link: link!("--Map", "m", "-e", "g", "a.o"), status: 1, calls: 1),
+    record!(Fault, UNTOLD => link: link!("--Map", "m", "-e", "g", "a.o"), outside: record!(Outside, SOUND => err: Stream { fails: &[], room: 30 }), status: 1,
         told: "rvld: F21 NoEntry file=- secti",
         calls: 1),
-    fault!(UNTOLD => outside: outside!(AT_ONCE => fails: &[3], err: BROKEN), link: FIRST_MAPPED, status: 3, calls: 4, executable: Some(4320)),
+    record!(Fault, UNTOLD => outside: record!(Outside, AT_ONCE => fails: &[3], err: BROKEN), link: FIRST_MAPPED, status: 3, calls: 4, executable: Some(4320)),
 ];
 
 /// Whether a file was begun as this kind and has so many of these bytes, or was not begun.
@@ -129,7 +115,7 @@ fn has_prefix(
 }
 
 /// Whether both files are there as far as they should be.
-fn has_files(alloc: Global, fault: &Fault, depot: &MemDepot) -> Result<bool, AllocError> {
+fn has_files(alloc: Global, fault: &Fault, depot: &MemDepot) -> Holds {
     let link = &fault.link;
     let image = image_of(alloc, &link.image)?;
     let text = text_of(alloc, link.lines)?;
@@ -153,12 +139,7 @@ fn has_lines(fault: &Fault, left: &Left) -> bool {
 }
 
 /// Whether a command leaves what it should where something fails.
-fn is_cut<R: Threads + Sync>(
-    rt: &R,
-    alloc: Global,
-    fault: &Fault,
-    workers: &[&str],
-) -> Result<bool, AllocError> {
+fn is_cut<R: Threads + Sync>(rt: &R, alloc: Global, fault: &Fault, workers: &[&str]) -> Holds {
     let link = &fault.link;
     let call = call!(link.words, workers, link.store, link.libraries; &fault.outside);
     let left = run_with(rt, alloc, &OwnStores, &call, &OpenGate)?;

@@ -1,6 +1,6 @@
 //! Links of generated objects (`--self-input`), and what is said of them.
 
-use super::OwnStores;
+use super::{Holds, OwnStores};
 use elf_bytes::{Image, image, listed};
 use link_driver::{Gate, OpenGate};
 use link_examples::images::{FIRST, STACK};
@@ -139,18 +139,13 @@ fn is_whole(left: &Left, many: &Many) -> bool {
 }
 
 /// Whether a link of many objects is as it should be.
-fn is_linked<R: Threads + Sync>(
-    rt: &R,
-    alloc: Global,
-    many: &Many,
-    workers: &[&str],
-) -> Result<bool, AllocError> {
+fn is_linked<R: Threads + Sync>(rt: &R, alloc: Global, many: &Many, workers: &[&str]) -> Holds {
     let left = link_many(rt, alloc, many.0, workers, &OpenGate)?;
     Ok(is_whole(&left, many))
 }
 
 /// Whether it is, and the executable has the same bytes, with each number of workers.
-fn is_the_same<R: Threads + Sync>(rt: &R, alloc: Global, many: &Many) -> Result<bool, AllocError> {
+fn is_the_same<R: Threads + Sync>(rt: &R, alloc: Global, many: &Many) -> Holds {
     let first = link_many(rt, alloc, many.0, &[], &OpenGate)?;
     for workers in WORKERS {
         let left = link_many(rt, alloc, many.0, workers, &OpenGate)?;

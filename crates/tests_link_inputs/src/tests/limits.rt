@@ -2,7 +2,7 @@
 
 ghost use Rattle.lk_base.specs.Limits.{IsWithinStandard};
 
-use super::OwnStores;
+use super::{Holds, OwnStores};
 use elf_bytes::{Image, image_of, record};
 use link_command::command_of;
 use link_driver::{Inputs, Linked, OpenGate, link};
@@ -17,18 +17,6 @@ use std::alloc::{AllocError, Global};
 use std::test::Fail;
 use std::thread::Threads;
 
-macro_rules! defect {
-    ($base:expr => $($field:ident: $value:expr),+) => {
-        Defect { $($field: $value,)+ ..$base }
-    };
-}
-
-macro_rules! limits {
-    ($base:expr => $($field:ident: $value:expr),+) => {
-        Limits { $($field: $value,)+ ..$base }
-    };
-}
-
 /// A link with limits: its words, its files and archives, the limits, and the defect that it has, or its executable.
 #[derive(Clone, Copy)]
 struct Bounded<'a> {
@@ -38,12 +26,6 @@ struct Bounded<'a> {
     limits: Limits,
     defect: Option<Defect>,
     image: Image<'a>,
-}
-
-macro_rules! bounded {
-    ($base:expr => $($field:ident: $value:expr),+) => {
-        Bounded { $($field: $value,)+ ..$base }
-    };
 }
 
 /// A number past a limit that is no file's own.
@@ -60,38 +42,39 @@ const TWO_OBJECTS: Bounded =
 /// Each limit, kept and passed by one.
 const OBJECTS: &[Bounded] = &[
     TWO_OBJECTS,
-    bounded!(TWO_OBJECTS => limits: limits!(OF_OBJECTS => file: 575), defect: Some(defect!(PASSED => file: 0, place: 576))),
-    bounded!(TWO_OBJECTS => limits: limits!(OF_OBJECTS => files: 1), defect: Some(defect!(PASSED => place: 2))),
-    bounded!(TWO_OBJECTS => limits: limits!(OF_OBJECTS => symbols: 4), defect: Some(defect!(PASSED => place: 5))),
-    bounded!(TWO_OBJECTS => limits: limits!(OF_OBJECTS => sections: 10), defect: Some(defect!(PASSED => place: 11))),
-    bounded!(TWO_OBJECTS => limits: limits!(OF_OBJECTS => outputs: 0), defect: Some(defect!(PASSED => place: 1))),
-    bounded!(TWO_OBJECTS => limits: limits!(OF_OBJECTS => image: 0x100c), defect: Some(defect!(PASSED => kind: TOO_BIG, place: 0x100c))),
-    bounded!(TWO_OBJECTS => limits: limits!(OF_OBJECTS => files: 1, symbols: 2), defect: Some(defect!(PASSED => place: 2))),
-    bounded!(TWO_OBJECTS => words: &["rvld", "-s", "a.o", "empty.o"], limits: limits!(OF_OBJECTS => files: 1), defect: Some(defect!(PASSED => place: 2))),
+    record!(Bounded, TWO_OBJECTS => limits: record!(Limits, OF_OBJECTS => file: 575), defect: Some(record!(Defect, PASSED => file: 0, place: 576))),
+    record!(Bounded, TWO_OBJECTS => limits: record!(Limits, OF_OBJECTS => files: 1), defect: Some(record!(Defect, PASSED => place: 2))),
+    record!(Bounded, TWO_OBJECTS => limits: record!(Limits, OF_OBJECTS => symbols: 4), defect: Some(record!(Defect, PASSED => place: 5))),
+    record!(Bounded, TWO_OBJECTS => limits: record!(Limits, OF_OBJECTS => sections: 10), defect: Some(record!(Defect, PASSED => place: 11))),
+    record!(Bounded, TWO_OBJECTS => limits: record!(Limits, OF_OBJECTS => outputs: 0), defect: Some(record!(Defect, PASSED => place: 1))),
+    record!(Bounded, TWO_OBJECTS => limits: record!(Limits, OF_OBJECTS => image: 0x100c), defect: Some(record!(Defect, PASSED => kind: TOO_BIG, place: 0x100c))),
+    record!(Bounded, TWO_OBJECTS => limits: record!(Limits, OF_OBJECTS => files: 1, symbols: 2), defect: Some(record!(Defect, PASSED => place: 2))),
+    record!(Bounded, TWO_OBJECTS => words: &["rvld", "-s", "a.o", "empty.o"], limits: record!(Limits, OF_OBJECTS => files: 1),
+        defect: Some(record!(Defect, PASSED => place: 2))),
 ];
 
 /// What three objects with 15 section headers and one COMMON symbol just keep.
 const OF_COMMON: Limits =
-    limits!(OF_OBJECTS => files: 3, symbols: 7, sections: 16, outputs: 2, image: 0x2009);
+    record!(Limits, OF_OBJECTS => files: 3, symbols: 7, sections: 16, outputs: 2, image: 0x2009);
 
 const WITH_COMMON: Bounded =
-    bounded!(TWO_OBJECTS => words: &["rvld", "-s", "a.o", "c8.o", "weak.o"], limits: OF_COMMON, image: COMMON_OF_8);
+    record!(Bounded, TWO_OBJECTS => words: &["rvld", "-s", "a.o", "c8.o", "weak.o"], limits: OF_COMMON, image: COMMON_OF_8);
 
 /// What an object and an archive of 524 bytes just keep: its one member, with 2 symbols and 5 section headers, takes no part.
-const OF_ARCHIVE: Limits = limits!(OF_OBJECTS => files: 3, sections: 6, image: 0x1009);
+const OF_ARCHIVE: Limits = record!(Limits, OF_OBJECTS => files: 3, sections: 6, image: 0x1009);
 
 const WITH_ARCHIVE: Bounded =
-    bounded!(TWO_OBJECTS => words: &["rvld", "-s", "a.o", "lib.a"], libraries: &[ONE_MEMBER], limits: OF_ARCHIVE, image: FIRST);
+    record!(Bounded, TWO_OBJECTS => words: &["rvld", "-s", "a.o", "lib.a"], libraries: &[ONE_MEMBER], limits: OF_ARCHIVE, image: FIRST);
 
 /// COMMON symbols and members count.
 const COUNTED: &[Bounded] = &[
     WITH_COMMON,
-    bounded!(WITH_COMMON => limits: limits!(OF_COMMON => sections: 15), defect: Some(defect!(PASSED => place: 16))),
+    record!(Bounded, WITH_COMMON => limits: record!(Limits, OF_COMMON => sections: 15), defect: Some(record!(Defect, PASSED => place: 16))),
     WITH_ARCHIVE,
-    bounded!(WITH_ARCHIVE => limits: limits!(OF_ARCHIVE => files: 2), defect: Some(defect!(PASSED => place: 3))),
-    bounded!(WITH_ARCHIVE => limits: limits!(OF_ARCHIVE => symbols: 4), defect: Some(defect!(PASSED => place: 5))),
-    bounded!(WITH_ARCHIVE => words: &["rvld", "-s", "h.o", "lib.a"], limits: limits!(OF_ARCHIVE => file: 523),
-        defect: Some(defect!(PASSED => file: 1, place: 524))),
+    record!(Bounded, WITH_ARCHIVE => limits: record!(Limits, OF_ARCHIVE => files: 2), defect: Some(record!(Defect, PASSED => place: 3))),
+    record!(Bounded, WITH_ARCHIVE => limits: record!(Limits, OF_ARCHIVE => symbols: 4), defect: Some(record!(Defect, PASSED => place: 5))),
+    record!(Bounded, WITH_ARCHIVE => words: &["rvld", "-s", "h.o", "lib.a"], limits: record!(Limits, OF_ARCHIVE => file: 523),
+        defect: Some(record!(Defect, PASSED => file: 1, place: 524))),
 ];
 
 /// What an object with four constants just keeps.
@@ -99,17 +82,18 @@ const OF_PIECES: Limits =
     record!(Limits; file: 1000, files: 2, symbols: 5, sections: 12, pieces: 4, outputs: 2, image: 0x1005);
 
 const WITH_PIECES: Bounded =
-    bounded!(TWO_OBJECTS => words: &["rvld", "-s", "four.o"], limits: OF_PIECES, image: FOUR_ALONE);
+    record!(Bounded, TWO_OBJECTS => words: &["rvld", "-s", "four.o"], limits: OF_PIECES, image: FOUR_ALONE);
 
 /// Pieces count in each section that may be merged, equal or not, kept or not.
 const PIECES: &[Bounded] = &[
     WITH_PIECES,
-    bounded!(WITH_PIECES => limits: limits!(OF_PIECES => pieces: 3), defect: Some(defect!(PASSED => place: 4))),
-    bounded!(WITH_PIECES => words: &["rvld", "-s", "--gc-sections", "four.o"], limits: limits!(OF_PIECES => pieces: 3),
-        defect: Some(defect!(PASSED => place: 4))),
-    bounded!(WITH_PIECES => words: &["rvld", "-s", "four.o", "again.o"], limits: limits!(OF_PIECES => pieces: 9), defect: Some(defect!(PASSED => place: 10))),
-    bounded!(WITH_PIECES => words: &["rvld", "-s", "four.o", "again.o"], limits: limits!(OF_PIECES => sections: 3, pieces: 9),
-        defect: Some(defect!(PASSED => place: 11))),
+    record!(Bounded, WITH_PIECES => limits: record!(Limits, OF_PIECES => pieces: 3), defect: Some(record!(Defect, PASSED => place: 4))),
+    record!(Bounded, WITH_PIECES => words: &["rvld", "-s", "--gc-sections", "four.o"], limits: record!(Limits, OF_PIECES => pieces: 3),
+        defect: Some(record!(Defect, PASSED => place: 4))),
+    record!(Bounded, WITH_PIECES => words: &["rvld", "-s", "four.o", "again.o"], limits: record!(Limits, OF_PIECES => pieces: 9),
+        defect: Some(record!(Defect, PASSED => place: 10))),
+    record!(Bounded, WITH_PIECES => words: &["rvld", "-s", "four.o", "again.o"], limits: record!(Limits, OF_PIECES => sections: 3, pieces: 9),
+        defect: Some(record!(Defect, PASSED => place: 11))),
 ];
 
 /// Limits, or the standard ones where those are less.
@@ -117,15 +101,9 @@ fn within_standard(limits: &Limits) -> Limits
     ensures { IsWithinStandard result }
 {
     let standard = Limits::standard();
-    Limits {
-        file: limits.file.min(standard.file),
-        files: limits.files.min(standard.files),
-        symbols: limits.symbols.min(standard.symbols),
-        sections: limits.sections.min(standard.sections),
-        pieces: limits.pieces.min(standard.pieces),
-        outputs: limits.outputs.min(standard.outputs),
-        image: limits.image.min(standard.image),
-    }
+    record!(Limits; file: limits.file.min(standard.file), files: limits.files.min(standard.files), symbols: limits.symbols.min(standard.symbols),
+        sections: limits.sections.min(standard.sections), pieces: limits.pieces.min(standard.pieces),
+        outputs: limits.outputs.min(standard.outputs), image: limits.image.min(standard.image))
 }
 
 /// The contents of a file, none where there is no such file.
@@ -151,12 +129,7 @@ fn inputs_of(
 }
 
 /// Whether a link writes these bytes, as many as it says, and writes them again.
-fn writes<R: Threads + Sync>(
-    rt: &R,
-    alloc: Global,
-    linked: Linked,
-    bytes: &[u8],
-) -> Result<bool, AllocError> {
+fn writes<R: Threads + Sync>(rt: &R, alloc: Global, linked: Linked, bytes: &[u8]) -> Holds {
     let mut linked = linked;
     let mut depot = MemDepot::new(alloc, Vec::new(alloc), Vec::new(alloc), 65536, 200_000)?;
     for name in ["one", "two"] {
@@ -176,7 +149,7 @@ fn is_given<R: Threads + Sync>(
     alloc: Global,
     bounded: &Bounded,
     answer: Result<Linked, LinkStop>,
-) -> Result<bool, AllocError> {
+) -> Holds {
     match answer {
         Ok(linked) => {
             let image = image_of(alloc, &bounded.image)?;
@@ -193,7 +166,7 @@ fn is_bounded<R: Threads + Sync>(
     alloc: Global,
     bounded: &Bounded,
     workers: &[&str],
-) -> Result<bool, AllocError> {
+) -> Holds {
     let words = words_of(alloc, bounded.words, workers)?;
     let Some(command) = command_of(alloc, words.as_slice())? else {
         return Ok(false);

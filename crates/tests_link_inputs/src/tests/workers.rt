@@ -1,14 +1,14 @@
 //! Two workers, of which one is held before each of its tasks.
 
-use super::OwnStores;
 use super::generated::{executable, link_many};
+use super::{Holds, OwnStores};
 use elf_bytes::record;
 use link_driver::{Gate, OpenGate};
 use link_examples::images::{TWO_BLOCKS, TWO_FILES};
 use link_examples::lines::{TWO_FILES_LINES, TWO_FILES_LISTED};
 use link_examples::{Link, Store, link};
 use link_runs::{Left, is_linked};
-use std::alloc::{AllocError, Global};
+use std::alloc::Global;
 use std::sync::atomic::{AtomicBool, AtomicU64, Ordering};
 use std::test::Fail;
 use std::thread::{self, Threads};
@@ -90,12 +90,7 @@ const SHARED: &[Shared] = &[
 ];
 
 /// Whether a link is as ever where one of its two workers is held in each pass, and the other was in time.
-fn is_held<R: Threads + Sync>(
-    rt: &R,
-    alloc: Global,
-    shared: &Shared,
-    held: u32,
-) -> Result<bool, AllocError> {
+fn is_held<R: Threads + Sync>(rt: &R, alloc: Global, shared: &Shared, held: u32) -> Holds {
     let (link, passes) = shared;
     let gate = Holder::of(held);
     let linked = is_linked(rt, alloc, &OwnStores, link, &["--threads", "2"], &gate)?;
@@ -135,12 +130,7 @@ fn is_alike(left: &Left, right: &Left) -> bool {
 }
 
 /// Whether two workers, of which one is held, give what one does.
-fn is_large_held<R: Threads + Sync>(
-    rt: &R,
-    alloc: Global,
-    large: &Large,
-    held: u32,
-) -> Result<bool, AllocError> {
+fn is_large_held<R: Threads + Sync>(rt: &R, alloc: Global, large: &Large, held: u32) -> Holds {
     let (words, passes) = large;
     let gate = Holder::of(held);
     let alone = link_many(rt, alloc, words, &["--threads", "1"], &OpenGate)?;

@@ -1,5 +1,6 @@
 //! An archive of `riscv64-linux-gnu-ar` without its last byte of padding, and the answers to altered ones, worked out from the format.
 
+use super::{joined, put};
 use ar_read::{ArHead, Member, header_at, members};
 use lk_base::DefectKind::{self, F06, F07, F18};
 use lk_base::{Flaw, NO_FILE, ReadFault};
@@ -24,14 +25,9 @@ const PARTS: &[&[u8]] = table![
 
 /// The archive with some bytes replaced.
 fn altered(alloc: Global, from: usize, text: &[u8]) -> Result<Vec<u8>, AllocError> {
-    let mut bytes = Vec::new(alloc);
-    for part in PARTS {
-        bytes.extend_from_slice(*part)?;
-    }
+    let mut bytes = joined(alloc, PARTS)?;
     for (offset, byte) in text.iter().enumerate() {
-        if let Some(place) = bytes.get_mut(from.saturating_add(offset)) {
-            *place = *byte;
-        }
+        put(bytes.as_mut_slice(), from.saturating_add(offset), *byte);
     }
     Ok(bytes)
 }

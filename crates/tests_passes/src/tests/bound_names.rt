@@ -1,5 +1,6 @@
 //! One object, in which most names are undefined and known to the linker: what each is bound to is worked out by hand.
 
+use super::{joined, put};
 use elf_read::{read_body, read_head};
 use lk_base::{ReadFault, SymNo};
 use lk_tables::{Bound, Heads, Tables};
@@ -62,13 +63,8 @@ const PARTS: &[&[u8]] = table![
 
 /// The object with a number in the place of the section of `_end`; 0 is none.
 fn object(alloc: Global, end_section: u8) -> Result<Vec<u8>, AllocError> {
-    let mut bytes = Vec::new(alloc);
-    for part in PARTS {
-        bytes.extend_from_slice(*part)?;
-    }
-    if let Some(byte) = bytes.get_mut(318) {
-        *byte = end_section;
-    }
+    let mut bytes = joined(alloc, PARTS)?;
+    put(bytes.as_mut_slice(), 318, end_section);
     Ok(bytes)
 }
 

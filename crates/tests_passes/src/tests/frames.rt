@@ -1,5 +1,6 @@
 //! An object whose unwind records are cut or altered, and what is wrong with them: the expected answers are worked out from the format.
 
+use super::{joined, put};
 use eh_frame::read_frames;
 use elf_read::{read_body, read_head};
 use lk_base::abi::FILE_MAX;
@@ -72,19 +73,10 @@ const RELOCS: &[Row] = table![
     (&[], 44, &[(40, 33), (28, 57)], 0, Some((2, 112))); (&[], 44, &[(28, 57), (4, 33)], 0, Some((2, 136))); (&[], 44, &[(32, 2), (28, 57)], 2, None);
 ];
 
-fn put(bytes: &mut [u8], at: usize, byte: u8) {
-    if let Some(place) = bytes.get_mut(at) {
-        *place = byte;
-    }
-}
-
 /// The object of a row.
 fn object_of(alloc: Global, row: &Row) -> Result<Vec<u8>, AllocError> {
     let (changes, size, relocs, _, _) = *row;
-    let mut bytes = Vec::new(alloc);
-    for part in PARTS {
-        bytes.extend_from_slice(*part)?;
-    }
+    let mut bytes = joined(alloc, PARTS)?;
     for (at, byte) in changes {
         put(bytes.as_mut_slice(), 64usize.saturating_add(*at), *byte);
     }

@@ -25,7 +25,7 @@ type Row = (&'static [u8], u32, Edge);
 const NAMES: &[Row] = table![
     (b"__ehdr_start", 0, Edge::ImageStart); (b"__rela_iplt_start", 1, Edge::ImageStart); (b"__rela_iplt_end", 2, Edge::ImageStart);
     (b"_etext", 3, Edge::CodeEnd); (b"etext", 4, Edge::CodeEnd); (b"_edata", 5, Edge::BitsEnd); (b"edata", 6, Edge::BitsEnd);
-    (b"__bss_start", 7, Edge::BitsEnd); (b"_end", 8, Edge::ZerosEnd); (b"end", 9, Edge::ZerosEnd); (b"_GLOBAL_OFFSET_TABLE_", 10, Edge::Table);
+    (b"__bss_start", 7, Edge::BitsEnd); (b"_end", 8, Edge::NobitsEnd); (b"end", 9, Edge::NobitsEnd); (b"_GLOBAL_OFFSET_TABLE_", 10, Edge::Table);
     (b"__global_pointer$", 11, Edge::GlobalPointer); (b"__preinit_array_start", 12, Edge::PreinitStart);
     (b"__preinit_array_end", 13, Edge::PreinitEnd); (b"__init_array_start", 14, Edge::InitStart); (b"__init_array_end", 15, Edge::InitEnd);
     (b"__fini_array_start", 16, Edge::FiniStart); (b"__fini_array_end", 17, Edge::FiniEnd);

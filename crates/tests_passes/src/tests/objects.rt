@@ -1,5 +1,6 @@
 //! An object built by hand, and the answer for each altered byte of it: the expected answers are worked out from the format.
 
+use super::{joined, put};
 use elf_read::{read_body, read_head};
 use lk_base::kinds::{
     BAD_ALIGNMENT, BAD_GROUP, BAD_HEADER, BAD_NAME, BAD_RELOC, BAD_SECTION, BAD_SYMBOL, BAD_ULEB,
@@ -35,29 +36,19 @@ const PARTS: &[&[u8]] = table![
     b"\"\0\0\0\x03\0\0\0\0\0\0\0\0\0\0\0\0\0\0\0\0\0\0\0\xd2\0\0\0\0\0\0\0,\0\0\0\0\0\0\0\0\0\0\0\0\0\0\0\x01\0\0\0\0\0\0\0\0\0\0\0\0\0\0\0";
 ];
 
-fn sound(alloc: Global) -> Result<Vec<u8>, AllocError> {
-    let mut bytes = Vec::new(alloc);
-    for part in PARTS {
-        bytes.extend_from_slice(*part)?;
-    }
-    Ok(bytes)
-}
-
 /// A byte, and what it becomes.
 type Change = (usize, u8);
 
 /// The object with some bytes changed.
 fn altered(alloc: Global, changes: &[Change]) -> Result<Vec<u8>, AllocError> {
-    let mut bytes = sound(alloc)?;
+    let mut bytes = joined(alloc, PARTS)?;
     alter(bytes.as_mut_slice(), changes);
     Ok(bytes)
 }
 
 fn alter(bytes: &mut [u8], changes: &[Change]) {
     for (at, byte) in changes {
-        if let Some(place) = bytes.get_mut(*at) {
-            *place = *byte;
-        }
+        put(bytes, *at, *byte);
     }
 }
 
@@ -310,7 +301,7 @@ const CUT: &[(usize, DefectKind, u64)] =
 
 #[test]
 fn cut_files_have_no_head(rt: HostRuntime) -> Result<(), Fail> {
-    let bytes = sound(rt.alloc())?;
+    let bytes = joined(rt.alloc(), PARTS)?;
     for row in CUT {
         let (len, kind, place) = *row;
         let found = flaw_in(rt.alloc(), bytes.get(..len).unwrap_or(&[]));
@@ -346,7 +337,7 @@ const JUMPS: &[Reloc] = &[jump!(0; 0), jump!(4; -4)];
 
 #[test]
 fn reads_each_field(rt: HostRuntime) -> Result<(), Fail> {
-    let bytes = sound(rt.alloc())?;
+    let bytes = joined(rt.alloc(), PARTS)?;
     let head = read_head(rt.alloc(), bytes.as_slice())?;
     assert_eq!(rt; head.flags, 1);
     assert_eq!(rt; head.symtab, 3);

@@ -3,11 +3,12 @@ use Rattle.std.specs.Prelude.{All}
 use Rattle.std.proofs.lemmas.List.{length-map, nil_from_length}
 use Rattle.lk_tables.specs.Files.{section_total}
 use Rattle.lk_tables.specs.TablesView.{files_of}
+use Rattle.lk_tables.specs.Reach.{with_marked}
 use Rattle.name_numbers.specs.Texts.{text_numbers}
 use Rattle.comdat.specs.declared.groups.ComdatGroup.{ComdatGroup}
 use Rattle.comdat.specs.Comdats.{comdat_view, comdat_views}
 use Rattle.comdat.specs.Discarded.{Comdat, comdats, rank}
-use Rattle.comdat.specs.Marks.{IsOfFiles, beaten_members, marked}
+use Rattle.comdat.specs.Marks.{IsOfFiles, beaten_members}
 use Rattle.comdat.specs.Signatures.{group_at, signatures}
 use Rattle.comdat.proofs.Beaten.{beaten_goes, length_numbers}
 use Rattle.comdat.proofs.FirstStays.{keeps_first}
@@ -57,9 +58,9 @@ returns-clause-discarded g c =
     ∙ ap text_numbers (c.of-signatures.ensures ∙ c.in_ok-list.ensures ∙ ap (λ (l : List ComdatGroup). signatures (comdat_views l)) c.as_slice.ensures.value) in
     let was : c.in_ok-marks.marks.items ≡ replicate (section_total files) false =
     c.in_ok-marks.ensures.items_if_clones_equal (λ y h. h) ∙ ap (λ n. replicate n false) c.section_count.ensures in
-    let is : c.mark_beaten.new.marks.items ≡ marked c.in_ok-marks.marks.items (beaten_members files views ns) = c.mark_beaten.ensures
-    ∙ ap (λ (l : List ComdatGroup). marked c.in_ok-marks.marks.items (beaten_members files (comdat_views l) c.as_slice-3.result.now)) c.as_slice-2.ensures.value
-    ∙ ap (λ l. marked c.in_ok-marks.marks.items (beaten_members files views l)) c.as_slice-3.ensures.value in
+    let is : c.mark_beaten.new.marks.items ≡ with_marked c.in_ok-marks.marks.items (beaten_members files views ns) = c.mark_beaten.ensures
+    ∙ ap (λ (l : List ComdatGroup). with_marked c.in_ok-marks.marks.items (beaten_members files (comdat_views l) c.as_slice-3.result.now)) c.as_slice-2.ensures.value
+    ∙ ap (λ l. with_marked c.in_ok-marks.marks.items (beaten_members files views l)) c.as_slice-3.ensures.value in
     let Rises : List Comdat → Type 0 = λ l. (i j : ℕ) → i < j → j < length l → rank (group_at l i) < rank (group_at l j) in
     some_discarded files views ns c.in_ok-marks.marks.items c.mark_beaten.new.marks.items are
     (beaten_goes views ns named (subst Rises (sym are) (ranks_rise c.args.tables.now)))

@@ -3,9 +3,10 @@ use Rattle.std.specs.Prelude.{flat_map}
 use Rattle.std.specs.List.{range_with_len}
 use Rattle.std.proofs.lemmas.List.{length-map}
 use Rattle.lk_tables.specs.TablesView.{files_of}
+use Rattle.lk_tables.specs.Reach.{with_marked}
+use Rattle.lk_tables.proofs.Marking.{length_marked}
 use Rattle.comdat.specs.Comdats.{comdat_view, comdat_views}
-use Rattle.comdat.specs.Marks.{beaten_at, beaten_members, marked}
-use Rattle.comdat.proofs.Marking.{length_marked}
+use Rattle.comdat.specs.Marks.{beaten_at, beaten_members}
 use Rattle.comdat.proofs.Members.{group_next, group_marked, group_passed, group_of_files}
 use Rattle.comdat.proofs.marks.mark_beaten.Goals as goal
 use Rattle.comdat.proofs.marks.mark_beaten.Goals.{then-is_beaten, else-is_beaten}
@@ -44,4 +45,4 @@ returns c =
     let files = files_of c.args.tables.now in
     let views = comdat_views c.args.groups.now in
     let all : c.loop-j.j ≡ length views = omega (arith, length-map c.args.groups.now comdat_view) in
-    c.loop-j.invariant ∙ ap (λ n. marked c.args.marks.now.items (flat_map (beaten_at files views c.args.numbers.now) (range_with_len 0 n))) all
+    c.loop-j.invariant ∙ ap (λ n. with_marked c.args.marks.now.items (flat_map (beaten_at files views c.args.numbers.now) (range_with_len 0 n))) all

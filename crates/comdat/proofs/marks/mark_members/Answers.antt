@@ -2,9 +2,10 @@ use Rattle.std.proofs.Common.{length, take, get_or, ap, ◌∙◌, arith}
 use Rattle.std.specs.Prelude.{flat_map}
 use Rattle.std.proofs.lemmas.List.{take_all}
 use Rattle.lk_tables.specs.TablesView.{files_of}
+use Rattle.lk_tables.specs.Reach.{with_marked}
+use Rattle.lk_tables.proofs.Marking.{length_marked}
 use Rattle.comdat.specs.Comdats.{comdat_view}
-use Rattle.comdat.specs.Marks.{marked, member_no, members_of}
-use Rattle.comdat.proofs.Marking.{length_marked}
+use Rattle.comdat.specs.Marks.{member_no, members_of}
 use Rattle.comdat.proofs.Members.{member_next, member_marked, member_passed, sections_read}
 use Rattle.comdat.proofs.Sections.{number_within}
 use Rattle.comdat.proofs.marks.mark_members.Goals as goal
@@ -39,4 +40,4 @@ unfolding members_of
 returns c =
     let files = files_of c.args.tables.now in
     let f = c.args.group.now.file in
-    c.loop-member.invariant ∙ ap (λ l. marked c.args.marks.now.items (flat_map (member_no files f) l)) (take_all c.loop-member.member-index c.args.group.now.members.now c.loop-member-test.false)
+    c.loop-member.invariant ∙ ap (λ l. with_marked c.args.marks.now.items (flat_map (member_no files f) l)) (take_all c.loop-member.member-index c.args.group.now.members.now c.loop-member-test.false)

@@ -2,7 +2,8 @@ use Rattle.std.proofs.Common.{◌≡◌, [], Option, Some, None, refl, ap, ◌�
 use Rattle.lk_base.specs.Reaches.{Reach, any}
 use Rattle.lk_tables.specs.declared.objects.Reloc.{Reloc}
 use Rattle.lk_tables.specs.declared.section_places.SectionPlace.{SectionPlace}
-use Rattle.eh_frame.specs.Bytes.{reloc_defects, value_defects}
+use Rattle.lk_tables.specs.Misfits.{value_defects}
+use Rattle.eh_frame.specs.Bytes.{reloc_defects}
 use Rattle.eh_frame.proofs.checking.check_reloc.Goals as goal
 
 none_of_any : (place : SectionPlace) (r : Reloc) (v : Option ℤ) → value_defects place r any v ≡ []

@@ -1,8 +1,7 @@
 use Rattle.std.proofs.Common.{length, sym, ◌∙◌, arith, rules, inl, inr, ap}
 use Rattle.std.proofs.lemmas.Bool.{cases_eq}
-use Rattle.lk_tables.proofs.Finding.{first_number}
+use Rattle.lk_tables.proofs.Finding.{first_number, no_number}
 use Rattle.eh_frame.specs.Sections.{is_rela_for}
-use Rattle.eh_frame.proofs.Pointers.{no_number}
 use Rattle.eh_frame.proofs.sections.rela_of.Goals as goal
 
 pub loop-rela-init : goal.loop-rela-init

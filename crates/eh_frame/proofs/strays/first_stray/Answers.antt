@@ -1,9 +1,8 @@
 use Rattle.std.proofs.Common.{ℕ, Bool, get_or, length, sym, ◌∙◌, arith, rules, inl, inr, ap}
 use Rattle.std.proofs.lemmas.Bool.{cases_eq}
 use Rattle.lk_tables.specs.Files.{no_reloc}
-use Rattle.lk_tables.proofs.Finding.{first_number}
+use Rattle.lk_tables.proofs.Finding.{first_number, no_number}
 use Rattle.eh_frame.specs.RecordChecks.{is_stray}
-use Rattle.eh_frame.proofs.Pointers.{no_number}
 use Rattle.eh_frame.proofs.strays.first_stray.Goals as goal
 
 pub loop-number-init : goal.loop-number-init

@@ -2,7 +2,7 @@ use Rattle.std.proofs.Common.{◌≡◌, ◌≤◌, ◌∙◌, true, length, dro
 use Rattle.std.specs.Prelude.{is_some}
 use Rattle.std.proofs.lemmas.List.{length-take}
 use Rattle.lk_tables.specs.declared.heads.Section.{Section}
-use Rattle.lk_tables.specs.Relocations.{target_of, width_of}
+use Rattle.lk_tables.specs.Relocations.{relocated_section, width_of}
 use Rattle.lk_tables.proofs.Widths.{end_inside}
 use Rattle.elf_read.proofs.relocations.read_entry.Goals as goal
 
@@ -11,7 +11,7 @@ returns-clause-end c =
     let b = c.args.file.now.bytes.now in
     let r = c.reloc_at-reloc.result in
     let contents = c.args.contents.now in
-    let target = target_of b c.args.index in
+    let target = relocated_section b c.args.index in
     let kind : is_some (width_of contents r) ≡ true = sym c.has_end.ensures ∙ c.if-not-has_end.false in
     let fits = c.is_past_target.ensures.fits c.if-is_past_target.false in
     let small = c.is_past_target.ensures.small c.if-is_past_target.false in

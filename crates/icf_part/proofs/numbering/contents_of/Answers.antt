@@ -1,10 +1,11 @@
 use Rattle.std.proofs.Common.{◌∷◌, [], ℕ, List, map, get_or, ap, ◌∙◌, arith}
 use Rattle.std.specs.Borrow.{Bor}
 use Rattle.std.proofs.lemmas.List.{map-append}
+use Rattle.lk_base.proofs.Loops.{mapped_at}
 use Rattle.link_sections.specs.declared.fold_items.FoldItem.{FoldItem as LentItem}
 use Rattle.name_numbers.specs.Texts.{lent_texts}
 use Rattle.icf_part.specs.Signatures.{bytes_of}
-use Rattle.icf_part.proofs.Collected.{mapped_at, mapped_views}
+use Rattle.icf_part.proofs.Collected.{mapped_views}
 use Rattle.icf_part.proofs.numbering.contents_of.Goals as goal
 
 pub loop-a-preserved : goal.loop-a-preserved

@@ -1,12 +1,12 @@
 use Rattle.std.proofs.Common.{◌++◌, ◌∷◌, [], ℕ, List, map, get_or, ap, ◌∙◌, arith}
 use Rattle.std.specs.Borrow.{Bor}
 use Rattle.std.proofs.lemmas.List.{map-append}
+use Rattle.lk_base.proofs.Loops.{mapped_at}
 use Rattle.link_sections.specs.FoldItems.{FoldItem, item_views}
 use Rattle.name_numbers.specs.Texts.{lent_texts}
 use Rattle.icf_part.specs.Folding.{item_at}
 use Rattle.icf_part.specs.Signatures.{output_of}
 use Rattle.icf_part.proofs.ChosenItems.{chosen_all}
-use Rattle.icf_part.proofs.Collected.{mapped_at}
 use Rattle.icf_part.proofs.PartSteps.{viewed_there}
 use Rattle.icf_part.proofs.numbering.outputs_of.Goals as goal
 

@@ -1,4 +1,4 @@
-use Rattle.std.proofs.Common.{◌≡◌, ℕ, ◌-◌, List, length, map, flat_map, ap, ◌∙◌, arith}
+use Rattle.std.proofs.Common.{◌≡◌, ℕ, ◌-◌, List, length, map, flat_map, ◌∙◌, arith}
 use Rattle.std.specs.List.{range_with_len}
 use Rattle.link_sections.specs.FoldItems.{item_views}
 use Rattle.work_split.proofs.RunsBeside.{joined_beside}
@@ -26,4 +26,4 @@ returns-in_ok-rows-in-Ok g c =
     let Is : ℕ → ℕ → List (List (List ℕ)) → Type 0 = λ a b parts. flat_map (λ part. part) parts ≡ map f (range_with_len a (b - a)) in
     let found : flat_map (λ part. part) c.in-Ok.parts.items ≡ map f (range_with_len 0 (n - 0)) =
     joined_beside Is (runs_beside f) _ n c.args.pieces.now c.over_shares-found.result c.in-Ok.parts c.over_shares-found.ensures (λ p s h. h.1) c.requires.tiles c.in-Ok.is in
-    places_all secs views n c.in_ok-rows-in-Ok.rows (items_wide (item_views c.args.items.now) c.args.chosen.now) c.requires.sections (c.in_ok-rows-in-Ok.ensures ∙ ap (flat_map (λ part. part)) c.as_slice.ensures.value ∙ found)
+    places_all secs views n c.in_ok-rows-in-Ok.rows (items_wide (item_views c.args.items.now) c.args.chosen.now) c.requires.sections (c.in_ok-rows-in-Ok.ensures ∙ found)

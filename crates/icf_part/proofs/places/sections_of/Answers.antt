@@ -1,8 +1,8 @@
 use Rattle.std.proofs.Common.{◌++◌, ◌∷◌, [], ap, ◌∙◌, get_or, arith}
+use Rattle.lk_base.proofs.Loops.{mapped_at}
 use Rattle.link_sections.specs.FoldItems.{FoldItem, item_views, section_of, sections_of}
 use Rattle.icf_part.specs.Folding.{item_at}
 use Rattle.icf_part.proofs.ChosenItems.{chosen_all}
-use Rattle.icf_part.proofs.Collected.{mapped_at}
 use Rattle.icf_part.proofs.PartSteps.{viewed_there}
 use Rattle.icf_part.proofs.places.sections_of.Goals as goal
 

@@ -12,14 +12,14 @@ loop-k-preserved c =
     let next = c.wait_apart.new.waiting in (
       longer_then start.waits.items start.queue.items now.waits.items now.queue.items next.waits.items next.queue.items c.loop-k.invariant.0 c.in_ok-wait_apart.ensures.longer,
       told_next c.args.classes.now c.args.own.now c.args.first.now c.loop-k.k now.waits.items now.queue.items next.waits.items next.queue.items c.class_at-class.result c.class_at-other.result
-          c.in_ok-wait_apart.ensures.longer c.loop-k.invariant.1 c.class_at-class.ensures (c.class_at-other.ensures ∙ ap (λ k. get_or c.args.classes.now k 0) c.place_at.ensures) c.in_ok-wait_apart.ensures.told,
+          c.in_ok-wait_apart.ensures.longer c.loop-k.invariant.1 c.class_at-class.ensures (c.class_at-other.ensures ∙ ap (λ k. get_or c.args.classes.now k 0) c.place_at.ensures) c.in_ok-wait_apart.ensures.waits,
     )
 
 pub returns-clause-longer : goal.returns-clause-longer
 returns-clause-longer c = c.loop-k.invariant.0
 
-pub returns-clause-told : goal.returns-clause-told
-returns-clause-told c =
+pub returns-clause-waits : goal.returns-clause-waits
+returns-clause-waits c =
     let all : c.loop-k.k ≡ length c.args.own.now = omega arith in
     let P : ℕ → Type 0 = λ n. Told c.args.classes.now c.args.own.now c.args.first.now n c.loop-k.waiting.waits.items in
     subst P all c.loop-k.invariant.1

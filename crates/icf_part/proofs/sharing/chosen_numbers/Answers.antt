@@ -1,5 +1,5 @@
 use Rattle.std.proofs.Common.{get_or, arith}
-use Rattle.icf_part.proofs.Collected.{mapped_all, mapped_at}
+use Rattle.lk_base.proofs.Loops.{mapped_all, mapped_at}
 use Rattle.icf_part.proofs.sharing.chosen_numbers.Goals as goal
 
 pub loop-k-preserved : goal.loop-k-preserved

@@ -1,6 +1,6 @@
 use Rattle.std.proofs.Common.{get_or, arith}
+use Rattle.lk_base.proofs.Loops.{mapped_all, mapped_at}
 use Rattle.icf_part.specs.Classes.{word}
-use Rattle.icf_part.proofs.Collected.{mapped_all, mapped_at}
 use Rattle.icf_part.proofs.splitting.labelled.Goals as goal
 
 pub loop-i-preserved : goal.loop-i-preserved

@@ -1,6 +1,6 @@
 use Rattle.std.proofs.Common.{◌++◌, ◌∷◌, [], get_or, ap, ◌∙◌, arith}
 use Rattle.std.proofs.lemmas.Grind.{get_or_default_zero}
-use Rattle.icf_part.proofs.Collected.{mapped_all, mapped_at}
+use Rattle.lk_base.proofs.Loops.{mapped_all, mapped_at}
 use Rattle.icf_part.proofs.FirstItems.{first_all}
 use Rattle.icf_part.proofs.walks.first_items.Goals as goal
 

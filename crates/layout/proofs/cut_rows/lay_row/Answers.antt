@@ -3,12 +3,13 @@ use Rattle.lk_base.specs.declared.abi.TheConstants.{NOBITS_MAX}
 use Rattle.link_sections.specs.declared.cuts.Cut.{Cut as HeldCut}
 use Rattle.link_sections.specs.CutsView.{AreCuts, cut_views}
 use Rattle.link_sections.specs.SizesView.{sizes_of}
+use Rattle.link_sections.proofs.CutRows.{row_view}
 use Rattle.lk_tables.specs.Sites.{place_of}
 use Rattle.lk_tables.specs.TablesView.{files_of}
 use Rattle.layout.specs.Cutting.{short_defects}
 use Rattle.layout.specs.Layout.{cuts_of}
 use Rattle.layout.proofs.LaidCuts.{laid_sound}
-use Rattle.layout.proofs.PlacedMembers.{held_within, no_cuts, row_cuts, row_view}
+use Rattle.layout.proofs.PlacedMembers.{held_within, no_cuts, row_cuts}
 use Rattle.layout.proofs.PlainCuts.{own_fine, own_laid}
 use Rattle.layout.proofs.RowsOfCuts.{sound_more, views_more}
 use Rattle.layout.proofs.cut_rows.lay_row.Goals as goal

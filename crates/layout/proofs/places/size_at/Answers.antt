@@ -3,8 +3,9 @@ use Rattle.link_sections.specs.declared.cuts.Cut.{Cut as HeldCut}
 use Rattle.link_sections.specs.Cuts.{new_offset}
 use Rattle.link_sections.specs.CutsView.{AreCuts, cut_views}
 use Rattle.link_sections.specs.SizesView.{sizes_of}
+use Rattle.link_sections.proofs.CutRows.{row_view}
 use Rattle.std.proofs.Math.ListN.{get_or}
-use Rattle.layout.proofs.PlacedMembers.{held_within, no_length, row_cuts, row_view, size_of_section, size_plain, size_uncut}
+use Rattle.layout.proofs.PlacedMembers.{held_within, no_length, row_cuts, size_of_section, size_plain, size_uncut}
 use Rattle.layout.proofs.PlainCuts.{size_settled}
 use Rattle.layout.proofs.places.size_at.Goals as goal
 

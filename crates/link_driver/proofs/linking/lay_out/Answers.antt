@@ -1,4 +1,5 @@
 use Rattle.std.proofs.Common.{List, ap, sym, subst, ◌∙◌}
+use Rattle.std.proofs.lemmas.Result.{err_from_is_err_and}
 use Rattle.output_sections.specs.Items.{HaveFirsts}
 use Rattle.layout.specs.Layout.{layout_defects}
 use Rattle.link_sections.specs.declared.pools.Pool.{Pool}
@@ -42,30 +43,31 @@ place-requires-clause-sizes g c =
     sizes_fit (files_of c.args.tables.now) (binding_view c.args.binding.now) (sizes_of c.in_ok-sizes.sizes)
     c.in_ok-sizes.ensures.fit
 
-pub returns-in-Ok-clause-goes : goal.returns-in-Ok-clause-goes
-returns-in-Ok-clause-goes g c =
-    let files = files_of c.args.tables.now in
-    let b = binding_view c.args.binding.now in
-    let w = link_options c.args.options c.args.barred.now in
-    sym (defects_are w files b c.args.kept.now c.args.pools.now c.requires.pools c.args.leaders.now c.requires.leaders (entries_of c.args.got.now) c.requires.table
-    c.in_ok-sections.sections.rows c.in_ok-sections.ensures.order (sizes_of c.in_ok-sizes.sizes) c.in_ok-sizes.ensures.cuts (plan_view c.args.plan.now) c.requires.plan c.args.limits.now) ∙ c.in-Ok.ensures.goes
-
-pub returns-in-Ok-clause-laid : goal.returns-in-Ok-clause-laid
-returns-in-Ok-clause-laid g c =
-    let files = files_of c.args.tables.now in
-    let b = binding_view c.args.binding.now in
-    let w = link_options c.args.options c.args.barred.now in
-    laid_are w files b c.args.kept.now c.args.pools.now c.requires.pools c.args.leaders.now c.requires.leaders (entries_of c.args.got.now) c.requires.table
-    c.in_ok-sections.sections.rows c.in_ok-sections.ensures.order (sizes_of c.in_ok-sizes.sizes) c.in_ok-sizes.ensures.cuts (plan_view c.args.plan.now) c.requires.plan (layout_view c.in-Ok.layout) c.in-Ok.ensures.found
-
 pub returns-clause-goes : goal.returns-clause-goes
 returns-clause-goes g c =
     let files = files_of c.args.tables.now in
     let b = binding_view c.args.binding.now in
     let w = link_options c.args.options c.args.barred.now in
-    let P : List Defect → Type 0 = λ ds. StopsAt c.in-Err.stop ds in
-    subst P (defects_are w files b c.args.kept.now c.args.pools.now c.requires.pools c.args.leaders.now c.requires.leaders (entries_of c.args.got.now) c.requires.table
-    c.in_ok-sections.sections.rows c.in_ok-sections.ensures.order (sizes_of c.in_ok-sizes.sizes) c.in_ok-sizes.ensures.cuts (plan_view c.args.plan.now) c.requires.plan c.args.limits.now) c.in-Err.ensures.goes
+    sym (defects_are w files b c.args.kept.now c.args.pools.now c.requires.pools c.args.leaders.now c.requires.leaders (entries_of c.args.got.now) c.requires.table
+    c.in_ok-sections.sections.rows c.in_ok-sections.ensures.order (sizes_of c.in_ok-sizes.sizes) c.in_ok-sizes.ensures.cuts (plan_view c.args.plan.now) c.requires.plan c.args.limits.now) ∙ c.in_ok-layout.ensures.goes
+
+pub returns-clause-laid : goal.returns-clause-laid
+returns-clause-laid g c =
+    let files = files_of c.args.tables.now in
+    let b = binding_view c.args.binding.now in
+    let w = link_options c.args.options c.args.barred.now in
+    laid_are w files b c.args.kept.now c.args.pools.now c.requires.pools c.args.leaders.now c.requires.leaders (entries_of c.args.got.now) c.requires.table
+    c.in_ok-sections.sections.rows c.in_ok-sections.ensures.order (sizes_of c.in_ok-sizes.sizes) c.in_ok-sizes.ensures.cuts (plan_view c.args.plan.now) c.requires.plan (layout_view c.in_ok-layout.layout) c.in_ok-layout.ensures.found
+
+pub returns-in_err-layout-clause-goes : goal.returns-in_err-layout-clause-goes
+returns-in_err-layout-clause-goes g c =
+    let p = err_from_is_err_and c.from_residual-in_err-layout.result c.from_residual-in_err-layout.ensures.1 in
+    let files = files_of c.args.tables.now in
+    let b = binding_view c.args.binding.now in
+    let w = link_options c.args.options c.args.barred.now in
+    let P : List Defect → Type 0 = λ ds. StopsAt c.in_err-layout.field-0.0 ds in
+    rw (p.1, p.2) (subst P (defects_are w files b c.args.kept.now c.args.pools.now c.requires.pools c.args.leaders.now c.requires.leaders (entries_of c.args.got.now) c.requires.table
+    c.in_ok-sections.sections.rows c.in_ok-sections.ensures.order (sizes_of c.in_ok-sizes.sizes) c.in_ok-sizes.ensures.cuts (plan_view c.args.plan.now) c.requires.plan c.args.limits.now) c.in_err-layout.ensures.goes)
 
 pub prove_calls_reach-requires-clause-pools : goal.prove_calls_reach-requires-clause-pools
 prove_calls_reach-requires-clause-pools g c =
@@ -76,13 +78,13 @@ prove_calls_reach-requires-clause-pools g c =
 
 pub prove_calls_reach-requires-clause-room : goal.prove_calls_reach-requires-clause-room
 prove_calls_reach-requires-clause-room g c =
-    ap (layout_defects c.args.limits.now (files_of c.args.tables.now)) c.in-Ok.ensures.found ∙ c.in-Ok.ensures.goes
+    ap (layout_defects c.args.limits.now (files_of c.args.tables.now)) c.in_ok-layout.ensures.found ∙ c.in_ok-layout.ensures.goes
 
-pub returns-in-Ok-clause-room : goal.returns-in-Ok-clause-room
-returns-in-Ok-clause-room g c = header_room c.in-Ok.layout.bounds c.in-Ok.ensures.segments c.in-Ok.ensures.rising
+pub returns-clause-room : goal.returns-clause-room
+returns-clause-room g c = header_room c.in_ok-layout.layout.bounds c.in_ok-layout.ensures.segments c.in_ok-layout.ensures.rising
 
-pub returns-in-Ok-clause-symbols : goal.returns-in-Ok-clause-symbols
-returns-in-Ok-clause-symbols g c =
+pub returns-clause-symbols : goal.returns-clause-symbols
+returns-clause-symbols g c =
     laid_symbols c.args.tables.now (binding_view c.args.binding.now) c.args.kept.now c.args.pools.now (word_count (entries_of c.args.got.now)) c.args.leaders.now
-    (layout_view c.in-Ok.layout) (entries_of c.args.got.now) c.requires.bound c.requires.lead c.requires.alike c.requires.outputs (c.in-Ok.ensures.sound c.requires.limits)
-    c.in-Ok.ensures.held
+    (layout_view c.in_ok-layout.layout) (entries_of c.args.got.now) c.requires.bound c.requires.lead c.requires.alike c.requires.outputs (c.in_ok-layout.ensures.sound c.requires.limits)
+    c.in_ok-layout.ensures.held

@@ -1,4 +1,5 @@
 use Rattle.std.proofs.Common.{List, Result, Ok, Err, subst}
+use Rattle.std.proofs.lemmas.Result.{err_from_is_err_and}
 use Rattle.lk_base.specs.declared.defects.LinkStop.{LinkStop}
 use Rattle.lk_tables.specs.Binding.{first_phase}
 use Rattle.lk_tables.specs.Frames.{AreListsWithin, RecordList}
@@ -26,19 +27,20 @@ write-requires-clause-within g c = λ κs bound.
 pub write-requires-clause-plan : goal.write-requires-clause-plan
 write-requires-clause-plan g c = λ κs bound.
     let files = files_of c.args.tables.now in
-    let placed = c.in-Ok.ensures.placed in
+    let placed = c.in_ok-uppers.ensures.placed in
     planned_laid (link_options c.args.options c.args.barred.now) files (binding_view c.args.binding.now) c.args.kept.now _ _ _ placed.leaders placed.laid placed.plan
 
-pub returns-in-Err-write-clause-goes : goal.returns-in-Err-write-clause-goes
-returns-in-Err-write-clause-goes g c =
+pub returns-in_err-written-clause-goes : goal.returns-in_err-written-clause-goes
+returns-in_err-written-clause-goes g c =
+    let p = err_from_is_err_and c.from_residual-in_err-written.result c.from_residual-in_err-written.ensures.1 in
     let files = files_of c.args.tables.now in
     let b = binding_view c.args.binding.now in
     let w = link_options c.args.options c.args.barred.now in
     let kept = c.args.kept.now in
-    let placed = c.in-Ok.ensures.placed in
-    let r : Result Written LinkStop = Err c.in-Err-write.stop in
-    goes_next r (placing_phases c.args.limits.now w files b kept) (value_defects files b (leaders_in w files b kept) (laid_out w files b kept) (plan_in w files b kept))
-    c.in-Ok.ensures.goes (goes_so r w files b kept _ _ _ placed.leaders placed.laid placed.plan c.in-Err-write.ensures.goes)
+    let placed = c.in_ok-uppers.ensures.placed in
+    let r : Result Written LinkStop = Err c.in_err-written.field-0.0 in
+    rw (p.1, p.2) (goes_next r (placing_phases c.args.limits.now w files b kept) (value_defects files b (leaders_in w files b kept) (laid_out w files b kept) (plan_in w files b kept))
+    c.in_ok-uppers.ensures.goes (goes_so r w files b kept _ _ _ placed.leaders placed.laid placed.plan c.in_err-written.ensures.goes))
 
 pub returns-clause-goes : goal.returns-clause-goes
 returns-clause-goes g c =
@@ -46,45 +48,47 @@ returns-clause-goes g c =
     let b = binding_view c.args.binding.now in
     let w = link_options c.args.options c.args.barred.now in
     let kept = c.args.kept.now in
-    let placed = c.in-Ok.ensures.placed in
-    let r : Result Written LinkStop = Ok c.in-Ok-write.written in
+    let placed = c.in_ok-uppers.ensures.placed in
+    let r : Result Written LinkStop = Ok c.in_ok-written.written in
     goes_next r (placing_phases c.args.limits.now w files b kept) (value_defects files b (leaders_in w files b kept) (laid_out w files b kept) (plan_in w files b kept))
-    c.in-Ok.ensures.goes (goes_so r w files b kept _ _ _ placed.leaders placed.laid placed.plan c.in-Ok-write.ensures.goes)
+    c.in_ok-uppers.ensures.goes (goes_so r w files b kept _ _ _ placed.leaders placed.laid placed.plan c.in_ok-written.ensures.goes)
 
 pub returns-clause-settled : goal.returns-clause-settled
-returns-clause-settled g c = record { listed = c.in-Ok.ensures.listed; uses = c.in-Ok.ensures.placed.uses; sound = c.in-Ok.ensures.placed.sound; made = c.in-Ok-write.ensures.made }
+returns-clause-settled g c = record { listed = c.in_ok-uppers.ensures.listed; uses = c.in_ok-uppers.ensures.placed.uses; sound = c.in_ok-uppers.ensures.placed.sound; made = c.in_ok-written.ensures.made }
 
 pub returns-clause-written : goal.returns-clause-written
 returns-clause-written g c =
-    let placed = c.in-Ok.ensures.placed in
+    let placed = c.in_ok-uppers.ensures.placed in
     made_of (link_options c.args.options c.args.barred.now) (names_of c.args.names.now) (files_of c.args.tables.now) (binding_view c.args.binding.now) c.args.kept.now _ _ _ _
-    placed.leaders placed.laid placed.plan c.in-Ok-write.ensures.written
+    placed.leaders placed.laid placed.plan c.in_ok-written.ensures.written
 
-pub returns-in-Err-clause-reach : goal.returns-in-Err-clause-reach
-returns-in-Err-clause-reach g c =
+pub returns-in_err-uppers-clause-reach : goal.returns-in_err-uppers-clause-reach
+returns-in_err-uppers-clause-reach g c =
+    let p = err_from_is_err_and c.from_residual.result c.from_residual.ensures.1 in
     let files = files_of c.args.tables.now in
     let b = binding_view c.args.binding.now in
     let w = link_options c.args.options c.args.barred.now in
-    not_past c.in-Err.stop (first_phase (placing_phases c.args.limits.now w files b c.args.kept.now)) (ShortenedCallsReach w files b c.args.kept.now)
-    c.in-Err.ensures.goes
+    rw (p.1, p.2) (not_past c.in_err-uppers.field-0.0 (first_phase (placing_phases c.args.limits.now w files b c.args.kept.now)) (ShortenedCallsReach w files b c.args.kept.now)
+    c.in_err-uppers.ensures.goes)
 
-pub returns-in-Err-write-clause-reach : goal.returns-in-Err-write-clause-reach
-returns-in-Err-write-clause-reach g c =
+pub returns-in_err-written-clause-reach : goal.returns-in_err-written-clause-reach
+returns-in_err-written-clause-reach g c =
+    let p = err_from_is_err_and c.from_residual-in_err-written.result c.from_residual-in_err-written.ensures.1 in
     let files = files_of c.args.tables.now in
     let b = binding_view c.args.binding.now in
     let w = link_options c.args.options c.args.barred.now in
-    let placed = c.in-Ok.ensures.placed in
-    let r : Result Written LinkStop = Err c.in-Err-write.stop in
-    past_all r (first_phase (placing_phases c.args.limits.now w files b c.args.kept.now)) (ShortenedCallsReach w files b c.args.kept.now)
-    (reaches_so w files b c.args.kept.now _ _ placed.leaders placed.laid placed.reach)
+    let placed = c.in_ok-uppers.ensures.placed in
+    let r : Result Written LinkStop = Err c.in_err-written.field-0.0 in
+    rw (p.1, p.2) (past_all r (first_phase (placing_phases c.args.limits.now w files b c.args.kept.now)) (ShortenedCallsReach w files b c.args.kept.now)
+    (reaches_so w files b c.args.kept.now _ _ placed.leaders placed.laid placed.reach))
 
 pub returns-clause-reach : goal.returns-clause-reach
 returns-clause-reach g c =
-    let placed = c.in-Ok.ensures.placed in
+    let placed = c.in_ok-uppers.ensures.placed in
     reaches_so (link_options c.args.options c.args.barred.now) (files_of c.args.tables.now) (binding_view c.args.binding.now) c.args.kept.now _ _ placed.leaders placed.laid placed.reach
 
 pub returns-clause-stands : goal.returns-clause-stands
 returns-clause-stands g c =
-    let placed = c.in-Ok.ensures.placed in
+    let placed = c.in_ok-uppers.ensures.placed in
     stands_in (link_options c.args.options c.args.barred.now) (files_of c.args.tables.now) (binding_view c.args.binding.now) c.args.kept.now _ _ _ _ placed.leaders placed.laid placed.plan
-    c.in-Ok-write.ensures.stands
+    c.in_ok-written.ensures.stands

@@ -1,8 +1,7 @@
 use Rattle.std.proofs.Common.{◌++◌, ap, ◌∙◌, arith}
 use Rattle.std.specs.Prelude.{filter, is_some}
 use Rattle.std.specs.Vec.Iter.{into_iter_items}
-use Rattle.lk_tables.proofs.Putting.{given_more}
-use Rattle.work_split.proofs.Sharing.{taken_all}
+use Rattle.work_split.proofs.Sharing.{taken_all, taken_more}
 use Rattle.link_driver.proofs.KnownHeads.{read_more}
 use Rattle.link_driver.proofs.piped.push_read.Goals as goal
 
@@ -13,7 +12,7 @@ loop-head-preserved c =
     let rest = into_iter_items c.next.new.self in (
       tt,
       tt,
-      given_more c.loop-head.yielded items rest c.args.heads.items c.in-Some.head before.2 c.in-Some.ensures.steps.0,
+      taken_more c.loop-head.yielded items rest c.args.heads.items c.in-Some.head before.2 c.in-Some.ensures.steps.0,
       read_more c.args.list.now.items c.loop-head.list.items c.push_some.new.list.items c.loop-head.yielded c.in-Some.head before.3 c.in_ok-push_some.ensures,
     )
 

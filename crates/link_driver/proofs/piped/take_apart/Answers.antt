@@ -1,7 +1,8 @@
 use Rattle.std.proofs.Common.{◌∙◌, ap, refl, arith}
 use Rattle.ar_read.specs.Archives.{is_archive}
 use Rattle.std.specs.Vec.Iter.{into_iter_items}
-use Rattle.lk_tables.proofs.Putting.{given_all, given_more}
+use Rattle.work_split.proofs.Sharing.{taken_more}
+use Rattle.lk_tables.proofs.Putting.{given_all}
 use Rattle.link_driver.proofs.KnownHeads.{all_heads_known, next_contents, next_heads}
 use Rattle.link_driver.proofs.piped.take_apart.Goals as goal
 
@@ -13,7 +14,7 @@ loop-file-preserved c =
     let rest = into_iter_items c.next.new.self in (
       tt,
       tt,
-      given_more c.loop-file.yielded items rest c.args.piped.files.items c.in-Some.file before.2 next,
+      taken_more c.loop-file.yielded items rest c.args.piped.files.items c.in-Some.file before.2 next,
       next_contents c.loop-file.yielded c.in-Some.file c.loop-file.contents.items c.push.new.self.items c.in-Some.file.bytes c.in_ok-push.ensures.items refl before.3,
       next_heads c.loop-file.yielded items rest c.args.piped.files.items c.in-Some.file c.loop-file.heads.items c.push_heads.new.list.items _ _ _ before.2 next c.requires
           c.in_ok-push_heads.ensures (c.is_archive.ensures ∙ ap is_archive c.as_slice.ensures.value) c.is_sound-sound.ensures before.4,

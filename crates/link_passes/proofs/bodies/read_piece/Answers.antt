@@ -1,5 +1,6 @@
 use Rattle.std.proofs.Common.{◌≡◌, ◌≤◌, Bool, [], ℕ, arith, ap, ◌∙◌, sym, length, subst, Ok}
 use Rattle.std.specs.Prelude.{if◌then◌else◌, IfSome}
+use Rattle.std.proofs.lemmas.Result.{err_from_is_err_and}
 use Rattle.lk_base.specs.declared.abi.TheConstants.{FILE_MAX}
 use Rattle.lk_base.specs.Firsts.{StopsAt}
 use Rattle.lk_base.proofs.Loops.{pass_step, stop_step}
@@ -36,28 +37,30 @@ read_wanted-requires-clause-short c = λ wanted.
     let P : File → Type 0 = λ file. length file.bytes ≤ FILE_MAX in
     subst P (sym was) (c.requires.heads f (omega arith) (sym c.has_body-wanted.ensures ∙ wanted)).short
 
-pub returns-in-Err : goal.returns-in-Err
-returns-in-Err c =
+pub returns-in_err-body : goal.returns-in_err-body
+returns-in_err-body c =
+    let p = err_from_is_err_and c.from_residual-in_err-body.result c.from_residual-in_err-body.ensures.1 in
     let ss = sources_of c.args.sources.now in
     let f = c.loop-at.at in
     let was : file_view c.index-files-at.result ≡ headed ss f = ap file_view c.index-files-at.is ∙ headed_at (headed ss) c.args.files.now f (length c.args.sources.now) (omega arith) c.requires.files c.index-files-at.result in
-    let P : File → Type 0 = λ file. StopsAt c.in-Err.stop (if c.has_body-wanted.result then body_defects file.bytes f else []) in
-    let Q : Bool → Type 0 = λ t. StopsAt c.in-Err.stop (if t then body_defects (source_at ss f).bytes f else []) in record {
-      goes = stop_step (body_defects_at ss c.args.live.now) f c.args.piece.end _ c.in-Err.stop (omega arith) c.loop-at.invariant.none
-          (subst Q c.has_body-wanted.ensures (subst P was c.in-Err.ensures.goes));
+    let P : File → Type 0 = λ file. StopsAt c.in_err-body.field-0.0 (if c.has_body-wanted.result then body_defects file.bytes f else []) in
+    let Q : Bool → Type 0 = λ t. StopsAt c.in_err-body.field-0.0 (if t then body_defects (source_at ss f).bytes f else []) in
+    rw (p.1, p.2) (record {
+      goes = stop_step (body_defects_at ss c.args.live.now) f c.args.piece.end _ c.in_err-body.field-0.0 (omega arith) c.loop-at.invariant.none
+          (subst Q c.has_body-wanted.ensures (subst P was c.in_err-body.ensures.goes));
       each = tt;
-    }
+    })
 
 pub loop-at-preserved : goal.loop-at-preserved
 loop-at-preserved c =
     let ss = sources_of c.args.sources.now in
     let f : ℕ = c.loop-at.at in
     let was : file_view c.index-files-at.result ≡ headed ss f = ap file_view c.index-files-at.is ∙ headed_at (headed ss) c.args.files.now f (length c.args.sources.now) (omega arith) c.requires.files c.index-files-at.result in
-    let P : File → Type 0 = λ file. IfSome c.in-Ok.body (IsBody file) in
+    let P : File → Type 0 = λ file. IfSome c.in_ok-body.body (IsBody file) in
     record {
       none = pass_step (body_defects_at ss c.args.live.now) f c.args.piece.end _ (omega arith) c.loop-at.invariant.none
           (ap (λ (t : Bool). if t then body_defects (source_at ss f).bytes f else []) (sym c.has_body-wanted.ensures)
-          ∙ ap (λ (file : File). if c.has_body-wanted.result then body_defects file.bytes f else []) (sym was) ∙ c.in-Ok.ensures.goes);
-      each = each_pushed (IsBodyAt ss c.args.live.now) c.args.piece.start f c.loop-at.bodies.items c.push.new.self.items c.in-Ok.body c.in_ok-push.ensures.items c.loop-at.invariant.each
-          (record { wanted = c.in-Ok.ensures.wanted ∙ c.has_body-wanted.ensures; is = subst P was c.in-Ok.ensures.body });
+          ∙ ap (λ (file : File). if c.has_body-wanted.result then body_defects file.bytes f else []) (sym was) ∙ c.in_ok-body.ensures.goes);
+      each = each_pushed (IsBodyAt ss c.args.live.now) c.args.piece.start f c.loop-at.bodies.items c.push.new.self.items c.in_ok-body.body c.in_ok-push.ensures.items c.loop-at.invariant.each
+          (record { wanted = c.in_ok-body.ensures.wanted ∙ c.has_body-wanted.ensures; is = subst P was c.in_ok-body.ensures.body });
     }

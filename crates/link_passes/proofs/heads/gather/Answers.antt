@@ -6,10 +6,11 @@ use Rattle.std.proofs.lemmas.List.{length_push}
 use Rattle.std.proofs.lemmas.List.FromFn.{length-map-range_with_len}
 use Rattle.lk_base.specs.declared.abi.TheConstants.{FILE_MAX}
 use Rattle.lk_base.proofs.Loops.{map_step}
+use Rattle.work_split.proofs.Sharing.{taken_more}
 use Rattle.lk_tables.specs.Files.{File}
 use Rattle.lk_tables.specs.Heads.{head_of, head_view}
 use Rattle.lk_tables.specs.TablesView.{heads_of}
-use Rattle.lk_tables.proofs.Putting.{given_all, given_more, given_within}
+use Rattle.lk_tables.proofs.Putting.{given_all, given_within}
 use Rattle.link_passes.specs.Contents.{source_view, sources_of}
 use Rattle.link_passes.specs.Reading.{HasFewSymbols, IsHeadAt}
 use Rattle.link_passes.specs.Sources.{Source, headed, source_at}
@@ -74,7 +75,7 @@ loop-head-preserved c =
     let is : source_view c.index-sources-at.result ≡ source_at ss at = ap source_view c.index-sources-at.is ∙ source_is c.args.sources.now at c.index-sources-at.result (omega (arith, lt, c.requires.count)) in (
       tt,
       tt,
-      given_more c.loop-head.yielded items rest c.args.list.items c.in-Some.head before.2 next,
+      taken_more c.loop-head.yielded items rest c.args.list.items c.in-Some.head before.2 next,
       omega (arith, before.3, length_push c.loop-head.yielded c.in-Some.head),
       map_step (headed ss) at (heads_of c.loop-head.heads) (heads_of c.add.new.self) before.4
           (c.in_ok-add.ensures.ok ∙ ap (λ (x : File). heads_of c.loop-head.heads ++ x ∷ []) (added_is ss at (source_view c.index-sources-at.result) c.in-Some.head is here)),

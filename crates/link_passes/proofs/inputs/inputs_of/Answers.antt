@@ -3,7 +3,8 @@ use Rattle.std.specs.Global.{Global, Vec}
 use Rattle.std.specs.Prelude.{string_bytes, String}
 use Rattle.std.specs.Vec.Iter.{into_iter_items}
 use Rattle.std.proofs.lemmas.List.{length_push, map-append}
-use Rattle.lk_tables.proofs.Putting.{given_more, given_within}
+use Rattle.work_split.proofs.Sharing.{taken_more}
+use Rattle.lk_tables.proofs.Putting.{given_within}
 use Rattle.link_passes.proofs.Gathered.{map_pushed, take_pushed}
 use Rattle.link_passes.proofs.inputs.inputs_of.Goals as goal
 
@@ -22,7 +23,7 @@ loop-bytes-preserved c =
     let lt : at < length c.args.names.now = omega (arith, taken, before.3, c.requires) in (
       tt,
       tt,
-      given_more c.loop-bytes.yielded (into_iter_items c.loop-bytes.bytes-iterator) (into_iter_items c.next.new.self) c.args.contents.items c.in-Some.bytes before.2 next,
+      taken_more c.loop-bytes.yielded (into_iter_items c.loop-bytes.bytes-iterator) (into_iter_items c.next.new.self) c.args.contents.items c.in-Some.bytes before.2 next,
       omega (arith, before.3, length_push c.loop-bytes.yielded c.in-Some.bytes),
       take_pushed string_bytes c.args.names.now at c.index-names-at.result [] (map name_of c.loop-bytes.files.items) (map name_of c.push.new.self.items) lt before.4
           (map_pushed name_of c.loop-bytes.files.items c.push.new.self.items _ c.in_ok-push.ensures.items

@@ -3,10 +3,11 @@ use Rattle.std.specs.List.{range_with_len}
 use Rattle.std.specs.Vec.Iter.{into_iter_items}
 use Rattle.std.proofs.lemmas.List.{length_push}
 use Rattle.lk_base.proofs.Loops.{flat_step}
+use Rattle.work_split.proofs.Sharing.{taken_more}
 use Rattle.lk_tables.specs.Frames.{all_lists, list_at, list_views}
 use Rattle.lk_tables.specs.TablesView.{files_of}
 use Rattle.lk_tables.specs.Walks.{over_file, over_live}
-use Rattle.lk_tables.proofs.Putting.{given_all, given_more}
+use Rattle.lk_tables.proofs.Putting.{given_all}
 use Rattle.link_passes.specs.Frames.{numbered}
 use Rattle.link_passes.proofs.EachBody.{numbered_lists}
 use Rattle.link_passes.proofs.NumberedRecords.{count_is, file_within, lists_here}
@@ -36,7 +37,7 @@ loop-list-preserved c =
     let old = list_views c.loop-list.lists.items in (
       tt,
       tt,
-      given_more c.loop-list.yielded items rest c.args.records.items c.in-Some.list before.2 next,
+      taken_more c.loop-list.yielded items rest c.args.records.items c.in-Some.list before.2 next,
       omega (arith, before.3, length_push c.loop-list.yielded c.in-Some.list),
       flat_step (over_file files (list_at files)) f old (list_views c.push_numbered.new.lists.items) before.4
           (c.in_ok-push_numbered.ensures ∙ ap (λ l. old ++ l) (ap (map (numbered files f)) here ∙ numbered_lists files f)),

@@ -3,8 +3,7 @@ use Rattle.std.specs.Vec.Iter.{into_iter_items}
 use Rattle.lk_tables.specs.Files.{file_at}
 use Rattle.lk_tables.specs.Frames.{list_views}
 use Rattle.lk_tables.specs.TablesView.{files_of}
-use Rattle.lk_tables.proofs.Putting.{given_more}
-use Rattle.work_split.proofs.Sharing.{taken_all}
+use Rattle.work_split.proofs.Sharing.{taken_all, taken_more}
 use Rattle.link_passes.specs.Frames.{numbered}
 use Rattle.link_passes.proofs.NumberedRecords.{listed_here, numbered_more}
 use Rattle.link_passes.proofs.records.push_numbered.Goals as goal
@@ -26,7 +25,7 @@ loop-list-preserved c =
     let rest = into_iter_items c.next.new.self in (
       tt,
       tt,
-      given_more c.loop-list.yielded items rest c.args.records.items c.in-Some.list before.2 c.in-Some.ensures.steps.0,
+      taken_more c.loop-list.yielded items rest c.args.records.items c.in-Some.list before.2 c.in-Some.ensures.steps.0,
       numbered_more (files_of c.args.tables.now) c.args.file (list_views c.args.lists.now.items) c.loop-list.yielded c.loop-list.lists.items c.push.new.self.items c.in-Some.list
           c.number_of.result before.3 c.in_ok-push.ensures.items c.number_of.ensures,
     )

@@ -1,7 +1,6 @@
 use Rattle.std.proofs.Common.{map, ap, ◌∙◌, arith}
 use Rattle.std.specs.Vec.Iter.{into_iter_items}
-use Rattle.work_split.proofs.Sharing.{taken_all}
-use Rattle.lk_tables.proofs.Putting.{given_more}
+use Rattle.work_split.proofs.Sharing.{taken_all, taken_more}
 use Rattle.link_passes.specs.Reading.{object_in, records_in}
 use Rattle.link_passes.proofs.NumberedRecords.{mapped_more, view}
 use Rattle.link_passes.proofs.records.split_bodies.Goals as goal
@@ -14,7 +13,7 @@ loop-body-preserved c =
     let next = c.in-Some.ensures.steps.0 in (
       tt,
       tt,
-      given_more c.loop-body.yielded items rest c.args.bodies.items c.in-Some.body before.2 next,
+      taken_more c.loop-body.yielded items rest c.args.bodies.items c.in-Some.body before.2 next,
       mapped_more object_in c.loop-body.objects.items c.push_body.new.objects.items c.loop-body.yielded c.in-Some.body before.3 c.in_ok-push_body.ensures.objects,
       mapped_more records_in (map view c.loop-body.records.items) (map view c.push_body.new.records.items) c.loop-body.yielded c.in-Some.body before.4 c.in_ok-push_body.ensures.records,
     )

@@ -2,12 +2,12 @@ use Rattle.std.proofs.Common.{◌∷◌, ◌++◌, [], map, ap, sym, subst, ◌�
 use Rattle.std.specs.List.{All}
 use Rattle.std.proofs.lemmas.List.{map-append}
 use Rattle.std.proofs.lemmas.List.Elements.{All-append, All-cons, All-nil}
+use Rattle.lk_base.proofs.Ranges.{row_step}
 use Rattle.lk_tables.specs.Files.{section_count}
 use Rattle.lk_tables.specs.TablesView.{files_of}
 use Rattle.lk_tables.proofs.FirstNumbers.{section_within}
 use Rattle.link_sections.specs.CutsView.{AreCuts, cut_views}
 use Rattle.relax.specs.Unrelaxed.{whole_cuts}
-use Rattle.relax.proofs.ListSteps.{row_step}
 use Rattle.relax.proofs.unrelaxed.push_file.Goals as goal
 
 pub loop-index-init : goal.loop-index-init

@@ -1,7 +1,7 @@
 use Rattle.std.proofs.Common.{ap, sym, ◌∙◌}
+use Rattle.lk_base.proofs.Membership.{any_through}
 use Rattle.lk_tables.specs.FileView.{file_view}
 use Rattle.relax.specs.Unrelaxed.{relaxes, some_relaxes}
-use Rattle.relax.proofs.NoCalls.{any_through}
 use Rattle.relax.proofs.unrelaxed.some_relaxes.Goals as goal
 
 pub returns : goal.returns

@@ -5,11 +5,12 @@ use Rattle.lk_tables.specs.Targets.{bound}
 use Rattle.link_sections.specs.declared.got.GotUse.TheVariants.{Address, ThreadOffset, GeneralDynamic}
 use Rattle.link_sections.specs.Addresses.{symbol_address}
 use Rattle.link_sections.specs.Views.{binding_in, files_in, laid_in, leaders_in}
+use Rattle.rv_code.proofs.Going.{plain_bits_pos}
 use Rattle.reloc_apply.specs.Image.{ShowsFrom, piece}
 use Rattle.reloc_apply.specs.Relocated.{offset_word}
 use Rattle.reloc_apply.specs.Standing.{word_pieces}
 use Rattle.reloc_apply.proofs.PieceWalks.{shows_both}
-use Rattle.reloc_apply.proofs.TableSteps.{bits_same, words_by}
+use Rattle.reloc_apply.proofs.TableSteps.{words_by}
 use Rattle.reloc_apply.proofs.table_words.write_entry.Goals as goal
 
 pub returns-in-Address : goal.returns-in-Address
@@ -19,7 +20,7 @@ returns-in-Address c =
     let place = c.args.at + 8 * e.word in
     let P : List ℕ → Type 0 = λ ws. ShowsFrom c.args.from c.args.block.now c.write_word.new.block (word_pieces place ws) in
     let Q : ℕ → Type 0 = λ w. ShowsFrom c.args.from c.args.block.now c.write_word.new.block (piece place (to_le_bytes w64 w) ∷ []) in
-    let word = sym (bits_same c.address_of.result c.address_of.type_inv) ∙ ap (λ a. bits_of (pos a)) c.address_of.ensures in
+    let word = sym (plain_bits_pos c.address_of.result c.address_of.type_inv) ∙ ap (λ a. bits_of (pos a)) c.address_of.ensures in
     subst P (sym (words_by (files_in view) (binding_in view) (leaders_in view) (laid_in view) e Address c.in-Address.is)) (subst Q word c.write_word.ensures)
 
 pub returns-in-ThreadOffset : goal.returns-in-ThreadOffset

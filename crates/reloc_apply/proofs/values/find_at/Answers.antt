@@ -8,17 +8,17 @@ abbrev number : Reloc → ℕ
 number r = r.offset
 
 pub returns-in_default : goal.returns-in_default
-returns-in_default c = sym (missing_past number c.args.relocs.now c.args.offset c.count_before-n.result no_reloc (search rules) c.count_before-n.ensures.before)
+returns-in_default c = sym (missing_past number c.args.relocs.now c.args.offset c.relocs_before-n.result no_reloc (search rules) c.relocs_before-n.ensures.before)
 
 pub returns-then-reloc-offset : goal.returns-then-reloc-offset
 returns-then-reloc-offset c =
-    let lt : c.count_before-n.result < length c.args.relocs.now = search rules in
+    let lt : c.relocs_before-n.result < length c.args.relocs.now = search rules in
     let is = c.in-Some.ensures.lookup.1 in
-    let next = c.count_before-n.ensures.next c.in-Some.reloc.now lt in
-    sym (missing_at number c.args.relocs.now c.args.offset c.count_before-n.result c.in-Some.reloc.now c.requires lt c.count_before-n.ensures.before is
+    let next = c.relocs_before-n.ensures.next c.relocs_before-n.result c.in-Some.reloc.now (omega arith) lt in
+    sym (missing_at number c.args.relocs.now c.args.offset c.relocs_before-n.result c.in-Some.reloc.now c.requires lt c.relocs_before-n.ensures.before is
     (omega (arith, next, ap number is)) c.if-reloc-offset.true)
 
 pub returns : goal.returns
 returns c =
-    let lt : c.count_before-n.result < length c.args.relocs.now = search rules in
-    sym (found number c.args.relocs.now c.args.offset c.count_before-n.result c.in-Some.reloc.now lt c.count_before-n.ensures.before c.in-Some.ensures.lookup.1 c.if-reloc-offset.false)
+    let lt : c.relocs_before-n.result < length c.args.relocs.now = search rules in
+    sym (found number c.args.relocs.now c.args.offset c.relocs_before-n.result c.in-Some.reloc.now lt c.relocs_before-n.ensures.before c.in-Some.ensures.lookup.1 c.if-reloc-offset.false)

@@ -1,5 +1,5 @@
 use Rattle.sec_gc.proofs.Rounds.{RoundAt}
-use Rattle.sec_gc.specs.Visits.{unmarked}
+use Rattle.lk_tables.specs.Reach.{unmarked}
 use Rattle.sec_gc.proofs.closing.close_rounds.Given as goal
 
 abbrev pub invariant-loop-more : goal.invariant-loop-more

@@ -1,9 +1,9 @@
 use Rattle.std.proofs.Common.{◌∷◌, ◌++◌, [], ℕ, List, map, ap, ◌∙◌, arith}
 use Rattle.std.specs.Borrow.{Bor}
 use Rattle.std.proofs.lemmas.List.{map-append}
+use Rattle.lk_base.proofs.Loops.{mapped_all, mapped_at}
 use Rattle.lk_tables.specs.TablesView.{files_of}
 use Rattle.sec_graph.specs.Foldable.{contents_at}
-use Rattle.sec_graph.proofs.FoldOrder.{mapped_all, mapped_at}
 use Rattle.sec_graph.proofs.fold_lists.contents_of.Goals as goal
 
 pub loop-i-preserved : goal.loop-i-preserved

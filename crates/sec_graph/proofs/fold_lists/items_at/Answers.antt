@@ -1,11 +1,11 @@
 use Rattle.std.proofs.Common.{◌∷◌, ◌++◌, [], map, ap, ◌∙◌, arith}
 use Rattle.std.proofs.lemmas.List.{map-append}
+use Rattle.lk_base.proofs.Loops.{mapped_all, mapped_at}
 use Rattle.lk_tables.specs.BindingView.{binding_view}
 use Rattle.lk_tables.specs.TablesView.{files_of}
 use Rattle.link_sections.specs.FoldItems.{FoldItem, item_view, item_views}
 use Rattle.link_sections.specs.PoolViews.{merged_views}
 use Rattle.sec_graph.specs.Foldable.{item_there}
-use Rattle.sec_graph.proofs.FoldOrder.{mapped_all, mapped_at}
 use Rattle.sec_graph.proofs.fold_lists.items_at.Goals as goal
 
 pub loop-i-preserved : goal.loop-i-preserved

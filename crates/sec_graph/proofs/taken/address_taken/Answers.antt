@@ -4,7 +4,8 @@ use Rattle.lk_tables.specs.BindingView.{binding_view}
 use Rattle.lk_tables.specs.Files.{section_total}
 use Rattle.lk_tables.specs.TablesView.{files_of}
 use Rattle.lk_tables.specs.Walks.{over_file, over_live, over_section}
-use Rattle.sec_graph.specs.Taken.{address_taken, taken_at, taken_sections, with_marked}
+use Rattle.lk_tables.specs.Reach.{with_marked}
+use Rattle.sec_graph.specs.Taken.{address_taken, taken_at, taken_sections}
 use Rattle.sec_graph.proofs.Marking.{marked_none, marks_end, marks_step}
 use Rattle.sec_graph.proofs.taken.address_taken.Goals as goal
 

@@ -1,5 +1,5 @@
 use Rattle.std.proofs.Common.{◌≡◌, drop}
-use Rattle.sec_graph.specs.Taken.{with_marked}
+use Rattle.lk_tables.specs.Reach.{with_marked}
 use Rattle.sec_graph.proofs.taken.mark_sections.Given as goal
 
 abbrev pub invariant-loop-n : goal.invariant-loop-n

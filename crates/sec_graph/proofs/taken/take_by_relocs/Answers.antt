@@ -3,7 +3,8 @@ use Rattle.lk_tables.specs.declared.objects.Reloc.{Reloc}
 use Rattle.lk_tables.specs.BindingView.{binding_view}
 use Rattle.lk_tables.specs.Files.{no_reloc}
 use Rattle.lk_tables.specs.TablesView.{files_of}
-use Rattle.sec_graph.specs.Taken.{taken_by, with_marked}
+use Rattle.lk_tables.specs.Reach.{with_marked}
+use Rattle.sec_graph.specs.Taken.{taken_by}
 use Rattle.sec_graph.proofs.Marking.{marks_item}
 use Rattle.sec_graph.proofs.taken.take_by_relocs.Goals as goal
 

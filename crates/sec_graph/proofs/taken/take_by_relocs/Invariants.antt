@@ -1,7 +1,8 @@
 use Rattle.std.proofs.Common.{◌≡◌, drop, flat_map}
 use Rattle.lk_tables.specs.BindingView.{binding_view}
 use Rattle.lk_tables.specs.TablesView.{files_of}
-use Rattle.sec_graph.specs.Taken.{taken_by, with_marked}
+use Rattle.lk_tables.specs.Reach.{with_marked}
+use Rattle.sec_graph.specs.Taken.{taken_by}
 use Rattle.sec_graph.proofs.taken.take_by_relocs.Given as goal
 
 abbrev pub invariant-loop-reloc : goal.invariant-loop-reloc

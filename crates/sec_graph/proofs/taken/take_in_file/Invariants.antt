@@ -3,7 +3,8 @@ use Rattle.std.specs.List.{range_with_len}
 use Rattle.lk_tables.specs.BindingView.{binding_view}
 use Rattle.lk_tables.specs.TablesView.{files_of}
 use Rattle.lk_tables.specs.Walks.{over_section}
-use Rattle.sec_graph.specs.Taken.{taken_at, with_marked}
+use Rattle.lk_tables.specs.Reach.{with_marked}
+use Rattle.sec_graph.specs.Taken.{taken_at}
 use Rattle.sec_graph.proofs.taken.take_in_file.Given as goal
 
 abbrev pub invariant-loop-index : goal.invariant-loop-index

@@ -3,7 +3,8 @@ use Rattle.link_sections.specs.Leaders.{is_kept}
 use Rattle.lk_tables.specs.BindingView.{binding_view}
 use Rattle.lk_tables.specs.Files.{file_at, relocs_at, section_no}
 use Rattle.lk_tables.specs.TablesView.{files_of}
-use Rattle.sec_graph.specs.Taken.{taken_by, with_marked}
+use Rattle.lk_tables.specs.Reach.{with_marked}
+use Rattle.sec_graph.specs.Taken.{taken_by}
 use Rattle.sec_graph.proofs.TakenKept.{all_taken, none_taken}
 use Rattle.sec_graph.proofs.taken.take_in_section.Goals as goal
 

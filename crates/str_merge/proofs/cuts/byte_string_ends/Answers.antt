@@ -1,10 +1,11 @@
 use Rattle.std.proofs.Common.{ℕ, List, ◌+◌, refl, sym, subst}
-use Rattle.str_merge.specs.Sites.{cut_texts}
+use Rattle.intern_race.specs.Texts.{cut_texts}
 use Rattle.str_merge.proofs.ByteStrings.{AreCutTo, cut_all, cut_more, cut_none}
 use Rattle.str_merge.proofs.CutTexts.{last_of, pushed_last, pushed_texts}
 use Rattle.str_merge.proofs.cuts.byte_string_ends.Goals as goal
 
 pub places-init : goal.places-init
+unfolding cut_texts
 places-init c =
     let bytes = c.args.contents.now in
     let P : List ℕ → Type 0 = λ l. AreCutTo bytes (last_of l) c.memchr_iter-found.result (cut_texts bytes l) in

@@ -1,5 +1,5 @@
 use Rattle.std.specs.Prelude.{length}
-use Rattle.str_merge.specs.Sites.{cut_texts}
+use Rattle.intern_race.specs.Texts.{cut_texts}
 use Rattle.str_merge.proofs.ByteStrings.{AreCutTo}
 use Rattle.str_merge.proofs.CutTexts.{last_of}
 use Rattle.str_merge.proofs.cuts.byte_string_ends.Given as goal

@@ -2,11 +2,12 @@ use Rattle.std.proofs.Common.{◌≡◌, [], ◌∷◌, ◌++◌, ◌+◌, ◌*�
 use Rattle.std.specs.List.{range_with_len}
 use Rattle.lk_base.proofs.Loops.{map_step}
 use Rattle.link_sections.specs.MergeSections.{elements}
-use Rattle.str_merge.specs.Sites.{cut_texts}
+use Rattle.intern_race.specs.Texts.{cut_texts}
 use Rattle.str_merge.proofs.CutTexts.{element_of, last_of, pushed_last, pushed_texts}
 use Rattle.str_merge.proofs.cuts.element_ends.Goals as goal
 
 pub loop-i-init : goal.loop-i-init
+unfolding cut_texts
 loop-i-init c =
     let none : 0 * c.args.size ≡ 0 = omega arith in
     record {

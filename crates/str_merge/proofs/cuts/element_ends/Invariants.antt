@@ -1,6 +1,6 @@
 use Rattle.std.proofs.Common.{◌≡◌, ◌*◌, map}
 use Rattle.std.specs.List.{range_with_len}
-use Rattle.str_merge.specs.Sites.{cut_texts}
+use Rattle.intern_race.specs.Texts.{cut_texts}
 use Rattle.str_merge.proofs.CutTexts.{element_of, last_of}
 use Rattle.str_merge.proofs.cuts.element_ends.Given as goal
 

@@ -1,11 +1,12 @@
 use Rattle.std.proofs.Common.{◌≡◌, ℕ, List, [], ◌∷◌, ◌++◌, ◌+◌, ◌*◌, ◌-◌, length, take, drop, arith, ap, sym, subst, ◌∙◌}
 use Rattle.std.specs.Prelude.{if◌then◌else◌}
 use Rattle.link_sections.specs.MergeSections.{is_zero_char}
-use Rattle.str_merge.specs.Sites.{cut_texts}
+use Rattle.intern_race.specs.Texts.{cut_texts}
 use Rattle.str_merge.proofs.CutTexts.{AreStrings, element_end, ended_last, ended_texts, last_of, string_step, strings_all, strings_none}
 use Rattle.str_merge.proofs.cuts.string_ends.Goals as goal
 
 pub loop-i-init : goal.loop-i-init
+unfolding cut_texts
 loop-i-init c =
     let bytes = c.args.contents.now in
     let P : List ℕ → Type 0 = λ l. AreStrings bytes c.args.size 0 (last_of l) (cut_texts bytes l) in

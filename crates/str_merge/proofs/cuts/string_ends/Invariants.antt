@@ -1,5 +1,5 @@
-use Rattle.str_merge.specs.Sites.{cut_texts}
 use Rattle.str_merge.proofs.CutTexts.{AreStrings, last_of}
+use Rattle.intern_race.specs.Texts.{cut_texts}
 use Rattle.str_merge.proofs.cuts.string_ends.Given as goal
 
 abbrev pub invariant-loop-i : goal.invariant-loop-i

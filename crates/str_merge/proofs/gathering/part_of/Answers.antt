@@ -1,6 +1,6 @@
 use Rattle.std.proofs.Common.{◌-◌, length, drop, ap, arith}
 use Rattle.std.proofs.lemmas.List.{length-drop, length-take}
-use Rattle.str_merge.proofs.CutTexts.{clipped}
+use Rattle.intern_race.proofs.Rows.{clipped}
 use Rattle.str_merge.proofs.gathering.part_of.Goals as goal
 
 pub returns-clause-value : goal.returns-clause-value

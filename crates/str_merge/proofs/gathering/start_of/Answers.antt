@@ -1,6 +1,6 @@
 use Rattle.std.proofs.Common.{ap, sym, arith}
+use Rattle.intern_race.proofs.Rows.{start_after}
 use Rattle.str_merge.specs.Sites.{start_of}
-use Rattle.str_merge.proofs.CutTexts.{start_after}
 use Rattle.str_merge.proofs.gathering.start_of.Goals as goal
 
 pub returns-then-k-eq0-clause-value : goal.returns-then-k-eq0-clause-value

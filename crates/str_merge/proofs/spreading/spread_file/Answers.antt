@@ -1,10 +1,10 @@
 use Rattle.std.proofs.Common.{◌+◌, Bool, ap, sym, ◌∙◌, arith, rules}
 use Rattle.std.specs.Prelude.{if◌then◌else◌}
+use Rattle.lk_base.proofs.Ranges.{row_step}
 use Rattle.lk_tables.specs.Files.{section_count}
 use Rattle.lk_tables.specs.TablesView.{files_of}
 use Rattle.lk_tables.proofs.FirstNumbers.{section_within}
 use Rattle.str_merge.specs.Spreading.{answer_in, sites_upto}
-use Rattle.str_merge.proofs.ListSteps.{row_step}
 use Rattle.str_merge.proofs.SiteRows.{upto_most}
 use Rattle.str_merge.proofs.SpreadSteps.{answer_is, upto_all, upto_more, upto_none}
 use Rattle.str_merge.proofs.spreading.spread_file.Goals as goal

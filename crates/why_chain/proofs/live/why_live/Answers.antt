@@ -4,6 +4,7 @@ use Rattle.std.proofs.lemmas.List.{get_or_default}
 use Rattle.link_sections.specs.Edges.{ends_of}
 use Rattle.lk_tables.specs.Reach.{ends_at}
 use Rattle.why_chain.specs.Visits.{AreWords, HasVisited, with_start}
+use Rattle.why_chain.specs.Walks.{IsLeastWalk}
 use Rattle.why_chain.proofs.Living.{at, ends_seen, few_sections, live_begins, live_found, live_is, live_more, live_none, live_reached, live_unreached, section_low}
 use Rattle.why_chain.proofs.Walking.{AreSections, walk_low}
 use Rattle.why_chain.proofs.live.why_live.Goals as goal
@@ -44,64 +45,45 @@ walk_is c =
     let Q : List ℕ → Type 0 = λ f. (word : ℕ → List ℕ) → AreWords c.loop-place.sections.items f word → walk ≡ word place in
     subst Q c.as_slice-then-section-target.ensures.value (subst P c.as_slice.ensures.value c.in_ok-walk.ensures)
 
+-- the sections that roots and ends name are below the count
+low_of : (c : In_ok-walk) → AreSections c.args.roots.now (ends_of c.args.edges.now)
+low_of c = record { roots_low = c.requires.roots; ends_low = c.args.edges.now.within }
+
+-- the place is one of the queue's, at which the section stands that is asked for
+here_is : (c : In_ok-walk) → (c.loop-place.place < length c.loop-place.sections.items) × (at c.loop-place.sections.items c.loop-place.place ≡ c.args.target)
+here_is c =
+    let sections = c.loop-place.sections.items in
+    let place = c.loop-place.place in
+    let ok = c.loop-place.sections.ok in
+    let test = c.loop-place-test.true in
+    let len = c.len.ensures in
+    let lt : place < length sections = omega arith in
+    (lt, sym (get_or_default sections place c.index-section.result.now 0 lt) ∙ sym c.index-section.ensures ∙ c.if-section-target.true)
+
+found_is : (c : In_ok-walk) → IsLeastWalk c.args.roots.now (ends_of c.args.edges.now) c.args.target c.in_ok-walk.walk.items
+found_is c =
+    live_found c.args.roots.now (ends_of c.args.edges.now) (low_of c) c.args.target c.loop-place.seen.items c.loop-place.sections.items c.loop-place.froms.items c.loop-place.place
+    c.loop-place.invariant (here_is c).0 (here_is c).1 c.requires.target c.in_ok-walk.walk.items (walk_is c)
+
 pub returns-then-section-target-clause-chain : goal.returns-then-section-target-clause-chain
 returns-then-section-target-clause-chain c =
     let p = (goal.at.returns-then-section-target-clause-chain c).In_ok-walk in
-    let ends = ends_of c.args.edges.now in
-    let low : AreSections c.args.roots.now ends = record { roots_low = c.requires.roots; ends_low = c.args.edges.now.within } in
-    let sections = c.loop-place.sections.items in
-    let place = c.loop-place.place in
-    let ok = c.loop-place.sections.ok in
-    let test = c.loop-place-test.true in
-    let len = c.len.ensures in
-    let lt : place < length sections = omega arith in
-    let here = sym (get_or_default sections place c.index-section.result.now 0 lt) ∙ sym c.index-section.ensures ∙ c.if-section-target.true in
-    live_is c.args.roots.now ends low c.args.target c.loop-place.seen.items sections c.loop-place.froms.items place c.loop-place.invariant lt here c.requires.target
-    c.in_ok-walk.walk.items (walk_is p)
+    live_is c.args.roots.now (ends_of c.args.edges.now) (low_of p) c.args.target c.loop-place.seen.items c.loop-place.sections.items c.loop-place.froms.items c.loop-place.place
+    c.loop-place.invariant (here_is p).0 (here_is p).1 c.requires.target c.in_ok-walk.walk.items (walk_is p)
 
 pub returns-then-section-target-clause-least : goal.returns-then-section-target-clause-least
-returns-then-section-target-clause-least c =
-    let p = (goal.at.returns-then-section-target-clause-least c).In_ok-walk in
-    let ends = ends_of c.args.edges.now in
-    let low : AreSections c.args.roots.now ends = record { roots_low = c.requires.roots; ends_low = c.args.edges.now.within } in
-    let sections = c.loop-place.sections.items in
-    let place = c.loop-place.place in
-    let ok = c.loop-place.sections.ok in
-    let test = c.loop-place-test.true in
-    let len = c.len.ensures in
-    let lt : place < length sections = omega arith in
-    let here = sym (get_or_default sections place c.index-section.result.now 0 lt) ∙ sym c.index-section.ensures ∙ c.if-section-target.true in
-    live_found c.args.roots.now ends low c.args.target c.loop-place.seen.items sections c.loop-place.froms.items place c.loop-place.invariant lt here c.requires.target
-    c.in_ok-walk.walk.items (walk_is p)
+returns-then-section-target-clause-least c = found_is ((goal.at.returns-then-section-target-clause-least c).In_ok-walk)
 
 pub returns-then-section-target-clause-within : goal.returns-then-section-target-clause-within
 returns-then-section-target-clause-within c =
     let p = (goal.at.returns-then-section-target-clause-within c).In_ok-walk in
-    let ends = ends_of c.args.edges.now in
-    let low : AreSections c.args.roots.now ends = record { roots_low = c.requires.roots; ends_low = c.args.edges.now.within } in
-    let sections = c.loop-place.sections.items in
-    let place = c.loop-place.place in
-    let ok = c.loop-place.sections.ok in
-    let test = c.loop-place-test.true in
-    let len = c.len.ensures in
-    let lt : place < length sections = omega arith in
-    let here = sym (get_or_default sections place c.index-section.result.now 0 lt) ∙ sym c.index-section.ensures ∙ c.if-section-target.true in
-    let found = live_found c.args.roots.now ends low c.args.target c.loop-place.seen.items sections c.loop-place.froms.items place c.loop-place.invariant lt here c.requires.target
-    c.in_ok-walk.walk.items (walk_is p) in
-    walk_low c.args.roots.now ends low c.args.target c.in_ok-walk.walk.items found.walk
+    walk_low c.args.roots.now (ends_of c.args.edges.now) (low_of p) c.args.target c.in_ok-walk.walk.items (found_is p).walk
 
 pub returns-then-section-target-clause-given : goal.returns-then-section-target-clause-given
 returns-then-section-target-clause-given c =
-    let ends = ends_of c.args.edges.now in
-    let low : AreSections c.args.roots.now ends = record { roots_low = c.requires.roots; ends_low = c.args.edges.now.within } in
-    let sections = c.loop-place.sections.items in
-    let place = c.loop-place.place in
-    let ok = c.loop-place.sections.ok in
-    let test = c.loop-place-test.true in
-    let len = c.len.ensures in
-    let lt : place < length sections = omega arith in
-    let here = sym (get_or_default sections place c.index-section.result.now 0 lt) ∙ sym c.index-section.ensures ∙ c.if-section-target.true in
-    let reached = live_reached c.args.roots.now ends low c.args.target c.loop-place.seen.items sections c.loop-place.froms.items place c.loop-place.invariant lt here c.requires.target in
+    let p = (goal.at.returns-then-section-target-clause-given c).In_ok-walk in
+    let reached = live_reached c.args.roots.now (ends_of c.args.edges.now) (low_of p) c.args.target c.loop-place.seen.items c.loop-place.sections.items c.loop-place.froms.items c.loop-place.place
+    c.loop-place.invariant (here_is p).0 (here_is p).1 c.requires.target in
     (λ e. reached, λ r. refl)
 
 pub ends_from-requires : goal.ends_from-requires

@@ -2,8 +2,8 @@ use Rattle.std.proofs.Common.{◌≡◌, ◌==◌, inr, not, Contains, sym, ◌�
 use Rattle.std.proofs.lemmas.Bool.{eqb-true}
 use Rattle.std.proofs.lemmas.List.Elements.{Contains-get_or}
 use Rattle.link_sections.specs.Edges.{ends_of}
-use Rattle.lk_tables.specs.Reach.{ends_at}
-use Rattle.sec_gc.specs.Marks.{IsWithin, after_swap, section_at, times, word_of}
+use Rattle.lk_tables.specs.Reach.{ends_at, IsReached}
+use Rattle.sec_gc.specs.Marks.{after_swap, section_at, times, word_of}
 use Rattle.sec_gc.proofs.Sitting.{swapped_bit, within_at}
 use Rattle.sec_gc.proofs.marks.Marks.mark.Goals as goal
 
@@ -24,4 +24,4 @@ returns-clause-once c = λ is. subst (λ l. times (section_at l c.args.k) c.args
 
 pub returns-clause-within : goal.returns-clause-within
 returns-clause-within c =
-    subst (λ l. IsWithin c.args.self.now.roots c.args.self.now.ends (section_at l c.args.k)) c.ends.ensures.value (within_at c.args.self.now c.args.seat.now _ c.requires.seat c.set.ensures.within)
+    subst (λ l. IsReached c.args.self.now.roots c.args.self.now.ends (section_at l c.args.k)) c.ends.ensures.value (within_at c.args.self.now c.args.seat.now _ c.requires.seat c.set.ensures.within)

@@ -1,6 +1,7 @@
 use Rattle.std.proofs.Common.{rules, arith, ◌≡◌, subst, sym}
 use Rattle.link_sections.specs.Edges.{ends_of}
-use Rattle.sec_gc.specs.Marks.{MarksView, SeatView, IsWithin, MayMark, times}
+use Rattle.lk_tables.specs.Reach.{IsReached}
+use Rattle.sec_gc.specs.Marks.{MarksView, SeatView, MayMark, times}
 use Rattle.sec_gc.proofs.Keeps.{may_inside, swap_keeps, seated_swapped}
 use Rattle.sec_gc.proofs.marks.Marks.set.Goals as goal
 
@@ -25,4 +26,4 @@ pub returns-clause-once : goal.returns-clause-once
 returns-clause-once c = subst (λ (s : SeatView). c.swap.result ≡ 0 → times c.args.section s.won ≡ 0) c.seat.view_is c.swap.ensures.2.once
 
 pub returns-clause-within : goal.returns-clause-within
-returns-clause-within c = subst (λ (s : SeatView). IsWithin s.roots s.ends c.args.section) c.seat.view_is c.swap.ensures.2.within
+returns-clause-within c = subst (λ (s : SeatView). IsReached s.roots s.ends c.args.section) c.seat.view_is c.swap.ensures.2.within

@@ -1,6 +1,7 @@
 use Rattle.std.proofs.Common.{rules, arith, ◌≡◌, ap, length, subst, Contains}
 use Rattle.link_sections.specs.Edges.{ends_of}
-use Rattle.sec_gc.specs.Marks.{MarksView, SeatView, IsWithin}
+use Rattle.lk_tables.specs.Reach.{IsReached}
+use Rattle.sec_gc.specs.Marks.{MarksView, SeatView}
 use Rattle.sec_gc.proofs.Keeps.{look_keeps, seated_looked}
 use Rattle.sec_gc.proofs.marks.Marks.word.Goals as goal
 
@@ -21,4 +22,4 @@ pub returns-clause-seen : goal.returns-clause-seen
 returns-clause-seen c = subst (λ (s : SeatView). Contains s.seen c.args.section → c.load.result ≡ 1) c.seat.view_is c.load.ensures.2.known
 
 pub returns-clause-within : goal.returns-clause-within
-returns-clause-within c = subst (λ (s : SeatView). c.load.result ≡ 1 → IsWithin s.roots s.ends c.args.section) c.seat.view_is c.load.ensures.2.within
+returns-clause-within c = subst (λ (s : SeatView). c.load.result ≡ 1 → IsReached s.roots s.ends c.args.section) c.seat.view_is c.load.ensures.2.within

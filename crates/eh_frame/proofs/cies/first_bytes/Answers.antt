@@ -1,6 +1,0 @@
-use Rattle.std.proofs.Common.{ap, take, ◌∙◌}
-use Rattle.std.proofs.lemmas.List.{take_min}
-use Rattle.eh_frame.proofs.cies.first_bytes.Goals as goal
-
-pub returns : goal.returns
-returns c = ap (λ n. take n c.args.bytes.now) c.min.ensures ∙ take_min c.args.count c.args.bytes.now

@@ -1,5 +1,0 @@
-use Rattle.intern_race.specs.Interning.{SitsAt}
-use Rattle.intern_rows.proofs.tests.number_by_two.Given as goal
-
-abbrev pub invariant-loop-call : goal.invariant-loop-call
-invariant-loop-call l = SitsAt l.interner l.left × SitsAt l.interner l.right

@@ -1,5 +1,0 @@
-use Rattle.intern_race.specs.Interning.{SitsAt}
-use Rattle.intern_rows.proofs.tests.number_in_turn.Given as goal
-
-abbrev pub invariant-loop-start : goal.invariant-loop-start
-invariant-loop-start l = SitsAt l.interner l.seat

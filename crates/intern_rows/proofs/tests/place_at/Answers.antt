@@ -1,7 +1,0 @@
-use Rattle.intern_race.proofs.Sitting.{sits_after}
-use Rattle.intern_rows.proofs.tests.place_at.Goals as goal
-
-pub returns : goal.returns
-returns c =
-    let walk = c.place.ensures.walk in
-    sits_after c.args.interner.now c.args.seat.now c.place.new.seat walk.0 c.requires.seat walk.2

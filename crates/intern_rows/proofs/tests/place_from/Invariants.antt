@@ -1,5 +1,0 @@
-use Rattle.intern_race.specs.Interning.{SitsAt}
-use Rattle.intern_rows.proofs.tests.place_from.Given as goal
-
-abbrev pub invariant-loop-k : goal.invariant-loop-k
-invariant-loop-k l = SitsAt l.interner l.seat
